@@ -1,0 +1,28 @@
+//! A callback with its arguments.
+
+/// A data word of a tool: `ompt_data_t` (OpenMP 5.2, 19.4.4.1), named by a number in place of an address.
+#[derive(Clone, Copy, Debug, PartialEq, Eq)]
+pub struct Word {
+    /// Which word: t + 1 for thread t; the number of the region or the task; 0 for NULL.
+    pub identity: u32,
+    /// What was last stored, or 0.
+    pub value: u64,
+}
+
+/// A callback, with its arguments in the order of the specification (OpenMP 5.2, 19.5.2).
+#[derive(Clone, Copy, Debug, PartialEq, Eq)]
+pub enum Call {
+    /// `ompt_callback_thread_begin`: kind 1 is the initial thread, 2 a worker.
+    ThreadBegin { kind: u32, thread: Word },
+    /// `ompt_callback_thread_end`.
+    ThreadEnd { thread: Word },
+    /// `ompt_callback_implicit_task`: endpoint 1 is the begin, 2 the end.
+    ImplicitTask {
+        endpoint: u32,
+        region: Word,
+        task: Word,
+        actual: u32,
+        index: u32,
+        flags: u32,
+    },
+}
