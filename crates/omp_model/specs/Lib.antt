@@ -1,0 +1,11 @@
+pub mod State
+pub mod Silent
+pub mod Events
+pub mod Calls
+pub mod Turn
+pub mod Legal
+pub mod Cause
+pub mod Heard
+pub mod Serial
+pub mod Records
+pub mod Program

@@ -1,0 +1,58 @@
+-- What is heard of a history: each registered event whose Back stands there.
+use Rattle.std.specs.Prelude.{ℕ, ◌+◌, Bool, true, false, ◌&&◌, ◌||◌, ◌==◌, if◌then◌else◌, List, [], ◌∷◌, ◌++◌, filter}
+use Rattle.ompt_calls.specs.declared.call.Call.{Call}
+use Rattle.ompt_calls.specs.Number.{number_of}
+use Rattle.omp_model.specs.declared.history.What.{What}
+use Rattle.omp_model.specs.declared.history.What.TheVariants.{Go, Back}
+use Rattle.omp_model.specs.declared.history.Entry.{Entry}
+use Rattle.omp_model.specs.State.{Run, State, first}
+use Rattle.omp_model.specs.Calls.{call_of, is_registered}
+use Rattle.omp_model.specs.Turn.{Turn, Outcome, Idle, Quiet, Happens, Halts, turn}
+use Rattle.omp_model.specs.Legal.{entered}
+
+-- what is heard of an event: the position of its Go, its thread, and its call
+pub record Item : Type 0 where
+  pub seq : ℕ
+  pub thread : ℕ
+  pub call : Call
+
+abbrev pub is_back : What → Bool
+is_back Go = false
+is_back Back = true
+
+-- a Back of the thread stands among these entries
+abbrev pub has_back : ℕ → List Entry → Bool
+has_back t [] = false
+has_back t (entry ∷ rest) = (is_back entry.what && entry.thread == t) || has_back t rest
+
+-- the call is heard where it is registered and its Back comes
+abbrev pub heard_call : Run → ℕ → ℕ → Call → List Entry → List Item
+heard_call run position t call rest =
+    if is_registered run.mask (number_of call) && has_back t rest
+    then record { seq = position; thread = t; call = call } ∷ []
+    else []
+
+abbrev pub heard_outcome : Run → ℕ → ℕ → State → Outcome → List Entry → List Item
+heard_outcome run position t after Idle rest = []
+heard_outcome run position t after Quiet rest = []
+heard_outcome run position t after (Happens event) rest = heard_call run position t (call_of after.world t event) rest
+heard_outcome run position t after (Halts halt) rest = []
+
+-- what is heard of one entry, which these follow
+abbrev pub heard_at : Run → State → ℕ → ℕ → What → List Entry → List Item
+heard_at run S position t Go rest = heard_outcome run position t (turn run S t).state (turn run S t).outcome rest
+heard_at run S position t Back rest = []
+
+-- what is heard of these entries on all threads, in order, from this state and position on
+abbrev pub heard_from : Run → State → ℕ → List Entry → List Item
+heard_from run S position [] = []
+heard_from run S position (entry ∷ rest) =
+    heard_at run S position entry.thread entry.what rest ++ heard_from run (entered run S entry) (position + 1) rest
+
+-- what is heard of a history on all threads, in order
+abbrev pub heard : Run → List Entry → List Item
+heard run history = heard_from run (first run) 0 history
+
+-- what is heard of a history on one thread
+abbrev pub heard_of : Run → List Entry → ℕ → List Item
+heard_of run history t = filter (λ (item : Item). item.thread == t) (heard run history)

@@ -1,0 +1,57 @@
+//! The entries of a run's history, and the record of an event.
+
+ghost use Rattle.std.specs.Prelude.{◌≡◌};
+
+use ompt_calls::Call;
+use std::marker::Model;
+
+/// What one entry of a history is.
+#[derive(Clone, Copy, Debug, PartialEq, Eq)]
+pub enum What {
+    /// One turn of the thread.
+    Go,
+    /// The callback of the thread's event has returned, and the event's result takes hold.
+    Back,
+}
+
+/// One entry of a history: what happened, and on which thread.
+#[derive(Clone, Copy, Debug, PartialEq, Eq)]
+pub struct Entry {
+    /// The thread's number, from 0.
+    pub thread: u8,
+    /// What happened.
+    pub what: What,
+}
+
+/// The entries of a run, in order. Contracts see it as their list.
+#[derive(Debug, Drop)]
+pub struct History(pub Vec<Entry>);
+
+impl Model for History {
+    ghost use Rattle.std.specs.Prelude.{List};
+    ghost use Rattle.omp_model.specs.declared.history.Entry.{Entry};
+
+    ghost Value = { List Entry };
+
+    ghost view = { λ history. history.0.items };
+}
+
+impl History {
+    /// The entries, in order.
+    pub fn entries(&self) -> &[Entry]
+        ensures { result.now ≡ self.now }
+    {
+        self.0.as_slice()
+    }
+}
+
+/// What is recorded of an event that a tool heard.
+#[derive(Clone, Copy, Debug, PartialEq, Eq)]
+pub struct EventRecord {
+    /// The position of the event's Go in the history, from 0.
+    pub seq: u32,
+    /// The thread's number, from 0.
+    pub thread: u8,
+    /// The callback with its arguments.
+    pub call: Call,
+}

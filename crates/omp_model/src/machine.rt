@@ -1,0 +1,56 @@
+//! The flat parts of the machine's state.
+
+/// What stands in a task's code.
+#[derive(Clone, Copy, Debug, PartialEq, Eq)]
+pub enum Instruction {
+    /// A block is entered: a silent step.
+    EnterBlock,
+    /// The function returns this value: a silent step.
+    Return(i32),
+}
+
+/// How far a task has come.
+#[derive(Clone, Copy, Debug, PartialEq, Eq)]
+pub enum Condition {
+    /// It was made, and hasn't started.
+    Made,
+    /// It has started, and hasn't finished.
+    Started,
+    /// It has finished.
+    Finished,
+}
+
+/// How far a thread has come.
+#[derive(Clone, Copy, Debug, PartialEq, Eq)]
+pub enum ThreadStage {
+    /// It wasn't made.
+    Unmade,
+    /// It was made, and hasn't begun.
+    Made,
+    /// It has begun, and hasn't ended.
+    Begun,
+    /// It has ended.
+    Ended,
+}
+
+/// An event of the machine (OpenMP 5.2, 19.5.2).
+#[derive(Clone, Copy, Debug, PartialEq, Eq)]
+pub enum Event {
+    /// The thread begins.
+    ThreadBegin,
+    /// The initial task begins.
+    InitialTaskBegin,
+    /// The initial task ends, after main has returned.
+    InitialTaskEnd,
+    /// The thread ends.
+    ThreadEnd,
+}
+
+/// What halted a run.
+#[derive(Clone, Copy, Debug, PartialEq, Eq)]
+pub enum Halt {
+    /// The trap with this number: the program did what it must not.
+    Trap(u8),
+    /// The limit with this number.
+    Limit(u8),
+}
