@@ -26,6 +26,6 @@ parts_of (ImplicitTask endpoint region task actual index flags) =
 abbrev pub call_text : Call → List ℕ
 call_text call = spaced (parts_of call)
 
--- the line of a call
+-- the line of a call, with a newline at its end
 abbrev pub line_text : ℕ → ℕ → Call → List ℕ
-line_text seq thread call = spaced (decimal seq ∷ decimal thread ∷ parts_of call) ++ 10 ∷ []
+line_text seq thread call = spaced (decimal seq ∷ decimal thread ∷ call_text call ∷ []) ++ 10 ∷ []

@@ -1,5 +1,8 @@
 //! A callback with its arguments.
 
+ghost use Rattle.std.specs.Prelude.{◌≡◌};
+ghost use Rattle.ompt_calls.specs.Number.{number_of};
+
 /// A data word of a tool: `ompt_data_t` (OpenMP 5.2, 19.4.4.1), named by a number in place of an address.
 #[derive(Clone, Copy, Debug, PartialEq, Eq)]
 pub struct Word {
@@ -13,9 +16,14 @@ pub struct Word {
 #[derive(Clone, Copy, Debug, PartialEq, Eq)]
 pub enum Call {
     /// `ompt_callback_thread_begin`: kind 1 is the initial thread, 2 a worker.
-    ThreadBegin { kind: u32, thread: Word },
+    ThreadBegin {
+        kind: u32,
+        thread: Word,
+    },
     /// `ompt_callback_thread_end`.
-    ThreadEnd { thread: Word },
+    ThreadEnd {
+        thread: Word,
+    },
     /// `ompt_callback_implicit_task`: endpoint 1 is the begin, 2 the end.
     ImplicitTask {
         endpoint: u32,
@@ -25,4 +33,17 @@ pub enum Call {
         index: u32,
         flags: u32,
     },
+}
+
+impl Call {
+    /// The callback's value in `ompt_callbacks_t` (OpenMP 5.2, 19.4.2).
+    pub fn number(&self) -> u32
+        ensures { result ≡ number_of self.now }
+    {
+        match self {
+            Call::ThreadBegin { .. } => 1,
+            Call::ThreadEnd { .. } => 2,
+            Call::ImplicitTask { .. } => 7,
+        }
+    }
 }

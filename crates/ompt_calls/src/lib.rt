@@ -1,9 +1,25 @@
 //! The calls that a tool hears: OMPT's callbacks with their arguments, and the line that is written of each.
 //!
+//! A runtime tells its tool of each event by a callback. A [`Call`] is a callback with its arguments, and its line is
+//! how it is shown: the sequence number, the thread, the callback's name and its arguments in order, with one space
+//! between and a newline at the end, as `0 0 thread_begin 1 1:0`.
+//!
 //! Addresses are replaced by numbers: a data word is named by the identity of its thread, parallel region or task,
 //! and identity 0 stands for NULL.
+//!
+//! Proved for every call, over the definitions of `specs/`:
+//!
+//! - `{}` of a [`Word`] writes exactly the bytes of `word_text`, and `{}` of a [`Call`] those of `call_text`;
+//! - where memory is left, [`line_of`] returns exactly the bytes of `line_text`;
+//! - [`Call::number`] is `number_of`, the value in `ompt_callbacks_t`.
+//!
+//! A test compares a few lines with texts written out by hand, since a definition cannot check itself.
 #![tactic(auto)]
 
 mod call;
+mod line;
+#[cfg(test)]
+mod tests;
 
 pub use call::{Call, Word};
+pub use line::{Memory, line_of};
