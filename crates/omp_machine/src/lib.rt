@@ -1,13 +1,19 @@
-// A library with one function.
+//! The profile's OpenMP machine.
+//!
+//! A [`Machine`] stands for a state of the machine that `omp_model` defines. Its calls are that machine's: `new` gives
+//! the first state, `go` does one turn and tells what it came to, `back` lets an event's result take hold, and the
+//! others tell the state.
+//!
+//! The parts are private: a [`board`] has the threads and tasks that events change, and each event's effect is one
+//! call of it.
 #![tactic(auto)]
 
-ghost use Rattle.std.specs.Prelude.{◌≡◌};
-ghost use Rattle.omp_machine.specs.Echo.{echo_of};
 
-// The `ensures` clause is the contract: what `echo` returns is `echo_of` of its argument, a definition
-// in `specs/Echo.antt`, which a caller's clause can cite too.
-pub fn echo(x: usize) -> usize
-    ensures { result ≡ echo_of x }
-{
-    x
-}
+
+pub mod board;
+pub mod task;
+pub mod thread;
+
+
+
+

@@ -1,0 +1,83 @@
+//! A thread: how far it has come, and the tasks that it has taken up.
+
+ghost use Rattle.std.specs.Prelude.{◌≡◌, ◌<◌, ◌-◌, ◌++◌, ◌∷◌, [], length, take, IfOk};
+ghost use Rattle.omp_model.specs.State.{top_of};
+
+use omp_model::{STACK_LIMIT, ThreadStage};
+use std::alloc::{AllocError, Global};
+use std::marker::Model;
+
+/// A thread of the machine. Its stack has room for as many tasks as the limit allows, so that a push takes no memory.
+#[derive(Drop)]
+pub struct Thread {
+    stage: ThreadStage,
+    stack: Vec<u32>,
+}
+
+impl Model for Thread {
+    ghost use Rattle.std.specs.Prelude.{◌≤◌, vec_capacity};
+    ghost use Rattle.omp_model.specs.State.{Thread as Standing};
+    ghost use Rattle.omp_model.specs.declared.limits.TheConstants.{STACK_LIMIT};
+
+    ghost Value = { Standing };
+
+    ghost view = { λ thread. record { stage = thread.stage; stack = thread.stack.items } };
+
+    ghost invariant = { λ thread. STACK_LIMIT ≤ vec_capacity thread.stack };
+}
+
+impl Thread {
+    /// A thread that has come so far, with no task.
+    pub fn new(alloc: Global, stage: ThreadStage) -> Result<Thread, AllocError>
+        ensures { IfOk result (λ thread. thread ≡ record { stage = stage; stack = [] }) }
+    {
+        let stack = Vec::with_capacity(alloc, STACK_LIMIT)?;
+        Ok(Thread { stage, stack })
+    }
+
+    /// How far the thread has come.
+    pub fn stage(&self) -> ThreadStage
+        ensures { result ≡ self.now.stage }
+    {
+        self.stage
+    }
+
+    /// The task on top of the stack, or 0.
+    pub fn current(&self) -> u32
+        ensures { result ≡ top_of self.now.stack }
+    {
+        match self.stack.last() {
+            Some(task) => *task,
+            None => 0,
+        }
+    }
+
+    /// How many tasks are on the stack.
+    pub fn depth(&self) -> usize
+        ensures { result ≡ length self.now.stack }
+    {
+        self.stack.len()
+    }
+
+    /// The thread has come so far.
+    pub fn set_stage(&mut self, stage: ThreadStage)
+        ensures { self.new ≡ record self.old { stage = stage } }
+    {
+        self.stage = stage;
+    }
+
+    /// The task is the current one from now on.
+    pub fn push(&mut self, task: u32)
+        requires { length self.old.stack < STACK_LIMIT }
+        ensures { self.new ≡ record self.old { stack = self.old.stack ++ task ∷ [] } }
+    {
+        self.stack.push(task).unwrap();
+    }
+
+    /// The current task, if there is one, is taken off.
+    pub fn pop(&mut self)
+        ensures { self.new ≡ record self.old { stack = take (length self.old.stack - 1) self.old.stack } }
+    {
+        let _ = self.stack.pop();
+    }
+}

@@ -1,0 +1,28 @@
+-- The status and the line of each end of a command.
+use Rattle.std.specs.Prelude.{ℕ, List, [], ◌∷◌, ◌++◌, codes}
+use Rattle.ompt_cli.specs.declared.end.Refusal.{Refusal}
+use Rattle.ompt_cli.specs.declared.end.Refusal.TheVariants.{TooLong, OtherForm}
+use Rattle.ompt_cli.specs.declared.end.End.{End}
+use Rattle.ompt_cli.specs.declared.end.End.TheVariants.{Done, Usage, Refused, ReadFault, WriteFault, Memory}
+
+abbrev pub status_of : End → ℕ
+status_of Done = 0
+status_of Usage = 2
+status_of (Refused why) = 3
+status_of ReadFault = 8
+status_of WriteFault = 9
+status_of Memory = 10
+
+-- the text of the line on standard error, without its newline
+abbrev pub refusal_text : Refusal → List ℕ
+refusal_text TooLong = codes "refused 15 at 0:0"
+refusal_text OtherForm = codes "refused 16 at 0:0"
+
+-- the line on standard error, which is empty at status 0
+abbrev pub line_of_end : End → List ℕ
+line_of_end Done = []
+line_of_end Usage = codes "usage: ompt run, list, record, profile, timeline, show, check or gen" ++ 10 ∷ []
+line_of_end (Refused why) = refusal_text why ++ 10 ∷ []
+line_of_end ReadFault = codes "read fault" ++ 10 ∷ []
+line_of_end WriteFault = codes "write fault" ++ 10 ∷ []
+line_of_end Memory = codes "memory" ++ 10 ∷ []
