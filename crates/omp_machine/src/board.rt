@@ -286,7 +286,7 @@ fn all_threads(alloc: Global, threads: u8) -> Result<Vec<Thread>, AllocError>
 {
     let mut all = Vec::new(alloc);
     all.push(Thread::new(alloc, ThreadStage::Made)?)?;
-    for _made in 1..threads {
+    for _made in 0..threads - 1 {
         all.push(Thread::new(alloc, ThreadStage::Unmade)?)?;
     }
     Ok(all)

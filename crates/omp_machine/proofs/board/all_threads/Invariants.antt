@@ -4,4 +4,4 @@ use Rattle.omp_machine.proofs.board.all_threads.Given as goal
 
 -- thread 0, and as many others as were counted
 abbrev pub invariant-loop-made : goal.invariant-loop-made
-invariant-loop-made l = l.all.items ≡ initial_thread ∷ replicate (l._made - 1) unmade
+invariant-loop-made l = l.all.items ≡ initial_thread ∷ replicate l._made unmade
