@@ -1,7 +1,8 @@
 -- What a serial run has come to, however its history goes on: the invariant of a loop that appends each turn's entries.
 use Rattle.std.specs.Prelude.{◌≡◌, ℕ, zero, suc, ◌+◌, ◌-◌, ◌*◌, ◌<◌, ◌≤◌, ◌==◌, Bool, true, false, ◌&&◌, ◌||◌, if◌then◌else◌, List, [], ◌∷◌, ◌++◌, length, map, Option, Some, None, IsSome, is_some, IsTrue, refl}
-use Rattle.std.proofs.Common.{sym, ap, ◌∙◌, subst, ◌⊎◌, inl, inr, append_assoc, append-nil, length-append, eq-eqb, arith}
-use Rattle.std.proofs.lemmas.Bool.{true≢false, cases_eq, cases_lt}
+use Rattle.std.proofs.Common.{sym, ap, ◌∙◌, subst, subst₂, ◌⊎◌, inl, inr, append_assoc, append-nil, length-append, eq-eqb, arith}
+use Rattle.std.proofs.lemmas.Bool.{cases_eq, cases_lt}
+use Rattle.std.proofs.lemmas.List.{map-append}
 use Rattle.ompt_calls.specs.declared.call.Call.{Call}
 use Rattle.ompt_calls.specs.Number.{number_of}
 use Rattle.omp_model.specs.declared.limits.TheConstants.{TURN_LIMIT}
@@ -17,7 +18,7 @@ use Rattle.omp_model.specs.Legal.{back_from, back, after_from, after, AllowsFrom
 use Rattle.omp_model.specs.Heard.{Item, heard_call, heard_outcome, heard_from}
 use Rattle.omp_model.specs.Serial.{enabled_among, or_else, first_enabled, Visit, start, go_of, onward_from, onward, inside_after, Leads, Serial, WholeSerial}
 use Rattle.omp_model.specs.Records.{record_of, records_of}
-use Rattle.omp_model.proofs.Turns.{turn-goes, turn-not_idle, turn-quiet, turn-happens, turn-halts, turns-rise}
+use Rattle.omp_model.proofs.Turns.{turn-goes, turn-not_idle, turn-quiet, turn-happens, turn-halts, turns-rise, back-turns, back-halt}
 
 -- the entry of a turn, and of its callback's return
 abbrev pub go_at : ℕ → Entry
@@ -91,17 +92,143 @@ pub HasRun-start : (run : Run) → HasRun run [] [] (start run)
 HasRun-start run = record { legal = λ rest allows. allows; reached = λ rest. refl; in_turn = λ rest last leads. leads; recorded = λ rest. refl; short = omega arith; running = λ on. omega arith; outside = refl }
 
 -- a history of which this is known is legal and serial
-pub HasRun-serial : (run : Run) (H : List Entry) (R : List EventRecord) (v : Visit) → HasRun run H R v → Serial run H
-HasRun-serial run H R v has = record { legal = subst (λ K. AllowsFrom run (first run) K) (append-nil H) (has.legal [] tt); last = v; in_turn = subst (λ K. Leads run (start run) K v) (append-nil H) (has.in_turn [] v refl) }
+pub HasRun-serial : {run : Run} {H : List Entry} {R : List EventRecord} {v : Visit} → HasRun run H R v → Serial run H
+HasRun-serial {run} {H} {R} {v} has =
+    record {
+      legal = subst (λ K. AllowsFrom run (first run) K) (append-nil H) (has.legal [] tt);
+      last = v;
+      in_turn = subst (λ K. Leads run (start run) K v) (append-nil H) (has.in_turn [] v refl);
+    }
 
 -- the state after it
-pub HasRun-after : (run : Run) (H : List Entry) (R : List EventRecord) (v : Visit) → HasRun run H R v → after run H ≡ v.state
-HasRun-after run H R v has = subst (λ K. after_from run (first run) K ≡ v.state) (append-nil H) (has.reached [])
+pub HasRun-after : {run : Run} {H : List Entry} {R : List EventRecord} {v : Visit} → HasRun run H R v → after run H ≡ v.state
+HasRun-after {run} {H} {R} {v} has = subst (λ K. after_from run (first run) K ≡ v.state) (append-nil H) (has.reached [])
 
 -- its records
-pub HasRun-records : (run : Run) (H : List Entry) (R : List EventRecord) (v : Visit) → HasRun run H R v → records_of run H ≡ R
-HasRun-records run H R v has = subst (λ K. map record_of (heard_from run (first run) 0 K) ≡ R) (append-nil H) (has.recorded [] ∙ append-nil R)
+pub HasRun-records : {run : Run} {H : List Entry} {R : List EventRecord} {v : Visit} → HasRun run H R v → records_of run H ≡ R
+HasRun-records {run} {H} {R} {v} has = subst (λ K. map record_of (heard_from run (first run) 0 K) ≡ R) (append-nil H) (has.recorded [] ∙ append-nil R)
 
 -- it is a whole one where it is no thread's turn
-pub HasRun-whole : (run : Run) (H : List Entry) (R : List EventRecord) (v : Visit) → HasRun run H R v → first_enabled run v.state v.next ≡ None → WholeSerial run H
-HasRun-whole run H R v has none = let serial = HasRun-serial run H R v has in record { legal = serial.legal; last = v; in_turn = subst (λ K. Leads run (start run) K v) (append-nil H) (has.in_turn [] v refl); ended = ap (onward_from run v) has.outside ∙ ap go_of none }
+pub HasRun-whole : {run : Run} {H : List Entry} {R : List EventRecord} {v : Visit} → HasRun run H R v → first_enabled run v.state v.next ≡ None → WholeSerial run H
+HasRun-whole {run} {H} {R} {v} has none =
+    record {
+      legal = (HasRun-serial has).legal;
+      last = v;
+      in_turn = subst (λ K. Leads run (start run) K v) (append-nil H) (has.in_turn [] v refl);
+      ended = ap (onward_from run v) has.outside ∙ ap go_of none;
+    }
+
+-- nothing is heard of a turn with no event
+unheard : (run : Run) (position t : ℕ) (S : State) (o : Outcome) (rest : List Entry) → inside_after o t ≡ None → heard_outcome run position t S o rest ≡ []
+unheard run position t S Idle rest is = refl
+unheard run position t S Quiet rest is = refl
+unheard run position t S (Happens e) rest is = cc
+unheard run position t S (Halts h) rest is = refl
+
+-- a turn that leaves the run going is below the limit
+still-below : (run : Run) (S : State) (t : ℕ) (o : Outcome) → enabled run S t ≡ true → (turn run S t).outcome ≡ o → (turn run S t).state.halt ≡ None → (turn run S t).state.turns < TURN_LIMIT
+still-below run S t Idle goes is on = absurd (turn-not_idle run S t goes is)
+still-below run S t Quiet goes is on = let went = turn-quiet run S t goes is in omega arith
+still-below run S t (Happens e) goes is on = let went = turn-happens run S t e goes is in omega arith
+still-below run S t (Halts h) goes is on = let ended = turn-halts run S t h is in cc
+
+-- the history grows by a turn with no event
+pub HasRun-alone :
+    {run : Run} {H : List Entry} {R : List EventRecord} {v : Visit} (t : ℕ) → HasRun run H R v → first_enabled run v.state v.next ≡ Some t → inside_after (turn run v.state t).outcome t ≡ None
+    → HasRun run (H ++ go_at t ∷ []) R (record { state = (turn run v.state t).state; next = t + 1; inside = None })
+HasRun-alone {run} {H} {R} {v} t has is alone =
+    let goes = first_enabled-enabled run v.state v.next t is in
+    let reach : Visit = record { state = (turn run v.state t).state; next = t + 1; inside = None } in
+    let along = λ (rest : List Entry). sym (append_assoc H (go_at t ∷ []) rest) in
+    record {
+      legal = λ rest allows. subst (λ K. AllowsFrom run (first run) K) (along rest) (has.legal (go_at t ∷ rest) (goes, allows));
+      reached = λ rest. subst (λ K. after_from run (first run) K ≡ after_from run reach.state rest) (along rest) (has.reached (go_at t ∷ rest));
+      in_turn = λ rest last leads.
+          subst (λ K. Leads run (start run) K last) (along rest)
+            (has.in_turn (go_at t ∷ rest) last
+              (ap (onward_from run v) has.outside ∙ ap go_of is,
+                subst (λ i. Leads run (record { state = (turn run v.state t).state; next = t + 1; inside = i }) rest last) (sym alone) leads));
+      recorded = λ rest.
+          subst₂ (λ K p. map record_of (heard_from run (first run) 0 K) ≡ R ++ map record_of (heard_from run reach.state p rest)) (along rest) (sym (length-append H (go_at t ∷ [])))
+            (has.recorded (go_at t ∷ rest) ∙ ap (λ items. R ++ map record_of (items ++ heard_from run reach.state (length H + 1) rest)) (unheard run (length H) t reach.state (turn run v.state t).outcome rest alone));
+      short = let long = length-append H (go_at t ∷ []) in let rise = turns-rise run v.state t goes in let shorter = has.short in omega arith;
+      running = λ on. still-below run v.state t (turn run v.state t).outcome goes refl on;
+      outside = refl;
+    }
+
+-- the history grows by a turn with an event and its callback's return, and the records by what is heard of it
+HasRun-paired :
+    {run : Run} {H : List Entry} {R : List EventRecord} {v : Visit} (t : ℕ) (e : Event) (told : List EventRecord) → HasRun run H R v → first_enabled run v.state v.next ≡ Some t → (turn run v.state t).outcome ≡ Happens e
+    → IsSome (pending_at (turn run v.state t).state t) → ((rest : List Entry) → map record_of (heard_call run (length H) t (call_of (turn run v.state t).state.world t e) (back_at t ∷ rest)) ≡ told)
+    → HasRun run (H ++ go_at t ∷ back_at t ∷ []) (R ++ told) (record { state = back (turn run v.state t).state t; next = t + 1; inside = None })
+HasRun-paired {run} {H} {R} {v} t e told has is happens inside heard =
+    let goes = first_enabled-enabled run v.state v.next t is in
+    let between : State = (turn run v.state t).state in
+    let reach : Visit = record { state = back between t; next = t + 1; inside = None } in
+    let both : List Entry = go_at t ∷ back_at t ∷ [] in
+    let along = λ (rest : List Entry). sym (append_assoc H both rest) in
+    let long : length (H ++ both) ≡ length H + 1 + 1 = omega (arith, length-append H both) in
+    record {
+      legal = λ rest allows. subst (λ K. AllowsFrom run (first run) K) (along rest) (has.legal (go_at t ∷ back_at t ∷ rest) (goes, (inside, allows)));
+      reached = λ rest. subst (λ K. after_from run (first run) K ≡ after_from run reach.state rest) (along rest) (has.reached (go_at t ∷ back_at t ∷ rest));
+      in_turn = λ rest last leads.
+          subst (λ K. Leads run (start run) K last) (along rest)
+            (has.in_turn (go_at t ∷ back_at t ∷ rest) last
+              (ap (onward_from run v) has.outside ∙ ap go_of is, (ap (λ o. onward_from run (record { state = between; next = t + 1; inside = inside_after o t }) (inside_after o t)) happens, leads)));
+      recorded = λ rest.
+          subst₂ (λ K p. map record_of (heard_from run (first run) 0 K) ≡ (R ++ told) ++ map record_of (heard_from run reach.state p rest)) (along rest) (sym long)
+            (has.recorded (go_at t ∷ back_at t ∷ rest)
+              ∙ ap (λ o. R ++ map record_of (heard_outcome run (length H) t between o (back_at t ∷ rest) ++ heard_from run reach.state (length H + 1 + 1) rest)) happens
+              ∙ ap (λ records. R ++ records) (map-append record_of (heard_call run (length H) t (call_of between.world t e) (back_at t ∷ rest)) (heard_from run reach.state (length H + 1 + 1) rest) ∙ ap (λ records. records ++ map record_of (heard_from run reach.state (length H + 1 + 1) rest)) (heard rest))
+              ∙ sym (append_assoc R told (map record_of (heard_from run reach.state (length H + 1 + 1) rest))));
+      short = let rise = turns-rise run v.state t goes in let kept = back-turns between t in let shorter = has.short in omega arith;
+      running = λ on.
+          let below = still-below run v.state t (turn run v.state t).outcome goes refl (sym (back-halt between t) ∙ on) in
+          subst (λ n. n < TURN_LIMIT) (sym (back-turns between t)) below;
+      outside = refl;
+    }
+
+-- what is heard of a registered call whose Back comes next
+heard-told : (run : Run) (position t : ℕ) (call : Call) (rest : List Entry) → is_registered run.mask (number_of call) ≡ true → map record_of (heard_call run position t call (back_at t ∷ rest)) ≡ record { seq = position; thread = t; call = call } ∷ []
+heard-told run position t call rest registered = rw (registered, eq-eqb t t refl)
+
+-- nothing is heard of a call that isn't registered
+heard-untold : (run : Run) (position t : ℕ) (call : Call) (rest : List Entry) → is_registered run.mask (number_of call) ≡ false → map record_of (heard_call run position t call rest) ≡ []
+heard-untold run position t call rest registered = rw registered
+
+-- the history grows by a turn with an event that is registered, and its callback's return
+pub HasRun-told_pair :
+    {run : Run} {H : List Entry} {R : List EventRecord} {v : Visit} (t : ℕ) (e : Event) → HasRun run H R v → first_enabled run v.state v.next ≡ Some t → (turn run v.state t).outcome ≡ Happens e
+    → IsSome (pending_at (turn run v.state t).state t) → is_registered run.mask (number_of (call_of (turn run v.state t).state.world t e)) ≡ true
+    → HasRun run (H ++ go_at t ∷ back_at t ∷ []) (R ++ record { seq = length H; thread = t; call = call_of (turn run v.state t).state.world t e } ∷ []) (record { state = back (turn run v.state t).state t; next = t + 1; inside = None })
+HasRun-told_pair {run} {H} {R} {v} t e has is happens inside registered =
+    let call = call_of (turn run v.state t).state.world t e in
+    HasRun-paired t e (record { seq = length H; thread = t; call = call } ∷ []) has is happens inside (λ rest. heard-told run (length H) t call rest registered)
+
+-- the history grows by a turn with an event that isn't registered, and its callback's return
+pub HasRun-untold_pair :
+    {run : Run} {H : List Entry} {R : List EventRecord} {v : Visit} (t : ℕ) (e : Event) → HasRun run H R v → first_enabled run v.state v.next ≡ Some t → (turn run v.state t).outcome ≡ Happens e
+    → IsSome (pending_at (turn run v.state t).state t) → is_registered run.mask (number_of (call_of (turn run v.state t).state.world t e)) ≡ false
+    → HasRun run (H ++ go_at t ∷ back_at t ∷ []) R (record { state = back (turn run v.state t).state t; next = t + 1; inside = None })
+HasRun-untold_pair {run} {H} {R} {v} t e has is happens inside registered =
+    let call = call_of (turn run v.state t).state.world t e in
+    let reach : Visit = record { state = back (turn run v.state t).state t; next = t + 1; inside = None } in
+    subst (λ K. HasRun run (H ++ go_at t ∷ back_at t ∷ []) K reach) (append-nil R) (HasRun-paired t e [] has is happens inside (λ rest. heard-untold run (length H) t call (back_at t ∷ rest) registered))
+
+-- two entries may be pushed one after the other
+pushed-pair : (run : Run) (H : List Entry) (R : List EventRecord) (v : Visit) (one other : Entry) → HasRun run (H ++ one ∷ other ∷ []) R v → HasRun run ((H ++ one ∷ []) ++ other ∷ []) R v
+pushed-pair run H R v one other has = subst (λ K. HasRun run K R v) (sym (append_assoc H (one ∷ []) (other ∷ []))) has
+
+-- the same of a registered event, where the entries are pushed one after the other
+pub HasRun-told :
+    {run : Run} {H : List Entry} {R : List EventRecord} {v : Visit} (t : ℕ) (e : Event) → HasRun run H R v → first_enabled run v.state v.next ≡ Some t → (turn run v.state t).outcome ≡ Happens e
+    → IsSome (pending_at (turn run v.state t).state t) → is_registered run.mask (number_of (call_of (turn run v.state t).state.world t e)) ≡ true
+    → HasRun run ((H ++ go_at t ∷ []) ++ back_at t ∷ []) (R ++ record { seq = length H; thread = t; call = call_of (turn run v.state t).state.world t e } ∷ []) (record { state = back (turn run v.state t).state t; next = t + 1; inside = None })
+HasRun-told t e has is happens inside registered = pushed-pair _ _ _ _ (go_at t) (back_at t) (HasRun-told_pair t e has is happens inside registered)
+
+-- the same of an event that isn't registered
+pub HasRun-untold :
+    {run : Run} {H : List Entry} {R : List EventRecord} {v : Visit} (t : ℕ) (e : Event) → HasRun run H R v → first_enabled run v.state v.next ≡ Some t → (turn run v.state t).outcome ≡ Happens e
+    → IsSome (pending_at (turn run v.state t).state t) → is_registered run.mask (number_of (call_of (turn run v.state t).state.world t e)) ≡ false
+    → HasRun run ((H ++ go_at t ∷ []) ++ back_at t ∷ []) R (record { state = back (turn run v.state t).state t; next = t + 1; inside = None })
+HasRun-untold t e has is happens inside registered = pushed-pair _ _ _ _ (go_at t) (back_at t) (HasRun-untold_pair t e has is happens inside registered)

@@ -9,6 +9,7 @@ use Rattle.omp_model.specs.declared.machine.Halt.TheVariants.{Limit}
 use Rattle.omp_model.specs.State.{Run, World, State, pending_at}
 use Rattle.omp_model.specs.Silent.{Silence, NoStep, Steps, is_step, silent}
 use Rattle.omp_model.specs.Events.{event, fault_at}
+use Rattle.omp_model.specs.Legal.{back_from, back}
 use Rattle.omp_model.specs.Turn.{Walk, walk_on, walk, stepped, Outcome, Idle, Quiet, Happens, Halts, Turn, happening, after_steps, after_walk, halted, counted, unlimited, turn, has_outcome, enabled}
 
 -- an event that occurs is an outcome, and so is the trap or limit that it meets
@@ -205,3 +206,15 @@ rises S after t (Halts h) has leaves = leaves.0
 -- each turn of an enabled thread raises the count of turns by one
 pub turns-rise : (run : Run) (S : State) (t : ℕ) → enabled run S t ≡ true → (turn run S t).state.turns ≡ S.turns + 1
 turns-rise run S t goes = rises S (turn run S t).state t (turn run S t).outcome (has-turn run S t goes) (leaves-turn run S t)
+
+back_from-keeps : (S : State) (t : ℕ) (o : Option Event) → ((back_from S t o).turns ≡ S.turns) × ((back_from S t o).halt ≡ S.halt)
+back_from-keeps S t None = (refl, refl)
+back_from-keeps S t (Some e) = (refl, refl)
+
+-- a callback's return keeps the count of turns
+pub back-turns : (S : State) (t : ℕ) → (back S t).turns ≡ S.turns
+back-turns S t = (back_from-keeps S t (pending_at S t)).0
+
+-- a callback's return keeps what halted the run
+pub back-halt : (S : State) (t : ℕ) → (back S t).halt ≡ S.halt
+back-halt S t = (back_from-keeps S t (pending_at S t)).1
