@@ -18,7 +18,7 @@ use Rattle.omp_model.specs.Legal.{back_from, back, after_from, after, AllowsFrom
 use Rattle.omp_model.specs.Heard.{Item, heard_call, heard_outcome, heard_from}
 use Rattle.omp_model.specs.Serial.{enabled_among, or_else, first_enabled, Visit, start, go_of, onward_from, onward, inside_after, Leads, Serial, WholeSerial}
 use Rattle.omp_model.specs.Records.{record_of, records_of}
-use Rattle.omp_model.proofs.Turns.{turn-goes, turn-not_idle, turn-quiet, turn-happens, turn-halts, turns-rise, back-turns, back-halt}
+use Rattle.omp_model.proofs.Turns.{turns-rise, turn-below, back-turns, back-halt}
 
 -- the entry of a turn, and of its callback's return
 abbrev pub go_at : ℕ → Entry
@@ -125,13 +125,6 @@ unheard run position t S Quiet rest is = refl
 unheard run position t S (Happens e) rest is = cc
 unheard run position t S (Halts h) rest is = refl
 
--- a turn that leaves the run going is below the limit
-still-below : (run : Run) (S : State) (t : ℕ) (o : Outcome) → enabled run S t ≡ true → (turn run S t).outcome ≡ o → (turn run S t).state.halt ≡ None → (turn run S t).state.turns < TURN_LIMIT
-still-below run S t Idle goes is on = absurd (turn-not_idle run S t goes is)
-still-below run S t Quiet goes is on = let went = turn-quiet run S t goes is in omega arith
-still-below run S t (Happens e) goes is on = let went = turn-happens run S t e goes is in omega arith
-still-below run S t (Halts h) goes is on = let ended = turn-halts run S t h is in cc
-
 -- the history grows by a turn with no event
 pub HasRun-alone :
     {run : Run} {H : List Entry} {R : List EventRecord} {v : Visit} (t : ℕ) → HasRun run H R v → first_enabled run v.state v.next ≡ Some t → inside_after (turn run v.state t).outcome t ≡ None
@@ -152,7 +145,7 @@ HasRun-alone {run} {H} {R} {v} t has is alone =
           subst₂ (λ K p. map record_of (heard_from run (first run) 0 K) ≡ R ++ map record_of (heard_from run reach.state p rest)) (along rest) (sym (length-append H (go_at t ∷ [])))
             (has.recorded (go_at t ∷ rest) ∙ ap (λ items. R ++ map record_of (items ++ heard_from run reach.state (length H + 1) rest)) (unheard run (length H) t reach.state (turn run v.state t).outcome rest alone));
       short = let long = length-append H (go_at t ∷ []) in let rise = turns-rise run v.state t goes in let shorter = has.short in omega arith;
-      running = λ on. still-below run v.state t (turn run v.state t).outcome goes refl on;
+      running = λ on. turn-below run v.state t goes on;
       outside = refl;
     }
 
@@ -183,7 +176,7 @@ HasRun-paired {run} {H} {R} {v} t e told has is happens inside heard =
               ∙ sym (append_assoc R told (map record_of (heard_from run reach.state (length H + 1 + 1) rest))));
       short = let rise = turns-rise run v.state t goes in let kept = back-turns between t in let shorter = has.short in omega arith;
       running = λ on.
-          let below = still-below run v.state t (turn run v.state t).outcome goes refl (sym (back-halt between t) ∙ on) in
+          let below = turn-below run v.state t goes (sym (back-halt between t) ∙ on) in
           subst (λ n. n < TURN_LIMIT) (sym (back-turns between t)) below;
       outside = refl;
     }

@@ -218,3 +218,14 @@ back-turns S t = (back_from-keeps S t (pending_at S t)).0
 -- a callback's return keeps what halted the run
 pub back-halt : (S : State) (t : ℕ) → (back S t).halt ≡ S.halt
 back-halt S t = (back_from-keeps S t (pending_at S t)).1
+
+-- a turn with this outcome is below the limit where it leaves the run going
+below-at : (run : Run) (S : State) (t : ℕ) (o : Outcome) → enabled run S t ≡ true → (turn run S t).outcome ≡ o → (turn run S t).state.halt ≡ None → (turn run S t).state.turns < TURN_LIMIT
+below-at run S t Idle goes is on = absurd (turn-not_idle run S t goes is)
+below-at run S t Quiet goes is on = let went = turn-quiet run S t goes is in omega arith
+below-at run S t (Happens e) goes is on = let went = turn-happens run S t e goes is in omega arith
+below-at run S t (Halts h) goes is on = let ended = turn-halts run S t h is in cc
+
+-- where an enabled thread's turn leaves the run going, the count of turns is below the limit
+pub turn-below : (run : Run) (S : State) (t : ℕ) → enabled run S t ≡ true → (turn run S t).state.halt ≡ None → (turn run S t).state.turns < TURN_LIMIT
+turn-below run S t goes on = below-at run S t (turn run S t).outcome goes refl on
