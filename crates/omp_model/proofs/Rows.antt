@@ -1,5 +1,6 @@
 -- The run of the empty program, computed: its entries, threads, positions, records and cause.
-use Rattle.std.proofs.Common.{ℕ, zero, suc, ◌≡◌, ◌≤◌, List, [], ◌∷◌, Some, refl, arith}
+use Rattle.std.proofs.Common.{ℕ, zero, suc, ◌≡◌, ◌≤◌, List, [], ◌∷◌, Some, refl, subst, inl, inr, arith}
+use Rattle.std.proofs.lemmas.Bool.{cases_eq}
 use Rattle.ompt_calls.specs.declared.call.Call.TheVariants.{ThreadBegin, ThreadEnd, ImplicitTask}
 use Rattle.omp_model.specs.declared.cause.Cause.TheVariants as cause
 use Rattle.omp_model.specs.declared.history.What.TheVariants.{Go, Back}
@@ -14,58 +15,39 @@ use Rattle.omp_model.specs.Legal.{Legal}
 use Rattle.omp_model.specs.Cause.{cause_of}
 use Rattle.omp_model.specs.Serial.{enabled_among, serial_from, serial}
 use Rattle.omp_model.specs.Records.{records_of}
-use Rattle.omp_model.specs.Program.{empty_run}
+use Rattle.omp_model.specs.Program.{empty_run, go, back, eight, four}
 
 -- the run with all callbacks and a million silent steps
 abbrev pub on : ℕ → Run
 on threads = empty_run 0x0FB300FE threads 1000000
 
-abbrev go : Entry
-go = record { thread = 0; what = Go }
+-- what is so at each number from 1 to this one
+abbrev Each : (ℕ → Type 0) → ℕ → Type 0
+Each P zero = Unit {0}
+Each P (suc most) = P (suc most) × Each P most
 
-abbrev back : Entry
-back = record { thread = 0; what = Back }
+each-at : (P : ℕ → Type 0) (most n : ℕ) → Each P most → 1 ≤ n → n ≤ most → P n
+each-at P zero n each low high = absurd (omega arith)
+each-at P (suc most) n each low high = elim (cases_eq (suc most) n) [ inl same ↦ subst P same each.0 | inr other ↦ each-at P most n each.1 low (omega arith) ]
 
-abbrev pub eight : List Entry
-eight = go ∷ back ∷ go ∷ back ∷ go ∷ back ∷ go ∷ back ∷ []
-
-abbrev pub four : List EventRecord
-four =
-    record { seq = 0; thread = 0; call = ThreadBegin 1 (fresh_word 1) } ∷ record { seq = 2; thread = 0; call = ImplicitTask 1 (fresh_word 1) (fresh_word 1) 1 1 1 } ∷ record { seq = 4; thread = 0; call = ImplicitTask 2 (fresh_word 0) (fresh_word 1) 0 1 1 } ∷ record { seq = 6; thread = 0; call = ThreadEnd (fresh_word 1) } ∷ []
-
--- whatever number of threads there may be, from 1 to 16
+-- the serial run, whatever number of threads there may be
 pub entries : (n : ℕ) → 1 ≤ n → n ≤ 16 → serial (on n) ≡ eight
 unfolding silent event walk unlimited turn enabled enabled_among serial_from
-entries zero low high = absurd (omega arith)
-entries (suc zero) low high = refl
-entries (suc (suc zero)) low high = refl
-entries (suc (suc (suc zero))) low high = refl
-entries (suc (suc (suc (suc zero)))) low high = refl
-entries (suc (suc (suc (suc (suc zero))))) low high = refl
-entries (suc (suc (suc (suc (suc (suc zero)))))) low high = refl
-entries (suc (suc (suc (suc (suc (suc (suc zero))))))) low high = refl
-entries (suc (suc (suc (suc (suc (suc (suc (suc zero)))))))) low high = refl
-entries (suc (suc (suc (suc (suc (suc (suc (suc (suc zero))))))))) low high = refl
-entries (suc (suc (suc (suc (suc (suc (suc (suc (suc (suc zero)))))))))) low high = refl
-entries (suc (suc (suc (suc (suc (suc (suc (suc (suc (suc (suc zero))))))))))) low high = refl
-entries (suc (suc (suc (suc (suc (suc (suc (suc (suc (suc (suc (suc zero)))))))))))) low high = refl
-entries (suc (suc (suc (suc (suc (suc (suc (suc (suc (suc (suc (suc (suc zero))))))))))))) low high = refl
-entries (suc (suc (suc (suc (suc (suc (suc (suc (suc (suc (suc (suc (suc (suc zero)))))))))))))) low high = refl
-entries (suc (suc (suc (suc (suc (suc (suc (suc (suc (suc (suc (suc (suc (suc (suc zero))))))))))))))) low high = refl
-entries (suc (suc (suc (suc (suc (suc (suc (suc (suc (suc (suc (suc (suc (suc (suc (suc zero)))))))))))))))) low high = refl
-entries (suc (suc (suc (suc (suc (suc (suc (suc (suc (suc (suc (suc (suc (suc (suc (suc (suc n))))))))))))))))) low high = absurd (omega arith)
+entries n = each-at (λ n. serial (on n) ≡ eight) 16 n (refl, (refl, (refl, (refl, (refl, (refl, (refl, (refl, (refl, (refl, (refl, (refl, (refl, (refl, (refl, (refl, tt))))))))))))))))
+
+-- its records
+pub records : (n : ℕ) → 1 ≤ n → n ≤ 16 → records_of (on n) eight ≡ four
+unfolding silent event walk unlimited turn enabled enabled_among serial_from
+records n = each-at (λ n. records_of (on n) eight ≡ four) 16 n (refl, (refl, (refl, (refl, (refl, (refl, (refl, (refl, (refl, (refl, (refl, (refl, (refl, (refl, (refl, (refl, tt))))))))))))))))
+
+-- its cause
+pub ends-done : (n : ℕ) → 1 ≤ n → n ≤ 16 → cause_of (on n) eight ≡ Some cause.Done
+unfolding silent event walk unlimited turn enabled enabled_among serial_from
+ends-done n = each-at (λ n. cause_of (on n) eight ≡ Some cause.Done) 16 n (refl, (refl, (refl, (refl, (refl, (refl, (refl, (refl, (refl, (refl, (refl, (refl, (refl, (refl, (refl, (refl, tt))))))))))))))))
 
 pub legal : Legal (on 1) eight
 unfolding silent event walk unlimited turn enabled enabled_among serial_from
 legal = (refl, (refl, (refl, (refl, (refl, (refl, (refl, (refl, tt))))))))
-
-pub records : records_of (on 1) eight ≡ four
-unfolding silent event walk unlimited turn enabled enabled_among serial_from
-records = refl
-
-pub ends-done : cause_of (on 1) eight ≡ Some cause.Done
-unfolding silent event walk unlimited turn enabled enabled_among serial_from
-ends-done = refl
 
 -- with one silent step, the turn that would make the second one meets the limit
 pub limited : serial (empty_run 0x0FB300FE 1 1) ≡ go ∷ back ∷ go ∷ back ∷ go ∷ []

@@ -1,0 +1,121 @@
+-- The serial histories to the end are one, and `serial` computes it.
+use Rattle.std.specs.Prelude.{◌≡◌, ℕ, zero, suc, ◌+◌, ◌-◌, ◌*◌, ◌<◌, ◌≤◌, true, List, [], ◌∷◌, length, Option, Some, None, refl}
+use Rattle.std.proofs.Common.{sym, ap, ◌∙◌, subst, arith}
+use Rattle.omp_model.specs.declared.limits.TheConstants.{TURN_LIMIT}
+use Rattle.omp_model.specs.declared.history.What.TheVariants.{Go, Back}
+use Rattle.omp_model.specs.declared.history.Entry.{Entry}
+use Rattle.omp_model.specs.declared.machine.Event.{Event}
+use Rattle.omp_model.specs.declared.machine.Halt.{Halt}
+use Rattle.omp_model.specs.State.{Run, State, first}
+use Rattle.omp_model.specs.Turn.{Outcome, Idle, Quiet, Happens, Halts, turn, enabled}
+use Rattle.omp_model.specs.Legal.{back}
+use Rattle.omp_model.specs.Serial.{first_enabled, Visit, start, go_of, onward_from, onward, inside_after, moved, Leads, WholeSerial, serial_on, serial_from, serial}
+use Rattle.omp_model.proofs.Turns.{turn-goes, turn-not_idle, turn-quiet, turn-happens, turn-halts, turn-below, back-turns, back-halt}
+use Rattle.omp_model.proofs.Recording.{go_at, back_at, first_enabled-enabled}
+
+-- with room for its entries, the serial order from a visit on is the history that leads to the end
+follow : (run : Run) (most : ℕ) (v last : Visit) (H : List Entry) → Leads run v H last → onward run last ≡ None → length H ≤ most → serial_from run most v ≡ H
+unfolding serial_from
+follow run zero v last [] leads ended room = refl
+follow run zero v last (entry ∷ rest) leads ended room = absurd (omega arith)
+follow run (suc most) v last [] leads ended room = ap (λ o. serial_on o (λ entry. serial_from run most (moved run v entry))) (ap (onward run) leads ∙ ended)
+follow run (suc most) v last (entry ∷ rest) leads ended room =
+    ap (λ o. serial_on o (λ next. serial_from run most (moved run v next))) leads.0 ∙ ap (λ more. entry ∷ more) (follow run most (moved run v entry) last rest leads.1 ended (omega arith))
+
+-- how many turns may be left, by what halted the run and how many there were
+abbrev left_by : Option Halt → ℕ → ℕ
+left_by None turns = TURN_LIMIT - turns
+left_by (Some halt) turns = 0
+
+abbrev left : State → ℕ
+left S = left_by S.halt S.turns
+
+-- a thread inside a callback has an entry to come
+abbrev owed : Option ℕ → ℕ
+owed None = 0
+owed (Some t) = 1
+
+-- how many entries may be left
+abbrev budget : Visit → ℕ
+budget v = 2 * left v.state + owed v.inside
+
+-- a run that goes on is below the limit of turns
+record Ready (S : State) : Type 0 where
+  pub below : S.halt ≡ None → S.turns < TURN_LIMIT
+
+-- an entry leads to a visit that is ready, with a smaller budget
+record Spends (v after : Visit) : Type 0 where
+  pub ready : Ready after.state
+  pub less : budget after + 1 ≤ budget v
+
+-- what is left of a state that isn't halted
+left-running : (S : State) → S.halt ≡ None → left S ≡ TURN_LIMIT - S.turns
+left-running S on = ap (λ h. left_by h S.turns) on
+
+-- a turn with this outcome spends what its entries need
+spends-at : (run : Run) (S : State) (t : ℕ) (o : Outcome) → Ready S → enabled run S t ≡ true → (turn run S t).outcome ≡ o → 2 * left (turn run S t).state + owed (inside_after o t) + 1 ≤ 2 * left S
+spends-at run S t Idle ready goes is = absurd (turn-not_idle run S t goes is)
+spends-at run S t Quiet ready goes is =
+    let went = turn-quiet run S t goes is in
+    let before = left-running S (turn-goes run S t goes).halt in
+    let after = left-running (turn run S t).state went.halt in
+    omega arith
+spends-at run S t (Happens e) ready goes is =
+    let went = turn-happens run S t e goes is in
+    let before = left-running S (turn-goes run S t goes).halt in
+    let after = left-running (turn run S t).state went.halt in
+    omega arith
+spends-at run S t (Halts h) ready goes is =
+    let ended = turn-halts run S t h is in
+    let on = (turn-goes run S t goes).halt in
+    let before = left-running S on in
+    let below = ready.below on in
+    let after : left (turn run S t).state ≡ 0 = ap (λ halt. left_by halt (turn run S t).state.turns) ended.halt in
+    omega arith
+
+-- a Back spends the entry that was owed
+spends-back : (run : Run) (v : Visit) (t : ℕ) → Ready v.state → v.inside ≡ Some t → Spends v (moved run v (back_at t))
+spends-back run v t ready inside =
+    let turns = back-turns v.state t in
+    let halt = back-halt v.state t in
+    let same : left (back v.state t) ≡ left v.state = cc in
+    let one : owed v.inside ≡ 1 = ap owed inside in
+    record { ready = record { below = λ on. let below = ready.below (sym halt ∙ on) in omega arith }; less = omega arith }
+
+-- a Go of the first enabled thread spends a turn
+spends-go : (run : Run) (v : Visit) (t : ℕ) → Ready v.state → v.inside ≡ None → first_enabled run v.state v.next ≡ Some t → Spends v (moved run v (go_at t))
+spends-go run v t ready outside is =
+    let goes = first_enabled-enabled run v.state v.next t is in
+    let spends = spends-at run v.state t (turn run v.state t).outcome ready goes refl in
+    record { ready = record { below = turn-below run v.state t goes }; less = omega arith }
+
+go_of-some : (o : Option ℕ) (entry : Entry) → go_of o ≡ Some entry → (t : ℕ) × (o ≡ Some t) × (go_at t ≡ entry)
+go_of-some None entry is = cc
+go_of-some (Some t) entry is = (t, refl, cc)
+
+-- the one entry that may stand next spends of the budget
+spends-onward : (run : Run) (v : Visit) (entry : Entry) (inside : Option ℕ) → Ready v.state → v.inside ≡ inside → onward_from run v inside ≡ Some entry → Spends v (moved run v entry)
+spends-onward run v entry (Some t) ready inside is = let same : back_at t ≡ entry = cc in subst (λ x. Spends v (moved run v x)) same (spends-back run v t ready inside)
+spends-onward run v entry None ready inside is =
+    let found = go_of-some (first_enabled run v.state v.next) entry is in
+    subst (λ x. Spends v (moved run v x)) found.2 (spends-go run v found.0 ready inside found.1)
+
+-- the entries from a visit on are within its budget
+within : (run : Run) (v last : Visit) (H : List Entry) → Ready v.state → Leads run v H last → length H ≤ budget v
+within run v last [] ready leads = omega arith
+within run v last (entry ∷ rest) ready leads =
+    let spends = spends-onward run v entry v.inside ready refl leads.0 in
+    let shorter = within run (moved run v entry) last rest spends.ready leads.1 in
+    omega arith
+
+-- a serial history has at most two entries for each turn that there may be
+pub serial-short : (run : Run) (H : List Entry) (last : Visit) → Leads run (start run) H last → length H ≤ 2 * TURN_LIMIT
+serial-short run H last leads = let short = within run (start run) last H (record { below = λ on. omega arith }) leads in omega arith
+
+-- a serial history to the end is what `serial` computes
+pub serial-whole : (run : Run) (H : List Entry) → WholeSerial run H → serial run ≡ H
+serial-whole run H whole = follow run (2 * TURN_LIMIT) (start run) whole.last H whole.in_turn whole.ended (serial-short run H whole.last whole.in_turn)
+
+-- two serial histories to the end are the same
+pub whole-one : (run : Run) (H K : List Entry) → WholeSerial run H → WholeSerial run K → H ≡ K
+whole-one run H K one other = sym (serial-whole run H one) ∙ serial-whole run K other
