@@ -4,6 +4,8 @@ use Rattle.omp_model.specs.declared.limits.TheConstants.{STEPS_OF_A_TURN, TURN_L
 use Rattle.omp_model.specs.declared.machine.Event.{Event}
 use Rattle.omp_model.specs.declared.machine.Halt.{Halt}
 use Rattle.omp_model.specs.declared.machine.Halt.TheVariants.{Trap, Limit}
+pub use Rattle.omp_model.specs.declared.machine.Outcome.{Outcome}
+pub use Rattle.omp_model.specs.declared.machine.Outcome.TheVariants.{Idle, Quiet, Happens, Halts}
 use Rattle.omp_model.specs.State.{Run, World, State, pending_at}
 use Rattle.omp_model.specs.Silent.{Silence, NoStep, Steps, silent}
 use Rattle.omp_model.specs.Events.{event, fault_at, at_go}
@@ -28,17 +30,7 @@ unfoldable pub walk : Run → ℕ → ℕ → State → ℕ → Walk
 walk run zero made S t = record { state = S; made = made; stop = None }
 walk run (suc left) made S t = walk_on run S made (silent S.world t) (λ after. walk run left (made + 1) (stepped S after) t)
 
--- what a turn came to
-pub data Outcome : Type 0 where
-  -- there is no turn: nothing stands next, or an event that isn't enabled
-  Idle : Outcome
-  -- silent steps alone
-  Quiet : Outcome
-  -- an event
-  Happens : (event : Event) → Outcome
-  -- a trap or a limit
-  Halts : (halt : Halt) → Outcome
-
+-- a turn: what it came to, and the state after it
 pub record Turn : Type 0 where
   pub outcome : Outcome
   pub state : State

@@ -17,4 +17,4 @@ mod machine;
 pub use cause::Cause;
 pub use history::{Entry, EventRecord, History, What};
 pub use limits::{IMPLICIT_REGION, INITIAL_TASK, STACK_LIMIT, STEPS_OF_A_TURN, TURN_LIMIT};
-pub use machine::{Condition, Event, Halt, Instruction, ThreadStage};
+pub use machine::{Condition, Event, Halt, Instruction, Outcome, ThreadStage};

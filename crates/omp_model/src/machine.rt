@@ -54,3 +54,16 @@ pub enum Halt {
     /// The limit with this number.
     Limit(u8),
 }
+
+/// What a turn came to.
+#[derive(Clone, Copy, Debug, PartialEq, Eq)]
+pub enum Outcome {
+    /// There is no turn: nothing stands next, or an event that isn't enabled.
+    Idle,
+    /// Silent steps alone.
+    Quiet,
+    /// An event.
+    Happens(Event),
+    /// A trap or a limit.
+    Halts(Halt),
+}
