@@ -13,7 +13,9 @@ use Rattle.omp_model.specs.declared.machine.Event.{Event}
 use Rattle.omp_model.specs.declared.machine.Halt.{Halt}
 use Rattle.omp_model.specs.State.{Run, State, first, pending_at}
 use Rattle.omp_model.specs.Calls.{call_of, is_registered}
-use Rattle.omp_model.specs.Turn.{Outcome, Idle, Quiet, Happens, Halts, turn, enabled}
+use Rattle.omp_model.specs.declared.machine.Outcome.{Outcome}
+use Rattle.omp_model.specs.declared.machine.Outcome.TheVariants.{Idle, Quiet, Happens, Halts}
+use Rattle.omp_model.specs.Turn.{turn, enabled}
 use Rattle.omp_model.specs.Legal.{back_from, back, after_from, after, AllowsFrom, Legal}
 use Rattle.omp_model.specs.Heard.{Item, heard_call, heard_outcome, heard_from}
 use Rattle.omp_model.specs.Serial.{enabled_among, or_else, first_enabled, Visit, start, go_of, onward_from, onward, inside_after, Leads, Serial, WholeSerial}

@@ -7,7 +7,9 @@ use Rattle.omp_model.specs.declared.history.Entry.{Entry}
 use Rattle.omp_model.specs.declared.machine.Event.{Event}
 use Rattle.omp_model.specs.declared.machine.Halt.{Halt}
 use Rattle.omp_model.specs.State.{Run, State, first}
-use Rattle.omp_model.specs.Turn.{Outcome, Idle, Quiet, Happens, Halts, turn, enabled}
+use Rattle.omp_model.specs.declared.machine.Outcome.{Outcome}
+use Rattle.omp_model.specs.declared.machine.Outcome.TheVariants.{Idle, Quiet, Happens, Halts}
+use Rattle.omp_model.specs.Turn.{turn, enabled}
 use Rattle.omp_model.specs.Legal.{back}
 use Rattle.omp_model.specs.Serial.{first_enabled, Visit, start, go_of, onward_from, onward, inside_after, moved, Leads, WholeSerial, serial_on, serial_from, serial}
 use Rattle.omp_model.proofs.Turns.{turn-goes, turn-not_idle, turn-quiet, turn-happens, turn-halts, turn-below, back-turns, back-halt}

@@ -10,7 +10,9 @@ use Rattle.omp_model.specs.State.{Run, World, State, pending_at}
 use Rattle.omp_model.specs.Silent.{Silence, NoStep, Steps, is_step, silent}
 use Rattle.omp_model.specs.Events.{event, fault_at}
 use Rattle.omp_model.specs.Legal.{back_from, back}
-use Rattle.omp_model.specs.Turn.{Walk, walk_on, walk, stepped, Outcome, Idle, Quiet, Happens, Halts, Turn, happening, after_steps, after_walk, halted, counted, unlimited, turn, has_outcome, enabled}
+use Rattle.omp_model.specs.declared.machine.Outcome.{Outcome}
+use Rattle.omp_model.specs.declared.machine.Outcome.TheVariants.{Idle, Quiet, Happens, Halts}
+use Rattle.omp_model.specs.Turn.{Walk, walk_on, walk, stepped, Turn, happening, after_steps, after_walk, halted, counted, unlimited, turn, has_outcome, enabled}
 
 -- an event that occurs is an outcome, and so is the trap or limit that it meets
 has-happening : (S : State) (t : ℕ) (e : Event) (h : Option Halt) → has_outcome (happening S t e h).outcome ≡ true

@@ -4,8 +4,8 @@ use Rattle.omp_model.specs.declared.limits.TheConstants.{STEPS_OF_A_TURN, TURN_L
 use Rattle.omp_model.specs.declared.machine.Event.{Event}
 use Rattle.omp_model.specs.declared.machine.Halt.{Halt}
 use Rattle.omp_model.specs.declared.machine.Halt.TheVariants.{Trap, Limit}
-pub use Rattle.omp_model.specs.declared.machine.Outcome.{Outcome}
-pub use Rattle.omp_model.specs.declared.machine.Outcome.TheVariants.{Idle, Quiet, Happens, Halts}
+use Rattle.omp_model.specs.declared.machine.Outcome.{Outcome}
+use Rattle.omp_model.specs.declared.machine.Outcome.TheVariants.{Idle, Quiet, Happens, Halts}
 use Rattle.omp_model.specs.State.{Run, World, State, pending_at}
 use Rattle.omp_model.specs.Silent.{Silence, NoStep, Steps, silent}
 use Rattle.omp_model.specs.Events.{event, fault_at, at_go}

@@ -1,0 +1,246 @@
+//! A state of the machine, and the order of a turn.
+
+ghost use Rattle.std.specs.Prelude.{◌≡◌, ◌≤◌, ◌<◌, ◌+◌, ◌^◌, ◌||◌, None, Some, IfOk, IsTrue, is_some, slice_set, nat_le};
+ghost use Rattle.omp_model.specs.State.{first, pending_at};
+ghost use Rattle.omp_model.specs.Silent.{Steps, is_step, silent};
+ghost use Rattle.omp_model.specs.Events.{event, fault_at};
+ghost use Rattle.omp_model.specs.Turn.{walk, stepped, halted, happening, after_steps, unlimited, turn, enabled};
+ghost use Rattle.omp_model.specs.Legal.{back};
+ghost use Rattle.omp_model.specs.Cause.{none_pending, whole_value};
+ghost use Rattle.omp_machine.specs.Settings.{run_of};
+
+use crate::board::Board;
+use crate::settings::Settings;
+use omp_model::{Event, Halt, Outcome, STEPS_OF_A_TURN, TURN_LIMIT};
+use std::alloc::{AllocError, Global};
+use std::marker::Model;
+
+/// The silent steps of a turn.
+#[derive(Clone, Copy)]
+struct Walk {
+    /// How many were made.
+    made: u32,
+    /// The trap or limit that stopped them.
+    stop: Option<Halt>,
+}
+
+/// A state of the machine.
+#[derive(Drop)]
+pub struct State {
+    board: Board,
+    pending: Vec<Option<Event>>,
+    steps: u32,
+    turns: u32,
+    halt: Option<Halt>,
+}
+
+impl Model for State {
+    ghost use Rattle.omp_model.specs.State.{State as Standing};
+
+    ghost Value = { Standing };
+
+    ghost view = { λ state. record {
+        world = state.board;
+        pending = state.pending.items;
+        steps = state.steps;
+        turns = state.turns;
+        halt = state.halt } };
+}
+
+impl State {
+    /// The first state.
+    pub fn new(alloc: Global, settings: Settings) -> Result<State, AllocError>
+        requires { 1 ≤ settings.threads }
+        ensures { IfOk result (λ state. state ≡ first (run_of settings)) }
+    {
+        let board = Board::new(alloc, settings.threads)?;
+        let pending = vec![in alloc; None; settings.threads as usize]?;
+        Ok(State {
+            board,
+            pending,
+            steps: 0,
+            turns: 0,
+            halt: None,
+        })
+    }
+
+    /// The event of the thread whose callback hasn't returned.
+    pub fn pending(&self, thread: u8) -> Option<Event>
+        ensures { result ≡ pending_at self.now thread }
+    {
+        match self.pending.get(thread as usize) {
+            Some(event) => *event,
+            None => None,
+        }
+    }
+
+    /// What halted the run.
+    pub fn halt(&self) -> Option<Halt>
+        ensures { result ≡ self.now.halt }
+    {
+        self.halt
+    }
+
+    /// Main's value, where every thread that was made has ended and main returned.
+    pub fn whole_value(&self) -> Option<i32>
+        ensures { result ≡ whole_value self.now.world }
+    {
+        self.board.whole_value()
+    }
+
+    /// Whether no thread is inside a callback.
+    pub fn none_pending(&self) -> bool
+        ensures { result ≡ none_pending self.now }
+    {
+        self.pending.iter().all(|event| event.is_none())
+    }
+
+    /// Whether a silent step or an event of the thread stands next.
+    fn goes_on(&self, thread: u8) -> bool
+        ensures { result ≡ (is_step (silent self.now.world thread) || is_some (event self.now.world thread)) }
+    {
+        self.board.has_step(thread) || self.board.event(thread).is_some()
+    }
+
+    /// Whether the thread may begin a turn.
+    pub fn enabled(&self, settings: Settings, thread: u8) -> bool
+        ensures { result ≡ enabled (run_of settings) self.now thread }
+    {
+        self.pending(thread).is_none() && self.halt.is_none() && self.goes_on(thread)
+    }
+
+    /// Whether all silent steps of the run were made.
+    fn is_spent(&self, settings: Settings) -> bool
+        ensures { result ≡ nat_le settings.steps self.now.steps }
+    {
+        self.steps >= settings.steps
+    }
+
+    /// Whether a silent step of the thread stands next.
+    fn has_step(&self, thread: u8) -> bool
+        ensures { result ≡ is_step (silent self.now.world thread) }
+    {
+        self.board.has_step(thread)
+    }
+
+    /// Makes the silent step of the thread that stands next.
+    fn step(&mut self, thread: u8)
+        requires next { IsTrue (is_step (silent self.old.world thread)) }
+        requires countable { self.old.steps + 1 < 2 ^ 32 }
+        ensures made { silent self.old.world thread ≡ Steps self.new.world }
+        ensures counted { self.new ≡ stepped self.old self.new.world }
+    {
+        self.board.step(thread);
+        self.steps += 1;
+    }
+
+    /// Makes silent steps, at most as many as a turn may have.
+    fn walk(&mut self, settings: Settings, thread: u8) -> Walk
+        ensures { walk (run_of settings) STEPS_OF_A_TURN 0 self.old thread
+            ≡ record { state = self.new; made = result.made; stop = result.stop } }
+    {
+        for made in 0..STEPS_OF_A_TURN {
+            if !self.has_step(thread) {
+                return Walk { made, stop: None };
+            }
+            if self.is_spent(settings) {
+                return Walk {
+                    made,
+                    stop: Some(Halt::Limit(1)),
+                };
+            }
+            self.step(thread);
+        }
+        Walk {
+            made: STEPS_OF_A_TURN,
+            stop: None,
+        }
+    }
+
+    /// The turn ends the run.
+    fn halt_by(&mut self, halt: Halt) -> Outcome
+        requires { self.old.turns < TURN_LIMIT }
+        ensures { halted self.old halt ≡ record { outcome = result; state = self.new } }
+    {
+        self.turns += 1;
+        self.halt = Some(halt);
+        Outcome::Halts(halt)
+    }
+
+    /// The event occurs, unless its Go meets a trap or a limit.
+    fn happen(&mut self, thread: u8, event: Event) -> Outcome
+        requires { self.old.turns < TURN_LIMIT }
+        ensures { happening self.old thread event (fault_at self.old.world thread event) ≡ record { outcome = result; state = self.new } }
+    {
+        match self.board.fault(thread, event) {
+            Some(halt) => self.halt_by(halt),
+            None => {
+                self.board.at_go(thread, event);
+                self.set_pending(thread, Some(event));
+                self.turns += 1;
+                Outcome::Happens(event)
+            }
+        }
+    }
+
+    /// The thread is inside the callback of this event from now on, or of none.
+    fn set_pending(&mut self, thread: u8, event: Option<Event>)
+        ensures { self.new ≡ record self.old { pending = slice_set self.old.pending thread event } }
+    {
+        let index = thread as usize;
+        if index < self.pending.len() {
+            self.pending[index] = event;
+        }
+    }
+
+    /// What follows the silent steps of a turn.
+    fn after_steps(&mut self, thread: u8, made: u32) -> Outcome
+        requires { self.old.turns < TURN_LIMIT }
+        ensures { after_steps self.old made thread (event self.old.world thread) ≡ record { outcome = result; state = self.new } }
+    {
+        match self.board.event(thread) {
+            Some(event) => self.happen(thread, event),
+            None if made > 0 => {
+                self.turns += 1;
+                Outcome::Quiet
+            }
+            None => Outcome::Idle,
+        }
+    }
+
+    /// The turn, but for the limit of turns.
+    #[tactic(auto, unfolding(omp_model::specs::Turn::unlimited))]
+    fn unlimited(&mut self, settings: Settings, thread: u8) -> Outcome
+        requires { self.old.turns < TURN_LIMIT }
+        ensures { unlimited (run_of settings) self.old thread ≡ record { outcome = result; state = self.new } }
+    {
+        let walk = self.walk(settings, thread);
+        match walk.stop {
+            Some(halt) => self.halt_by(halt),
+            None => self.after_steps(thread, walk.made),
+        }
+    }
+
+    /// Does one turn of the thread.
+    #[tactic(auto, unfolding(omp_model::specs::Turn::turn))]
+    pub fn turn(&mut self, settings: Settings, thread: u8) -> Outcome
+        requires { self.old.turns < TURN_LIMIT }
+        ensures { turn (run_of settings) self.old thread ≡ record { outcome = result; state = self.new } }
+    {
+        if self.turns + 1 >= TURN_LIMIT {
+            self.halt_by(Halt::Limit(2))
+        } else {
+            self.unlimited(settings, thread)
+        }
+    }
+
+    /// The callback of the thread's event has returned, and the event's result takes hold.
+    pub fn back(&mut self, thread: u8)
+        ensures { self.new ≡ back self.old thread }
+    {
+        if let Some(event) = self.pending(thread) {
+            self.board.at_back(thread, event);
+            self.set_pending(thread, None);
+        }
+    }
+}

@@ -1,0 +1,18 @@
+//! What a turn tells its caller.
+
+use ompt_calls::Call;
+
+/// What a turn came to, for the caller that runs the tools.
+#[derive(Clone, Copy, Debug, PartialEq, Eq)]
+pub enum Went {
+    /// Silent steps alone.
+    Quiet,
+    /// An event whose callback is registered, with its call. The thread waits for `back`.
+    Told(Call),
+    /// An event whose callback isn't registered. The thread waits for `back`.
+    Untold,
+    /// The trap with this number ended the run.
+    Trapped(u8),
+    /// The limit with this number ended the run.
+    Limit(u8),
+}
