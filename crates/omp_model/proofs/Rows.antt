@@ -1,15 +1,10 @@
 -- The run of the empty program, computed: its entries, threads, positions, records and cause.
-use Rattle.std.proofs.Common.{ℕ, zero, suc, ◌≡◌, ◌≤◌, List, [], ◌∷◌, Some, refl, subst, inl, inr, arith}
+use Rattle.std.proofs.Common.{ℕ, zero, suc, ◌≡◌, ◌≤◌, [], ◌∷◌, Some, refl, subst, inl, inr, arith}
 use Rattle.std.proofs.lemmas.Bool.{cases_eq}
-use Rattle.ompt_calls.specs.declared.call.Call.TheVariants.{ThreadBegin, ThreadEnd, ImplicitTask}
 use Rattle.omp_model.specs.declared.cause.Cause.TheVariants as cause
-use Rattle.omp_model.specs.declared.history.What.TheVariants.{Go, Back}
-use Rattle.omp_model.specs.declared.history.Entry.{Entry}
-use Rattle.omp_model.specs.declared.history.EventRecord.{EventRecord}
-use Rattle.omp_model.specs.State.{Run, first}
+use Rattle.omp_model.specs.State.{Run}
 use Rattle.omp_model.specs.Silent.{silent}
 use Rattle.omp_model.specs.Events.{event}
-use Rattle.omp_model.specs.Calls.{fresh_word}
 use Rattle.omp_model.specs.Turn.{walk, unlimited, turn, enabled}
 use Rattle.omp_model.specs.Legal.{Legal}
 use Rattle.omp_model.specs.Cause.{cause_of}

@@ -1,6 +1,6 @@
 -- Facts on one turn: what its silent steps keep, when it is there, and what it leaves of the counts by its outcome.
-use Rattle.std.specs.Prelude.{◌≡◌, ℕ, zero, suc, ◌+◌, ◌<◌, ◌≤◌, Bool, true, false, ◌&&◌, ◌||◌, nat_le, nat_lt, if◌then◌else◌, Option, Some, None, is_some, is_none, slice_set, IsTrue, refl}
-use Rattle.std.proofs.Common.{sym, ap, ◌∙◌, subst, add-one, lt-ltb, inl, inr, arith}
+use Rattle.std.specs.Prelude.{◌≡◌, ℕ, zero, suc, ◌+◌, ◌<◌, Bool, true, false, ◌&&◌, ◌||◌, nat_le, nat_lt, if◌then◌else◌, Option, Some, None, is_some, is_none, slice_set, refl}
+use Rattle.std.proofs.Common.{sym, ap, ◌∙◌, subst, add-one, lt-ltb, arith}
 use Rattle.std.proofs.lemmas.Bool.{true≢false, and_parts, leb-false}
 use Rattle.omp_model.specs.declared.limits.TheConstants.{TURN_LIMIT, STEPS_OF_A_TURN}
 use Rattle.omp_model.specs.declared.machine.Event.{Event}

@@ -14,8 +14,7 @@ use crate::cause::Cause;
 pub fn serial_history_is_one()
     ensures one { (run : Run) (history other : List Entry) → WholeSerial run history → WholeSerial run other → history ≡ other }
     ensures named { (run : Run) (history : List Entry) → WholeSerial run history → serial run ≡ history }
-{
-}
+{}
 
 /// With all callbacks registered, a million silent steps and 1 to 16 threads, the serial run of the empty program has
 /// eight entries and four records, and ends because all is done.
@@ -23,5 +22,4 @@ pub fn empty_program_ends()
     ensures entries { (n : ℕ) → 1 ≤ n → n ≤ 16 → serial (empty_run 0x0FB300FE n 1000000) ≡ eight }
     ensures records { (n : ℕ) → 1 ≤ n → n ≤ 16 → records_of (empty_run 0x0FB300FE n 1000000) (serial (empty_run 0x0FB300FE n 1000000)) ≡ four }
     ensures cause { (n : ℕ) → 1 ≤ n → n ≤ 16 → cause_of (empty_run 0x0FB300FE n 1000000) (serial (empty_run 0x0FB300FE n 1000000)) ≡ Some Cause.Done }
-{
-}
+{}
