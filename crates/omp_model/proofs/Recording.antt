@@ -19,10 +19,11 @@ use Rattle.omp_model.specs.Serial.{enabled_among, or_else, first_enabled, Visit,
 use Rattle.omp_model.specs.Records.{record_of, records_of}
 use Rattle.omp_model.proofs.Turns.{turns-rise, turn-below, back-turns, back-halt}
 
--- the entry of a turn, and of its callback's return
+-- the entry of a turn
 abbrev pub go_at : ℕ → Entry
 go_at t = record { thread = t; what = Go }
 
+-- the entry of its callback's return
 abbrev pub back_at : ℕ → Entry
 back_at t = record { thread = t; what = Back }
 
@@ -54,10 +55,12 @@ none-among run S from zero none = refl
 none-among run S from (suc count) none =
     rw (none from (omega arith) (omega arith)) (none-among run S (from + 1) count (λ t low high. none t (omega arith) (omega arith)))
 
+-- a thread found in either part
 or_else-some : (o other : Option ℕ) (t : ℕ) → or_else o other ≡ Some t → (o ≡ Some t) ⊎ (other ≡ Some t)
 or_else-some None other t is = inr is
 or_else-some (Some u) other t is = inl is
 
+-- no thread found in either part
 or_else-none : (o other : Option ℕ) → or_else o other ≡ None → (o ≡ None) × (other ≡ None)
 or_else-none None other is = (refl, is)
 or_else-none (Some u) other is = cc

@@ -25,6 +25,7 @@ abbrev left_by : Option Halt → ℕ → ℕ
 left_by None turns = TURN_LIMIT - turns
 left_by (Some halt) turns = 0
 
+-- how many turns may be left of a state
 abbrev left : State → ℕ
 left S = left_by S.halt S.turns
 
@@ -87,6 +88,7 @@ spends-go run v t ready outside is =
     let spends = spends-at run v.state t (turn run v.state t).outcome ready goes refl in
     record { ready = record { below = turn-below run v.state t goes }; less = omega arith }
 
+-- a Go that may stand next is of a thread that was found
 go_of-some : (o : Option ℕ) (entry : Entry) → go_of o ≡ Some entry → (t : ℕ) × (o ≡ Some t) × (go_at t ≡ entry)
 go_of-some None entry is = cc
 go_of-some (Some t) entry is = (t, refl, cc)
