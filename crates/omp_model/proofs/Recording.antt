@@ -1,5 +1,5 @@
 -- What a serial run has come to, however its history goes on: the invariant of a loop that appends each turn's entries.
-use Rattle.std.specs.Prelude.{◌≡◌, ℕ, zero, suc, ◌+◌, ◌-◌, ◌*◌, ◌<◌, ◌≤◌, ◌==◌, Bool, true, false, ◌&&◌, ◌||◌, if◌then◌else◌, List, [], ◌∷◌, ◌++◌, length, map, Option, Some, None, IsSome, is_some, IsTrue, refl}
+use Rattle.std.specs.Prelude.{◌≡◌, ℕ, zero, suc, ◌+◌, ◌-◌, ◌*◌, ◌<◌, ◌≤◌, true, false, if◌then◌else◌, List, [], ◌∷◌, ◌++◌, length, map, Option, Some, None, IsSome, refl}
 use Rattle.std.proofs.Common.{sym, ap, ◌∙◌, subst, subst₂, ◌⊎◌, inl, inr, append_assoc, append-nil, length-append, eq-eqb, arith}
 use Rattle.std.proofs.lemmas.Bool.{cases_eq, cases_lt}
 use Rattle.std.proofs.lemmas.List.{map-append}
@@ -10,22 +10,22 @@ use Rattle.omp_model.specs.declared.history.What.TheVariants.{Go, Back}
 use Rattle.omp_model.specs.declared.history.Entry.{Entry}
 use Rattle.omp_model.specs.declared.history.EventRecord.{EventRecord}
 use Rattle.omp_model.specs.declared.machine.Event.{Event}
-use Rattle.omp_model.specs.declared.machine.Halt.{Halt}
 use Rattle.omp_model.specs.State.{Run, State, first, pending_at}
 use Rattle.omp_model.specs.Calls.{call_of, is_registered}
 use Rattle.omp_model.specs.declared.machine.Outcome.{Outcome}
 use Rattle.omp_model.specs.declared.machine.Outcome.TheVariants.{Idle, Quiet, Happens, Halts}
 use Rattle.omp_model.specs.Turn.{turn, enabled}
-use Rattle.omp_model.specs.Legal.{back_from, back, after_from, after, AllowsFrom, Legal}
-use Rattle.omp_model.specs.Heard.{Item, heard_call, heard_outcome, heard_from}
-use Rattle.omp_model.specs.Serial.{enabled_among, or_else, first_enabled, Visit, start, go_of, onward_from, onward, inside_after, Leads, Serial, WholeSerial}
+use Rattle.omp_model.specs.Legal.{back, after_from, after, AllowsFrom}
+use Rattle.omp_model.specs.Heard.{heard_call, heard_outcome, heard_from}
+use Rattle.omp_model.specs.Serial.{enabled_among, or_else, first_enabled, Visit, start, go_of, onward_from, inside_after, Leads, Serial, WholeSerial}
 use Rattle.omp_model.specs.Records.{record_of, records_of}
 use Rattle.omp_model.proofs.Turns.{turns-rise, turn-below, back-turns, back-halt}
 
--- the entry of a turn, and of its callback's return
+-- the entry of a turn
 abbrev pub go_at : ℕ → Entry
 go_at t = record { thread = t; what = Go }
 
+-- the entry of its callback's return
 abbrev pub back_at : ℕ → Entry
 back_at t = record { thread = t; what = Back }
 
@@ -57,10 +57,12 @@ none-among run S from zero none = refl
 none-among run S from (suc count) none =
     rw (none from (omega arith) (omega arith)) (none-among run S (from + 1) count (λ t low high. none t (omega arith) (omega arith)))
 
+-- a thread found in either part
 or_else-some : (o other : Option ℕ) (t : ℕ) → or_else o other ≡ Some t → (o ≡ Some t) ⊎ (other ≡ Some t)
 or_else-some None other t is = inr is
 or_else-some (Some u) other t is = inl is
 
+-- no thread found in either part
 or_else-none : (o other : Option ℕ) → or_else o other ≡ None → (o ≡ None) × (other ≡ None)
 or_else-none None other is = (refl, is)
 or_else-none (Some u) other is = cc
@@ -140,12 +142,13 @@ HasRun-alone {run} {H} {R} {v} t has is alone =
       reached = λ rest. subst (λ K. after_from run (first run) K ≡ after_from run reach.state rest) (along rest) (has.reached (go_at t ∷ rest));
       in_turn = λ rest last leads.
           subst (λ K. Leads run (start run) K last) (along rest)
-            (has.in_turn (go_at t ∷ rest) last
-              (ap (onward_from run v) has.outside ∙ ap go_of is,
-                subst (λ i. Leads run (record { state = (turn run v.state t).state; next = t + 1; inside = i }) rest last) (sym alone) leads));
+          (has.in_turn (go_at t ∷ rest) last (
+            ap (onward_from run v) has.outside ∙ ap go_of is,
+            subst (λ i. Leads run (record { state = (turn run v.state t).state; next = t + 1; inside = i }) rest last) (sym alone) leads,
+          ));
       recorded = λ rest.
           subst₂ (λ K p. map record_of (heard_from run (first run) 0 K) ≡ R ++ map record_of (heard_from run reach.state p rest)) (along rest) (sym (length-append H (go_at t ∷ [])))
-            (has.recorded (go_at t ∷ rest) ∙ ap (λ items. R ++ map record_of (items ++ heard_from run reach.state (length H + 1) rest)) (unheard run (length H) t reach.state (turn run v.state t).outcome rest alone));
+          (has.recorded (go_at t ∷ rest) ∙ ap (λ items. R ++ map record_of (items ++ heard_from run reach.state (length H + 1) rest)) (unheard run (length H) t reach.state (turn run v.state t).outcome rest alone));
       short = let long = length-append H (go_at t ∷ []) in let rise = turns-rise run v.state t goes in let shorter = has.short in omega arith;
       running = λ on. turn-below run v.state t goes on;
       outside = refl;
@@ -168,14 +171,14 @@ HasRun-paired {run} {H} {R} {v} t e told has is happens inside heard =
       reached = λ rest. subst (λ K. after_from run (first run) K ≡ after_from run reach.state rest) (along rest) (has.reached (go_at t ∷ back_at t ∷ rest));
       in_turn = λ rest last leads.
           subst (λ K. Leads run (start run) K last) (along rest)
-            (has.in_turn (go_at t ∷ back_at t ∷ rest) last
-              (ap (onward_from run v) has.outside ∙ ap go_of is, (ap (λ o. onward_from run (record { state = between; next = t + 1; inside = inside_after o t }) (inside_after o t)) happens, leads)));
+          (has.in_turn (go_at t ∷ back_at t ∷ rest) last
+          (ap (onward_from run v) has.outside ∙ ap go_of is, (ap (λ o. onward_from run (record { state = between; next = t + 1; inside = inside_after o t }) (inside_after o t)) happens, leads)));
       recorded = λ rest.
           subst₂ (λ K p. map record_of (heard_from run (first run) 0 K) ≡ (R ++ told) ++ map record_of (heard_from run reach.state p rest)) (along rest) (sym long)
-            (has.recorded (go_at t ∷ back_at t ∷ rest)
-              ∙ ap (λ o. R ++ map record_of (heard_outcome run (length H) t between o (back_at t ∷ rest) ++ heard_from run reach.state (length H + 1 + 1) rest)) happens
-              ∙ ap (λ records. R ++ records) (map-append record_of (heard_call run (length H) t (call_of between.world t e) (back_at t ∷ rest)) (heard_from run reach.state (length H + 1 + 1) rest) ∙ ap (λ records. records ++ map record_of (heard_from run reach.state (length H + 1 + 1) rest)) (heard rest))
-              ∙ sym (append_assoc R told (map record_of (heard_from run reach.state (length H + 1 + 1) rest))));
+          (has.recorded (go_at t ∷ back_at t ∷ rest)
+          ∙ ap (λ o. R ++ map record_of (heard_outcome run (length H) t between o (back_at t ∷ rest) ++ heard_from run reach.state (length H + 1 + 1) rest)) happens
+          ∙ ap (λ records. R ++ records) (map-append record_of (heard_call run (length H) t (call_of between.world t e) (back_at t ∷ rest)) (heard_from run reach.state (length H + 1 + 1) rest) ∙ ap (λ records. records ++ map record_of (heard_from run reach.state (length H + 1 + 1) rest)) (heard rest))
+          ∙ sym (append_assoc R told (map record_of (heard_from run reach.state (length H + 1 + 1) rest))));
       short = let rise = turns-rise run v.state t goes in let kept = back-turns between t in let shorter = has.short in omega arith;
       running = λ on.
           let below = turn-below run v.state t goes (sym (back-halt between t) ∙ on) in

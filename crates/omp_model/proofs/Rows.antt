@@ -1,15 +1,10 @@
 -- The run of the empty program, computed: its entries, threads, positions, records and cause.
-use Rattle.std.proofs.Common.{ℕ, zero, suc, ◌≡◌, ◌≤◌, List, [], ◌∷◌, Some, refl, subst, inl, inr, arith}
+use Rattle.std.proofs.Common.{ℕ, zero, suc, ◌≡◌, ◌≤◌, [], ◌∷◌, Some, refl, subst, inl, inr, arith}
 use Rattle.std.proofs.lemmas.Bool.{cases_eq}
-use Rattle.ompt_calls.specs.declared.call.Call.TheVariants.{ThreadBegin, ThreadEnd, ImplicitTask}
 use Rattle.omp_model.specs.declared.cause.Cause.TheVariants as cause
-use Rattle.omp_model.specs.declared.history.What.TheVariants.{Go, Back}
-use Rattle.omp_model.specs.declared.history.Entry.{Entry}
-use Rattle.omp_model.specs.declared.history.EventRecord.{EventRecord}
-use Rattle.omp_model.specs.State.{Run, first}
+use Rattle.omp_model.specs.State.{Run}
 use Rattle.omp_model.specs.Silent.{silent}
 use Rattle.omp_model.specs.Events.{event}
-use Rattle.omp_model.specs.Calls.{fresh_word}
 use Rattle.omp_model.specs.Turn.{walk, unlimited, turn, enabled}
 use Rattle.omp_model.specs.Legal.{Legal}
 use Rattle.omp_model.specs.Cause.{cause_of}
@@ -26,6 +21,7 @@ abbrev Each : (ℕ → Type 0) → ℕ → Type 0
 Each P zero = Unit {0}
 Each P (suc most) = P (suc most) × Each P most
 
+-- one of these numbers
 each-at : (P : ℕ → Type 0) (most n : ℕ) → Each P most → 1 ≤ n → n ≤ most → P n
 each-at P zero n each low high = absurd (omega arith)
 each-at P (suc most) n each low high = elim (cases_eq (suc most) n) [ inl same ↦ subst P same each.0 | inr other ↦ each-at P most n each.1 low (omega arith) ]
@@ -45,6 +41,7 @@ pub ends-done : (n : ℕ) → 1 ≤ n → n ≤ 16 → cause_of (on n) eight ≡
 unfolding silent event walk unlimited turn enabled enabled_among serial_from
 ends-done n = each-at (λ n. cause_of (on n) eight ≡ Some cause.Done) 16 n (refl, (refl, (refl, (refl, (refl, (refl, (refl, (refl, (refl, (refl, (refl, (refl, (refl, (refl, (refl, (refl, tt))))))))))))))))
 
+-- with one thread the entries are legal
 pub legal : Legal (on 1) eight
 unfolding silent event walk unlimited turn enabled enabled_among serial_from
 legal = (refl, (refl, (refl, (refl, (refl, (refl, (refl, (refl, tt))))))))
@@ -54,6 +51,7 @@ pub limited : serial (empty_run 0x0FB300FE 1 1) ≡ go ∷ back ∷ go ∷ back 
 unfolding silent event walk unlimited turn enabled enabled_among serial_from
 limited = refl
 
+-- and it ends because of that limit
 pub ends-limited : cause_of (empty_run 0x0FB300FE 1 1) (serial (empty_run 0x0FB300FE 1 1)) ≡ Some (cause.Limit 1)
 unfolding silent event walk unlimited turn enabled enabled_among serial_from
 ends-limited = refl

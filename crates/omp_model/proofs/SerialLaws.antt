@@ -2,11 +2,9 @@
 use Rattle.std.specs.Prelude.{◌≡◌, ℕ, zero, suc, ◌+◌, ◌-◌, ◌*◌, ◌<◌, ◌≤◌, true, List, [], ◌∷◌, length, Option, Some, None, refl}
 use Rattle.std.proofs.Common.{sym, ap, ◌∙◌, subst, arith}
 use Rattle.omp_model.specs.declared.limits.TheConstants.{TURN_LIMIT}
-use Rattle.omp_model.specs.declared.history.What.TheVariants.{Go, Back}
 use Rattle.omp_model.specs.declared.history.Entry.{Entry}
-use Rattle.omp_model.specs.declared.machine.Event.{Event}
 use Rattle.omp_model.specs.declared.machine.Halt.{Halt}
-use Rattle.omp_model.specs.State.{Run, State, first}
+use Rattle.omp_model.specs.State.{Run, State}
 use Rattle.omp_model.specs.declared.machine.Outcome.{Outcome}
 use Rattle.omp_model.specs.declared.machine.Outcome.TheVariants.{Idle, Quiet, Happens, Halts}
 use Rattle.omp_model.specs.Turn.{turn, enabled}
@@ -29,6 +27,7 @@ abbrev left_by : Option Halt → ℕ → ℕ
 left_by None turns = TURN_LIMIT - turns
 left_by (Some halt) turns = 0
 
+-- how many turns may be left of a state
 abbrev left : State → ℕ
 left S = left_by S.halt S.turns
 
@@ -91,6 +90,7 @@ spends-go run v t ready outside is =
     let spends = spends-at run v.state t (turn run v.state t).outcome ready goes refl in
     record { ready = record { below = turn-below run v.state t goes }; less = omega arith }
 
+-- a Go that may stand next is of a thread that was found
 go_of-some : (o : Option ℕ) (entry : Entry) → go_of o ≡ Some entry → (t : ℕ) × (o ≡ Some t) × (go_at t ≡ entry)
 go_of-some None entry is = cc
 go_of-some (Some t) entry is = (t, refl, cc)

@@ -1,6 +1,6 @@
 -- Facts on one turn: what its silent steps keep, when it is there, and what it leaves of the counts by its outcome.
-use Rattle.std.specs.Prelude.{◌≡◌, ℕ, zero, suc, ◌+◌, ◌<◌, ◌≤◌, Bool, true, false, ◌&&◌, ◌||◌, nat_le, nat_lt, if◌then◌else◌, Option, Some, None, is_some, is_none, slice_set, IsTrue, refl}
-use Rattle.std.proofs.Common.{sym, ap, ◌∙◌, subst, add-one, lt-ltb, inl, inr, arith}
+use Rattle.std.specs.Prelude.{◌≡◌, ℕ, zero, suc, ◌+◌, ◌<◌, Bool, true, false, ◌&&◌, ◌||◌, nat_le, nat_lt, if◌then◌else◌, Option, Some, None, is_some, is_none, slice_set, refl}
+use Rattle.std.proofs.Common.{sym, ap, ◌∙◌, subst, add-one, lt-ltb, arith}
 use Rattle.std.proofs.lemmas.Bool.{true≢false, and_parts, leb-false}
 use Rattle.omp_model.specs.declared.limits.TheConstants.{TURN_LIMIT, STEPS_OF_A_TURN}
 use Rattle.omp_model.specs.declared.machine.Event.{Event}
@@ -84,14 +84,17 @@ Leaves S t after Quiet = (after.turns ≡ S.turns + 1) × (after.halt ≡ S.halt
 Leaves S t after (Happens e) = (after.turns ≡ S.turns + 1) × (after.halt ≡ S.halt) × (after.pending ≡ slice_set S.pending t (Some e))
 Leaves S t after (Halts h) = (after.turns ≡ S.turns + 1) × (after.halt ≡ Some h) × (after.pending ≡ S.pending)
 
+-- an event's Go, whether or not it meets a trap or a limit
 leaves-happening : (S : State) (t : ℕ) (e : Event) (h : Option Halt) → Leaves S t (happening S t e h).state (happening S t e h).outcome
 leaves-happening S t e None = (refl, refl, refl)
 leaves-happening S t e (Some h) = (refl, refl, refl)
 
+-- what follows the silent steps
 leaves-after-steps : (S : State) (made t : ℕ) (e : Option Event) → Leaves S t (after_steps S made t e).state (after_steps S made t e).outcome
 leaves-after-steps S made t (Some e) = leaves-happening S t e (fault_at S.world t e)
 leaves-after-steps S made t None = elim (nat_lt 0 made) as (λ b. let T : Turn = if b then record { outcome = Quiet; state = counted S } else record { outcome = Idle; state = S } in Leaves S t T.state T.outcome) [ true ↦ (refl, refl, refl) | false ↦ (refl, refl, refl) ]
 
+-- a walk's state, from which the turn goes on or at which it stops
 leaves-after-walk : (w : Walk) (t : ℕ) (h : Option Halt) → Leaves w.state t (after_walk w t h).state (after_walk w t h).outcome
 leaves-after-walk w t None = leaves-after-steps w.state w.made t (event w.state.world t)
 leaves-after-walk w t (Some h) = (refl, refl, refl)
@@ -127,6 +130,7 @@ below-limit : (run : Run) (S : State) (t : ℕ) → goes_on (turn run S t).outco
 unfolding turn
 below-limit run S t = elim (nat_le TURN_LIMIT (S.turns + 1)) as (λ b. nat_le TURN_LIMIT (S.turns + 1) ≡ b → goes_on (if◌then◌else◌ {A = Turn} b (halted S (Limit 2)) (unlimited run S t)).outcome ≡ true → S.turns + 1 < TURN_LIMIT) [ true ↦ λ reached goes. absurd (true≢false (sym goes)) | false ↦ λ below goes. leb-false TURN_LIMIT (S.turns + 1) below ] refl
 
+-- an option that is none
 none_from : {A : Type 0} (o : Option A) → is_none o ≡ true → o ≡ None
 none_from None is = refl
 none_from (Some x) is = absurd (true≢false (sym is))
@@ -209,6 +213,7 @@ rises S after t (Halts h) has leaves = leaves.0
 pub turns-rise : (run : Run) (S : State) (t : ℕ) → enabled run S t ≡ true → (turn run S t).state.turns ≡ S.turns + 1
 turns-rise run S t goes = rises S (turn run S t).state t (turn run S t).outcome (has-turn run S t goes) (leaves-turn run S t)
 
+-- a return changes neither the count of turns nor the halt, whether or not there is a pending event
 back_from-keeps : (S : State) (t : ℕ) (o : Option Event) → ((back_from S t o).turns ≡ S.turns) × ((back_from S t o).halt ≡ S.halt)
 back_from-keeps S t None = (refl, refl)
 back_from-keeps S t (Some e) = (refl, refl)

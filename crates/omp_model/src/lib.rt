@@ -11,10 +11,12 @@
 
 mod cause;
 mod history;
+mod laws;
 mod limits;
 mod machine;
 
 pub use cause::Cause;
 pub use history::{Entry, EventRecord, History, What};
+pub use laws::{empty_program_ends, serial_history_is_one};
 pub use limits::{IMPLICIT_REGION, INITIAL_TASK, STACK_LIMIT, STEPS_OF_A_TURN, TURN_LIMIT};
 pub use machine::{Condition, Event, Halt, Instruction, Outcome, ThreadStage};

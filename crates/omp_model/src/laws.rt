@@ -1,0 +1,25 @@
+//! What follows from the definitions alone: each law is the contract of a function with an empty body.
+
+ghost use Rattle.std.specs.Prelude.{◌≡◌, ℕ, ◌≤◌, List, Some};
+ghost use Rattle.omp_model.specs.declared.history.Entry.{Entry};
+ghost use Rattle.omp_model.specs.State.{Run};
+ghost use Rattle.omp_model.specs.Cause.{cause_of};
+ghost use Rattle.omp_model.specs.Serial.{WholeSerial, serial};
+ghost use Rattle.omp_model.specs.Records.{records_of};
+ghost use Rattle.omp_model.specs.Program.{empty_run, eight, four};
+
+use crate::cause::Cause;
+
+/// Two serial histories to the end are the same, and they are `serial`.
+pub fn serial_history_is_one()
+    ensures one { (run : Run) (history other : List Entry) → WholeSerial run history → WholeSerial run other → history ≡ other }
+    ensures named { (run : Run) (history : List Entry) → WholeSerial run history → serial run ≡ history }
+{}
+
+/// With all callbacks registered, a million silent steps and 1 to 16 threads, the serial run of the empty program has
+/// eight entries and four records, and ends because all is done.
+pub fn empty_program_ends()
+    ensures entries { (n : ℕ) → 1 ≤ n → n ≤ 16 → serial (empty_run 0x0FB300FE n 1000000) ≡ eight }
+    ensures records { (n : ℕ) → 1 ≤ n → n ≤ 16 → records_of (empty_run 0x0FB300FE n 1000000) (serial (empty_run 0x0FB300FE n 1000000)) ≡ four }
+    ensures cause { (n : ℕ) → 1 ≤ n → n ≤ 16 → cause_of (empty_run 0x0FB300FE n 1000000) (serial (empty_run 0x0FB300FE n 1000000)) ≡ Some Cause.Done }
+{}
