@@ -32,7 +32,9 @@ impl Board {
     /// The board of the empty program, with room for so many threads, of which thread 0 is made.
     pub fn new(alloc: Global, threads: u8) -> Result<Board, AllocError>
         requires { 1 ≤ threads }
-        ensures { IfOk result (λ board. (mask steps : ℕ) → board ≡ (first (empty_run mask threads steps)).world) }
+        ensures { IfOk result (λ board. board ≡ record {
+            threads = initial_thread ∷ replicate (threads - 1) unmade;
+            tasks = no_task ∷ initial_task empty_program ∷ [] }) }
     {
         let threads = all_threads(alloc, threads)?;
         let tasks = all_tasks(alloc)?;

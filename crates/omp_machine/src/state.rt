@@ -1,6 +1,6 @@
 //! A state of the machine, and the order of a turn.
 
-ghost use Rattle.std.specs.Prelude.{◌≡◌, ◌≤◌, ◌<◌, ◌+◌, ◌^◌, ◌||◌, None, Some, IfOk, IsTrue, is_some, slice_set, nat_le};
+ghost use Rattle.std.specs.Prelude.{◌≡◌, ◌≤◌, ◌<◌, ◌+◌, ◌^◌, ◌||◌, None, Some, IfOk, IsTrue, is_some, slice_set, nat_le, replicate};
 ghost use Rattle.omp_model.specs.State.{first, pending_at};
 ghost use Rattle.omp_model.specs.Silent.{Steps, is_step, silent};
 ghost use Rattle.omp_model.specs.Events.{event, fault_at};
@@ -54,7 +54,7 @@ impl State {
         ensures { IfOk result (λ state. state ≡ first (run_of settings)) }
     {
         let board = Board::new(alloc, settings.threads)?;
-        let pending = vec![in alloc; None; settings.threads as usize]?;
+        let pending = nobody(alloc, settings.threads)?;
         Ok(State {
             board,
             pending,
@@ -243,4 +243,15 @@ impl State {
             self.set_pending(thread, None);
         }
     }
+}
+
+/// For so many threads, that none is inside a callback.
+fn nobody(alloc: Global, threads: u8) -> Result<Vec<Option<Event>>, AllocError>
+    ensures { IfOk result (λ pending. pending.items ≡ replicate threads None) }
+{
+    let mut pending = Vec::new(alloc);
+    for _thread in 0..threads {
+        pending.push(None)?;
+    }
+    Ok(pending)
 }
