@@ -1,5 +1,8 @@
 //! How a command ended: its status and its line on standard error.
 
+ghost use Rattle.std.specs.Prelude.{◌≡◌};
+ghost use Rattle.ompt_cli.specs.Ends.{line_of_end, status_of};
+
 /// Why a text is refused.
 #[derive(Clone, Copy, Debug, PartialEq, Eq)]
 pub enum Refusal {
@@ -24,4 +27,35 @@ pub enum End {
     WriteFault,
     /// There was no memory.
     Memory,
+}
+
+impl End {
+    /// The exit status.
+    pub fn status(self) -> u8
+        ensures { result ≡ status_of self }
+    {
+        match self {
+            End::Done => 0,
+            End::Usage => 2,
+            End::Refused(_) => 3,
+            End::ReadFault => 8,
+            End::WriteFault => 9,
+            End::Memory => 10,
+        }
+    }
+
+    /// The line on standard error with its newline, which is empty where the run is whole.
+    pub fn line(self) -> &'static [u8]
+        ensures { result.now ≡ line_of_end self }
+    {
+        match self {
+            End::Done => b"",
+            End::Usage => b"usage: ompt run, list, record, profile, timeline, show, check or gen\n",
+            End::Refused(Refusal::TooLong) => b"refused 15 at 0:0\n",
+            End::Refused(Refusal::OtherForm) => b"refused 16 at 0:0\n",
+            End::ReadFault => b"read fault\n",
+            End::WriteFault => b"write fault\n",
+            End::Memory => b"memory\n",
+        }
+    }
 }
