@@ -1,16 +1,19 @@
 -- What turns keep of the lists: how many threads there are, and that only a thread that was made comes to an event.
-use Rattle.std.proofs.Common.{◌≡◌, ℕ, zero, suc, ◌+◌, ◌-◌, ◌<◌, ◌≤◌, Bool, true, false, nat_le, nat_lt, List, Option, Some, None, IsSome, length, slice_set, slice_index_or, refl, sym, ap, ◌∙◌, arith, subst}
+use Rattle.std.proofs.Common.{◌≡◌, ℕ, zero, suc, ◌+◌, ◌<◌, ◌≤◌, Bool, true, false, nat_le, nat_lt, if◌then◌else◌, Option, Some, None, IsSome, length, refl, sym, ap, ◌∙◌, subst, inl, inr, ◌⊎◌, arith}
 use Rattle.omp_model.specs.declared.limits.TheConstants.{STEPS_OF_A_TURN, TURN_LIMIT}
 use Rattle.omp_model.specs.declared.machine.Event.{Event}
 use Rattle.omp_model.specs.declared.machine.Event.TheVariants.{ThreadBegin, InitialTaskBegin, InitialTaskEnd, ThreadEnd}
 use Rattle.omp_model.specs.declared.machine.Halt.{Halt}
 use Rattle.omp_model.specs.declared.machine.Halt.TheVariants.{Limit}
-use Rattle.omp_model.specs.State.{Run, World, State, Task, pending_at, thread_at}
+use Rattle.omp_model.specs.declared.machine.Outcome.{Outcome}
+use Rattle.omp_model.specs.declared.machine.Outcome.TheVariants.{Idle, Quiet, Happens, Halts}
+use Rattle.omp_model.specs.State.{Run, World, State, Task, Thread, thread_at, unmade}
 use Rattle.omp_model.specs.Silent.{Silence, NoStep, Steps, silence_of, silent}
-use Rattle.omp_model.specs.Events.{event, fault_at, at_go, at_back}
+use Rattle.omp_model.specs.Events.{event, event_at, fault_at, at_go, at_back}
 use Rattle.omp_model.specs.Legal.{back_from, back}
-use Rattle.omp_model.specs.Turn.{Walk, walk_on, walk, stepped, Turn, happening, after_steps, after_walk, halted, unlimited, turn}
-use Rattle.std.proofs.lemmas.List.{length-set}
+use Rattle.omp_model.specs.Turn.{Walk, walk_on, walk, stepped, Turn, counted, happening, after_steps, after_walk, halted, unlimited, turn}
+use Rattle.std.proofs.lemmas.List.{length-set, get_or_past}
+use Rattle.std.proofs.lemmas.Bool.{cases_lt, true≢false}
 
 -- a world has as many threads as another
 abbrev SameThreads : World → World → Type 0
@@ -60,4 +63,70 @@ happening-threads S t e (Some halt) = refl
 
 after-steps-threads : (S : State) (made t : ℕ) (e : Option Event) → SameThreads S.world (after_steps S made t e).state.world
 after-steps-threads S made t (Some e) = happening-threads S t e (fault_at S.world t e)
-after-steps-threads S made t None = elim (nat_lt 0 made) as (λ b. let turned : Turn = if◌then◌else◌ {A = Turn} b _ _ in SameThreads S.world turned.state.world) [ true ↦ refl | false ↦ refl ]
+after-steps-threads S made t None =
+    elim (nat_lt 0 made) as (λ b. let turned : Turn = if◌then◌else◌ {A = Turn} b (record { outcome = Quiet; state = counted S }) (record { outcome = Idle; state = S }) in SameThreads S.world turned.state.world) [ true ↦ refl | false ↦ refl ]
+
+after-walk-threads : (w : Walk) (t : ℕ) (stop : Option Halt) → SameThreads w.state.world (after_walk w t stop).state.world
+after-walk-threads w t None = after-steps-threads w.state w.made t (event w.state.world t)
+after-walk-threads w t (Some halt) = refl
+
+unlimited-threads : (run : Run) (S : State) (t : ℕ) → SameThreads S.world (unlimited run S t).state.world
+unfolding unlimited
+unlimited-threads run S t =
+    let w = walk run STEPS_OF_A_TURN 0 S t in after-walk-threads w t w.stop ∙ walk-threads run STEPS_OF_A_TURN 0 S t
+
+-- a turn makes no thread
+pub turn-threads : (run : Run) (S : State) (t : ℕ) → SameThreads S.world (turn run S t).state.world
+unfolding turn
+turn-threads run S t =
+    elim (nat_le TURN_LIMIT (S.turns + 1)) as (λ b. let turned : Turn = if◌then◌else◌ {A = Turn} b (halted S (Limit 2)) (unlimited run S t) in SameThreads S.world turned.state.world) [ true ↦ refl | false ↦ unlimited-threads run S t ]
+
+back-from-threads : (S : State) (t : ℕ) (e : Option Event) → SameThreads S.world (back_from S t e).world
+back-from-threads S t None = refl
+back-from-threads S t (Some e) = at-back-threads S.world t e
+
+-- nor does the return of a callback
+pub back-threads : (S : State) (t : ℕ) → SameThreads S.world (back S t).world
+back-threads S t = back-from-threads S t _
+
+-- a thread that comes to an event was made
+event-made : (W : World) (t : ℕ) → IsSome (event W t) → t < length W.threads
+unfolding event
+event-made W t some = elim (cases_lt t (length W.threads)) [
+    inl made ↦ made
+  | inr past ↦ let none : thread_at W t ≡ unmade = get_or_past W.threads t unmade past in absurd (true≢false (sym (rw none at some)))
+  ]
+
+-- where the outcome is an event, the thread was made
+abbrev MadeFor : ℕ → ℕ → Outcome → Type 0
+MadeFor t threads Idle = Unit {0}
+MadeFor t threads Quiet = Unit {0}
+MadeFor t threads (Happens e) = t < threads
+MadeFor t threads (Halts halt) = Unit {0}
+
+made-happening : (S : State) (t threads : ℕ) (e : Event) (fault : Option Halt) → t < threads → MadeFor t threads (happening S t e fault).outcome
+made-happening S t threads e None made = made
+made-happening S t threads e (Some halt) made = tt
+
+made-after-steps : (S : State) (made t threads : ℕ) (e : Option Event) → (IsSome e → t < threads) → MadeFor t threads (after_steps S made t e).outcome
+made-after-steps S made t threads (Some e) comes = made-happening S t threads e (fault_at S.world t e) (comes refl)
+made-after-steps S made t threads None comes =
+    elim (nat_lt 0 made) as (λ b. let turned : Turn = if◌then◌else◌ {A = Turn} b (record { outcome = Quiet; state = counted S }) (record { outcome = Idle; state = S }) in MadeFor t threads turned.outcome) [ true ↦ tt | false ↦ tt ]
+
+made-after-walk : (w : Walk) (t threads : ℕ) (stop : Option Halt) → length w.state.world.threads ≡ threads → MadeFor t threads (after_walk w t stop).outcome
+made-after-walk w t threads None same = made-after-steps w.state w.made t threads (event w.state.world t) (λ some. let made = event-made w.state.world t some in rw (← same) made)
+made-after-walk w t threads (Some halt) same = tt
+
+made-unlimited : (run : Run) (S : State) (t : ℕ) → MadeFor t (length S.world.threads) (unlimited run S t).outcome
+unfolding unlimited
+made-unlimited run S t =
+    let w = walk run STEPS_OF_A_TURN 0 S t in made-after-walk w t (length S.world.threads) w.stop (walk-threads run STEPS_OF_A_TURN 0 S t)
+
+made-turn : (run : Run) (S : State) (t : ℕ) → MadeFor t (length S.world.threads) (turn run S t).outcome
+unfolding turn
+made-turn run S t =
+    elim (nat_le TURN_LIMIT (S.turns + 1)) as (λ b. let turned : Turn = if◌then◌else◌ {A = Turn} b (halted S (Limit 2)) (unlimited run S t) in MadeFor t (length S.world.threads) turned.outcome) [ true ↦ tt | false ↦ made-unlimited run S t ]
+
+-- a thread on which an event occurs was made
+pub happens-made : (run : Run) (S : State) (t : ℕ) (e : Event) → (turn run S t).outcome ≡ Happens e → t < length S.world.threads
+happens-made run S t e happens = subst (MadeFor t (length S.world.threads)) happens (made-turn run S t)
