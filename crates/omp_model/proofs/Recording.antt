@@ -1,5 +1,5 @@
 -- What a serial run has come to, however its history goes on: the invariant of a loop that appends each turn's entries.
-use Rattle.std.specs.Prelude.{◌≡◌, ℕ, zero, suc, ◌+◌, ◌-◌, ◌*◌, ◌<◌, ◌≤◌, true, false, if◌then◌else◌, List, [], ◌∷◌, ◌++◌, length, map, Option, Some, None, IsSome, refl}
+use Rattle.std.specs.Prelude.{◌≡◌, ℕ, zero, suc, ◌+◌, ◌-◌, ◌<◌, ◌≤◌, true, false, if◌then◌else◌, List, [], ◌∷◌, ◌++◌, length, map, Option, Some, None, IsSome, refl}
 use Rattle.std.proofs.Common.{sym, ap, ◌∙◌, subst, subst₂, ◌⊎◌, inl, inr, append_assoc, append-nil, length-append, eq-eqb, arith}
 use Rattle.std.proofs.lemmas.Bool.{cases_eq, cases_lt}
 use Rattle.std.proofs.lemmas.List.{map-append}
@@ -19,6 +19,7 @@ use Rattle.omp_model.specs.Legal.{back, after_from, after, AllowsFrom}
 use Rattle.omp_model.specs.Heard.{heard_call, heard_outcome, heard_from}
 use Rattle.omp_model.specs.Serial.{enabled_among, or_else, first_enabled, Visit, start, go_of, onward_from, inside_after, Leads, Serial, WholeSerial}
 use Rattle.omp_model.specs.Records.{record_of, records_of}
+use Rattle.omp_model.specs.Running.{HasRun}
 use Rattle.omp_model.proofs.Turns.{turns-rise, turn-below, back-turns, back-halt}
 
 -- the entry of a turn
@@ -80,16 +81,6 @@ pub first_enabled-none : (run : Run) (S : State) (next : ℕ) → next ≤ run.t
 first_enabled-none run S next low is =
     let parts = or_else-none (enabled_among run S next (run.threads - next)) (enabled_among run S 0 next) is in
     none-among run S 0 run.threads (λ t bottom high. elim (cases_lt t next) [ inl before ↦ among-none run S 0 next t parts.1 (omega arith) (omega arith) | inr from ↦ among-none run S next (run.threads - next) t parts.0 from (omega arith) ])
-
--- a run that stands at this visit after this history, with these records, however the history goes on
-pub record HasRun (run : Run) (history : List Entry) (records : List EventRecord) (v : Visit) : Type 0 where
-  pub legal : (rest : List Entry) → AllowsFrom run v.state rest → AllowsFrom run (first run) (history ++ rest)
-  pub reached : (rest : List Entry) → after_from run (first run) (history ++ rest) ≡ after_from run v.state rest
-  pub in_turn : (rest : List Entry) (last : Visit) → Leads run v rest last → Leads run (start run) (history ++ rest) last
-  pub recorded : (rest : List Entry) → map record_of (heard_from run (first run) 0 (history ++ rest)) ≡ records ++ map record_of (heard_from run v.state (length history) rest)
-  pub short : length history ≤ 2 * v.state.turns
-  pub running : v.state.halt ≡ None → v.state.turns < TURN_LIMIT
-  pub outside : v.inside ≡ None
 
 -- before the first entry
 pub HasRun-start : (run : Run) → HasRun run [] [] (start run)

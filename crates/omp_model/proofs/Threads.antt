@@ -1,5 +1,5 @@
 -- What turns keep of the lists: how many threads there are, and that only a thread that was made comes to an event.
-use Rattle.std.proofs.Common.{◌≡◌, ℕ, zero, suc, ◌+◌, ◌<◌, ◌≤◌, Bool, true, false, nat_le, nat_lt, if◌then◌else◌, Option, Some, None, IsSome, length, refl, sym, ap, ◌∙◌, subst, inl, inr, ◌⊎◌, arith}
+use Rattle.std.proofs.Common.{◌≡◌, ℕ, zero, suc, ◌+◌, ◌<◌, true, false, nat_le, nat_lt, if◌then◌else◌, Option, Some, None, IsSome, length, refl, sym, ◌∙◌, subst, inl, inr}
 use Rattle.omp_model.specs.declared.limits.TheConstants.{STEPS_OF_A_TURN, TURN_LIMIT}
 use Rattle.omp_model.specs.declared.machine.Event.{Event}
 use Rattle.omp_model.specs.declared.machine.Event.TheVariants.{ThreadBegin, InitialTaskBegin, InitialTaskEnd, ThreadEnd}
@@ -7,9 +7,9 @@ use Rattle.omp_model.specs.declared.machine.Halt.{Halt}
 use Rattle.omp_model.specs.declared.machine.Halt.TheVariants.{Limit}
 use Rattle.omp_model.specs.declared.machine.Outcome.{Outcome}
 use Rattle.omp_model.specs.declared.machine.Outcome.TheVariants.{Idle, Quiet, Happens, Halts}
-use Rattle.omp_model.specs.State.{Run, World, State, Task, Thread, thread_at, unmade}
+use Rattle.omp_model.specs.State.{Run, World, State, Task, thread_at, unmade}
 use Rattle.omp_model.specs.Silent.{Silence, NoStep, Steps, silence_of, silent}
-use Rattle.omp_model.specs.Events.{event, event_at, fault_at, at_go, at_back}
+use Rattle.omp_model.specs.Events.{event, fault_at, at_go, at_back}
 use Rattle.omp_model.specs.Legal.{back_from, back}
 use Rattle.omp_model.specs.Turn.{Walk, walk_on, walk, stepped, Turn, counted, happening, after_steps, after_walk, halted, unlimited, turn}
 use Rattle.std.proofs.lemmas.List.{length-set, get_or_past}

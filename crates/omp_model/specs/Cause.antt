@@ -1,5 +1,5 @@
 -- Whole and stuck histories, and the cause in which a run ends.
-use Rattle.std.specs.Prelude.{ℕ, ℤ, pos, negsuc, zero, suc, ◌&&◌, Bool, true, false, if◌then◌else◌, List, Option, Some, None, is_none}
+use Rattle.std.specs.Prelude.{ℤ, pos, negsuc, zero, suc, ◌&&◌, Bool, if◌then◌else◌, List, Option, Some, None, is_none}
 use Rattle.std.specs.List.{list_all}
 use Rattle.omp_model.specs.declared.limits.TheConstants.{INITIAL_TASK}
 use Rattle.omp_model.specs.declared.cause.Cause.{Cause}

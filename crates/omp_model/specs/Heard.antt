@@ -9,7 +9,7 @@ use Rattle.omp_model.specs.State.{Run, State, first}
 use Rattle.omp_model.specs.Calls.{call_of, is_registered}
 use Rattle.omp_model.specs.declared.machine.Outcome.{Outcome}
 use Rattle.omp_model.specs.declared.machine.Outcome.TheVariants.{Idle, Quiet, Happens, Halts}
-use Rattle.omp_model.specs.Turn.{Turn, turn}
+use Rattle.omp_model.specs.Turn.{turn}
 use Rattle.omp_model.specs.Legal.{entered}
 
 -- what is heard of an event: the position of its Go, its thread, and its call

@@ -9,3 +9,4 @@ pub mod Heard
 pub mod Serial
 pub mod Records
 pub mod Program
+pub mod Running

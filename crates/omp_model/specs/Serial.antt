@@ -1,5 +1,5 @@
 -- The serial order: threads take turns round and round, each a whole turn with its callback.
-use Rattle.std.specs.Prelude.{ℕ, zero, suc, ◌+◌, ◌-◌, ◌*◌, ◌≡◌, Bool, if◌then◌else◌, List, [], ◌∷◌, Option, Some, None}
+use Rattle.std.specs.Prelude.{ℕ, zero, suc, ◌+◌, ◌-◌, ◌*◌, ◌≡◌, if◌then◌else◌, List, [], ◌∷◌, Option, Some, None}
 use Rattle.omp_model.specs.declared.limits.TheConstants.{TURN_LIMIT}
 use Rattle.omp_model.specs.declared.history.What.{What}
 use Rattle.omp_model.specs.declared.history.What.TheVariants.{Go, Back}

@@ -1,6 +1,6 @@
 -- The state of the machine: tasks and threads with what they have come to, and beside them the events whose callbacks
 -- haven't returned, the counts of silent steps and turns, and what halted the run.
-use Rattle.std.specs.Prelude.{ℕ, ℤ, ◌-◌, ◌+◌, List, [], ◌∷◌, ◌++◌, Option, Some, None, length, take, replicate, slice_index_or, slice_set}
+use Rattle.std.specs.Prelude.{ℕ, ℤ, ◌-◌, List, [], ◌∷◌, ◌++◌, Option, None, length, take, replicate, slice_index_or, slice_set}
 use Rattle.omp_model.specs.declared.machine.Instruction.{Instruction}
 use Rattle.omp_model.specs.declared.machine.Condition.{Condition}
 use Rattle.omp_model.specs.declared.machine.Condition.TheVariants as condition

@@ -1,9 +1,9 @@
 -- A turn: up to 64 silent steps of a thread, and then the next event, where the thread has come to one that is enabled.
-use Rattle.std.specs.Prelude.{ℕ, zero, suc, ◌+◌, ◌-◌, ◌&&◌, Bool, true, false, nat_le, nat_lt, if◌then◌else◌, List, Option, Some, None, is_none, slice_set}
+use Rattle.std.specs.Prelude.{ℕ, zero, suc, ◌+◌, ◌&&◌, Bool, true, false, nat_le, nat_lt, if◌then◌else◌, Option, Some, None, is_none, slice_set}
 use Rattle.omp_model.specs.declared.limits.TheConstants.{STEPS_OF_A_TURN, TURN_LIMIT}
 use Rattle.omp_model.specs.declared.machine.Event.{Event}
 use Rattle.omp_model.specs.declared.machine.Halt.{Halt}
-use Rattle.omp_model.specs.declared.machine.Halt.TheVariants.{Trap, Limit}
+use Rattle.omp_model.specs.declared.machine.Halt.TheVariants.{Limit}
 use Rattle.omp_model.specs.declared.machine.Outcome.{Outcome}
 use Rattle.omp_model.specs.declared.machine.Outcome.TheVariants.{Idle, Quiet, Happens, Halts}
 use Rattle.omp_model.specs.State.{Run, World, State, pending_at}
