@@ -29,3 +29,15 @@ Takes old new took.Failed piece = Keeps old new
 -- the held bytes grow by the front of a piece
 abbrev pub AppendsFront : Option (List ℕ) → Option (List ℕ) → List ℕ → Type 0
 AppendsFront old new piece = (n : ℕ) × (n ≤ length piece) × Appends old new (take n piece)
+
+-- a 64-bit count of faults after one more: it stays at its last value
+abbrev pub raised : ℕ → ℕ
+raised count = min (count + 1) (2 ^ 64 - 1)
+
+-- some bytes were given, at most so many
+abbrev pub ConsumesAtMost : Option (List ℕ) → Option (List ℕ) → ℕ → Type 0
+ConsumesAtMost old new limit = (given : List ℕ) × (length given ≤ limit) × Consumes old new given
+
+-- some bytes were given, more than so many
+abbrev pub ConsumesMore : Option (List ℕ) → Option (List ℕ) → ℕ → Type 0
+ConsumesMore old new limit = (given : List ℕ) × (limit < length given) × Consumes old new given

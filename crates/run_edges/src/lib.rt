@@ -8,16 +8,26 @@
 //! failing call. [`StdSource`] and [`StdSink`] adapt std's readers and writers: they tell no content, and are trusted.
 #![tactic(auto)]
 
-
-
+mod mem_sink;
+mod mem_source;
+mod pure_source;
+mod reading;
+mod script;
 mod sink;
 mod source;
+mod std_sink;
+mod std_source;
+#[cfg(test)]
+mod tests;
+mod writing;
 
-
-
-
-
+pub use mem_sink::{MemSink, Memory};
+pub use mem_source::MemSource;
+pub use pure_source::PureSource;
+pub use reading::{ReadAllFault, read_all};
+pub use script::Script;
 pub use sink::{Sink, Took};
 pub use source::{Got, Source};
-
-
+pub use std_sink::StdSink;
+pub use std_source::StdSource;
+pub use writing::{WriteFault, write_all};
