@@ -53,7 +53,7 @@ untold-by run after t (Happens event) is =
 untold-by run after t (Halts h) is = absurd (halt-not_untold h is)
 
 -- what is no call leaves nobody inside a callback
-told-is_call : (mask : ℕ) (call : Call) → is_call (told mask call) ≡ true
+pub told-is_call : (mask : ℕ) (call : Call) → is_call (told mask call) ≡ true
 told-is_call mask call = elim (is_registered mask (number_of call)) as (λ b. is_call (if◌then◌else◌ {A = Went} b (Told call) Untold) ≡ true) [ true ↦ refl | false ↦ refl ]
 
 pub alone-by : (run : Run) (after : State) (t : ℕ) (outcome : Outcome) → is_call (went_after run after t outcome) ≡ false → inside_after outcome t ≡ None

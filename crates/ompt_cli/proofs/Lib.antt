@@ -1,1 +1,2 @@
-mod Decimal
+pub mod Decimal
+pub mod Visiting

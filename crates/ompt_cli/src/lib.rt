@@ -6,7 +6,9 @@
 
 mod end;
 mod listing;
+mod serial_run;
 mod text;
 mod words;
 
 pub use end::{End, Refusal};
+pub use serial_run::{Ran, run_serial};
