@@ -1,2 +1,3 @@
 pub mod Decimal
 pub mod Visiting
+pub mod Ending

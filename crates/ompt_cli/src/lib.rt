@@ -1,14 +1,16 @@
-//! The command, from the bytes that it is given to the bytes that it writes.
-//!
-//! The words have one form, `list --serial --threads K`, and one text runs. Each way that a command ends has an exit
-//! status and a line on standard error.
+//! The command from bytes to bytes.
 #![tactic(auto)]
 
+mod command;
 mod end;
 mod listing;
+mod report;
 mod serial_run;
 mod text;
+mod top_call;
 mod words;
 
 pub use end::{End, Refusal};
+pub use report::{ALL_CALLBACKS, Report, SILENT_STEPS, Top};
 pub use serial_run::{Ran, run_serial};
+pub use top_call::top;

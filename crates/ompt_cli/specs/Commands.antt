@@ -1,0 +1,66 @@
+-- What a command does: what its words and its text decide, what it reports of its run, and what it writes.
+use Rattle.std.specs.Prelude.{ℕ, ◌≡◌, ⊤, List, [], Option, Some, None}
+use Rattle.omp_model.specs.declared.cause.Cause.{Cause}
+use Rattle.omp_model.specs.declared.cause.Cause.TheVariants as cause
+use Rattle.omp_model.specs.State.{Run}
+use Rattle.omp_model.specs.Records.{records_of, lines_of}
+use Rattle.omp_model.specs.Program.{empty_run}
+use Rattle.ompt_cli.specs.declared.end.Refusal.{Refusal}
+use Rattle.ompt_cli.specs.declared.end.End.{End}
+use Rattle.ompt_cli.specs.declared.end.End.TheVariants.{Done, Usage, Refused, ReadFault, WriteFault, Memory}
+use Rattle.ompt_cli.specs.declared.report.TheConstants.{SILENT_STEPS}
+use Rattle.ompt_cli.specs.declared.report.Report.{Report}
+
+-- the run that a report is of
+abbrev pub run_of : Report → Run
+run_of report = empty_run report.mask report.threads SILENT_STEPS
+
+-- nothing is written of a run that found no memory
+abbrev pub unless_memory : Cause → List ℕ → List ℕ
+unless_memory cause.Done lines = lines
+unless_memory (cause.Returned value) lines = lines
+unless_memory (cause.Trapped number) lines = lines
+unless_memory cause.Deadlock lines = lines
+unless_memory (cause.Limit number) lines = lines
+unless_memory cause.Memory lines = []
+
+-- what a listing writes: a line for each record of the run, if there was one
+abbrev pub out_of : Option Report → List ℕ
+out_of None = []
+out_of (Some report) = unless_memory report.cause (lines_of (records_of (run_of report) report.history))
+
+-- the end of a command whose text is refused for this: that refusal, or what comes before it
+abbrev pub MayRefuse : Refusal → End → Type 0
+MayRefuse why Done = ⊥
+MayRefuse why Usage = ⊥
+MayRefuse why (Refused other) = other ≡ why
+MayRefuse why ReadFault = ⊤
+MayRefuse why WriteFault = ⊥
+MayRefuse why Memory = ⊤
+
+-- the end of a command whose text runs to its Done: that, or what comes in its way
+abbrev pub MayDo : End → Type 0
+MayDo Done = ⊤
+MayDo Usage = ⊥
+MayDo (Refused why) = ⊥
+MayDo ReadFault = ⊤
+MayDo WriteFault = ⊤
+MayDo Memory = ⊤
+
+-- the end of a command that comes before its run
+abbrev pub IsBeforeRun : End → Type 0
+IsBeforeRun Done = ⊥
+IsBeforeRun Usage = ⊥
+IsBeforeRun (Refused why) = ⊤
+IsBeforeRun ReadFault = ⊤
+IsBeforeRun WriteFault = ⊥
+IsBeforeRun Memory = ⊤
+
+-- the end of a command that has run
+abbrev pub IsAfterRun : End → Type 0
+IsAfterRun Done = ⊤
+IsAfterRun Usage = ⊥
+IsAfterRun (Refused why) = ⊥
+IsAfterRun ReadFault = ⊥
+IsAfterRun WriteFault = ⊤
+IsAfterRun Memory = ⊤

@@ -1,0 +1,34 @@
+//! What a command reports of its run.
+
+use crate::end::End;
+use omp_model::{Cause, History};
+
+/// The callbacks that a listing registers: all sixteen of the profile, bit n for number n.
+pub const ALL_CALLBACKS: u64 = 0x0FB3_00FE;
+
+/// How many silent steps a run may have where the words don't say.
+pub const SILENT_STEPS: u32 = 1_000_000;
+
+/// What a command reports of its run.
+#[derive(Drop)]
+pub struct Report {
+    /// Why the run ended.
+    pub cause: Cause,
+    /// The callbacks that were registered: bit n for number n.
+    pub mask: u64,
+    /// How many threads there might be.
+    pub threads: u8,
+    /// The run's entries.
+    pub history: History,
+}
+
+/// What a command came to.
+#[derive(Drop)]
+pub struct Top {
+    /// The status that the program ends with.
+    pub status: u8,
+    /// How the command ended, before its line was told.
+    pub end: End,
+    /// The report of the run, where one ended by a cause, also by want of memory after its first entry.
+    pub ran: Option<Report>,
+}

@@ -1,0 +1,102 @@
+//! The call that does all: a command from bytes to bytes.
+
+ghost use Rattle.std.specs.Prelude.{◌≡◌, ◌≢◌, IfSome, IsSomeAnd, IsNone, Some, ◌↔◌};
+ghost use Rattle.std.specs.Io.KnownBytes.{Appends, Keeps};
+ghost use Rattle.omp_model.specs.Serial.{Serial, serial};
+ghost use Rattle.omp_model.specs.Cause.{cause_of};
+ghost use Rattle.run_edges.specs.Edges.{Rose, AppendsFront};
+ghost use Rattle.ompt_cli.specs.Words.{InForm, InFormWith, texts};
+ghost use Rattle.ompt_cli.specs.Text.{IsRefused, program_text};
+ghost use Rattle.ompt_cli.specs.Ends.{status_of, line_of_end};
+ghost use Rattle.ompt_cli.specs.Commands.{MayDo, MayRefuse, out_of, run_of};
+
+use crate::command::{Ended, command};
+use crate::end::{End, Refusal};
+use crate::report::{ALL_CALLBACKS, Top};
+use omp_model::Cause;
+use run_edges::{Sink, Source, write_all};
+use std::alloc::Global;
+
+/// Does what the words say: it reads the program from `source`, runs it, writes what is defined to `out`, and one line
+/// to `err` where the status isn't 0.
+///
+/// `words` don't contain the program's own name. `rt` stands for the runtime, of which a serial run takes nothing.
+pub fn top<R, S: Source, O: Sink, E: Sink>(
+    _rt: &R,
+    alloc: Global,
+    words: &[String],
+    source: &mut S,
+    out: &mut O,
+    err: &mut E,
+) -> Top
+    // The status is the number of the end, but for 9, to which a failing write of the line turns all but 10.
+    ensures told { ¬ Rose (E.faults err.old) (E.faults err.new) → result.status ≡ status_of result.end }
+    ensures turned { result.status ≢ status_of result.end →
+        (result.status ≡ 9) × (result.end ≢ End.Memory) × Rose (E.faults err.old) (E.faults err.new) }
+    ensures zero { (result.status ≡ 0) ↔ (result.end ≡ End.Done) }
+
+    // The line of the end is told.
+    ensures line { ¬ Rose (E.faults err.old) (E.faults err.new) →
+        Appends (E.held err.old) (E.held err.new) (line_of_end result.end) }
+    ensures front { AppendsFront (E.held err.old) (E.held err.new) (line_of_end result.end) }
+    ensures silent { result.end ≡ End.Done → err.new ≡ err.old }
+
+    // Other words than those of the form are a faulty command line, and nothing else is. Nothing is touched then.
+    ensures usage { result.end ≡ End.Usage → ¬ InForm (texts words.now) }
+    ensures formed { ¬ InForm (texts words.now) → result.end ≡ End.Usage }
+    ensures untouched { result.end ≡ End.Usage →
+        (source.new ≡ source.old) × (out.new ≡ out.old) × IsNone result.ran }
+
+    // A text is refused for what it is.
+    ensures refused { (why : Refusal) → result.end ≡ End.Refused why →
+        IfSome (S.left source.old) (IsRefused why) }
+    ensures accepted { InForm (texts words.now) → (why : Refusal) →
+        IsSomeAnd (S.left source.old) (IsRefused why) → MayRefuse why result.end }
+
+    // Each fault was counted.
+    ensures read { result.end ≡ End.ReadFault → Rose (S.faults source.old) (S.faults source.new) }
+    ensures write { result.end ≡ End.WriteFault → Rose (O.faults out.old) (O.faults out.new) }
+
+    // What ran is one serial run of the program, with as many threads as the words ask for.
+    ensures asked { IfSome result.ran (λ report. InFormWith (texts words.now) report.threads) }
+    ensures mask { IfSome result.ran (λ report. report.mask ≡ ALL_CALLBACKS) }
+    ensures serial { IfSome result.ran (λ report. Serial (run_of report) report.history) }
+    ensures cause { IfSome result.ran (λ report. report.cause ≢ Cause.Memory →
+        cause_of (run_of report) report.history ≡ Some report.cause) }
+
+    // It is done exactly where its history is, unless a fault or want of memory comes in the way.
+    ensures done { result.end ≡ End.Done → IsSomeAnd result.ran (λ report.
+        (report.cause ≡ Cause.Done) × (report.history ≡ serial (run_of report))) }
+    ensures ended { IfSome result.ran (λ report.
+        cause_of (run_of report) report.history ≡ Some Cause.Done → MayDo result.end) }
+    ensures runs { InForm (texts words.now) → S.left source.old ≡ Some program_text → MayDo result.end }
+
+    // What is written is the run's lines.
+    ensures listed { result.end ≢ End.WriteFault → result.end ≢ End.Memory →
+        Appends (O.held out.old) (O.held out.new) (out_of result.ran) }
+    ensures part { result.end ≡ End.WriteFault →
+        AppendsFront (O.held out.old) (O.held out.new) (out_of result.ran) }
+    ensures kept { result.end ≡ End.Memory → Keeps (O.held out.old) (O.held out.new) }
+{
+    let Ended { end, ran } = command(alloc, words, source, out);
+    let status = tell(end, err);
+    Top { status, end, ran }
+}
+
+/// Writes the line of an end, and answers the status.
+fn tell<E: Sink>(end: End, err: &mut E) -> u8
+    ensures told { ¬ Rose (E.faults err.old) (E.faults err.new) → result ≡ status_of end }
+    ensures turned { result ≢ status_of end →
+        (result ≡ 9) × (end ≢ End.Memory) × Rose (E.faults err.old) (E.faults err.new) }
+    ensures zero { (result ≡ 0) ↔ (end ≡ End.Done) }
+    ensures line { ¬ Rose (E.faults err.old) (E.faults err.new) →
+        Appends (E.held err.old) (E.held err.new) (line_of_end end) }
+    ensures front { AppendsFront (E.held err.old) (E.held err.new) (line_of_end end) }
+    ensures silent { end ≡ End.Done → err.new ≡ err.old }
+{
+    match write_all(err, end.line()) {
+        Ok(()) => end.status(),
+        Err(_) if end == End::Memory => end.status(),
+        Err(_) => End::WriteFault.status(),
+    }
+}
