@@ -38,14 +38,14 @@ MayRefuse why ReadFault = ⊤
 MayRefuse why WriteFault = ⊥
 MayRefuse why Memory = ⊤
 
--- the end of a command whose text runs to its Done: that, or what comes in its way
-abbrev pub MayDo : End → Type 0
-MayDo Done = ⊤
-MayDo Usage = ⊥
-MayDo (Refused why) = ⊥
-MayDo ReadFault = ⊤
-MayDo WriteFault = ⊤
-MayDo Memory = ⊤
+-- the end of a command whose text is the program: none for its words or its text
+abbrev pub MayRun : End → Type 0
+MayRun Done = ⊤
+MayRun Usage = ⊥
+MayRun (Refused why) = ⊥
+MayRun ReadFault = ⊤
+MayRun WriteFault = ⊤
+MayRun Memory = ⊤
 
 -- the end of a command that comes before its run
 abbrev pub IsBeforeRun : End → Type 0
@@ -64,3 +64,13 @@ IsAfterRun (Refused why) = ⊥
 IsAfterRun ReadFault = ⊥
 IsAfterRun WriteFault = ⊤
 IsAfterRun Memory = ⊤
+
+-- the end of a command whose run ended in this cause: what is done is told so unless a write or memory fails.
+-- The program's run has no other cause
+abbrev pub EndsAs : Cause → End → Type 0
+EndsAs cause.Done end = IsAfterRun end
+EndsAs (cause.Returned value) end = ⊥
+EndsAs (cause.Trapped number) end = ⊥
+EndsAs cause.Deadlock end = ⊥
+EndsAs (cause.Limit number) end = ⊥
+EndsAs cause.Memory end = end ≡ Memory

@@ -1,6 +1,6 @@
 //! The command `list`: it reads a program, runs it serially, and writes a line for each event.
 
-ghost use Rattle.std.specs.Prelude.{◌≡◌, ◌≢◌, ◌≤◌, ◌<◌, IfSome, IsSomeAnd, IsNone, IfErr, IsErrAnd, IsErrOf, OnOk, Some, None};
+ghost use Rattle.std.specs.Prelude.{◌≡◌, ◌≢◌, ◌≤◌, ◌<◌, IfSome, IsSomeAnd, IsNone, IfErr, IsErrAnd, IsErrOf, OnOk, Some, None, []};
 ghost use Rattle.std.specs.Io.KnownBytes.{Appends, Keeps};
 ghost use Rattle.omp_model.specs.Serial.{Serial, serial};
 ghost use Rattle.omp_model.specs.Cause.{cause_of};
@@ -8,7 +8,7 @@ ghost use Rattle.omp_model.specs.Records.{lines_of};
 ghost use Rattle.run_edges.specs.Edges.{Rose, AppendsFront};
 ghost use Rattle.ompt_cli.specs.Words.{InForm, InFormWith, texts};
 ghost use Rattle.ompt_cli.specs.Text.{IsRefused, program_text};
-ghost use Rattle.ompt_cli.specs.Commands.{IsAfterRun, IsBeforeRun, MayDo, MayRefuse, out_of, run_of};
+ghost use Rattle.ompt_cli.specs.Commands.{IsAfterRun, IsBeforeRun, EndsAs, MayRefuse, MayRun, out_of, run_of};
 
 use crate::end::{End, Refusal};
 use crate::listing::lines_text;
@@ -57,12 +57,16 @@ pub(crate) fn command<S: Source, O: Sink>(
     ensures cause { IfSome result.ran (λ report. report.cause ≢ Cause.Memory →
         cause_of (run_of report) report.history ≡ Some report.cause) }
 
-    // It is done exactly where its history is, unless a fault or want of memory comes in the way.
-    ensures done { result.end ≡ End.Done → IsSomeAnd result.ran (λ report.
-        (report.cause ≡ Cause.Done) × (report.history ≡ serial (run_of report))) }
-    ensures ended { IfSome result.ran (λ report.
-        cause_of (run_of report) report.history ≡ Some Cause.Done → MayDo result.end) }
-    ensures runs { InForm (texts words.now) → S.left source.old ≡ Some program_text → MayDo result.end }
+    ensures whole { IfSome result.ran (λ report. report.cause ≢ Cause.Memory →
+        report.history ≡ serial (run_of report)) }
+
+    // The end is Done exactly where the run is, unless a write or memory fails.
+    ensures done { result.end ≡ End.Done → IsSomeAnd result.ran (λ report. report.cause ≡ Cause.Done) }
+    ensures unwritten { result.end ≡ End.WriteFault →
+        IsSomeAnd result.ran (λ report. report.cause ≡ Cause.Done) }
+    ensures ended { IfSome result.ran (λ report. EndsAs report.cause result.end) }
+    ensures begun { IfSome result.ran (λ report. report.cause ≡ Cause.Memory → report.history ≢ []) }
+    ensures runs { InForm (texts words.now) → S.left source.old ≡ Some program_text → MayRun result.end }
 
     // What is written is the run's lines.
     ensures listed { result.end ≢ End.WriteFault → result.end ≢ End.Memory →
@@ -95,7 +99,7 @@ fn read_program<S: Source>(alloc: Global, source: &mut S) -> Result<(), End>
         IfSome (S.left source.old) (IsRefused why) }
     ensures accepted { (why : Refusal) → IsSomeAnd (S.left source.old) (IsRefused why) →
         IsErrAnd result (MayRefuse why) }
-    ensures runs { S.left source.old ≡ Some program_text → IfErr result MayDo }
+    ensures runs { S.left source.old ≡ Some program_text → IfErr result MayRun }
     ensures read { result ≡ Err End.ReadFault → Rose (S.faults source.old) (S.faults source.new) }
 {
     match read_all(alloc, source, TEXT_LIMIT) {
@@ -117,8 +121,13 @@ fn list<O: Sink>(alloc: Global, threads: u8, out: &mut O) -> Ended
     ensures serial { IfSome result.ran (λ report. Serial (run_of report) report.history) }
     ensures cause { IfSome result.ran (λ report. report.cause ≢ Cause.Memory →
         cause_of (run_of report) report.history ≡ Some report.cause) }
-    ensures done { result.end ≡ End.Done → IsSomeAnd result.ran (λ report.
-        (report.cause ≡ Cause.Done) × (report.history ≡ serial (run_of report))) }
+    ensures whole { IfSome result.ran (λ report. report.cause ≢ Cause.Memory →
+        report.history ≡ serial (run_of report)) }
+    ensures done { result.end ≡ End.Done → IsSomeAnd result.ran (λ report. report.cause ≡ Cause.Done) }
+    ensures unwritten { result.end ≡ End.WriteFault →
+        IsSomeAnd result.ran (λ report. report.cause ≡ Cause.Done) }
+    ensures ended { IfSome result.ran (λ report. EndsAs report.cause result.end) }
+    ensures begun { IfSome result.ran (λ report. report.cause ≡ Cause.Memory → report.history ≢ []) }
     ensures listed { result.end ≢ End.WriteFault → result.end ≢ End.Memory →
         Appends (O.held out.old) (O.held out.new) (out_of result.ran) }
     ensures part { result.end ≡ End.WriteFault →

@@ -8,7 +8,7 @@ ghost use Rattle.omp_model.specs.Program.{empty_run};
 
 use omp_machine::{Machine, Memory, Went};
 use omp_model::{Cause, Entry, EventRecord, History, What};
-use std::alloc::Global;
+use std::alloc::{AllocError, Global};
 
 /// What a serial run gave.
 #[derive(Drop)]
@@ -47,9 +47,13 @@ pub fn run_serial(alloc: Global, mask: u64, threads: u8, steps: u32) -> Result<R
     ensures records { IfOk result (λ ran. ran.records.items ≡ records_of (empty_run mask threads steps) ran.history) }
     ensures cause { IfOk result (λ ran. ran.cause ≢ Cause.Memory → cause_of (empty_run mask threads steps) ran.history ≡ Some ran.cause) }
     ensures whole { IfOk result (λ ran. ran.cause ≢ Cause.Memory → ran.history ≡ serial (empty_run mask threads steps)) }
+    ensures begun { IfOk result (λ ran. ran.cause ≡ Cause.Memory → ran.history ≢ []) }
 {
     let mut run = SerialRun::new(alloc, mask, threads, steps)?;
     let cause = run.finish();
+    if cause == Cause::Memory && run.history.is_empty() {
+        return Err(AllocError);
+    }
     Ok(Ran {
         cause,
         mask,

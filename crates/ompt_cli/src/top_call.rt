@@ -1,6 +1,6 @@
 //! The call that does all: a command from bytes to bytes.
 
-ghost use Rattle.std.specs.Prelude.{◌≡◌, ◌≢◌, IfSome, IsSomeAnd, IsNone, Some, ◌↔◌};
+ghost use Rattle.std.specs.Prelude.{◌≡◌, ◌≢◌, IfSome, IsSomeAnd, IsNone, Some, ◌↔◌, []};
 ghost use Rattle.std.specs.Io.KnownBytes.{Appends, Keeps};
 ghost use Rattle.omp_model.specs.Serial.{Serial, serial};
 ghost use Rattle.omp_model.specs.Cause.{cause_of};
@@ -8,7 +8,7 @@ ghost use Rattle.run_edges.specs.Edges.{Rose, AppendsFront};
 ghost use Rattle.ompt_cli.specs.Words.{InForm, InFormWith, texts};
 ghost use Rattle.ompt_cli.specs.Text.{IsRefused, program_text};
 ghost use Rattle.ompt_cli.specs.Ends.{status_of, line_of_end};
-ghost use Rattle.ompt_cli.specs.Commands.{MayDo, MayRefuse, out_of, run_of};
+ghost use Rattle.ompt_cli.specs.Commands.{EndsAs, MayRefuse, MayRun, out_of, run_of};
 
 use crate::command::{Ended, command};
 use crate::end::{End, Refusal};
@@ -64,12 +64,16 @@ pub fn top<R, S: Source, O: Sink, E: Sink>(
     ensures cause { IfSome result.ran (λ report. report.cause ≢ Cause.Memory →
         cause_of (run_of report) report.history ≡ Some report.cause) }
 
-    // It is done exactly where its history is, unless a fault or want of memory comes in the way.
-    ensures done { result.end ≡ End.Done → IsSomeAnd result.ran (λ report.
-        (report.cause ≡ Cause.Done) × (report.history ≡ serial (run_of report))) }
-    ensures ended { IfSome result.ran (λ report.
-        cause_of (run_of report) report.history ≡ Some Cause.Done → MayDo result.end) }
-    ensures runs { InForm (texts words.now) → S.left source.old ≡ Some program_text → MayDo result.end }
+    ensures whole { IfSome result.ran (λ report. report.cause ≢ Cause.Memory →
+        report.history ≡ serial (run_of report)) }
+
+    // The end is Done exactly where the run is, unless a write or memory fails.
+    ensures done { result.end ≡ End.Done → IsSomeAnd result.ran (λ report. report.cause ≡ Cause.Done) }
+    ensures unwritten { result.end ≡ End.WriteFault →
+        IsSomeAnd result.ran (λ report. report.cause ≡ Cause.Done) }
+    ensures ended { IfSome result.ran (λ report. EndsAs report.cause result.end) }
+    ensures begun { IfSome result.ran (λ report. report.cause ≡ Cause.Memory → report.history ≢ []) }
+    ensures runs { InForm (texts words.now) → S.left source.old ≡ Some program_text → MayRun result.end }
 
     // What is written is the run's lines.
     ensures listed { result.end ≢ End.WriteFault → result.end ≢ End.Memory →

@@ -1,0 +1,5 @@
+//! The tests that cross crates: worked rows, and failing sources and sinks, through `ompt_cli::top`.
+#![tactic(auto)]
+
+#[cfg(test)]
+mod tests;
