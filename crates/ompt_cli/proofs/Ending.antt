@@ -25,6 +25,6 @@ longer xs given rest same = omega (arith, ap length same, length-append given re
 pub program-not_long : (old new : Option (List ℕ)) → old ≡ Some program_text → ConsumesMore old new 65536 → ⊥
 program-not_long old new told more = more-known new (subst (λ (known : Option (List ℕ)). ConsumesMore known new 65536) told more)
   where
-  more-known : (after : Option (List ℕ)) → ConsumesMore (Some program_text) after 65536 → ⊥
-  more-known None more = more.2
-  more-known (Some rest) more = absurd (omega (arith, longer program_text more.0 rest more.2, more.1, length-program))
+    more-known : (after : Option (List ℕ)) → ConsumesMore (Some program_text) after 65536 → ⊥
+    more-known None more = more.2
+    more-known (Some rest) more = absurd (omega (arith, longer program_text more.0 rest more.2, more.1, length-program))

@@ -75,7 +75,7 @@ module _ (run : Run) (S : State) (from : ℕ) (H : List Entry) (R : List EventRe
         few = stands.few;
         within = below;
         nobody = rw (same-pending run S (turn run S t).state t (turn run S t).outcome (leaves-turn run S t) none) stands.nobody;
-        has_run = HasRun-alone t stands.has_run turns (alone-by run (turn run S t).state t (turn run S t).outcome none)
+        has_run = HasRun-alone t stands.has_run turns (alone-by run (turn run S t).state t (turn run S t).outcome none);
       }
 
   -- after an event that is heard
@@ -86,7 +86,7 @@ module _ (run : Run) (S : State) (from : ℕ) (H : List Entry) (R : List EventRe
         few = stands.few;
         within = below;
         nobody = nobody-back run S t said.event stands.nobody said.happens waits;
-        has_run = rw (← said.call_is) (HasRun-told t said.event stands.has_run turns said.happens waits said.registered)
+        has_run = rw (← said.call_is) (HasRun-told t said.event stands.has_run turns said.happens waits said.registered);
       }
 
   -- after an event that isn't
@@ -97,7 +97,7 @@ module _ (run : Run) (S : State) (from : ℕ) (H : List Entry) (R : List EventRe
         few = stands.few;
         within = below;
         nobody = nobody-back run S t unsaid.event stands.nobody unsaid.happens waits;
-        has_run = HasRun-untold t unsaid.event stands.has_run turns unsaid.happens waits unsaid.unregistered
+        has_run = HasRun-untold t unsaid.event stands.has_run turns unsaid.happens waits unsaid.unregistered;
       }
 
 -- four tests that hold

@@ -63,5 +63,5 @@ returns-in-Quiet c =
     record {
       run = rw c.in_ok-went.ensures.turn refl;
       stands = rw (c.in_ok-went.ensures.turn, c.keep.ensures.items, c.in_ok-reserve.ensures.items, c.in_ok-reserve-2.ensures.items) (stands-alone run state c.args.self.now.next _ _ c.args.thread c.requires.stands c.requires.turn alone);
-      turns = rw c.in_ok-went.ensures.turn (turns-rise _ _ _ on)
+      turns = rw c.in_ok-went.ensures.turn (turns-rise _ _ _ on);
     }
