@@ -1,5 +1,5 @@
 -- One more thread of a search for an enabled one.
-use Rattle.std.proofs.Common.{◌≡◌, ℕ, suc, zero, ◌+◌, ◌-◌, ◌<◌, ◌≤◌, true, false, Some, None, refl, arith}
+use Rattle.std.proofs.Common.{◌≡◌, ℕ, suc, ◌+◌, ◌-◌, ◌<◌, ◌≤◌, true, false, Some, None, arith}
 use Rattle.omp_model.specs.State.{Run, State}
 use Rattle.omp_model.specs.Turn.{enabled}
 use Rattle.omp_model.specs.Serial.{enabled_among}

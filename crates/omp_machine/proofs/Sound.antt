@@ -1,5 +1,5 @@
--- What is true of a machine's states stays true over a turn and a Back, and a thread whose event is told or untold waits.
-use Rattle.std.proofs.Common.{◌≡◌, ℕ, ◌+◌, ◌<◌, true, false, Bool, Option, Some, None, IsTrue, IsSome, length, slice_set, slice_index_or, get_or-set_same, refl, sym, ap, ◌∙◌, subst, arith}
+-- What is true of a machine's states stays true over a turn, and a thread whose event is told or untold waits.
+use Rattle.std.proofs.Common.{◌≡◌, ℕ, ◌<◌, true, IsTrue, IsSome, length, get_or-set_same, refl, sym, ap, ◌∙◌, arith}
 use Rattle.std.proofs.lemmas.List.{length-set}
 use Rattle.std.proofs.lemmas.Bool.{true≢false}
 use Rattle.omp_model.specs.declared.machine.Event.{Event}
@@ -8,10 +8,9 @@ use Rattle.omp_model.specs.declared.machine.Halt.TheVariants.{Trap, Limit}
 use Rattle.omp_model.specs.declared.machine.Outcome.{Outcome}
 use Rattle.omp_model.specs.declared.machine.Outcome.TheVariants.{Idle, Quiet, Happens, Halts}
 use Rattle.omp_model.specs.State.{Run, State, pending_at}
-use Rattle.omp_model.specs.Turn.{Turn, turn, enabled}
-use Rattle.omp_model.specs.Legal.{back_from, back}
-use Rattle.omp_model.proofs.Turns.{Leaves, leaves-turn, turn-below, turn-pending, back-turns, back-halt}
-use Rattle.omp_model.proofs.Threads.{turn-threads, back-threads, happens-made}
+use Rattle.omp_model.specs.Turn.{turn, enabled}
+use Rattle.omp_model.proofs.Turns.{Leaves, leaves-turn, turn-below, turn-pending}
+use Rattle.omp_model.proofs.Threads.{turn-threads, happens-made}
 use Rattle.omp_machine.specs.Standing.{IsSound, went_after, went_of_halt, is_call}
 
 -- a turn keeps the number of threads that may wait
@@ -26,19 +25,7 @@ sound-turn run S t threads on sound =
     record {
       pending_of_each = pending-length S (turn run S t).state t (turn run S t).outcome (leaves-turn run S t) ∙ sound.pending_of_each;
       each_thread = turn-threads run S t ∙ sound.each_thread;
-      turns_left = turn-below run S t on
-    }
-
-back-length : (S : State) (t : ℕ) (e : Option Event) → length (back_from S t e).pending ≡ length S.pending
-back-length S t None = refl
-back-length S t (Some e) = length-set _ _ _
-
-pub sound-back : (S : State) (t threads : ℕ) → IsSound threads S → IsSound threads (back S t)
-sound-back S t threads sound =
-    record {
-      pending_of_each = back-length S t (pending_at S t) ∙ sound.pending_of_each;
-      each_thread = back-threads S t ∙ sound.each_thread;
-      turns_left = λ running. let left = sound.turns_left (sym (back-halt S t) ∙ running) in rw (back-turns S t) left
+      turns_left = turn-below run S t on;
     }
 
 -- an event's thread waits

@@ -1,5 +1,5 @@
 -- What a turn's answer says of what the turn came to.
-use Rattle.std.proofs.Common.{◌≡◌, ℕ, ◌∙◌, if◌then◌else◌, true, false, Bool, None, refl, sym}
+use Rattle.std.proofs.Common.{◌≡◌, ℕ, ◌∙◌, if◌then◌else◌, true, false, None, refl, sym}
 use Rattle.std.proofs.lemmas.Bool.{true≢false}
 use Rattle.ompt_calls.specs.declared.call.Call.{Call}
 use Rattle.ompt_calls.specs.Number.{number_of}

@@ -1,5 +1,5 @@
 -- One more silent step of a walk, or its end.
-use Rattle.std.proofs.Common.{◌≡◌, ℕ, zero, suc, ◌+◌, ◌-◌, ◌<◌, ◌≤◌, Bool, true, false, nat_le, Some, None, refl, ap, ◌∙◌, sym, arith}
+use Rattle.std.proofs.Common.{◌≡◌, ℕ, zero, suc, ◌+◌, ◌-◌, ◌<◌, ◌≤◌, true, false, nat_le, Some, None, refl, arith}
 use Rattle.omp_model.specs.declared.machine.Halt.TheVariants.{Limit}
 use Rattle.omp_model.specs.State.{Run, World, State}
 use Rattle.omp_model.specs.Silent.{Silence, NoStep, Steps, is_step, silent}

@@ -1,9 +1,8 @@
 -- What a machine stands for: its run and a state of it; and what a turn tells its caller.
-use Rattle.std.specs.Prelude.{ℕ, ◌≡◌, ◌<◌, Bool, true, false, ◌&&◌, if◌then◌else◌, List, length, Option, Some, None}
+use Rattle.std.specs.Prelude.{ℕ, ◌≡◌, ◌<◌, Bool, true, false, if◌then◌else◌, length, None}
 use Rattle.ompt_calls.specs.declared.call.Call.{Call}
 use Rattle.ompt_calls.specs.Number.{number_of}
 use Rattle.omp_model.specs.declared.limits.TheConstants.{TURN_LIMIT}
-use Rattle.omp_model.specs.declared.machine.Event.{Event}
 use Rattle.omp_model.specs.declared.machine.Halt.{Halt}
 use Rattle.omp_model.specs.declared.machine.Halt.TheVariants as halt
 use Rattle.omp_model.specs.State.{Run, State}

@@ -1,11 +1,11 @@
 //! What events change: the threads by number, and the tasks by identity.
 
-ghost use Rattle.std.specs.Prelude.{◌≡◌, ◌<◌, ◌≤◌, None, Some, IfOk, IsTrue, length, Option, ℕ, ◌∷◌, [], ◌-◌, replicate};
-ghost use Rattle.omp_model.specs.State.{thread_at, task_at, current, staged, pushed, popped, conditioned, first, unmade, no_task, initial_task, initial_thread};
+ghost use Rattle.std.specs.Prelude.{◌≡◌, ◌<◌, ◌≤◌, None, Some, IfOk, IsTrue, length, Option, ◌∷◌, [], ◌-◌, replicate};
+ghost use Rattle.omp_model.specs.State.{thread_at, task_at, current, staged, pushed, popped, conditioned, unmade, no_task, initial_task, initial_thread};
 ghost use Rattle.omp_model.specs.Silent.{Steps, is_step, silent};
 ghost use Rattle.omp_model.specs.Events.{event_without_task, event_in_initial, event_in, event, has_returned, fault_at, at_go, at_back, workers_over, is_over};
 ghost use Rattle.omp_model.specs.Cause.{threads_over, whole_value};
-ghost use Rattle.omp_model.specs.Program.{empty_run, empty_program};
+ghost use Rattle.omp_model.specs.Program.{empty_program};
 
 use crate::task::Task;
 use crate::thread::Thread;
@@ -13,10 +13,13 @@ use omp_model::{Condition, Event, Halt, INITIAL_TASK, STACK_LIMIT, ThreadStage};
 use std::alloc::{AllocError, Global};
 use std::marker::Model;
 
-/// The threads and tasks of a run. A thread or a task that isn't there reads as one that wasn't made.
+/// The threads and tasks of a run. A thread that isn't there reads as one that wasn't made, and a task that isn't there
+/// as a finished one with no code.
 #[derive(Drop)]
 pub struct Board {
+    /// The threads by number.
     threads: Vec<Thread>,
+    /// The tasks by identity. At identity 0 stands no task.
     tasks: Vec<Task>,
 }
 
@@ -33,8 +36,9 @@ impl Board {
     pub fn new(alloc: Global, threads: u8) -> Result<Board, AllocError>
         requires { 1 ≤ threads }
         ensures { IfOk result (λ board. board ≡ record {
-            threads = initial_thread ∷ replicate (threads - 1) unmade;
-            tasks = no_task ∷ initial_task empty_program ∷ [] }) }
+          threads = initial_thread ∷ replicate (threads - 1) unmade;
+          tasks = no_task ∷ initial_task empty_program ∷ [];
+        }) }
     {
         let threads = all_threads(alloc, threads)?;
         let tasks = all_tasks(alloc)?;

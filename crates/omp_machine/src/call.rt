@@ -3,21 +3,25 @@
 ghost use Rattle.std.specs.Prelude.{◌≡◌, ◌<◌};
 ghost use Rattle.omp_model.specs.State.{Run, State, World};
 ghost use Rattle.omp_model.specs.Calls.{call_of, fresh_word, thread_kind, is_registered};
-ghost use Rattle.omp_machine.specs.Standing.{told, went_of_halt, went_after};
+ghost use Rattle.omp_machine.specs.Standing.{told, went_after};
 
 use crate::went::Went;
 use omp_model::{Event, Halt, IMPLICIT_REGION, INITIAL_TASK, Outcome};
 use ompt_calls::{Call, Word};
 
-/// `ompt_thread_initial` and `ompt_thread_worker` (OpenMP 5.2, 19.4.4.10).
+/// `ompt_thread_initial` of `ompt_thread_t` (OpenMP 5.2, 19.4.4.10).
 const INITIAL_THREAD: u32 = 1;
+
+/// `ompt_thread_worker` of `ompt_thread_t`.
 const WORKER: u32 = 2;
 
-/// `ompt_scope_begin` and `ompt_scope_end` (OpenMP 5.2, 19.4.4.11).
+/// `ompt_scope_begin` of `ompt_scope_endpoint_t` (OpenMP 5.2, 19.4.4.11).
 const SCOPE_BEGIN: u32 = 1;
+
+/// `ompt_scope_end` of `ompt_scope_endpoint_t`.
 const SCOPE_END: u32 = 2;
 
-/// `ompt_task_initial` (OpenMP 5.2, 19.4.4.19).
+/// `ompt_task_initial` of `ompt_task_flag_t` (OpenMP 5.2, 19.4.4).
 const TASK_INITIAL: u32 = 1;
 
 /// A data word that nobody has stored.
@@ -34,7 +38,9 @@ fn thread_kind(thread: u8) -> u32
     if thread == 0 { INITIAL_THREAD } else { WORKER }
 }
 
-/// The callback of the event that has just occurred on the thread, with its arguments.
+/// The callback of the event that has just occurred on the thread, with its arguments: those of
+/// `ompt_callback_thread_begin`, `ompt_callback_implicit_task` and `ompt_callback_thread_end` (OpenMP 5.2, 19.5.2.1,
+/// 19.5.2.11 and 19.5.2.2).
 fn call_of(thread: u8, event: Event) -> Call
     ensures { (world : World) → result ≡ call_of world thread event }
 {
@@ -65,7 +71,7 @@ fn call_of(thread: u8, event: Event) -> Call
     }
 }
 
-/// Whether the callback with this number is in the mask.
+/// Whether the callback with this value in `ompt_callbacks_t` (OpenMP 5.2, 19.4.2) is in the mask.
 fn is_registered(mask: u64, number: u32) -> bool
     requires { number < 64 }
     ensures { result ≡ is_registered mask number }

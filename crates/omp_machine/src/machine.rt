@@ -1,6 +1,6 @@
 //! The machine that runs the program.
 
-ghost use Rattle.std.specs.Prelude.{◌≡◌, ◌<◌, ◌≤◌, IfOk, OnOk, OnErr, IfSome, IsSome, IsTrue, is_some, ◌-◌, ℕ};
+ghost use Rattle.std.specs.Prelude.{◌≡◌, ◌<◌, ◌≤◌, IfOk, OnOk, OnErr, IsSome, IsTrue, is_some, ◌-◌};
 ghost use Rattle.omp_model.specs.State.{first, pending_at};
 ghost use Rattle.omp_model.specs.Turn.{turn, enabled};
 ghost use Rattle.omp_model.specs.Legal.{back};
@@ -23,7 +23,9 @@ pub type Memory = std::alloc::AllocError;
 /// The machine of a run of the empty program. Contracts see its run, and the state that it has come to.
 #[derive(Drop)]
 pub struct Machine {
+    /// What fixes its run.
     settings: Settings,
+    /// What the run has come to.
     state: State,
 }
 

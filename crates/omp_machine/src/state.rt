@@ -27,10 +27,15 @@ struct Walk {
 /// A state of the machine.
 #[derive(Drop)]
 pub struct State {
+    /// The threads and tasks.
     board: Board,
+    /// For each thread the event whose callback hasn't returned.
     pending: Vec<Option<Event>>,
+    /// How many silent steps were made so far.
     steps: u32,
+    /// How many turns were begun so far.
     turns: u32,
+    /// What halted the run.
     halt: Option<Halt>,
 }
 
@@ -40,11 +45,12 @@ impl Model for State {
     ghost Value = { Standing };
 
     ghost view = { λ state. record {
-        world = state.board;
-        pending = state.pending.items;
-        steps = state.steps;
-        turns = state.turns;
-        halt = state.halt } };
+      world = state.board;
+      pending = state.pending.items;
+      steps = state.steps;
+      turns = state.turns;
+      halt = state.halt;
+    } };
 }
 
 impl State {
@@ -245,7 +251,7 @@ impl State {
     }
 }
 
-/// For so many threads, that none is inside a callback.
+/// The pending events of so many threads, of which none is inside a callback.
 fn nobody(alloc: Global, threads: u8) -> Result<Vec<Option<Event>>, AllocError>
     ensures { IfOk result (λ pending. pending.items ≡ replicate threads None) }
 {

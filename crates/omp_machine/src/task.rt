@@ -1,6 +1,6 @@
 //! A task: how far it has come, and its remaining code.
 
-ghost use Rattle.std.specs.Prelude.{◌≡◌, [], Some, IfOk, IsTrue};
+ghost use Rattle.std.specs.Prelude.{◌≡◌, Some, IfOk, IsTrue};
 ghost use Rattle.omp_model.specs.State.{no_task, initial_task};
 ghost use Rattle.omp_model.specs.Silent.{after_step};
 ghost use Rattle.omp_model.specs.Events.{has_returned};
@@ -15,8 +15,11 @@ use std::marker::Model;
 /// A task of the machine.
 #[derive(Drop)]
 pub struct Task {
+    /// How far it has come.
     condition: Condition,
+    /// What remains of its code.
     code: VecDeque<Instruction>,
+    /// The value that the last call to end in it gave.
     value: Option<i32>,
 }
 

@@ -10,7 +10,9 @@ use std::marker::Model;
 /// A thread of the machine. Its stack has room for as many tasks as the limit allows, so that a push takes no memory.
 #[derive(Drop)]
 pub struct Thread {
+    /// How far it has come.
     stage: ThreadStage,
+    /// The identities of the tasks that it has taken up, the current one last.
     stack: Vec<u32>,
 }
 

@@ -9,8 +9,7 @@ use Rattle.omp_model.specs.declared.machine.Outcome.{Outcome}
 use Rattle.omp_model.specs.declared.machine.Outcome.TheVariants.{Idle, Quiet, Happens, Halts}
 use Rattle.omp_model.specs.State.{Run, World, State, Task, thread_at, unmade}
 use Rattle.omp_model.specs.Silent.{Silence, NoStep, Steps, silence_of, silent}
-use Rattle.omp_model.specs.Events.{event, fault_at, at_go, at_back}
-use Rattle.omp_model.specs.Legal.{back_from, back}
+use Rattle.omp_model.specs.Events.{event, fault_at, at_go}
 use Rattle.omp_model.specs.Turn.{Walk, walk_on, walk, stepped, Turn, counted, happening, after_steps, after_walk, halted, unlimited, turn}
 use Rattle.std.proofs.lemmas.List.{length-set, get_or_past}
 use Rattle.std.proofs.lemmas.Bool.{cases_lt, true≢false}
@@ -44,18 +43,12 @@ walk-threads run zero made S t = refl
 walk-threads run (suc left) made S t =
     walk-on-threads run S made (silent S.world t) (λ after. walk run left (made + 1) (stepped S after) t) (silent-keeps S.world t) (λ W. walk-threads run left (made + 1) (stepped S W) t)
 
--- what happens at a Go and takes hold at a Back changes threads, and makes none
+-- what happens at a Go changes threads, and makes none
 at-go-threads : (W : World) (t : ℕ) (e : Event) → SameThreads W (at_go W t e)
 at-go-threads W t ThreadBegin = length-set _ _ _
 at-go-threads W t InitialTaskBegin = length-set _ _ _
 at-go-threads W t InitialTaskEnd = length-set _ _ _
 at-go-threads W t ThreadEnd = refl
-
-at-back-threads : (W : World) (t : ℕ) (e : Event) → SameThreads W (at_back W t e)
-at-back-threads W t ThreadBegin = refl
-at-back-threads W t InitialTaskBegin = refl
-at-back-threads W t InitialTaskEnd = refl
-at-back-threads W t ThreadEnd = length-set _ _ _
 
 happening-threads : (S : State) (t : ℕ) (e : Event) (fault : Option Halt) → SameThreads S.world (happening S t e fault).state.world
 happening-threads S t e None = at-go-threads S.world t e
@@ -81,21 +74,13 @@ unfolding turn
 turn-threads run S t =
     elim (nat_le TURN_LIMIT (S.turns + 1)) as (λ b. let turned : Turn = if◌then◌else◌ {A = Turn} b (halted S (Limit 2)) (unlimited run S t) in SameThreads S.world turned.state.world) [ true ↦ refl | false ↦ unlimited-threads run S t ]
 
-back-from-threads : (S : State) (t : ℕ) (e : Option Event) → SameThreads S.world (back_from S t e).world
-back-from-threads S t None = refl
-back-from-threads S t (Some e) = at-back-threads S.world t e
-
--- nor does the return of a callback
-pub back-threads : (S : State) (t : ℕ) → SameThreads S.world (back S t).world
-back-threads S t = back-from-threads S t _
-
 -- a thread that comes to an event was made
 event-made : (W : World) (t : ℕ) → IsSome (event W t) → t < length W.threads
 unfolding event
 event-made W t some = elim (cases_lt t (length W.threads)) [
-    inl made ↦ made
+  | inl made ↦ made
   | inr past ↦ let none : thread_at W t ≡ unmade = get_or_past W.threads t unmade past in absurd (true≢false (sym (rw none at some)))
-  ]
+]
 
 -- where the outcome is an event, the thread was made
 abbrev MadeFor : ℕ → ℕ → Outcome → Type 0

@@ -1,5 +1,6 @@
 -- Events: when a thread has come to one and it is enabled, what happens at its Go, and what takes hold at its Back.
--- OpenMP 5.2, 19.5.2, with the states of threads and tasks of this machine.
+-- OpenMP 5.2 has the order of the events of a thread and of the initial task in chapter 12, Initial Task, and their
+-- callbacks in 19.5.2. The states of threads and tasks are this machine's.
 use Rattle.std.specs.Prelude.{ℕ, Bool, true, false, ◌&&◌, ◌==◌, nat_le, if◌then◌else◌, List, [], ◌∷◌, Option, Some, None, is_some, length, drop}
 use Rattle.std.specs.List.{list_all}
 use Rattle.omp_model.specs.declared.limits.TheConstants.{STACK_LIMIT, INITIAL_TASK}

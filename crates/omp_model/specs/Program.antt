@@ -18,18 +18,18 @@ abbrev pub empty_run : ℕ → ℕ → ℕ → Run
 empty_run mask threads steps = record { code = empty_program; mask = mask; threads = threads; steps = steps }
 
 -- thread 0 takes a turn
-abbrev pub go : Entry
-go = record { thread = 0; what = Go }
+abbrev pub go_zero : Entry
+go_zero = record { thread = 0; what = Go }
 
 -- its callback has returned
-abbrev pub back : Entry
-back = record { thread = 0; what = Back }
+abbrev pub back_zero : Entry
+back_zero = record { thread = 0; what = Back }
 
 -- the eight entries of that run: its four events are on thread 0, each with its callback
-abbrev pub eight : List Entry
-eight = go ∷ back ∷ go ∷ back ∷ go ∷ back ∷ go ∷ back ∷ []
+abbrev pub empty_history : List Entry
+empty_history = go_zero ∷ back_zero ∷ go_zero ∷ back_zero ∷ go_zero ∷ back_zero ∷ go_zero ∷ back_zero ∷ []
 
 -- the four records, with all callbacks registered
-abbrev pub four : List EventRecord
-four =
+abbrev pub empty_records : List EventRecord
+empty_records =
     record { seq = 0; thread = 0; call = ThreadBegin 1 (fresh_word 1) } ∷ record { seq = 2; thread = 0; call = ImplicitTask 1 (fresh_word 1) (fresh_word 1) 1 1 1 } ∷ record { seq = 4; thread = 0; call = ImplicitTask 2 (fresh_word 0) (fresh_word 1) 0 1 1 } ∷ record { seq = 6; thread = 0; call = ThreadEnd (fresh_word 1) } ∷ []

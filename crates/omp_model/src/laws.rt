@@ -6,7 +6,7 @@ ghost use Rattle.omp_model.specs.State.{Run};
 ghost use Rattle.omp_model.specs.Cause.{cause_of};
 ghost use Rattle.omp_model.specs.Serial.{WholeSerial, serial};
 ghost use Rattle.omp_model.specs.Records.{records_of};
-ghost use Rattle.omp_model.specs.Program.{empty_run, eight, four};
+ghost use Rattle.omp_model.specs.Program.{empty_run, empty_history, empty_records};
 
 use crate::cause::Cause;
 
@@ -19,7 +19,7 @@ pub fn serial_history_is_one()
 /// With all callbacks registered, a million silent steps and 1 to 16 threads, the serial run of the empty program has
 /// eight entries and four records, and ends because all is done.
 pub fn empty_program_ends()
-    ensures entries { (n : ℕ) → 1 ≤ n → n ≤ 16 → serial (empty_run 0x0FB300FE n 1000000) ≡ eight }
-    ensures records { (n : ℕ) → 1 ≤ n → n ≤ 16 → records_of (empty_run 0x0FB300FE n 1000000) (serial (empty_run 0x0FB300FE n 1000000)) ≡ four }
+    ensures entries { (n : ℕ) → 1 ≤ n → n ≤ 16 → serial (empty_run 0x0FB300FE n 1000000) ≡ empty_history }
+    ensures records { (n : ℕ) → 1 ≤ n → n ≤ 16 → records_of (empty_run 0x0FB300FE n 1000000) (serial (empty_run 0x0FB300FE n 1000000)) ≡ empty_records }
     ensures cause { (n : ℕ) → 1 ≤ n → n ≤ 16 → cause_of (empty_run 0x0FB300FE n 1000000) (serial (empty_run 0x0FB300FE n 1000000)) ≡ Some Cause.Done }
 {}

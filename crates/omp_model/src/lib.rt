@@ -7,6 +7,21 @@
 //!
 //! `src/` has the few types that the definitions share with the code, and [`laws`]: what follows from the definitions
 //! alone, each law the contract of a function with an empty body.
+//!
+//! Proved, by the contract of the function that is named:
+//!
+//! - two serial histories of a run that go on to its end are the same, and each is the one that `serial` computes
+//!   ([`serial_history_is_one`]). It doesn't say of a run that there is one;
+//! - with all callbacks registered, a million silent steps and 1 to 16 threads, `serial` computes for the empty program
+//!   the eight entries of `empty_history`, whose records are the four of `empty_records` and whose cause is
+//!   [`Cause::Done`] ([`empty_program_ends`]);
+//! - [`History::entries`] gives the history's entries.
+//!
+//! Three more rows are lemmas of `proofs/Rows.antt`: with one thread those eight entries are legal; with an empty mask
+//! nothing of them is heard; and with one silent step the run ends at limit 1, in its third turn.
+//!
+//! No proof says that the definitions are OpenMP's: that is for their reader to judge.
+//! `rt plant` lists no wrong body that a contract lets through. The two laws have no body to plant one in.
 #![tactic(auto)]
 
 mod cause;

@@ -33,16 +33,16 @@ pub enum ThreadStage {
     Ended,
 }
 
-/// An event of the machine (OpenMP 5.2, 19.5.2).
+/// An event of the machine, with its callback (OpenMP 5.2, 19.5.2).
 #[derive(Clone, Copy, Debug, PartialEq, Eq)]
 pub enum Event {
-    /// The thread begins.
+    /// The thread begins: `ompt_callback_thread_begin` (19.5.2.1).
     ThreadBegin,
-    /// The initial task begins.
+    /// The initial task begins: `ompt_callback_implicit_task` with `ompt_scope_begin` (19.5.2.11).
     InitialTaskBegin,
-    /// The initial task ends, after main has returned.
+    /// The initial task ends, after main has returned: `ompt_callback_implicit_task` with `ompt_scope_end` (19.5.2.11).
     InitialTaskEnd,
-    /// The thread ends.
+    /// The thread ends: `ompt_callback_thread_end` (19.5.2.2).
     ThreadEnd,
 }
 
@@ -51,7 +51,7 @@ pub enum Event {
 pub enum Halt {
     /// The trap with this number: the program did what it must not.
     Trap(u8),
-    /// The limit with this number.
+    /// The limit with this number: 1 of silent steps, 2 of turns, 5 of the tasks on a thread's stack.
     Limit(u8),
 }
 

@@ -1,4 +1,4 @@
-use Rattle.std.proofs.Common.{◌≡◌, ◌∷◌, ◌-◌, replicate}
+use Rattle.std.proofs.Common.{◌≡◌, ◌∷◌, replicate}
 use Rattle.omp_model.specs.State.{initial_thread, unmade}
 use Rattle.omp_machine.proofs.board.all_threads.Given as goal
 

@@ -1,4 +1,4 @@
-use Rattle.std.proofs.Common.{◌≡◌, ◌∙◌, ap}
+use Rattle.std.proofs.Common.{◌∙◌, ap}
 use Rattle.omp_machine.specs.Standing.{told}
 use Rattle.omp_machine.proofs.call.went_after.Goals as goal
 

@@ -2,7 +2,7 @@ use Rattle.std.proofs.Common.{◌≡◌, Some, sym, subst}
 use Rattle.omp_model.specs.declared.cause.Cause.TheVariants as cause
 use Rattle.omp_model.specs.Cause.{cause_of}
 use Rattle.omp_model.specs.Records.{records_of}
-use Rattle.omp_model.specs.Program.{four}
+use Rattle.omp_model.specs.Program.{empty_records}
 use Rattle.omp_model.proofs.Rows.{on, entries, records, ends-done}
 use Rattle.omp_model.proofs.laws.empty_program_ends.Goals as goal
 
@@ -10,7 +10,7 @@ pub returns-clause-entries : goal.returns-clause-entries
 returns-clause-entries c = entries
 
 pub returns-clause-records : goal.returns-clause-records
-returns-clause-records c n low high = subst (λ history. records_of (on n) history ≡ four) (sym (entries n low high)) (records n low high)
+returns-clause-records c n low high = subst (λ history. records_of (on n) history ≡ empty_records) (sym (entries n low high)) (records n low high)
 
 pub returns-clause-cause : goal.returns-clause-cause
 returns-clause-cause c n low high = subst (λ history. cause_of (on n) history ≡ Some cause.Done) (sym (entries n low high)) (ends-done n low high)

@@ -1,4 +1,4 @@
-use Rattle.std.proofs.Common.{◌≡◌, ◌∙◌, sym}
+use Rattle.std.proofs.Common.{◌∙◌, sym}
 use Rattle.omp_machine.proofs.Searching.{among-found, among-next, among-none}
 use Rattle.omp_machine.proofs.machine.Machine.enabled_among.Goals as goal
 

@@ -1,6 +1,6 @@
-use Rattle.std.proofs.Common.{◌≡◌, ◌∙◌, ℕ, true, Bool, sym, ap, subst, refl, IsTrue, IsSome}
+use Rattle.std.proofs.Common.{◌≡◌, true, sym, subst, refl, IsTrue, IsSome}
 use Rattle.omp_model.specs.State.{Run, pending_at}
-use Rattle.omp_model.specs.Turn.{Turn, turn, enabled}
+use Rattle.omp_model.specs.Turn.{Turn, enabled}
 use Rattle.omp_model.proofs.Turns.{turn-goes}
 use Rattle.omp_machine.specs.declared.went.Went.{Went}
 use Rattle.omp_machine.specs.Settings.{run_of}

@@ -1,5 +1,4 @@
-use Rattle.std.proofs.Common.{rules, arith}
-use Rattle.std.proofs.lemmas.Grind.{common_steps}
+use Rattle.std.proofs.Common.{rules}
 use Rattle.omp_model.proofs.Turns.{enabled-cheap}
 use Rattle.omp_machine.specs.Settings.{run_of}
 use Rattle.omp_machine.proofs.state.State.enabled.Goals as goal

@@ -1,4 +1,4 @@
-use Rattle.std.proofs.Common.{◌≡◌, ◌∙◌, ◌-◌, ◌+◌, ◌<◌, suc, ap}
+use Rattle.std.proofs.Common.{◌∙◌, ◌-◌, ◌+◌, ap}
 use Rattle.omp_model.specs.declared.limits.TheConstants.{STEPS_OF_A_TURN}
 use Rattle.omp_model.specs.Turn.{walk}
 use Rattle.omp_machine.specs.Settings.{run_of}
