@@ -3,7 +3,7 @@
 ghost use Rattle.std.specs.Prelude.{◌≡◌};
 ghost use Rattle.ompt_calls.specs.Number.{number_of};
 
-/// A data word of a tool: `ompt_data_t` (OpenMP 5.2, 19.4.4.1), named by a number in place of an address.
+/// A data word of a tool: `ompt_data_t` (OpenMP 5.2, 19.4.4.4), named by a number in place of an address.
 #[derive(Clone, Copy, Debug, PartialEq, Eq)]
 pub struct Word {
     /// Which word: t + 1 for thread t; the number of the region or the task; 0 for NULL.

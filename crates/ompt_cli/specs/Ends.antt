@@ -1,5 +1,7 @@
 -- The status and the line of each end of a command.
-use Rattle.std.specs.Prelude.{ℕ, List, [], ◌∷◌, ◌++◌, codes}
+use Rattle.std.specs.Prelude.{ℕ, ◌≡◌, List, [], ◌∷◌, ◌++◌, codes, Option}
+use Rattle.std.specs.Io.KnownBytes.{Appends}
+use Rattle.run_edges.specs.Edges.{Rose, AppendsFront}
 use Rattle.ompt_cli.specs.declared.end.Refusal.{Refusal}
 use Rattle.ompt_cli.specs.declared.end.Refusal.TheVariants.{TooLong, OtherForm}
 use Rattle.ompt_cli.specs.declared.end.End.{End}
@@ -26,3 +28,23 @@ line_of_end (Refused why) = refusal_text why ++ 10 ∷ []
 line_of_end ReadFault = codes "read fault" ++ 10 ∷ []
 line_of_end WriteFault = codes "write fault" ++ 10 ∷ []
 line_of_end Memory = codes "memory" ++ 10 ∷ []
+
+-- the status where the line of an end was lost: a write fault, but want of memory stays
+abbrev pub status_of_lost : End → ℕ
+status_of_lost Done = 9
+status_of_lost Usage = 9
+status_of_lost (Refused why) = 9
+status_of_lost ReadFault = 9
+status_of_lost WriteFault = 9
+status_of_lost Memory = 10
+
+-- the line of an end was told whole, and the status is the end's
+pub record IsTold (status : ℕ) (end : End) (old new : Option (List ℕ)) : Type 0 where
+  pub status_is : status ≡ status_of end
+  pub line : Appends old new (line_of_end end)
+
+-- a write of the line failed: a part of it was told
+pub record IsLost (status : ℕ) (end : End) (old new : Option (List ℕ)) (before now : ℕ) : Type 0 where
+  pub status_is : status ≡ status_of_lost end
+  pub counted : Rose before now
+  pub part : AppendsFront old new (line_of_end end)

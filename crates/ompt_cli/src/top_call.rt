@@ -1,13 +1,13 @@
 //! The call that does all: a command from bytes to bytes.
 
-ghost use Rattle.std.specs.Prelude.{◌≡◌, ◌≢◌, IfSome, IsSomeAnd, IsNone, Some, ◌↔◌, []};
+ghost use Rattle.std.specs.Prelude.{◌≡◌, ◌≢◌, IfSome, IsSomeAnd, IsNone, Some, ◌↔◌, ◌⊎◌, []};
 ghost use Rattle.std.specs.Io.KnownBytes.{Appends, Keeps};
 ghost use Rattle.omp_model.specs.Serial.{Serial, serial};
 ghost use Rattle.omp_model.specs.Cause.{cause_of};
 ghost use Rattle.run_edges.specs.Edges.{Rose, AppendsFront};
 ghost use Rattle.ompt_cli.specs.Words.{InForm, InFormWith, texts};
 ghost use Rattle.ompt_cli.specs.Text.{IsRefused, program_text};
-ghost use Rattle.ompt_cli.specs.Ends.{status_of, line_of_end};
+ghost use Rattle.ompt_cli.specs.Ends.{IsLost, IsTold};
 ghost use Rattle.ompt_cli.specs.Commands.{EndsAs, MayRefuse, MayRun, out_of, run_of};
 
 use crate::command::{Ended, command};
@@ -29,16 +29,10 @@ pub fn top<R, S: Source, O: Sink, E: Sink>(
     out: &mut O,
     err: &mut E,
 ) -> Top
-    // The status is the number of the end, but for 9, to which a failing write of the line turns all but 10.
-    ensures told { ¬ Rose (E.faults err.old) (E.faults err.new) → result.status ≡ status_of result.end }
-    ensures turned { result.status ≢ status_of result.end →
-        (result.status ≡ 9) × (result.end ≢ End.Memory) × Rose (E.faults err.old) (E.faults err.new) }
+    // The line of the end is told and the status is the end's number, unless a write of the line failed.
+    ensures told { IsTold result.status result.end (E.held err.old) (E.held err.new)
+        ⊎ IsLost result.status result.end (E.held err.old) (E.held err.new) (E.faults err.old) (E.faults err.new) }
     ensures zero { (result.status ≡ 0) ↔ (result.end ≡ End.Done) }
-
-    // The line of the end is told.
-    ensures line { ¬ Rose (E.faults err.old) (E.faults err.new) →
-        Appends (E.held err.old) (E.held err.new) (line_of_end result.end) }
-    ensures front { AppendsFront (E.held err.old) (E.held err.new) (line_of_end result.end) }
     ensures silent { result.end ≡ End.Done → err.new ≡ err.old }
 
     // Other words than those of the form are a faulty command line, and nothing else is. Nothing is touched then.
@@ -89,13 +83,9 @@ pub fn top<R, S: Source, O: Sink, E: Sink>(
 
 /// Writes the line of an end, and answers the status.
 fn tell<E: Sink>(end: End, err: &mut E) -> u8
-    ensures told { ¬ Rose (E.faults err.old) (E.faults err.new) → result ≡ status_of end }
-    ensures turned { result ≢ status_of end →
-        (result ≡ 9) × (end ≢ End.Memory) × Rose (E.faults err.old) (E.faults err.new) }
+    ensures told { IsTold result end (E.held err.old) (E.held err.new)
+        ⊎ IsLost result end (E.held err.old) (E.held err.new) (E.faults err.old) (E.faults err.new) }
     ensures zero { (result ≡ 0) ↔ (end ≡ End.Done) }
-    ensures line { ¬ Rose (E.faults err.old) (E.faults err.new) →
-        Appends (E.held err.old) (E.held err.new) (line_of_end end) }
-    ensures front { AppendsFront (E.held err.old) (E.held err.new) (line_of_end end) }
     ensures silent { end ≡ End.Done → err.new ≡ err.old }
 {
     match write_all(err, end.line()) {

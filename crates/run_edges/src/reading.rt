@@ -37,7 +37,7 @@ pub fn read_all<S: Source>(
     ensures whole { OnOk result (IfSome (S.left source.old) (λ _. IsAtEnd (S.left source.new))) }
     ensures short { IfOk result (λ bytes. vec_len bytes ≤ limit) }
 
-    // It answers that they are too long exactly where more than `limit` were given.
+    // Where the source tells its bytes, they are too long exactly where more than `limit` were given.
     ensures long { result ≡ Err ReadAllFault.TooLong →
         ConsumesMore (S.left source.old) (S.left source.new) limit }
     ensures held_back { result ≢ Err ReadAllFault.TooLong →
