@@ -1,6 +1,6 @@
 -- What a serial run has come to, however its history goes on: the invariant of a loop that appends each turn's entries.
 use Rattle.std.specs.Prelude.{◌≡◌, ℕ, zero, suc, ◌+◌, ◌-◌, ◌<◌, ◌≤◌, true, false, if◌then◌else◌, List, [], ◌∷◌, ◌++◌, length, map, Option, Some, None, IsSome, refl}
-use Rattle.std.proofs.Common.{sym, ap, ◌∙◌, subst, subst₂, ◌⊎◌, inl, inr, append_assoc, append-nil, length-append, eq-eqb, arith}
+use Rattle.std.proofs.Common.{filter, cond, ◌==◌, sym, ap, ◌∙◌, subst, subst₂, ◌⊎◌, inl, inr, append_assoc, append-nil, length-append, eq-eqb, arith}
 use Rattle.std.proofs.lemmas.Bool.{cases_eq, cases_lt}
 use Rattle.std.proofs.lemmas.List.{map-append}
 use Rattle.ompt_calls.specs.declared.call.Call.{Call}
@@ -16,7 +16,7 @@ use Rattle.omp_model.specs.declared.machine.Outcome.{Outcome}
 use Rattle.omp_model.specs.declared.machine.Outcome.TheVariants.{Idle, Quiet, Happens, Halts}
 use Rattle.omp_model.specs.Turn.{turn, enabled}
 use Rattle.omp_model.specs.Legal.{back, after_from, after, AllowsFrom}
-use Rattle.omp_model.specs.Heard.{heard_call, heard_outcome, heard_from}
+use Rattle.omp_model.specs.Heard.{Item, heard_call, heard_outcome, heard_from}
 use Rattle.omp_model.specs.Serial.{enabled_among, or_else, first_enabled, Visit, start, go_of, onward_from, inside_after, Leads, Serial, WholeSerial}
 use Rattle.omp_model.specs.Records.{record_of, records_of}
 use Rattle.omp_model.specs.Running.{HasRun}
@@ -221,3 +221,9 @@ pub HasRun-untold :
     → IsSome (pending_at (turn run v.state t).state t) → is_registered run.mask (number_of (call_of (turn run v.state t).state.world t e)) ≡ false
     → HasRun run ((H ++ go_at t ∷ []) ++ back_at t ∷ []) R (record { state = back (turn run v.state t).state t; next = t + 1; inside = None })
 HasRun-untold t e has is happens inside registered = pushed-pair _ _ _ _ (go_at t) (back_at t) (HasRun-untold_pair t e has is happens inside registered)
+
+-- the records of one thread are what is heard on it
+pub records-by_thread : (items : List Item) (t : ℕ) → filter (λ (event : EventRecord). event.thread == t) (map record_of items) ≡ map record_of (filter (λ (item : Item). item.thread == t) items)
+records-by_thread [] t = refl
+records-by_thread (item ∷ items) t =
+    elim (item.thread == t) as (λ b. cond b (record_of item ∷ filter (λ (event : EventRecord). event.thread == t) (map record_of items)) (filter (λ (event : EventRecord). event.thread == t) (map record_of items)) ≡ map record_of (cond b (item ∷ filter (λ (item : Item). item.thread == t) items) (filter (λ (item : Item). item.thread == t) items))) [ true ↦ ap (λ others. record_of item ∷ others) (records-by_thread items t) | false ↦ records-by_thread items t ]

@@ -14,8 +14,8 @@
 //! memory is shown by the tests in `ompt_tests`.
 #![tactic(auto)]
 
-mod command;
 mod end;
+mod list;
 mod listing;
 mod report;
 mod serial_run;

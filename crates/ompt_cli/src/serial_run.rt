@@ -1,9 +1,10 @@
 //! A serial run: threads take turns round and round, each a whole turn with its callback.
 
-ghost use Rattle.std.specs.Prelude.{◌≡◌, ◌≢◌, ◌≤◌, ◌<◌, ◌+◌, ◌++◌, ◌∷◌, [], Some, None, IfOk, OnOk, vec_len, vec_capacity};
+ghost use Rattle.std.specs.Prelude.{◌≡◌, ◌≢◌, ◌≤◌, ◌<◌, ◌+◌, ◌++◌, ◌∷◌, [], Some, None, IfOk, OnOk, vec_len, vec_capacity, ℕ, ◌==◌, filter, map};
 ghost use Rattle.omp_model.specs.Serial.{Serial, first_enabled, serial};
 ghost use Rattle.omp_model.specs.Cause.{cause_in, cause_of};
-ghost use Rattle.omp_model.specs.Records.{records_of};
+ghost use Rattle.omp_model.specs.Heard.{heard_of};
+ghost use Rattle.omp_model.specs.Records.{record_of, records_of};
 ghost use Rattle.omp_model.specs.Program.{empty_run};
 
 use omp_machine::{Machine, Memory, Went};
@@ -45,6 +46,8 @@ pub fn run_serial(alloc: Global, mask: u64, threads: u8, steps: u32) -> Result<R
     ensures mask { IfOk result (λ ran. ran.mask ≡ mask) }
     ensures serial { IfOk result (λ ran. Serial (empty_run mask threads steps) ran.history) }
     ensures records { IfOk result (λ ran. ran.records.items ≡ records_of (empty_run mask threads steps) ran.history) }
+    ensures heard { IfOk result (λ ran. (t : ℕ) → filter (λ event. event.thread == t) ran.records.items
+        ≡ map record_of (heard_of (empty_run mask threads steps) ran.history t)) }
     ensures cause { IfOk result (λ ran. ran.cause ≢ Cause.Memory → cause_of (empty_run mask threads steps) ran.history ≡ Some ran.cause) }
     ensures whole { IfOk result (λ ran. ran.cause ≢ Cause.Memory → ran.history ≡ serial (empty_run mask threads steps)) }
     ensures begun { IfOk result (λ ran. ran.cause ≡ Cause.Memory → ran.history ≢ []) }

@@ -10,9 +10,11 @@ ghost use Rattle.ompt_cli.specs.Text.{IsRefused, program_text};
 ghost use Rattle.ompt_cli.specs.Ends.{IsLost, IsTold};
 ghost use Rattle.ompt_cli.specs.Commands.{EndsAs, MayRefuse, MayRun, out_of, run_of};
 
-use crate::command::{Ended, command};
 use crate::end::{End, Refusal};
+use crate::list::{Ended, list, without_run};
 use crate::report::{ALL_CALLBACKS, Top};
+use crate::text::read_program;
+use crate::words::threads_of;
 use omp_model::Cause;
 use run_edges::{Sink, Source, write_all};
 use std::alloc::Global;
@@ -76,21 +78,29 @@ pub fn top<R, S: Source, O: Sink, E: Sink>(
         AppendsFront (O.held out.old) (O.held out.new) (out_of result.ran) }
     ensures kept { result.end ≡ End.Memory → Keeps (O.held out.old) (O.held out.new) }
 {
-    let Ended { end, ran } = command(alloc, words, source, out);
-    let status = tell(end, err);
-    Top { status, end, ran }
+    let Some(threads) = threads_of(words) else {
+        return tell(without_run(End::Usage), err);
+    };
+    match read_program(alloc, source) {
+        Ok(()) => tell(list(alloc, threads, out), err),
+        Err(end) => tell(without_run(end), err),
+    }
 }
 
-/// Writes the line of an end, and answers the status.
-fn tell<E: Sink>(end: End, err: &mut E) -> u8
-    ensures told { IsTold result end (E.held err.old) (E.held err.new)
-        ⊎ IsLost result end (E.held err.old) (E.held err.new) (E.faults err.old) (E.faults err.new) }
-    ensures zero { (result ≡ 0) ↔ (end ≡ End.Done) }
-    ensures silent { end ≡ End.Done → err.new ≡ err.old }
+/// Writes the line of the end.
+fn tell<E: Sink>(ended: Ended, err: &mut E) -> Top
+    ensures end { result.end ≡ ended.end }
+    ensures ran { result.ran ≡ ended.ran }
+    ensures told { IsTold result.status ended.end (E.held err.old) (E.held err.new)
+        ⊎ IsLost result.status ended.end (E.held err.old) (E.held err.new) (E.faults err.old) (E.faults err.new) }
+    ensures zero { (result.status ≡ 0) ↔ (ended.end ≡ End.Done) }
+    ensures silent { ended.end ≡ End.Done → err.new ≡ err.old }
 {
-    match write_all(err, end.line()) {
+    let Ended { end, ran } = ended;
+    let status = match write_all(err, end.line()) {
         Ok(()) => end.status(),
         Err(_) if end == End::Memory => end.status(),
         Err(_) => End::WriteFault.status(),
-    }
+    };
+    Top { status, end, ran }
 }

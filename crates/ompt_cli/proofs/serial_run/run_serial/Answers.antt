@@ -1,9 +1,12 @@
-use Rattle.std.proofs.Common.{◌≡◌, ◌∙◌, Some, sym, ap, subst}
+use Rattle.std.proofs.Common.{◌≡◌, ◌==◌, filter, ◌∙◌, Some, sym, ap, subst}
 use Rattle.omp_model.specs.State.{Run}
 use Rattle.omp_model.specs.Serial.{Serial, serial}
 use Rattle.omp_model.specs.Cause.{cause_in, cause_of}
+use Rattle.omp_model.specs.declared.history.EventRecord.{EventRecord}
+use Rattle.omp_model.specs.Heard.{heard}
+use Rattle.omp_model.specs.Program.{empty_run}
 use Rattle.omp_model.specs.Records.{records_of}
-use Rattle.omp_model.proofs.Recording.{HasRun-serial, HasRun-records, HasRun-after, HasRun-whole}
+use Rattle.omp_model.proofs.Recording.{HasRun-serial, HasRun-records, HasRun-after, HasRun-whole, records-by_thread}
 use Rattle.omp_model.proofs.SerialLaws.{serial-whole}
 use Rattle.ompt_cli.proofs.serial_run.run_serial.Goals as goal
 
@@ -22,3 +25,7 @@ returns-clause-cause c = λ found.
 pub returns-clause-whole : goal.returns-clause-whole
 returns-clause-whole c = λ found.
     subst (λ (run : Run). c.finish-cause.new.self.history.items ≡ serial run) (c.finish-cause.ensures.run ∙ c.in_ok-run.ensures.run) (sym (serial-whole c.finish-cause.new.self.machine.run c.finish-cause.new.self.history.items (HasRun-whole c.finish-cause.ensures.stands.has_run (c.finish-cause.ensures.over found))))
+
+pub returns-clause-heard : goal.returns-clause-heard
+returns-clause-heard c = λ t.
+    ap (filter (λ (event : EventRecord). event.thread == t)) (returns-clause-records c) ∙ records-by_thread (heard (empty_run c.args.mask c.args.threads c.args.steps) c.finish-cause.new.self.history.items) t

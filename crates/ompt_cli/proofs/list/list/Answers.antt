@@ -1,5 +1,5 @@
 use Rattle.ompt_cli.proofs.Ending.{only-done}
-use Rattle.ompt_cli.proofs.command.list.Goals as goal
+use Rattle.ompt_cli.proofs.list.list.Goals as goal
 
 pub unreachable-requires : goal.unreachable-requires
 unreachable-requires g c =
