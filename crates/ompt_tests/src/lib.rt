@@ -2,4 +2,6 @@
 #![tactic(auto)]
 
 #[cfg(test)]
+mod fixture;
+#[cfg(test)]
 mod tests;

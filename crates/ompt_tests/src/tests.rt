@@ -1,1 +1,221 @@
-//! Tests.
+//! What no clause says: that each end of the command comes about, with the bytes that it writes.
+
+use crate::fixture::*;
+use omp_model::{Cause, Entry, What};
+use ompt_cli::{End, Ran, Refusal, run_serial};
+use run_edges::{MemSink, MemSource, PureSource, read_all};
+use std::process::Abort;
+use std::test::Fail;
+
+const GO: Entry = Entry {
+    thread: 0,
+    what: What::Go,
+};
+
+const BACK: Entry = Entry {
+    thread: 0,
+    what: What::Back,
+};
+
+const HISTORY: [Entry; 8] = [GO, BACK, GO, BACK, GO, BACK, GO, BACK];
+
+const USAGE: &[u8] = b"usage: ompt run, list, record, profile, timeline, show, check or gen\n";
+
+#[test]
+fn the_empty_program_lists_four_lines(rt: HostRuntime) -> Result<(), Fail> {
+    for (number, threads) in [
+        ("1", 1),
+        ("2", 2),
+        ("3", 3),
+        ("4", 4),
+        ("5", 5),
+        ("6", 6),
+        ("7", 7),
+        ("8", 8),
+        ("9", 9),
+        ("10", 10),
+        ("11", 11),
+        ("12", 12),
+        ("13", 13),
+        ("14", 14),
+        ("15", 15),
+        ("16", 16),
+    ] {
+        let words = ["list", "--serial", "--threads", number];
+        let mut source = PureSource::new(PROGRAM.to_vec(rt.alloc())?);
+        let told = tell_amply(&rt, &words, &mut source)?;
+        assert_eq!(rt; told.top.status, 0, "at {number}");
+        assert_eq!(rt; told.top.end, End::Done, "at {number}");
+        assert_eq!(rt; told.out.bytes(), LISTING, "at {number}");
+        assert_eq!(rt; told.err.bytes(), b"".as_slice(), "at {number}");
+
+        let report = told.top.ran.as_ref().ok_or("nothing ran")?;
+        assert_eq!(rt; report.cause, Cause::Done, "at {number}");
+        assert_eq!(rt; report.mask, 0x0FB3_00FE, "at {number}");
+        assert_eq!(rt; report.threads, threads, "at {number}");
+        assert_eq!(rt; report.history.entries(), HISTORY.as_slice(), "at {number}");
+    }
+    Ok(())
+}
+
+/// Words that aren't in the form.
+const OTHER_WORDS: &[&[&str]] = &[
+    &[],
+    &["list", "--serial", "--threads"],
+    &["list", "--serial", "--threads", "1", "1"],
+    &["show", "--serial", "--threads", "1"],
+    &["run", "--serial", "--threads", "1"],
+    &["list", "--threads", "1", "--serial"],
+    &["--serial", "list", "--threads", "1"],
+    &["list", "--serial", "--threads", "0"],
+    &["list", "--serial", "--threads", "17"],
+    &["list", "--serial", "--threads", "01"],
+    &["list", "--serial", "--threads", "+1"],
+    &["list", "--serial", "--threads", ""],
+    &["list", "--serial", "--threads", "1 "],
+    &["list", "--serial", "--threads", "x"],
+];
+
+#[test]
+fn other_words_are_a_faulty_command_line(rt: HostRuntime) -> Result<(), Fail> {
+    for words in OTHER_WORDS {
+        let mut source = source_of(&rt, PROGRAM)?;
+        let told = tell_amply(&rt, words, &mut source)?;
+        assert_eq!(rt; told.top.status, 2, "at {words:?}");
+        assert_eq!(rt; told.top.end, End::Usage, "at {words:?}");
+        assert_eq!(rt; told.err.bytes(), USAGE, "at {words:?}");
+        assert_eq!(rt; told.out.bytes(), b"".as_slice(), "at {words:?}");
+        assert!(rt; told.top.ran.is_none(), "at {words:?}");
+
+        let left = read_all(rt.alloc(), &mut source, 100)?;
+        assert_eq!(rt; left.as_slice(), PROGRAM, "at {words:?}");
+    }
+    Ok(())
+}
+
+#[test]
+fn other_texts_are_refused(rt: HostRuntime) -> Result<(), Fail> {
+    let longest = vec![in rt.alloc(); b' '; 65_536]?;
+    let too_long = vec![in rt.alloc(); b' '; 65_537]?;
+    let other = (Refusal::OtherForm, b"refused 16 at 0:0\n".as_slice());
+    let long = (Refusal::TooLong, b"refused 15 at 0:0\n".as_slice());
+    for (text, (why, line)) in [
+        (b"".as_slice(), other),
+        (b"int main(void) { return 0; }".as_slice(), other),
+        (b"int main(void) { return 0; }\n ".as_slice(), other),
+        (b"int main(void) { return 1; }\n".as_slice(), other),
+        (longest.as_slice(), other),
+        (too_long.as_slice(), long),
+    ] {
+        let length = text.len();
+        let mut source = source_of(&rt, text)?;
+        let told = tell_amply(&rt, LIST, &mut source)?;
+        assert_eq!(rt; told.top.status, 3, "at {length}");
+        assert_eq!(rt; told.top.end, End::Refused(why), "at {length}");
+        assert_eq!(rt; told.err.bytes(), line, "at {length}");
+        assert_eq!(rt; told.out.bytes(), b"".as_slice(), "at {length}");
+        assert!(rt; told.top.ran.is_none(), "at {length}");
+    }
+    Ok(())
+}
+
+#[test]
+fn a_read_that_fails_is_a_read_fault(rt: HostRuntime) -> Result<(), Fail> {
+    for count in 0..30 {
+        let script = failing_script(&rt, count, 1)?;
+        let mut source = MemSource::new(PROGRAM.to_vec(rt.alloc())?, script);
+        let told = tell_amply(&rt, LIST, &mut source)?;
+        assert_eq!(rt; told.top.status, 8, "at {count}");
+        assert_eq!(rt; told.top.end, End::ReadFault, "at {count}");
+        assert_eq!(rt; told.err.bytes(), b"read fault\n".as_slice(), "at {count}");
+        assert_eq!(rt; told.out.bytes(), b"".as_slice(), "at {count}");
+        assert!(rt; told.top.ran.is_none(), "at {count}");
+    }
+    Ok(())
+}
+
+/// Runs the program into a sink that fails once it holds so many bytes of the listing.
+fn faults_at<R: AllocGlobal + Abort>(rt: &R, out: MemSink, held: usize) -> Result<(), Fail> {
+    let told = tell(rt, LIST, &mut source_of(rt, PROGRAM)?, out, ample(rt)?)?;
+    assert_eq!(rt; told.top.status, 9, "at {held}");
+    assert_eq!(rt; told.top.end, End::WriteFault, "at {held}");
+    assert_eq!(rt; told.err.bytes(), b"write fault\n".as_slice(), "at {held}");
+    assert_eq!(rt; told.out.bytes().len(), held);
+    assert!(rt; LISTING.starts_with(told.out.bytes()), "at {held}");
+    let report = told.top.ran.as_ref().ok_or("nothing ran")?;
+    assert_eq!(rt; report.cause, Cause::Done, "at {held}");
+    Ok(())
+}
+
+#[test]
+fn a_write_that_fails_is_a_write_fault(rt: HostRuntime) -> Result<(), Fail> {
+    for count in 0..11 {
+        faults_at(&rt, failing(&rt, count, 10)?, 10 * count)?;
+    }
+    for room in 0..110 {
+        faults_at(
+            &rt,
+            MemSink::new(rt.alloc(), room, Vec::new(rt.alloc()))?,
+            room,
+        )?;
+    }
+
+    // The failing write, or the want of room, comes after the whole listing.
+    for out in [
+        failing(&rt, 11, 10)?,
+        MemSink::new(rt.alloc(), 110, Vec::new(rt.alloc()))?,
+    ] {
+        let told = tell(&rt, LIST, &mut source_of(&rt, PROGRAM)?, out, ample(&rt)?)?;
+        assert_eq!(rt; told.top.status, 0);
+        assert_eq!(rt; told.out.bytes(), LISTING);
+    }
+    Ok(())
+}
+
+#[test]
+fn a_line_that_fails_is_a_write_fault(rt: HostRuntime) -> Result<(), Fail> {
+    for (words, text, reads, writes, status, end, front) in [
+        ([].as_slice(), PROGRAM, 9, 9, 9, End::Usage, "usa"),
+        (
+            LIST,
+            b"".as_slice(),
+            9,
+            9,
+            9,
+            End::Refused(Refusal::OtherForm),
+            "ref",
+        ),
+        (LIST, PROGRAM, 0, 9, 9, End::ReadFault, "rea"),
+        (LIST, PROGRAM, 9, 0, 9, End::WriteFault, "wri"),
+        (LIST, PROGRAM, 9, 9, 0, End::Done, ""),
+    ] {
+        for (count, held) in [(0, ""), (1, front)] {
+            let script = failing_script(&rt, reads, 50)?;
+            let mut source = MemSource::new(text.to_vec(rt.alloc())?, script);
+            let out = failing(&rt, writes, 200)?;
+            let told = tell(&rt, words, &mut source, out, failing(&rt, count, 3)?)?;
+            assert_eq!(rt; told.top.status, status, "at {end:?}");
+            assert_eq!(rt; told.top.end, end, "at {end:?}");
+            assert_eq!(rt; told.err.bytes(), held.as_bytes(), "at {end:?}");
+        }
+    }
+    Ok(())
+}
+
+/// What a serial run came to.
+fn came_to(rt: &impl Abort, ran: &Ran, cause: Cause, entries: usize, records: usize) {
+    assert_eq!(rt; ran.cause, cause);
+    assert_eq!(rt; ran.history.entries().len(), entries);
+    assert_eq!(rt; ran.records.len(), records);
+}
+
+#[test]
+fn one_call_of_each_that_takes_memory_succeeds(rt: HostRuntime) -> Result<(), Fail> {
+    let whole = run_serial(rt.alloc(), 0x0FB3_00FE, 4, 1_000_000)?;
+    came_to(&rt, &whole, Cause::Done, 8, 4);
+    let short = run_serial(rt.alloc(), 0x0FB3_00FE, 4, 1)?;
+    came_to(&rt, &short, Cause::Limit(1), 5, 2);
+    let unheard = run_serial(rt.alloc(), 0, 4, 1_000_000)?;
+    came_to(&rt, &unheard, Cause::Done, 8, 0);
+    Ok(())
+}
