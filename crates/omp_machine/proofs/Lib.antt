@@ -1,4 +1,0 @@
-pub mod Walking
-pub mod Searching
-pub mod Sound
-pub mod Telling

@@ -1,53 +1,109 @@
-//! What events change: the threads by number, and the tasks by identity.
+//! What events change: the threads by number, and the tasks and regions by identity.
 
-ghost use Rattle.std.specs.Prelude.{◌≡◌, ◌<◌, ◌≤◌, None, Some, IfOk, IsTrue, length, Option, ◌∷◌, [], ◌-◌, replicate};
-ghost use Rattle.omp_model.specs.State.{thread_at, task_at, current, staged, pushed, popped, conditioned, unmade, no_task, initial_task, initial_thread};
+ghost use Rattle.std.specs.Prelude.{◌≡◌, ◌<◌, ◌≤◌, None, Some, IfOk, OnOk, IsTrue, length, ◌∷◌, [], ◌-◌, replicate, slice_set, true};
+ghost use Rattle.omp_model.specs.State.{thread_at, task_at, region_at, current, staged, pushed, popped, conditioned, placed, forked, joined, opened, arrived, passed, left, task_made, region_made, unmade, no_task, no_region, initial_task, initial_thread, fresh_region};
 ghost use Rattle.omp_model.specs.Silent.{Steps, is_step, silent};
-ghost use Rattle.omp_model.specs.Events.{event_without_task, event_in_initial, event_in, event, has_returned, fault_at, at_go, at_back, workers_over, is_over};
-ghost use Rattle.omp_model.specs.Cause.{threads_over, whole_value};
-ghost use Rattle.omp_model.specs.Program.{empty_program};
+ghost use Rattle.omp_model.specs.State.{invited, member_task};
+ghost use Rattle.omp_model.specs.Events.{has_returned, is_over, workers_over};
+ghost use Rattle.omp_model.specs.Cause.{threads_over};
+ghost use Rattle.omp_model.specs.Program.{code_of};
+ghost use Rattle.omp_machine.specs.Code.{first_of};
 
 use crate::task::Task;
 use crate::thread::Thread;
-use omp_model::{Condition, Event, Halt, INITIAL_TASK, STACK_LIMIT, ThreadStage};
+use omp_model::{
+    Blocks, Condition, INITIAL_TASK, Instruction, Region, STACK_LIMIT, TEAM_LIMIT, TaskStage,
+    ThreadStage,
+};
 use std::alloc::{AllocError, Global};
 use std::marker::Model;
 
-/// The threads and tasks of a run. A thread that isn't there reads as one that wasn't made, and a task that isn't there
-/// as a finished one with no code.
+/// The threads, tasks and regions of a run. One that isn't there reads as a thread that wasn't made, a task that is over
+/// and has no code, or a region without members.
+///
+/// Contracts see how many more tasks and regions there is room for, beside the rest.
 #[derive(Drop)]
 pub struct Board {
-    /// The threads by number.
+    /// The threads, by number.
     threads: Vec<Thread>,
-    /// The tasks by identity. At identity 0 stands no task.
+    /// The tasks, by identity. At 0 stands none.
     tasks: Vec<Task>,
+    /// The regions, by identity. At 0 stands none.
+    regions: Vec<Region>,
+    /// How many more tasks and regions there is room for.
+    room: usize,
 }
 
 impl Model for Board {
-    ghost use Rattle.omp_model.specs.State.{World};
+    ghost use Rattle.std.specs.Prelude.{◌+◌, ◌≤◌, vec_len, vec_capacity};
+    ghost use Rattle.omp_machine.specs.Board.{BoardView};
 
-    ghost Value = { World };
+    ghost Value = { BoardView };
 
-    ghost view = { λ board. record { threads = board.threads.items; tasks = board.tasks.items } };
+    ghost view = { λ board. record {
+        world = record { threads = board.threads.items; tasks = board.tasks.items; regions = board.regions.items };
+        room = board.room } };
+
+    ghost invariant = { λ board. (vec_len board.tasks + board.room ≤ vec_capacity board.tasks)
+        × (vec_len board.regions + board.room ≤ vec_capacity board.regions) };
 }
 
 impl Board {
-    /// The board of the empty program, with room for so many threads, of which thread 0 is made.
-    pub fn new(alloc: Global, threads: u8) -> Result<Board, AllocError>
-        requires { 1 ≤ threads }
-        ensures { IfOk result (λ board. board ≡ record {
-          threads = initial_thread ∷ replicate (threads - 1) unmade;
-          tasks = no_task ∷ initial_task empty_program ∷ [];
-        }) }
+    /// The board of a program, with so many threads, of which thread 0 is made.
+    pub fn new(alloc: Global, blocks: &Blocks, threads: u8) -> Result<Board, AllocError>
+        requires some { 1 ≤ threads }
+        requires blocks { length blocks.now ≤ 65536 }
+        ensures { IfOk result (λ board. board.world ≡ record {
+            threads = initial_thread ∷ replicate (threads - 1) unmade;
+            tasks = no_task ∷ initial_task (code_of blocks.now) ∷ [];
+            regions = no_region ∷ fresh_region 0 1 0 ∷ [] }) }
     {
         let threads = all_threads(alloc, threads)?;
-        let tasks = all_tasks(alloc)?;
-        Ok(Board { threads, tasks })
+        let tasks = all_tasks(alloc, blocks)?;
+        let regions = all_regions(alloc)?;
+        Ok(Board {
+            threads,
+            tasks,
+            regions,
+            room: 0,
+        })
+    }
+
+    /// Makes room for one more task and one more region.
+    pub fn reserve(&mut self) -> Result<(), AllocError>
+        ensures world { self.new.world ≡ self.old.world }
+        ensures room { OnOk result (0 < self.new.room) }
+    {
+        self.tasks.reserve(1)?;
+        self.regions.reserve(1)?;
+        self.room = 1;
+        Ok(())
+    }
+
+    /// How many threads there may be.
+    pub fn threads(&self) -> usize
+        ensures { result ≡ length self.now.world.threads }
+    {
+        self.threads.len()
+    }
+
+    /// The identity of the next task.
+    pub fn next_task(&self) -> usize
+        ensures { result ≡ length self.now.world.tasks }
+    {
+        self.tasks.len()
+    }
+
+    /// The identity of the next region.
+    pub fn next_region(&self) -> usize
+        ensures { result ≡ length self.now.world.regions }
+    {
+        self.regions.len()
     }
 
     /// The current task of the thread, or 0.
-    fn current(&self, thread: u8) -> u32
-        ensures { result ≡ current self.now thread }
+    pub fn current(&self, thread: u8) -> u32
+        ensures { result ≡ current self.now.world thread }
     {
         match self.threads.get(thread as usize) {
             Some(thread) => thread.current(),
@@ -56,8 +112,8 @@ impl Board {
     }
 
     /// How far the thread has come.
-    fn stage(&self, thread: u8) -> ThreadStage
-        ensures { result ≡ (thread_at self.now thread).stage }
+    pub fn stage(&self, thread: u8) -> ThreadStage
+        ensures { result ≡ (thread_at self.now.world thread).stage }
     {
         match self.threads.get(thread as usize) {
             Some(thread) => thread.stage(),
@@ -65,9 +121,19 @@ impl Board {
         }
     }
 
+    /// The region that the thread is to join next, or 0.
+    pub fn invited(&self, thread: u8) -> u32
+        ensures { result ≡ (thread_at self.now.world thread).invited }
+    {
+        match self.threads.get(thread as usize) {
+            Some(thread) => thread.invited(),
+            None => 0,
+        }
+    }
+
     /// How many tasks are on the thread's stack.
-    fn depth(&self, thread: u8) -> usize
-        ensures { result ≡ length (thread_at self.now thread).stack }
+    pub fn depth(&self, thread: u8) -> usize
+        ensures { result ≡ length (thread_at self.now.world thread).stack }
     {
         match self.threads.get(thread as usize) {
             Some(thread) => thread.depth(),
@@ -78,7 +144,7 @@ impl Board {
     /// Whether a silent step of the thread stands next.
     #[tactic(auto, unfolding(omp_model::specs::Silent::silent))]
     pub fn has_step(&self, thread: u8) -> bool
-        ensures { result ≡ is_step (silent self.now thread) }
+        ensures { result ≡ is_step (silent self.now.world thread) }
     {
         match self.tasks.get(self.current(thread) as usize) {
             Some(task) => task.has_step(),
@@ -89,16 +155,17 @@ impl Board {
     /// Makes the silent step of the thread that stands next.
     #[tactic(auto, unfolding(omp_model::specs::Silent::silent))]
     pub fn step(&mut self, thread: u8)
-        requires { IsTrue (is_step (silent self.old thread)) }
-        ensures { silent self.old thread ≡ Steps self.new }
+        requires { IsTrue (is_step (silent self.old.world thread)) }
+        ensures world { silent self.old.world thread ≡ Steps self.new.world }
+        ensures room { self.new.room ≡ self.old.room }
     {
         let task = self.current(thread) as usize;
         self.tasks[task].step();
     }
 
     /// How far the task has come.
-    fn condition(&self, task: u32) -> Condition
-        ensures { result ≡ (task_at self.now task).condition }
+    pub fn condition(&self, task: u32) -> Condition
+        ensures { result ≡ (task_at self.now.world task).condition }
     {
         match self.tasks.get(task as usize) {
             Some(task) => task.condition(),
@@ -106,60 +173,39 @@ impl Board {
         }
     }
 
-    /// Whether each worker that was made has ended.
-    fn workers_over(&self) -> bool
-        ensures { result ≡ workers_over self.now }
+    /// Where the task stands.
+    pub fn task_stage(&self, task: u32) -> TaskStage
+        ensures { result ≡ (task_at self.now.world task).stage }
     {
-        self.threads.iter().skip(1).all(is_over)
-    }
-
-    /// The event that the thread has come to, where it is enabled.
-    #[tactic(auto, unfolding(omp_model::specs::Events::event))]
-    pub fn event(&self, thread: u8) -> Option<Event>
-        ensures { result ≡ event self.now thread }
-    {
-        match self.stage(thread) {
-            ThreadStage::Unmade | ThreadStage::Ended => None,
-            ThreadStage::Made => Some(Event::ThreadBegin),
-            ThreadStage::Begun => self.event_in(thread, self.current(thread)),
+        match self.tasks.get(task as usize) {
+            Some(task) => task.stage(),
+            None => TaskStage::Over,
         }
     }
 
-    /// The event that the thread has come to in this task, or in none where it is 0.
-    fn event_in(&self, thread: u8, task: u32) -> Option<Event>
-        ensures { result ≡ event_in self.now thread task }
+    /// The region that the task belongs to.
+    pub fn task_region(&self, task: u32) -> u32
+        ensures { result ≡ (task_at self.now.world task).region }
     {
-        match task {
-            0 => self.event_without_task(thread),
-            INITIAL_TASK => self.event_in_initial(),
-            _ => None,
+        match self.tasks.get(task as usize) {
+            Some(task) => task.region(),
+            None => 0,
         }
     }
 
-    /// The event that the thread has come to without a task.
-    fn event_without_task(&self, thread: u8) -> Option<Event>
-        ensures { result ≡ event_without_task self.now thread }
+    /// The instruction that stands first in the task's code.
+    pub fn first(&self, task: u32) -> Option<Instruction>
+        ensures { result ≡ first_of (task_at self.now.world task).code }
     {
-        if thread != 0 {
-            return None;
+        match self.tasks.get(task as usize) {
+            Some(task) => task.first(),
+            None => None,
         }
-        match self.condition(INITIAL_TASK) {
-            Condition::Made => Some(Event::InitialTaskBegin),
-            Condition::Started => None,
-            Condition::Finished => Some(Event::ThreadEnd),
-        }
-    }
-
-    /// The end of the initial task, where main has returned and each worker has ended.
-    fn event_in_initial(&self) -> Option<Event>
-        ensures { result ≡ event_in_initial self.now }
-    {
-        (self.has_returned() && self.workers_over()).then_some(Event::InitialTaskEnd)
     }
 
     /// Whether main has returned.
-    fn has_returned(&self) -> bool
-        ensures { result ≡ has_returned (task_at self.now INITIAL_TASK) }
+    pub fn has_returned(&self) -> bool
+        ensures { result ≡ has_returned (task_at self.now.world INITIAL_TASK) }
     {
         match self.tasks.get(INITIAL_TASK as usize) {
             Some(task) => task.has_returned(),
@@ -167,21 +213,43 @@ impl Board {
         }
     }
 
-    /// The trap or limit that the event's Go meets.
-    pub fn fault(&self, thread: u8, event: Event) -> Option<Halt>
-        ensures { result ≡ fault_at self.now thread event }
+    /// The value that the last call to end in the task gave.
+    pub fn value(&self, task: u32) -> Option<i32>
+        ensures { result ≡ (task_at self.now.world task).value }
     {
-        match event {
-            Event::InitialTaskBegin => {
-                (self.depth(thread) >= STACK_LIMIT).then_some(Halt::Limit(5))
-            }
-            Event::ThreadBegin | Event::InitialTaskEnd | Event::ThreadEnd => None,
+        match self.tasks.get(task as usize) {
+            Some(task) => task.value(),
+            None => None,
         }
     }
 
+    /// The region with this identity.
+    pub fn region(&self, region: u32) -> Region
+        ensures { result ≡ region_at self.now.world region }
+    {
+        match self.regions.get(region as usize) {
+            Some(region) => *region,
+            None => fresh_region(0, 0, 0),
+        }
+    }
+
+    /// Whether each worker that was made has ended.
+    pub fn workers_over(&self) -> bool
+        ensures { result ≡ workers_over self.now.world }
+    {
+        self.threads.iter().skip(1).all(is_over)
+    }
+
+    /// Whether every thread that was made has ended.
+    pub fn threads_over(&self) -> bool
+        ensures { result ≡ threads_over self.now.world }
+    {
+        self.threads.iter().all(is_over)
+    }
+
     /// The thread has come so far.
-    fn set_stage(&mut self, thread: u8, stage: ThreadStage)
-        ensures { self.new ≡ staged self.old thread stage }
+    pub fn set_stage(&mut self, thread: u8, stage: ThreadStage)
+        ensures { self.new ≡ record self.old { world = staged self.old.world thread stage } }
     {
         let index = thread as usize;
         if index < self.threads.len() {
@@ -190,9 +258,9 @@ impl Board {
     }
 
     /// The task is the current one of the thread from now on.
-    fn push(&mut self, thread: u8, task: u32)
-        requires { length (thread_at self.old thread).stack < STACK_LIMIT }
-        ensures { self.new ≡ pushed self.old thread task }
+    pub fn push(&mut self, thread: u8, task: u32)
+        requires { length (thread_at self.old.world thread).stack < STACK_LIMIT }
+        ensures { self.new ≡ record self.old { world = pushed self.old.world thread task } }
     {
         let index = thread as usize;
         if index < self.threads.len() {
@@ -200,9 +268,20 @@ impl Board {
         }
     }
 
+    /// The member has taken up its implicit task in the region that it was to join.
+    pub fn join(&mut self, thread: u8, task: u32)
+        requires { length (thread_at self.old.world thread).stack < STACK_LIMIT }
+        ensures { self.new ≡ record self.old { world = joined self.old.world thread task } }
+    {
+        let index = thread as usize;
+        if index < self.threads.len() {
+            self.threads[index].join(task);
+        }
+    }
+
     /// The thread's current task is taken off its stack.
-    fn pop(&mut self, thread: u8)
-        ensures { self.new ≡ popped self.old thread }
+    pub fn pop(&mut self, thread: u8)
+        ensures { self.new ≡ record self.old { world = popped self.old.world thread } }
     {
         let index = thread as usize;
         if index < self.threads.len() {
@@ -211,8 +290,8 @@ impl Board {
     }
 
     /// The task has come so far.
-    fn set_condition(&mut self, task: u32, condition: Condition)
-        ensures { self.new ≡ conditioned self.old task condition }
+    pub fn set_condition(&mut self, task: u32, condition: Condition)
+        ensures { self.new ≡ record self.old { world = conditioned self.old.world task condition } }
     {
         let index = task as usize;
         if index < self.tasks.len() {
@@ -220,61 +299,120 @@ impl Board {
         }
     }
 
-    /// What happens at the event's Go.
-    pub fn at_go(&mut self, thread: u8, event: Event)
-        requires { fault_at self.old thread event ≡ None }
-        ensures { self.new ≡ at_go self.old thread event }
+    /// The task stands there.
+    pub fn place(&mut self, task: u32, stage: TaskStage)
+        ensures { self.new ≡ record self.old { world = placed self.old.world task stage } }
     {
-        match event {
-            Event::ThreadBegin => self.set_stage(thread, ThreadStage::Begun),
-            Event::InitialTaskBegin => {
-                self.push(thread, INITIAL_TASK);
-                self.set_condition(INITIAL_TASK, Condition::Started);
-            }
-            Event::InitialTaskEnd => {
-                self.pop(thread);
-                self.set_condition(INITIAL_TASK, Condition::Finished);
-            }
-            Event::ThreadEnd => {}
+        let index = task as usize;
+        if index < self.tasks.len() {
+            self.tasks[index].place(stage);
         }
     }
 
-    /// What takes hold at the event's Back.
-    pub fn at_back(&mut self, thread: u8, event: Event)
-        ensures { self.new ≡ at_back self.old thread event }
+    /// The task has met a parallel construct, and waits for the region.
+    pub fn fork(&mut self, task: u32, region: u32)
+        ensures { self.new ≡ record self.old { world = forked self.old.world task region } }
     {
-        match event {
-            Event::ThreadBegin | Event::InitialTaskBegin | Event::InitialTaskEnd => {}
-            Event::ThreadEnd => self.set_stage(thread, ThreadStage::Ended),
+        let index = task as usize;
+        if index < self.tasks.len() {
+            self.tasks[index].fork(region);
         }
     }
 
-    /// Main's value, where every thread that was made has ended and main returned.
-    pub fn whole_value(&self) -> Option<i32>
-        ensures { result ≡ whole_value self.now }
+    /// One more task is made, an implicit one of the region.
+    pub fn make_member(&mut self, region: u32)
+        requires { 0 < self.old.room }
+        ensures { self.new.world ≡ task_made self.old.world (member_task region) }
     {
-        if self.threads_over() {
-            self.value(INITIAL_TASK)
-        } else {
-            None
+        self.room -= 1;
+        self.tasks.push(Task::member(region)).unwrap();
+    }
+
+    /// One more region is made.
+    pub fn make_region(&mut self, region: Region)
+        requires { 0 < self.old.room }
+        ensures { self.new.world ≡ region_made self.old.world region }
+    {
+        self.room -= 1;
+        self.regions.push(region).unwrap();
+    }
+
+    /// The member has arrived at the region's barrier.
+    pub fn arrive(&mut self, region: u32, member: u8)
+        ensures { self.new ≡ record self.old { world = arrived self.old.world region member } }
+    {
+        let index = region as usize;
+        if index < self.regions.len() {
+            let mut region = self.regions[index];
+            mark(&mut region.arrived, member);
+            self.regions[index] = region;
         }
     }
 
-    /// Whether every thread that was made has ended.
-    fn threads_over(&self) -> bool
-        ensures { result ≡ threads_over self.now }
+    /// The member's wait at the region's barrier has ended.
+    pub fn pass(&mut self, region: u32, member: u8)
+        ensures { self.new ≡ record self.old { world = passed self.old.world region member } }
     {
-        self.threads.iter().all(is_over)
+        let index = region as usize;
+        if index < self.regions.len() {
+            let mut region = self.regions[index];
+            mark(&mut region.passed, member);
+            self.regions[index] = region;
+        }
     }
 
-    /// The value that the last call to end in the task gave.
-    fn value(&self, task: u32) -> Option<i32>
-        ensures { result ≡ (task_at self.now task).value }
+    /// The member has left the region.
+    pub fn leave(&mut self, region: u32, member: u8)
+        ensures { self.new ≡ record self.old { world = left self.old.world region member } }
     {
-        match self.tasks.get(task as usize) {
-            Some(task) => task.value(),
-            None => None,
+        let index = region as usize;
+        if index < self.regions.len() {
+            let mut region = self.regions[index];
+            mark(&mut region.left, member);
+            self.regions[index] = region;
         }
+    }
+
+    /// The first threads, so many, are to join the region, and those that weren't made are made.
+    pub fn open(&mut self, region: u32, size: u8)
+        ensures { self.new ≡ record self.old { world = opened self.old.world region size } }
+    {
+        invite(&mut self.threads, region, size as usize);
+    }
+}
+
+/// Marks the member, if there may be one with this number.
+fn mark(members: &mut [bool; TEAM_LIMIT], member: u8)
+    ensures { members.new ≡ slice_set members.old member true }
+{
+    let index = member as usize;
+    if index < TEAM_LIMIT {
+        members[index] = true;
+    }
+}
+
+/// The first threads, so many, are to join the region.
+fn invite(threads: &mut [Thread], region: u32, size: usize)
+    ensures { threads.new ≡ invited region size threads.old }
+{
+    for index in 0..size {
+        if index < threads.len() {
+            threads[index].invite(region);
+        }
+    }
+}
+
+/// A region that so many members are to join, none of which has come to anything.
+pub fn fresh_region(task: u32, size: u8, codeptr: u64) -> Region
+    ensures { result ≡ fresh_region task size codeptr }
+{
+    Region {
+        task,
+        size,
+        codeptr,
+        arrived: [false; TEAM_LIMIT],
+        passed: [false; TEAM_LIMIT],
+        left: [false; TEAM_LIMIT],
     }
 }
 
@@ -299,11 +437,22 @@ fn all_threads(alloc: Global, threads: u8) -> Result<Vec<Thread>, AllocError>
 }
 
 /// No task, and the initial one.
-fn all_tasks(alloc: Global) -> Result<Vec<Task>, AllocError>
-    ensures { IfOk result (λ all. all.items ≡ no_task ∷ initial_task empty_program ∷ []) }
+fn all_tasks(alloc: Global, blocks: &Blocks) -> Result<Vec<Task>, AllocError>
+    requires { length blocks.now ≤ 65536 }
+    ensures { IfOk result (λ all. all.items ≡ no_task ∷ initial_task (code_of blocks.now) ∷ []) }
 {
     let mut all = Vec::new(alloc);
-    all.push(Task::none(alloc))?;
-    all.push(Task::initial(alloc)?)?;
+    all.push(Task::none())?;
+    all.push(Task::initial(alloc, blocks)?)?;
+    Ok(all)
+}
+
+/// No region, and the implicit one of the initial task.
+fn all_regions(alloc: Global) -> Result<Vec<Region>, AllocError>
+    ensures { IfOk result (λ all. all.items ≡ no_region ∷ fresh_region 0 1 0 ∷ []) }
+{
+    let mut all = Vec::new(alloc);
+    all.push(fresh_region(0, 0, 0))?;
+    all.push(fresh_region(0, 1, 0))?;
     Ok(all)
 }

@@ -1,7 +1,7 @@
 //! A thread: how far it has come, and the tasks that it has taken up.
 
 ghost use Rattle.std.specs.Prelude.{◌≡◌, ◌<◌, ◌-◌, ◌++◌, ◌∷◌, [], length, take, IfOk};
-ghost use Rattle.omp_model.specs.State.{top_of};
+ghost use Rattle.omp_model.specs.State.{made, top_of};
 
 use omp_model::{STACK_LIMIT, ThreadStage};
 use std::alloc::{AllocError, Global};
@@ -14,6 +14,7 @@ pub struct Thread {
     stage: ThreadStage,
     /// The identities of the tasks that it has taken up, the current one last.
     stack: Vec<u32>,
+    invited: u32,
 }
 
 impl Model for Thread {
@@ -23,7 +24,7 @@ impl Model for Thread {
 
     ghost Value = { Standing };
 
-    ghost view = { λ thread. record { stage = thread.stage; stack = thread.stack.items } };
+    ghost view = { λ thread. record { stage = thread.stage; stack = thread.stack.items; invited = thread.invited } };
 
     ghost invariant = { λ thread. STACK_LIMIT ≤ vec_capacity thread.stack };
 }
@@ -31,10 +32,14 @@ impl Model for Thread {
 impl Thread {
     /// A thread that has come so far, with no task.
     pub fn new(alloc: Global, stage: ThreadStage) -> Result<Thread, AllocError>
-        ensures { IfOk result (λ thread. thread ≡ record { stage = stage; stack = [] }) }
+        ensures { IfOk result (λ thread. thread ≡ record { stage = stage; stack = []; invited = 0 }) }
     {
         let stack = Vec::with_capacity(alloc, STACK_LIMIT)?;
-        Ok(Thread { stage, stack })
+        Ok(Thread {
+            stage,
+            stack,
+            invited: 0,
+        })
     }
 
     /// How far the thread has come.
@@ -42,6 +47,32 @@ impl Thread {
         ensures { result ≡ self.now.stage }
     {
         self.stage
+    }
+
+    /// The region that the thread is to join next, or 0.
+    pub fn invited(&self) -> u32
+        ensures { result ≡ self.now.invited }
+    {
+        self.invited
+    }
+
+    /// The thread is to join the region next. It is made, if it wasn't.
+    pub fn invite(&mut self, region: u32)
+        ensures { self.new ≡ record self.old { stage = made self.old.stage; invited = region } }
+    {
+        if self.stage == ThreadStage::Unmade {
+            self.stage = ThreadStage::Made;
+        }
+        self.invited = region;
+    }
+
+    /// The thread has joined the region that it was to join, and takes up its task there.
+    pub fn join(&mut self, task: u32)
+        requires { length self.old.stack < STACK_LIMIT }
+        ensures { self.new ≡ record self.old { stack = self.old.stack ++ task ∷ []; invited = 0 } }
+    {
+        self.stack.push(task).unwrap();
+        self.invited = 0;
     }
 
     /// The task on top of the stack, or 0.

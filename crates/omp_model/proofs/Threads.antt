@@ -2,7 +2,7 @@
 use Rattle.std.proofs.Common.{◌≡◌, ℕ, zero, suc, ◌+◌, ◌<◌, true, false, nat_le, nat_lt, if◌then◌else◌, Option, Some, None, IsSome, length, refl, sym, ◌∙◌, subst, inl, inr}
 use Rattle.omp_model.specs.declared.limits.TheConstants.{STEPS_OF_A_TURN, TURN_LIMIT}
 use Rattle.omp_model.specs.declared.machine.Event.{Event}
-use Rattle.omp_model.specs.declared.machine.Event.TheVariants.{ThreadBegin, InitialTaskBegin, InitialTaskEnd, ThreadEnd}
+use Rattle.omp_model.specs.declared.machine.Event.TheVariants.{ThreadBegin, InitialTaskBegin, InitialTaskEnd, ThreadEnd, ParallelBegin, ParallelEnd, MemberBegin, BarrierBegin, WaitBegin, WaitEnd, BarrierEnd, MemberEnd}
 use Rattle.omp_model.specs.declared.machine.Halt.{Halt}
 use Rattle.omp_model.specs.declared.machine.Halt.TheVariants.{Limit}
 use Rattle.omp_model.specs.declared.machine.Outcome.{Outcome}
@@ -49,6 +49,14 @@ at-go-threads W t ThreadBegin = length-set _ _ _
 at-go-threads W t InitialTaskBegin = length-set _ _ _
 at-go-threads W t InitialTaskEnd = length-set _ _ _
 at-go-threads W t ThreadEnd = refl
+at-go-threads W t (ParallelBegin r requested codeptr) = refl
+at-go-threads W t (ParallelEnd r) = refl
+at-go-threads W t (MemberBegin r k) = length-set _ _ _
+at-go-threads W t (BarrierBegin r k) = refl
+at-go-threads W t (WaitBegin r k) = refl
+at-go-threads W t (WaitEnd r k) = refl
+at-go-threads W t (BarrierEnd r k) = refl
+at-go-threads W t (MemberEnd r k) = length-set _ _ _
 
 happening-threads : (S : State) (t : ℕ) (e : Event) (fault : Option Halt) → SameThreads S.world (happening S t e fault).state.world
 happening-threads S t e None = at-go-threads S.world t e

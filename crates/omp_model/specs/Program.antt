@@ -1,7 +1,7 @@
--- The one program that runs today: a main that returns 0 at once.
-use Rattle.std.specs.Prelude.{ℕ, pos, List, [], ◌∷◌}
+-- The programs that run today: a main with parallel blocks one after another, which returns 0.
+use Rattle.std.specs.Prelude.{ℕ, ◌+◌, ◌*◌, pos, List, [], ◌∷◌}
 use Rattle.omp_model.specs.declared.machine.Instruction.{Instruction}
-use Rattle.omp_model.specs.declared.machine.Instruction.TheVariants.{EnterBlock, Return}
+use Rattle.omp_model.specs.declared.machine.Instruction.TheVariants.{EnterBlock, Return, Parallel}
 use Rattle.ompt_calls.specs.declared.call.Call.TheVariants.{ThreadBegin, ThreadEnd, ImplicitTask}
 use Rattle.omp_model.specs.declared.history.What.TheVariants.{Go, Back}
 use Rattle.omp_model.specs.declared.history.Entry.{Entry}
@@ -9,13 +9,22 @@ use Rattle.omp_model.specs.declared.history.EventRecord.{EventRecord}
 use Rattle.omp_model.specs.State.{Run}
 use Rattle.omp_model.specs.Calls.{fresh_word}
 
--- the code of `int main(void) { return 0; }`
-abbrev pub empty_program : List Instruction
-empty_program = EnterBlock ∷ Return (pos 0) ∷ []
+-- the code of a main whose parallel blocks ask for so many threads. The first construct stands in line 2, and each takes
+-- two lines. The place of a construct is line × 65536 + column
+abbrev pub blocks_code : ℕ → List ℕ → List Instruction
+blocks_code line [] = Return (pos 0) ∷ []
+blocks_code line (k ∷ ks) = Parallel k (line * 65536 + 1) ∷ blocks_code (line + 2) ks
+
+abbrev pub code_of : List ℕ → List Instruction
+code_of blocks = EnterBlock ∷ blocks_code 2 blocks
 
 -- its run with these callbacks registered, so many threads and so many silent steps
+abbrev pub run_of_blocks : List ℕ → ℕ → ℕ → ℕ → Run
+run_of_blocks blocks mask threads steps = record { code = code_of blocks; mask = mask; threads = threads; steps = steps }
+
+-- the run of the program without a block: a main that returns 0 at once
 abbrev pub empty_run : ℕ → ℕ → ℕ → Run
-empty_run mask threads steps = record { code = empty_program; mask = mask; threads = threads; steps = steps }
+empty_run mask threads steps = run_of_blocks [] mask threads steps
 
 -- thread 0 takes a turn
 abbrev pub go_zero : Entry

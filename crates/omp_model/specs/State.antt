@@ -1,11 +1,16 @@
 -- The state of the machine: tasks and threads with what they have come to, and beside them the events whose callbacks
 -- haven't returned, the counts of silent steps and turns, and what halted the run.
-use Rattle.std.specs.Prelude.{ℕ, ℤ, ◌-◌, List, [], ◌∷◌, ◌++◌, Option, None, length, take, replicate, slice_index_or, slice_set}
+use Rattle.std.specs.Prelude.{ℕ, ℤ, zero, suc, ◌-◌, Bool, false, true, List, [], ◌∷◌, ◌++◌, Option, None, length, take, drop, replicate, slice_index_or, slice_set}
+use Rattle.omp_model.specs.declared.limits.TheConstants.{TEAM_LIMIT, IMPLICIT_REGION}
 use Rattle.omp_model.specs.declared.machine.Instruction.{Instruction}
+use Rattle.omp_model.specs.declared.machine.Instruction.TheVariants.{EnterBlock, LeaveBlock}
 use Rattle.omp_model.specs.declared.machine.Condition.{Condition}
 use Rattle.omp_model.specs.declared.machine.Condition.TheVariants as condition
 use Rattle.omp_model.specs.declared.machine.ThreadStage.{ThreadStage}
 use Rattle.omp_model.specs.declared.machine.ThreadStage.TheVariants as stage
+use Rattle.omp_model.specs.declared.machine.TaskStage.{TaskStage}
+use Rattle.omp_model.specs.declared.machine.TaskStage.TheVariants as task_stage
+use Rattle.omp_model.specs.declared.machine.Region.{Region}
 use Rattle.omp_model.specs.declared.machine.Event.{Event}
 use Rattle.omp_model.specs.declared.machine.Halt.{Halt}
 
@@ -17,21 +22,27 @@ pub record Run : Type 0 where
   pub threads : ℕ
   pub steps : ℕ
 
--- a thread: how far it has come, and the tasks that it has taken up, by identity, the current one last
+-- a thread: how far it has come, the tasks that it has taken up, by identity, the current one last, and the region that
+-- it is to join next, or 0
 pub record Thread : Type 0 where
   pub stage : ThreadStage
   pub stack : List ℕ
+  pub invited : ℕ
 
--- a task: how far it has come, its remaining code, and the value that the last call to end in it gave
+-- a task: how far it has come, its region, where it stands, its remaining code, and the value that the last call to end
+-- in it gave
 pub record Task : Type 0 where
   pub condition : Condition
+  pub region : ℕ
+  pub stage : TaskStage
   pub code : List Instruction
   pub value : Option ℤ
 
--- what events change: the threads by number, and the tasks by identity. At identity 0 stands no task
+-- what events change: the threads by number, and the tasks and regions by identity. At identity 0 stands none
 pub record World : Type 0 where
   pub threads : List Thread
   pub tasks : List Task
+  pub regions : List Region
 
 pub record State : Type 0 where
   pub world : World
@@ -46,10 +57,22 @@ pub record State : Type 0 where
 
 -- a thread that wasn't made, and the task that there is none
 abbrev pub unmade : Thread
-unmade = record { stage = stage.Unmade; stack = [] }
+unmade = record { stage = stage.Unmade; stack = []; invited = 0 }
 
 abbrev pub no_task : Task
-no_task = record { condition = condition.Finished; code = []; value = None }
+no_task = record { condition = condition.Finished; region = 0; stage = task_stage.Over; code = []; value = None }
+
+-- a region that so many members are to join, none of which has come to anything
+abbrev pub none_so_far : List Bool
+none_so_far = replicate TEAM_LIMIT false
+
+abbrev pub fresh_region : ℕ → ℕ → ℕ → Region
+fresh_region task size codeptr =
+    record { task = task; size = size; codeptr = codeptr; arrived = none_so_far; passed = none_so_far; left = none_so_far }
+
+-- the region that there is none
+abbrev pub no_region : Region
+no_region = fresh_region 0 0 0
 
 -- the thread with this number, and the task with this identity
 abbrev pub thread_at : World → ℕ → Thread
@@ -57,6 +80,9 @@ thread_at W t = slice_index_or W.threads t unmade
 
 abbrev pub task_at : World → ℕ → Task
 task_at W k = slice_index_or W.tasks k no_task
+
+abbrev pub region_at : World → ℕ → Region
+region_at W r = slice_index_or W.regions r no_region
 
 -- the event of this thread whose callback hasn't returned
 abbrev pub pending_at : State → ℕ → Option Event
@@ -76,6 +102,16 @@ with_thread W t thread = record W { threads = slice_set W.threads t thread }
 abbrev pub with_task : World → ℕ → Task → World
 with_task W k task = record W { tasks = slice_set W.tasks k task }
 
+abbrev pub with_region : World → ℕ → Region → World
+with_region W r region = record W { regions = slice_set W.regions r region }
+
+-- one more task, or region, is made, with the next identity
+abbrev pub task_made : World → Task → World
+task_made W task = record W { tasks = W.tasks ++ task ∷ [] }
+
+abbrev pub region_made : World → Region → World
+region_made W region = record W { regions = W.regions ++ region ∷ [] }
+
 -- the thread has come so far
 abbrev pub staged : World → ℕ → ThreadStage → World
 staged W t stage = with_thread W t (record (thread_at W t) { stage = stage })
@@ -92,13 +128,55 @@ popped W t = with_thread W t (record (thread_at W t) { stack = take (length (thr
 abbrev pub conditioned : World → ℕ → Condition → World
 conditioned W k condition = with_task W k (record (task_at W k) { condition = condition })
 
+-- the task stands there
+abbrev pub placed : World → ℕ → TaskStage → World
+placed W k stage = with_task W k (record (task_at W k) { stage = stage })
+
+-- the task has met a parallel construct, which stood first in its code, and waits for the region
+abbrev pub forked : World → ℕ → ℕ → World
+forked W k r = with_task W k (record (task_at W k) { stage = task_stage.Forked r; code = drop 1 (task_at W k).code })
+
+-- the member has taken up its implicit task in the region that it was to join
+abbrev pub joined : World → ℕ → ℕ → World
+joined W t k = with_thread W t (record (thread_at W t) { stack = (thread_at W t).stack ++ k ∷ []; invited = 0 })
+
+-- a thread that wasn't made is made
+abbrev pub made : ThreadStage → ThreadStage
+made stage.Unmade = stage.Made
+made stage.Made = stage.Made
+made stage.Begun = stage.Begun
+made stage.Ended = stage.Ended
+
+-- the first threads, so many, are to join the region, and those that weren't made are made
+abbrev pub invited : ℕ → ℕ → List Thread → List Thread
+invited r zero threads = threads
+invited r (suc size) [] = []
+invited r (suc size) (thread ∷ threads) = record thread { stage = made thread.stage; invited = r } ∷ invited r size threads
+
+abbrev pub opened : World → ℕ → ℕ → World
+opened W r size = record W { threads = invited r size W.threads }
+
+-- the member has arrived, its wait has ended, or it has left
+abbrev pub arrived : World → ℕ → ℕ → World
+arrived W r i = with_region W r (record (region_at W r) { arrived = slice_set (region_at W r).arrived i true })
+
+abbrev pub passed : World → ℕ → ℕ → World
+passed W r i = with_region W r (record (region_at W r) { passed = slice_set (region_at W r).passed i true })
+
+abbrev pub left : World → ℕ → ℕ → World
+left W r i = with_region W r (record (region_at W r) { left = slice_set (region_at W r).left i true })
+
+-- the implicit task of a member, which starts at once
+abbrev pub member_task : ℕ → Task
+member_task r = record { condition = condition.Started; region = r; stage = task_stage.Running; code = EnterBlock ∷ LeaveBlock ∷ []; value = None }
+
 -- the initial task, before it starts
 abbrev pub initial_task : List Instruction → Task
-initial_task code = record { condition = condition.Made; code = code; value = None }
+initial_task code = record { condition = condition.Made; region = IMPLICIT_REGION; stage = task_stage.Running; code = code; value = None }
 
 -- the thread that is there from the start
 abbrev pub initial_thread : Thread
-initial_thread = record { stage = stage.Made; stack = [] }
+initial_thread = record { stage = stage.Made; stack = []; invited = 0 }
 
 -- the state before the first entry: thread 0 and the initial task are made
 abbrev pub first : Run → State
@@ -107,6 +185,7 @@ first run =
       world = record {
         threads = initial_thread ∷ replicate (run.threads - 1) unmade;
         tasks = no_task ∷ initial_task run.code ∷ [];
+        regions = no_region ∷ fresh_region 0 1 0 ∷ [];
       };
       pending = replicate run.threads None;
       steps = 0;

@@ -24,14 +24,16 @@
 //! `rt plant` lists no wrong body that a contract lets through. The two laws have no body to plant one in.
 #![tactic(auto)]
 
+mod blocks;
 mod cause;
 mod history;
 mod laws;
 mod limits;
 mod machine;
 
+pub use blocks::Blocks;
 pub use cause::Cause;
 pub use history::{Entry, EventRecord, History, What};
 pub use laws::{empty_program_ends, serial_history_is_one};
-pub use limits::{IMPLICIT_REGION, INITIAL_TASK, STACK_LIMIT, STEPS_OF_A_TURN, TURN_LIMIT};
-pub use machine::{Condition, Event, Halt, Instruction, Outcome, ThreadStage};
+pub use limits::{IMPLICIT_REGION, INITIAL_TASK, STACK_LIMIT, STEPS_OF_A_TURN, TEAM_LIMIT, TURN_LIMIT};
+pub use machine::{Condition, Event, Halt, Instruction, Outcome, Region, TaskStage, ThreadStage};

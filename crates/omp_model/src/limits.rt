@@ -14,3 +14,6 @@ pub const INITIAL_TASK: u32 = 1;
 
 /// The identity of the implicit parallel region of the initial task.
 pub const IMPLICIT_REGION: u32 = 1;
+
+/// The most members of a team.
+pub const TEAM_LIMIT: usize = 16;

@@ -1,9 +1,13 @@
 -- The number of a callback: the value of its `ompt_callbacks_t` (OpenMP 5.2, 19.4.2).
 use Rattle.std.specs.Prelude.{ℕ}
 use Rattle.ompt_calls.specs.declared.call.Call.{Call}
-use Rattle.ompt_calls.specs.declared.call.Call.TheVariants.{ThreadBegin, ThreadEnd, ImplicitTask}
+use Rattle.ompt_calls.specs.declared.call.Call.TheVariants.{ThreadBegin, ThreadEnd, ParallelBegin, ParallelEnd, ImplicitTask, SyncRegionWait, SyncRegion}
 
 abbrev pub number_of : Call → ℕ
 number_of (ThreadBegin kind thread) = 1
 number_of (ThreadEnd thread) = 2
 number_of (ImplicitTask endpoint region task actual index flags) = 7
+number_of (ParallelBegin task frame region requested flags codeptr) = 3
+number_of (ParallelEnd region task flags codeptr) = 4
+number_of (SyncRegionWait kind endpoint region task codeptr) = 16
+number_of (SyncRegion kind endpoint region task codeptr) = 23

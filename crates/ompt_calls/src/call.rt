@@ -12,6 +12,15 @@ pub struct Word {
     pub value: u64,
 }
 
+/// The frame of a task: its exit and enter words.
+#[derive(Clone, Copy, Debug, PartialEq, Eq)]
+pub struct Frame {
+    /// The exit word.
+    pub exit: u32,
+    /// The enter word.
+    pub enter: u32,
+}
+
 /// A callback, with its arguments in the order of the specification (OpenMP 5.2, 19.5.2).
 #[derive(Clone, Copy, Debug, PartialEq, Eq)]
 pub enum Call {
@@ -24,6 +33,20 @@ pub enum Call {
     ThreadEnd {
         thread: Word,
     },
+    ParallelBegin {
+        task: Word,
+        frame: Frame,
+        region: Word,
+        requested: u32,
+        flags: u32,
+        codeptr: u64,
+    },
+    ParallelEnd {
+        region: Word,
+        task: Word,
+        flags: u32,
+        codeptr: u64,
+    },
     /// `ompt_callback_implicit_task`: endpoint 1 is the begin, 2 the end.
     ImplicitTask {
         endpoint: u32,
@@ -32,6 +55,20 @@ pub enum Call {
         actual: u32,
         index: u32,
         flags: u32,
+    },
+    SyncRegionWait {
+        kind: u32,
+        endpoint: u32,
+        region: Word,
+        task: Word,
+        codeptr: u64,
+    },
+    SyncRegion {
+        kind: u32,
+        endpoint: u32,
+        region: Word,
+        task: Word,
+        codeptr: u64,
     },
 }
 
@@ -43,7 +80,11 @@ impl Call {
         match self {
             Call::ThreadBegin { .. } => 1,
             Call::ThreadEnd { .. } => 2,
+            Call::ParallelBegin { .. } => 3,
+            Call::ParallelEnd { .. } => 4,
             Call::ImplicitTask { .. } => 7,
+            Call::SyncRegionWait { .. } => 16,
+            Call::SyncRegion { .. } => 23,
         }
     }
 }

@@ -21,5 +21,5 @@ mod line;
 #[cfg(test)]
 mod tests;
 
-pub use call::{Call, Word};
+pub use call::{Call, Frame, Word};
 pub use line::{Memory, line_of};

@@ -1,9 +1,9 @@
 //! What is written of a call: its text, and its line.
 
 ghost use Rattle.std.specs.Prelude.{◌≡◌, IfOk, Some};
-ghost use Rattle.ompt_calls.specs.Line.{call_text, line_text, word_text};
+ghost use Rattle.ompt_calls.specs.Line.{call_text, frame_text, line_text, word_text};
 
-use crate::{Call, Word};
+use crate::{Call, Frame, Word};
 use std::alloc::Global;
 use std::fmt;
 use std::fmt::{Display, Formatter};
@@ -28,6 +28,15 @@ impl Display for Word {
     }
 }
 
+/// `exit/enter`.
+impl Display for Frame {
+    ghost output = { λ f. Some (frame_text f) };
+
+    fn fmt<W: fmt::Write>(&self, f: &mut Formatter<W>) -> fmt::Result {
+        write!(f, "{}/{}", self.exit, self.enter)
+    }
+}
+
 /// The name of the callback, then its arguments in order, with one space between.
 impl Display for Call {
     ghost output = { λ c. Some (call_text c) };
@@ -36,6 +45,43 @@ impl Display for Call {
         match self {
             Call::ThreadBegin { kind, thread } => write!(f, "thread_begin {kind} {thread}"),
             Call::ThreadEnd { thread } => write!(f, "thread_end {thread}"),
+            Call::ParallelBegin {
+                task,
+                frame,
+                region,
+                requested,
+                flags,
+                codeptr,
+            } => write!(
+                f,
+                "parallel_begin {task} {frame} {region} {requested} {flags} {codeptr}"
+            ),
+            Call::ParallelEnd {
+                region,
+                task,
+                flags,
+                codeptr,
+            } => write!(f, "parallel_end {region} {task} {flags} {codeptr}"),
+            Call::SyncRegionWait {
+                kind,
+                endpoint,
+                region,
+                task,
+                codeptr,
+            } => write!(
+                f,
+                "sync_region_wait {kind} {endpoint} {region} {task} {codeptr}"
+            ),
+            Call::SyncRegion {
+                kind,
+                endpoint,
+                region,
+                task,
+                codeptr,
+            } => write!(
+                f,
+                "sync_region {kind} {endpoint} {region} {task} {codeptr}"
+            ),
             Call::ImplicitTask {
                 endpoint,
                 region,
