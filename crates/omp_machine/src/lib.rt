@@ -3,6 +3,8 @@
 
 pub mod board;
 mod code;
+pub mod effects;
+pub mod events;
 pub mod task;
 pub mod thread;
 mod went;

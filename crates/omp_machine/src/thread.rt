@@ -1,7 +1,7 @@
 //! A thread: how far it has come, and the tasks that it has taken up.
 
 ghost use Rattle.std.specs.Prelude.{◌≡◌, ◌<◌, ◌-◌, ◌++◌, ◌∷◌, [], length, take, IfOk};
-ghost use Rattle.omp_model.specs.State.{made, top_of};
+ghost use Rattle.omp_model.specs.State.{summoned, top_of};
 
 use omp_model::{STACK_LIMIT, ThreadStage};
 use std::alloc::{AllocError, Global};
@@ -58,7 +58,7 @@ impl Thread {
 
     /// The thread is to join the region next. It is made, if it wasn't.
     pub fn invite(&mut self, region: u32)
-        ensures { self.new ≡ record self.old { stage = made self.old.stage; invited = region } }
+        ensures { self.new ≡ summoned region self.old }
     {
         if self.stage == ThreadStage::Unmade {
             self.stage = ThreadStage::Made;

@@ -147,11 +147,15 @@ made stage.Made = stage.Made
 made stage.Begun = stage.Begun
 made stage.Ended = stage.Ended
 
--- the first threads, so many, are to join the region, and those that weren't made are made
+-- the thread is to join the region next, and is made, if it wasn't
+abbrev pub summoned : ℕ → Thread → Thread
+summoned r thread = record thread { stage = made thread.stage; invited = r }
+
+-- the first threads, so many, are to join the region
 abbrev pub invited : ℕ → ℕ → List Thread → List Thread
 invited r zero threads = threads
 invited r (suc size) [] = []
-invited r (suc size) (thread ∷ threads) = record thread { stage = made thread.stage; invited = r } ∷ invited r size threads
+invited r (suc size) (thread ∷ threads) = summoned r thread ∷ invited r size threads
 
 abbrev pub opened : World → ℕ → ℕ → World
 opened W r size = record W { threads = invited r size W.threads }

@@ -23,16 +23,17 @@ frame_text frame = decimal frame.exit ++ codes "/" ++ decimal frame.enter
 -- the name of the callback and its arguments
 abbrev pub parts_of : Call → List (List ℕ)
 parts_of (ThreadBegin kind thread) = codes "thread_begin" ∷ decimal kind ∷ word_text thread ∷ []
+parts_of (ThreadEnd thread) = codes "thread_end" ∷ word_text thread ∷ []
 parts_of (ParallelBegin task frame region requested flags codeptr) =
     codes "parallel_begin" ∷ word_text task ∷ frame_text frame ∷ word_text region ∷ decimal requested ∷ decimal flags ∷ decimal codeptr ∷ []
-parts_of (ParallelEnd region task flags codeptr) = codes "parallel_end" ∷ word_text region ∷ word_text task ∷ decimal flags ∷ decimal codeptr ∷ []
+parts_of (ParallelEnd region task flags codeptr) =
+    codes "parallel_end" ∷ word_text region ∷ word_text task ∷ decimal flags ∷ decimal codeptr ∷ []
+parts_of (ImplicitTask endpoint region task actual index flags) =
+    codes "implicit_task" ∷ decimal endpoint ∷ word_text region ∷ word_text task ∷ decimal actual ∷ decimal index ∷ decimal flags ∷ []
 parts_of (SyncRegionWait kind endpoint region task codeptr) =
     codes "sync_region_wait" ∷ decimal kind ∷ decimal endpoint ∷ word_text region ∷ word_text task ∷ decimal codeptr ∷ []
 parts_of (SyncRegion kind endpoint region task codeptr) =
     codes "sync_region" ∷ decimal kind ∷ decimal endpoint ∷ word_text region ∷ word_text task ∷ decimal codeptr ∷ []
-parts_of (ThreadEnd thread) = codes "thread_end" ∷ word_text thread ∷ []
-parts_of (ImplicitTask endpoint region task actual index flags) =
-    codes "implicit_task" ∷ decimal endpoint ∷ word_text region ∷ word_text task ∷ decimal actual ∷ decimal index ∷ decimal flags ∷ []
 
 -- the text of a call
 abbrev pub call_text : Call → List ℕ

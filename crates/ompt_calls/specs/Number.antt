@@ -6,8 +6,8 @@ use Rattle.ompt_calls.specs.declared.call.Call.TheVariants.{ThreadBegin, ThreadE
 abbrev pub number_of : Call → ℕ
 number_of (ThreadBegin kind thread) = 1
 number_of (ThreadEnd thread) = 2
-number_of (ImplicitTask endpoint region task actual index flags) = 7
 number_of (ParallelBegin task frame region requested flags codeptr) = 3
 number_of (ParallelEnd region task flags codeptr) = 4
+number_of (ImplicitTask endpoint region task actual index flags) = 7
 number_of (SyncRegionWait kind endpoint region task codeptr) = 16
 number_of (SyncRegion kind endpoint region task codeptr) = 23

@@ -12,12 +12,12 @@ pub struct Word {
     pub value: u64,
 }
 
-/// The frame of a task: its exit and enter words.
+/// The frame of a task: `ompt_frame_t` (OpenMP 5.2, 19.4.4), with numbers in place of addresses.
 #[derive(Clone, Copy, Debug, PartialEq, Eq)]
 pub struct Frame {
-    /// The exit word.
+    /// The first procedure frame of the task's code: its `exit_frame`; 0 where there is none.
     pub exit: u32,
-    /// The enter word.
+    /// The procedure frame from which the task last entered the runtime: its `enter_frame`; 0 where there is none.
     pub enter: u32,
 }
 
@@ -33,6 +33,7 @@ pub enum Call {
     ThreadEnd {
         thread: Word,
     },
+    /// `ompt_callback_parallel_begin` (19.5.2.3): the task is the encountering one, and the frame is its own.
     ParallelBegin {
         task: Word,
         frame: Frame,
@@ -41,6 +42,7 @@ pub enum Call {
         flags: u32,
         codeptr: u64,
     },
+    /// `ompt_callback_parallel_end` (19.5.2.4): the task is the encountering one.
     ParallelEnd {
         region: Word,
         task: Word,
@@ -56,6 +58,7 @@ pub enum Call {
         index: u32,
         flags: u32,
     },
+    /// `ompt_callback_sync_region_wait` (19.5.2.13): the wait in a synchronization region, with its arguments.
     SyncRegionWait {
         kind: u32,
         endpoint: u32,
@@ -63,6 +66,7 @@ pub enum Call {
         task: Word,
         codeptr: u64,
     },
+    /// `ompt_callback_sync_region` (19.5.2.13): endpoint 1 is the begin, 2 the end.
     SyncRegion {
         kind: u32,
         endpoint: u32,

@@ -5,11 +5,12 @@
 //! between and a newline at the end, as `0 0 thread_begin 1 1:0`.
 //!
 //! Addresses are replaced by numbers: a data word is named by the identity of its thread, parallel region or task,
-//! and identity 0 stands for NULL.
+//! and identity 0 stands for NULL. A frame is two numbers, with 0 where there is none.
 //!
 //! Proved for every call, over the definitions of `specs/`:
 //!
-//! - `{}` of a [`Word`] writes exactly the bytes of `word_text`, and `{}` of a [`Call`] those of `call_text`;
+//! - `{}` of a [`Word`] writes exactly the bytes of `word_text`, `{}` of a [`Frame`] those of `frame_text`, and `{}`
+//!   of a [`Call`] those of `call_text`;
 //! - where memory is left, [`line_of`] returns exactly the bytes of `line_text`;
 //! - [`Call::number`] is `number_of`, the value in `ompt_callbacks_t`.
 //!

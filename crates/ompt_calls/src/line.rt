@@ -30,7 +30,7 @@ impl Display for Word {
 
 /// `exit/enter`.
 impl Display for Frame {
-    ghost output = { λ f. Some (frame_text f) };
+    ghost output = { λ r. Some (frame_text r) };
 
     fn fmt<W: fmt::Write>(&self, f: &mut Formatter<W>) -> fmt::Result {
         write!(f, "{}/{}", self.exit, self.enter)
@@ -62,6 +62,17 @@ impl Display for Call {
                 flags,
                 codeptr,
             } => write!(f, "parallel_end {region} {task} {flags} {codeptr}"),
+            Call::ImplicitTask {
+                endpoint,
+                region,
+                task,
+                actual,
+                index,
+                flags,
+            } => write!(
+                f,
+                "implicit_task {endpoint} {region} {task} {actual} {index} {flags}"
+            ),
             Call::SyncRegionWait {
                 kind,
                 endpoint,
@@ -78,21 +89,7 @@ impl Display for Call {
                 region,
                 task,
                 codeptr,
-            } => write!(
-                f,
-                "sync_region {kind} {endpoint} {region} {task} {codeptr}"
-            ),
-            Call::ImplicitTask {
-                endpoint,
-                region,
-                task,
-                actual,
-                index,
-                flags,
-            } => write!(
-                f,
-                "implicit_task {endpoint} {region} {task} {actual} {index} {flags}"
-            ),
+            } => write!(f, "sync_region {kind} {endpoint} {region} {task} {codeptr}"),
         }
     }
 }

@@ -1,0 +1,7 @@
+-- What a state of the code is seen as: the state of the machine, and whether there is room for one more task and region.
+use Rattle.std.specs.Prelude.{ℕ}
+use Rattle.omp_model.specs.State.{State}
+
+pub record StateView : Type 0 where
+  pub state : State
+  pub room : ℕ
