@@ -1,1 +1,2 @@
 pub mod Inviting
+pub mod Walking

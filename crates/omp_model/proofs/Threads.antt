@@ -37,7 +37,7 @@ walk-on-threads run S made NoStep more kept keeps = refl
 walk-on-threads run S made (Steps after) more kept keeps =
     elim (nat_le run.steps S.steps) as (λ b. let w : Walk = if◌then◌else◌ {A = Walk} b (record { state = S; made = made; stop = Some (Limit 1) }) (more after) in SameThreads S.world w.state.world) [ true ↦ refl | false ↦ keeps after ∙ kept ]
 
-walk-threads : (run : Run) (left made : ℕ) (S : State) (t : ℕ) → SameThreads S.world (walk run left made S t).state.world
+pub walk-threads : (run : Run) (left made : ℕ) (S : State) (t : ℕ) → SameThreads S.world (walk run left made S t).state.world
 unfolding walk
 walk-threads run zero made S t = refl
 walk-threads run (suc left) made S t =
