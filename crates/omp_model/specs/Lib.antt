@@ -10,3 +10,4 @@ pub mod Serial
 pub mod Records
 pub mod Program
 pub mod Running
+pub mod Tame
