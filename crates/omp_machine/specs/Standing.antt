@@ -1,5 +1,5 @@
 -- What a machine stands for: its run and a state of it; and what a turn tells its caller.
-use Rattle.std.specs.Prelude.{ℕ, ◌≡◌, ◌<◌, Bool, true, false, if◌then◌else◌, length, None}
+use Rattle.std.specs.Prelude.{ℕ, ◌≡◌, ◌<◌, ◌≤◌, ◌+◌, Bool, true, false, if◌then◌else◌, length, None}
 use Rattle.ompt_calls.specs.declared.call.Call.{Call}
 use Rattle.ompt_calls.specs.Number.{number_of}
 use Rattle.omp_model.specs.declared.limits.TheConstants.{TURN_LIMIT}
@@ -49,3 +49,8 @@ pub record IsSound (threads : ℕ) (state : State) : Type 0 where
   pub pending_of_each : length state.pending ≡ threads
   pub each_thread : length state.world.threads ≡ threads
   pub turns_left : state.halt ≡ None → state.turns < TURN_LIMIT
+  -- a turn makes at most one task and one region
+  pub few : threads ≤ 16
+  pub turns : state.turns ≤ TURN_LIMIT
+  pub tasks : length state.world.tasks ≤ state.turns + 2
+  pub regions : length state.world.regions ≤ state.turns + 2

@@ -133,7 +133,8 @@ impl Board {
 
     /// How many tasks are on the thread's stack.
     pub fn depth(&self, thread: u8) -> usize
-        ensures { result ≡ length (thread_at self.now.world thread).stack }
+        ensures counted { result ≡ length (thread_at self.now.world thread).stack }
+        ensures bounded { result ≤ STACK_LIMIT }
     {
         match self.threads.get(thread as usize) {
             Some(thread) => thread.depth(),

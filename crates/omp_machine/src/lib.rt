@@ -1,15 +1,39 @@
 //! The profile's OpenMP machine.
+//!
+//! A [`Machine`] stands for a state of the machine that `omp_model` defines. Its calls are that machine's: `new` gives
+//! the first state, `go` does one turn and tells what it came to, `back` lets an event's result take hold, and the
+//! others tell the state.
+//!
+//! The parts are private, a layer each: threads and tasks; the board, which has them and what each event changes; a
+//! state, which has the board, the events whose callbacks haven't returned and the order of a turn.
+//!
+//! Proved by the contracts of [`Machine`], over the definitions of `omp_model`:
+//!
+//! - [`Machine::new`], where it finds memory, gives the run's first state;
+//! - [`Machine::go`], of an enabled thread, changes the state as that thread's `turn` does, and its answer is what
+//!   `went_of` says of that turn: the call of its event where the callback is registered, or [`Went::Untold`], or that
+//!   it was quiet, or the trap or limit that it met. After an event the thread is inside its callback. Where memory
+//!   fails, nothing has changed;
+//! - [`Machine::back`], of a thread inside a callback, changes the state as `back` does;
+//! - [`Machine::enabled`], [`Machine::pending`], [`Machine::halted`], [`Machine::whole`], [`Machine::stuck`],
+//!   [`Machine::first_enabled`] and [`Machine::cause`] answer exactly what the definitions say of the run and the state.
+//!
+//! No clause says that `new` or `go` finds memory: tests run the empty program to its end and to its limit of silent
+//! steps, and compare its four calls with values written out by hand.
+//! `rt plant` lists no wrong body that a contract lets through; the must-fail edits try some that it couldn't judge.
 #![tactic(auto)]
 
-pub mod board;
+mod board;
+mod call;
 mod code;
-pub mod effects;
-pub mod events;
+mod effects;
+mod events;
+mod machine;
 mod settings;
-pub mod state;
-pub mod task;
-pub mod thread;
+mod state;
+mod task;
+mod thread;
 mod went;
 
-pub use settings::Settings;
+pub use machine::{Machine, Memory};
 pub use went::Went;

@@ -8,9 +8,12 @@ ghost use Rattle.omp_model.specs.Turn.{walk, stepped, halted, happening, after_s
 ghost use Rattle.omp_model.specs.Legal.{back};
 ghost use Rattle.omp_model.specs.Cause.{none_pending, whole_value};
 ghost use Rattle.omp_machine.specs.Settings.{run_of};
+ghost use Rattle.omp_machine.specs.Standing.{went_after};
 
 use crate::board::Board;
+use crate::call::{call_of, told};
 use crate::settings::Settings;
+use crate::went::Went;
 use omp_model::{Event, Halt, Outcome, STEPS_OF_A_TURN, TURN_LIMIT};
 use std::alloc::{AllocError, Global};
 use std::marker::Model;
@@ -245,6 +248,18 @@ impl State {
         match walk.stop {
             Some(halt) => self.halt_by(halt),
             None => self.after_steps(thread, walk.made),
+        }
+    }
+
+    /// What the turn of the thread that has just come to this tells its caller.
+    pub fn went(&self, settings: &Settings, thread: u8, outcome: Outcome) -> Went
+        ensures { result ≡ went_after (run_of settings.now) self.now.state thread outcome }
+    {
+        match outcome {
+            Outcome::Idle | Outcome::Quiet => Went::Quiet,
+            Outcome::Happens(event) => told(settings.mask, call_of(&self.board, thread, event)),
+            Outcome::Halts(Halt::Trap(number)) => Went::Trapped(number),
+            Outcome::Halts(Halt::Limit(number)) => Went::Limit(number),
         }
     }
 

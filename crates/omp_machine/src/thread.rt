@@ -1,6 +1,6 @@
 //! A thread: how far it has come, and the tasks that it has taken up.
 
-ghost use Rattle.std.specs.Prelude.{◌≡◌, ◌<◌, ◌-◌, ◌++◌, ◌∷◌, [], length, take, IfOk};
+ghost use Rattle.std.specs.Prelude.{◌≡◌, ◌<◌, ◌≤◌, ◌-◌, ◌++◌, ◌∷◌, [], length, take, IfOk};
 ghost use Rattle.omp_model.specs.State.{summoned, top_of};
 
 use omp_model::{STACK_LIMIT, ThreadStage};
@@ -18,7 +18,7 @@ pub struct Thread {
 }
 
 impl Model for Thread {
-    ghost use Rattle.std.specs.Prelude.{◌≤◌, vec_capacity};
+    ghost use Rattle.std.specs.Prelude.{◌≤◌, length, vec_capacity};
     ghost use Rattle.omp_model.specs.State.{Thread as Standing};
     ghost use Rattle.omp_model.specs.declared.limits.TheConstants.{STACK_LIMIT};
 
@@ -26,7 +26,7 @@ impl Model for Thread {
 
     ghost view = { λ thread. record { stage = thread.stage; stack = thread.stack.items; invited = thread.invited } };
 
-    ghost invariant = { λ thread. STACK_LIMIT ≤ vec_capacity thread.stack };
+    ghost invariant = { λ thread. (STACK_LIMIT ≤ vec_capacity thread.stack) × (length thread.stack.items ≤ STACK_LIMIT) };
 }
 
 impl Thread {
@@ -87,7 +87,8 @@ impl Thread {
 
     /// How many tasks are on the stack.
     pub fn depth(&self) -> usize
-        ensures { result ≡ length self.now.stack }
+        ensures counted { result ≡ length self.now.stack }
+        ensures bounded { result ≤ STACK_LIMIT }
     {
         self.stack.len()
     }

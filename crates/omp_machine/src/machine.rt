@@ -1,0 +1,184 @@
+//! The machine that runs the program.
+
+ghost use Rattle.std.specs.Prelude.{◌≡◌, ◌<◌, ◌≤◌, IfOk, OnOk, OnErr, IsSome, IsTrue, is_some, length, ◌-◌};
+ghost use Rattle.omp_model.specs.State.{first, pending_at};
+ghost use Rattle.omp_model.specs.Turn.{turn, enabled};
+ghost use Rattle.omp_model.specs.Legal.{back};
+ghost use Rattle.omp_model.specs.Serial.{enabled_among, first_enabled};
+ghost use Rattle.omp_model.specs.Cause.{whole_value, is_stuck, cause_of_value, cause_of_halt, cause_in};
+ghost use Rattle.omp_model.specs.Program.{run_of_blocks};
+ghost use Rattle.omp_machine.specs.Standing.{Standing, went_of, is_call};
+
+use crate::settings::Settings;
+use crate::state::State;
+use crate::went::Went;
+use omp_model::{Blocks, Cause, Halt};
+use std::alloc::Global;
+use std::marker::Model;
+
+/// The error of a call that found no memory.
+pub type Memory = std::alloc::AllocError;
+
+/// The machine of a run. Contracts see its run, and the state that it has come to.
+#[derive(Drop)]
+pub struct Machine {
+    /// What fixes its run.
+    settings: Settings,
+    /// What the run has come to.
+    state: State,
+}
+
+impl Model for Machine {
+    ghost use Rattle.omp_machine.specs.Settings.{run_of};
+    ghost use Rattle.omp_machine.specs.Standing.{Standing, IsSound};
+
+    ghost Value = { Standing };
+
+    ghost view = { λ machine. record { run = run_of machine.settings; state = machine.state.state } };
+
+    ghost invariant = { λ machine. IsSound machine.settings.threads machine.state.state };
+}
+
+impl Machine {
+    /// The machine of the program with these parallel blocks, in its first state, with the callbacks of the mask
+    /// registered (bit n for number n), so many threads and so many silent steps.
+    pub fn new(
+        alloc: Global,
+        blocks: Blocks,
+        mask: u64,
+        threads: u8,
+        steps: u32,
+    ) -> Result<Machine, Memory>
+        requires blocks { length blocks ≤ 65536 }
+        requires some { 1 ≤ threads }
+        requires few { threads ≤ 16 }
+        requires steps { 1 ≤ steps }
+        requires bounded { steps ≤ 30000000 }
+        ensures { IfOk result (λ machine. machine ≡ record { run = run_of_blocks blocks mask threads steps; state = first (run_of_blocks blocks mask threads steps) }) }
+    {
+        let settings = Settings {
+            blocks,
+            mask,
+            threads,
+            steps,
+        };
+        let state = State::new(alloc, &settings)?;
+        Ok(Machine { settings, state })
+    }
+
+    /// Whether the thread may begin a turn.
+    pub fn enabled(&self, thread: u8) -> bool
+        ensures { result ≡ enabled self.now.run self.now.state thread }
+    {
+        self.state.enabled(&self.settings, thread)
+    }
+
+    /// Whether the thread is inside a callback.
+    pub fn pending(&self, thread: u8) -> bool
+        ensures { result ≡ is_some (pending_at self.now.state thread) }
+    {
+        self.state.pending(thread).is_some()
+    }
+
+    /// Whether a trap or a limit halted the run.
+    pub fn halted(&self) -> bool
+        ensures { result ≡ is_some self.now.state.halt }
+    {
+        self.state.halt().is_some()
+    }
+
+    /// Main's value, where every thread that was made has ended and main returned.
+    pub fn whole(&self) -> Option<i32>
+        ensures { result ≡ whole_value self.now.state.world }
+    {
+        self.state.whole_value()
+    }
+
+    /// Whether no thread can go on, though the run isn't halted and isn't whole.
+    pub fn stuck(&self) -> bool
+        ensures { result ≡ is_stuck self.now.run self.now.state }
+    {
+        self.enabled_among(0, self.settings.threads).is_none()
+            && self.state.none_pending()
+            && self.state.halt().is_none()
+            && self.whole().is_none()
+    }
+
+    /// The first enabled thread from `next` on, round and round.
+    pub fn first_enabled(&self, next: u8) -> Option<u8>
+        requires { next ≤ self.now.run.threads }
+        ensures { result ≡ first_enabled self.now.run self.now.state next }
+    {
+        match self.enabled_among(next, self.settings.threads) {
+            Some(thread) => Some(thread),
+            None => self.enabled_among(0, next),
+        }
+    }
+
+    /// The first enabled thread from `from` on, before `end`.
+    fn enabled_among(&self, from: u8, end: u8) -> Option<u8>
+        ensures { result ≡ enabled_among self.now.run self.now.state from (end - from) }
+    {
+        for thread in from..end {
+            if self.enabled(thread) {
+                return Some(thread);
+            }
+        }
+        None
+    }
+
+    /// The cause in which the run has ended, if it has.
+    pub fn cause(&self) -> Option<Cause>
+        ensures { result ≡ cause_in self.now.run self.now.state }
+    {
+        match (self.state.halt(), self.whole()) {
+            (Some(halt), _) => Some(cause_of_halt(halt)),
+            (None, Some(value)) => Some(cause_of_value(value)),
+            (None, None) => self.stuck().then_some(Cause::Deadlock),
+        }
+    }
+
+    /// Does one turn of the thread, and tells what it came to.
+    ///
+    /// All memory is taken before the first change.
+    pub fn go(&mut self, thread: u8) -> Result<Went, Memory>
+        requires { IsTrue (enabled self.old.run self.old.state thread) }
+        ensures turn { OnOk result (self.new ≡ record self.old { state = (turn self.old.run self.old.state thread).state }) }
+        ensures went { IfOk result (λ went. went ≡ went_of self.old.run self.old.state thread) }
+        ensures waits { IfOk result (λ went. IsTrue (is_call went) → IsSome (pending_at self.new.state thread)) }
+        ensures err { OnErr result (self.new ≡ self.old) }
+    {
+        self.state.reserve()?;
+        let outcome = self.state.turn(&self.settings, thread);
+        Ok(self.state.went(&self.settings, thread, outcome))
+    }
+
+    /// The callback of the thread's event has returned, and the event's result takes hold.
+    pub fn back(&mut self, thread: u8)
+        requires { IsSome (pending_at self.old.state thread) }
+        ensures { self.new ≡ record self.old { state = back self.old.state thread } }
+    {
+        self.state.back(thread);
+    }
+}
+
+/// Main returned this.
+fn cause_of_value(value: i32) -> Cause
+    ensures { result ≡ cause_of_value value }
+{
+    if value == 0 {
+        Cause::Done
+    } else {
+        Cause::Returned(value)
+    }
+}
+
+/// What halted the run is why it ended.
+fn cause_of_halt(halt: Halt) -> Cause
+    ensures { result ≡ cause_of_halt halt }
+{
+    match halt {
+        Halt::Trap(number) => Cause::Trapped(number),
+        Halt::Limit(number) => Cause::Limit(number),
+    }
+}
