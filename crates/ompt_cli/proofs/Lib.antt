@@ -1,3 +1,4 @@
 pub mod Decimal
+pub mod BlockText
 pub mod Visiting
 pub mod Ending

@@ -1,5 +1,6 @@
--- The text that runs, and the refusals of all others.
-use Rattle.std.specs.Prelude.{ℕ, ◌<◌, ◌≤◌, ◌≢◌, List, [], ◌∷◌, ◌++◌, length, codes}
+-- The text that runs, the refusals of all others, and the texts that spell a program of blocks.
+use Rattle.std.specs.Prelude.{ℕ, ◌≡◌, ◌<◌, ◌≤◌, ◌≢◌, ◌⊎◌, List, [], ◌∷◌, ◌++◌, length, flat_map, All, codes}
+use Rattle.std.specs.Fmt.{decimal}
 use Rattle.ompt_cli.specs.declared.end.Refusal.{Refusal}
 use Rattle.ompt_cli.specs.declared.end.Refusal.TheVariants.{TooLong, OtherForm}
 
@@ -11,3 +12,35 @@ program_text = codes "int main(void) { return 0; }" ++ 10 ∷ []
 abbrev pub IsRefused : Refusal → List ℕ → Type 0
 IsRefused TooLong text = 65536 < length text
 IsRefused OtherForm text = (length text ≤ 65536) × (text ≢ program_text)
+
+-- a line with its newline
+abbrev pub line : List ℕ → List ℕ
+line text = text ++ 10 ∷ []
+
+-- the lines before the blocks
+abbrev pub opening : List ℕ
+opening = line (codes "int main(void) {")
+
+-- the lines of one block
+abbrev pub block_text : ℕ → List ℕ
+block_text k = line (codes "#pragma omp parallel num_threads(" ++ decimal k ++ codes ")") ++ line (codes "{ }")
+
+-- the lines after the blocks
+abbrev pub ending : List ℕ
+ending = line (codes "return 0;") ++ line (codes "}")
+
+-- the text of the second form with these blocks
+abbrev pub blocks_text : List ℕ → List ℕ
+blocks_text ks = opening ++ flat_map block_text ks ++ ending
+
+-- the number of threads that a block may ask for
+abbrev pub IsTeam : ℕ → Type 0
+IsTeam k = (1 ≤ k) × (k ≤ 16)
+
+-- each block asks for such a number
+abbrev pub AreTeams : List ℕ → Type 0
+AreTeams ks = All IsTeam ks
+
+-- the text spells this program: it is of the first form and the program is empty, or of the second with these blocks
+abbrev pub Spells : List ℕ → List ℕ → Type 0
+Spells text ks = ((text ≡ program_text) × (ks ≡ [])) ⊎ (AreTeams ks × (text ≡ blocks_text ks))

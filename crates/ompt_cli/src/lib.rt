@@ -14,6 +14,7 @@
 //! memory is shown by the tests in `ompt_tests`.
 #![tactic(auto)]
 
+mod blocks;
 mod end;
 mod list;
 mod listing;
@@ -23,6 +24,7 @@ mod text;
 mod top_call;
 mod words;
 
+pub use blocks::Blocks;
 pub use end::{End, Refusal};
 pub use report::{ALL_CALLBACKS, Report, SILENT_STEPS, Top};
 pub use serial_run::{Ran, run_serial};

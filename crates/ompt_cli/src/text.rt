@@ -33,7 +33,7 @@ pub(crate) fn read_program<S: Source>(alloc: Global, source: &mut S) -> Result<(
 }
 
 /// Whether the text is the one that runs.
-fn is_program(text: &[u8]) -> bool
+pub(crate) fn is_program(text: &[u8]) -> bool
     ensures { IsTrue result ↔ (text.now ≡ program_text) }
 {
     text == b"int main(void) { return 0; }\n".as_slice()
