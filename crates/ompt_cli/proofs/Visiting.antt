@@ -16,6 +16,8 @@ use Rattle.omp_model.specs.Serial.{first_enabled, enabled_among}
 use Rattle.omp_model.specs.Cause.{none_pending, whole_value, is_stuck, cause_of_whole, cause_by_halt, cause_in}
 use Rattle.omp_model.proofs.Turns.{Leaves, leaves-turn, turn-pending}
 use Rattle.omp_model.proofs.Recording.{go_at, back_at, HasRun-start, HasRun-alone, HasRun-told, HasRun-untold, first_enabled-below, first_enabled-none}
+use Rattle.omp_model.specs.Tame.{IsTame}
+use Rattle.omp_model.proofs.Tame.{tame-turn, tame-back}
 use Rattle.ompt_calls.specs.declared.call.Call.{Call}
 use Rattle.omp_machine.specs.declared.went.Went.TheVariants.{Told, Untold}
 use Rattle.omp_machine.specs.Standing.{went_after, went_of, is_call}
@@ -60,9 +62,9 @@ same-pending run S after t (Halts halt) leaves none = leaves.2
 
 module _ (run : Run) where
   -- before the first entry
-  pub stands-start : run.threads ≤ 16 → StandsAt run (first run) 0 [] []
-  stands-start few =
-      record { few = few; within = omega arith; nobody = all_none-replicate run.threads; has_run = HasRun-start run }
+  pub stands-start : run.threads ≤ 16 → IsTame (first run) → StandsAt run (first run) 0 [] []
+  stands-start few tame =
+      record { few = few; within = omega arith; nobody = all_none-replicate run.threads; tame = tame; has_run = HasRun-start run }
 
 module _ (run : Run) (S : State) (from : ℕ) (H : List Entry) (R : List EventRecord) (t : ℕ) (stands : StandsAt run S from H R) (turns : first_enabled run S from ≡ Some t) where
   below : t + 1 ≤ run.threads
@@ -75,6 +77,7 @@ module _ (run : Run) (S : State) (from : ℕ) (H : List Entry) (R : List EventRe
         few = stands.few;
         within = below;
         nobody = rw (same-pending run S (turn run S t).state t (turn run S t).outcome (leaves-turn run S t) none) stands.nobody;
+        tame = tame-turn run S t stands.tame;
         has_run = HasRun-alone t stands.has_run turns (alone-by run (turn run S t).state t (turn run S t).outcome none);
       }
 
@@ -86,6 +89,7 @@ module _ (run : Run) (S : State) (from : ℕ) (H : List Entry) (R : List EventRe
         few = stands.few;
         within = below;
         nobody = nobody-back run S t said.event stands.nobody said.happens waits;
+        tame = tame-back (turn run S t).state t (tame-turn run S t stands.tame);
         has_run = rw (← said.call_is) (HasRun-told t said.event stands.has_run turns said.happens waits said.registered);
       }
 
@@ -97,6 +101,7 @@ module _ (run : Run) (S : State) (from : ℕ) (H : List Entry) (R : List EventRe
         few = stands.few;
         within = below;
         nobody = nobody-back run S t unsaid.event stands.nobody unsaid.happens waits;
+        tame = tame-back (turn run S t).state t (tame-turn run S t stands.tame);
         has_run = HasRun-untold t unsaid.event stands.has_run turns unsaid.happens waits unsaid.unregistered;
       }
 

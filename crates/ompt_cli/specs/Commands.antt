@@ -4,16 +4,16 @@ use Rattle.omp_model.specs.declared.cause.Cause.{Cause}
 use Rattle.omp_model.specs.declared.cause.Cause.TheVariants as cause
 use Rattle.omp_model.specs.State.{Run}
 use Rattle.omp_model.specs.Records.{records_of, lines_of}
-use Rattle.omp_model.specs.Program.{empty_run}
+use Rattle.omp_model.specs.Program.{run_of_blocks}
 use Rattle.ompt_cli.specs.declared.end.Refusal.{Refusal}
 use Rattle.ompt_cli.specs.declared.end.End.{End}
-use Rattle.ompt_cli.specs.declared.end.End.TheVariants.{Done, Usage, Refused, ReadFault, WriteFault, Memory}
+use Rattle.ompt_cli.specs.declared.end.End.TheVariants.{Done, Usage, Refused, Deadlock, Limit, ReadFault, WriteFault, Memory}
 use Rattle.ompt_cli.specs.declared.report.TheConstants.{SILENT_STEPS}
 use Rattle.ompt_cli.specs.declared.report.Report.{Report}
 
 -- the run that a report is of
 abbrev pub run_of : Report → Run
-run_of report = empty_run report.mask report.threads SILENT_STEPS
+run_of report = run_of_blocks report.blocks report.mask report.threads SILENT_STEPS
 
 -- nothing is written of a run that found no memory
 abbrev pub unless_memory : Cause → List ℕ → List ℕ
@@ -34,6 +34,8 @@ abbrev pub MayRefuse : Refusal → End → Type 0
 MayRefuse why Done = ⊥
 MayRefuse why Usage = ⊥
 MayRefuse why (Refused other) = other ≡ why
+MayRefuse why Deadlock = ⊥
+MayRefuse why (Limit number) = ⊥
 MayRefuse why ReadFault = ⊤
 MayRefuse why WriteFault = ⊥
 MayRefuse why Memory = ⊤
@@ -43,6 +45,8 @@ abbrev pub MayRun : End → Type 0
 MayRun Done = ⊤
 MayRun Usage = ⊥
 MayRun (Refused why) = ⊥
+MayRun Deadlock = ⊤
+MayRun (Limit number) = ⊤
 MayRun ReadFault = ⊤
 MayRun WriteFault = ⊤
 MayRun Memory = ⊤
@@ -52,6 +56,8 @@ abbrev pub IsBeforeRun : End → Type 0
 IsBeforeRun Done = ⊥
 IsBeforeRun Usage = ⊥
 IsBeforeRun (Refused why) = ⊤
+IsBeforeRun Deadlock = ⊥
+IsBeforeRun (Limit number) = ⊥
 IsBeforeRun ReadFault = ⊤
 IsBeforeRun WriteFault = ⊥
 IsBeforeRun Memory = ⊤
@@ -61,16 +67,40 @@ abbrev pub IsAfterRun : End → Type 0
 IsAfterRun Done = ⊤
 IsAfterRun Usage = ⊥
 IsAfterRun (Refused why) = ⊥
+IsAfterRun Deadlock = ⊤
+IsAfterRun (Limit number) = ⊤
 IsAfterRun ReadFault = ⊥
 IsAfterRun WriteFault = ⊤
 IsAfterRun Memory = ⊤
 
--- the end of a command whose run ended in this cause: what is done is told so unless a write or memory fails.
--- The program's run has no other cause
+-- the end that tells how a run ended
+abbrev pub TellsRun : End → Type 0
+TellsRun Done = ⊤
+TellsRun Usage = ⊥
+TellsRun (Refused why) = ⊥
+TellsRun Deadlock = ⊤
+TellsRun (Limit number) = ⊤
+TellsRun ReadFault = ⊥
+TellsRun WriteFault = ⊥
+TellsRun Memory = ⊥
+
+-- this end, unless a write or memory fails
+abbrev pub EndsWith : End → End → Type 0
+EndsWith whole Done = whole ≡ Done
+EndsWith whole Usage = ⊥
+EndsWith whole (Refused why) = ⊥
+EndsWith whole Deadlock = whole ≡ Deadlock
+EndsWith whole (Limit number) = whole ≡ Limit number
+EndsWith whole ReadFault = ⊥
+EndsWith whole WriteFault = ⊤
+EndsWith whole Memory = ⊤
+
+-- the end of a command whose run ended in this cause: the cause is told so unless a write or memory fails.
+-- The run of parallel blocks has no other causes
 abbrev pub EndsAs : Cause → End → Type 0
-EndsAs cause.Done end = IsAfterRun end
+EndsAs cause.Done end = EndsWith Done end
 EndsAs (cause.Returned value) end = ⊥
 EndsAs (cause.Trapped number) end = ⊥
-EndsAs cause.Deadlock end = ⊥
-EndsAs (cause.Limit number) end = ⊥
+EndsAs cause.Deadlock end = EndsWith Deadlock end
+EndsAs (cause.Limit number) end = EndsWith (Limit number) end
 EndsAs cause.Memory end = end ≡ Memory

@@ -4,6 +4,7 @@ use Rattle.omp_model.specs.declared.history.Entry.{Entry}
 use Rattle.omp_model.specs.declared.history.EventRecord.{EventRecord}
 use Rattle.omp_model.specs.State.{Run, State}
 use Rattle.omp_model.specs.Cause.{none_pending}
+use Rattle.omp_model.specs.Tame.{IsTame}
 use Rattle.omp_model.specs.Running.{HasRun}
 use Rattle.ompt_cli.specs.declared.serial_run.SerialRun.{SerialRun}
 
@@ -12,6 +13,7 @@ pub record StandsAt (run : Run) (state : State) (from : ℕ) (history : List Ent
   pub few : run.threads ≤ 16
   pub within : from ≤ run.threads
   pub nobody : none_pending state ≡ true
+  pub tame : IsTame state
   pub has_run : HasRun run history records (record { state = state; next = from; inside = None })
 
 -- the machine of a serial run stands where its history leads to

@@ -1,17 +1,12 @@
--- The text that runs, the refusals of all others, and the texts that spell a program of blocks.
+-- The texts that run, with their programs, and the refusals of all others.
 use Rattle.std.specs.Prelude.{ℕ, ◌≡◌, ◌<◌, ◌≤◌, ◌≢◌, ◌⊎◌, List, [], ◌∷◌, ◌++◌, length, flat_map, All, codes}
 use Rattle.std.specs.Fmt.{decimal}
 use Rattle.ompt_cli.specs.declared.end.Refusal.{Refusal}
 use Rattle.ompt_cli.specs.declared.end.Refusal.TheVariants.{TooLong, OtherForm}
 
--- the one text that runs
+-- the text of the first form
 abbrev pub program_text : List ℕ
 program_text = codes "int main(void) { return 0; }" ++ 10 ∷ []
-
--- the text is refused for this
-abbrev pub IsRefused : Refusal → List ℕ → Type 0
-IsRefused TooLong text = 65536 < length text
-IsRefused OtherForm text = (length text ≤ 65536) × (text ≢ program_text)
 
 -- a line with its newline
 abbrev pub line : List ℕ → List ℕ
@@ -44,3 +39,12 @@ AreTeams ks = All IsTeam ks
 -- the text spells this program: it is of the first form and the program is empty, or of the second with these blocks
 abbrev pub Spells : List ℕ → List ℕ → Type 0
 Spells text ks = ((text ≡ program_text) × (ks ≡ [])) ⊎ (AreTeams ks × (text ≡ blocks_text ks))
+
+-- the text is refused for this
+abbrev pub IsRefused : Refusal → List ℕ → Type 0
+IsRefused TooLong text = 65536 < length text
+IsRefused OtherForm text = (length text ≤ 65536) × ((ks : List ℕ) → ¬ Spells text ks)
+
+-- the text runs: it isn't too long, and spells a program
+abbrev pub IsProgram : List ℕ → Type 0
+IsProgram text = (length text ≤ 65536) × ((ks : List ℕ) × Spells text ks)

@@ -5,20 +5,8 @@ ghost use Rattle.std.specs.Fmt.{decimal};
 ghost use Rattle.ompt_cli.specs.Text.{AreTeams, IsTeam, Spells, block_text, ending};
 
 use crate::text::is_program;
+use omp_model::Blocks;
 use std::alloc::{AllocError, Global};
-use std::marker::Model;
-
-/// The number of threads of each block, in order. Contracts see it as their list.
-#[derive(Debug, Drop)]
-pub struct Blocks(pub Vec<u8>);
-
-impl Model for Blocks {
-    ghost use Rattle.std.specs.Prelude.{ℕ, List};
-
-    ghost Value = { List ℕ };
-
-    ghost view = { λ blocks. blocks.0.items };
-}
 
 /// The program that a text spells, or `None` where it is of neither form.
 pub(crate) fn blocks_of(alloc: Global, text: &[u8]) -> Result<Option<Blocks>, AllocError>

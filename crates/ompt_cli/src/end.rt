@@ -21,6 +21,11 @@ pub enum End {
     Usage,
     /// The text is refused.
     Refused(Refusal),
+    /// No thread can go on, and the run isn't whole.
+    Deadlock,
+    /// The run met the limit with this number: 1 of silent steps, 2 of turns, 3 of cells, 4 of tasks, 5 of the tasks on a
+    /// thread's stack, 6 of the depth of calls, 7 of printed text.
+    Limit(u8),
     /// A read failed.
     ReadFault,
     /// A write failed.
@@ -38,6 +43,8 @@ impl End {
             End::Done => 0,
             End::Usage => 2,
             End::Refused(_) => 3,
+            End::Deadlock => 5,
+            End::Limit(_) => 6,
             End::ReadFault => 8,
             End::WriteFault => 9,
             End::Memory => 10,
@@ -53,6 +60,14 @@ impl End {
             End::Usage => b"usage: ompt run, list, record, profile, timeline, show, check or gen\n",
             End::Refused(Refusal::TooLong) => b"refused 15 at 0:0\n",
             End::Refused(Refusal::OtherForm) => b"refused 16 at 0:0\n",
+            End::Deadlock => b"deadlock\n",
+            End::Limit(1) => b"limit steps\n",
+            End::Limit(2) => b"limit turns\n",
+            End::Limit(3) => b"limit cells\n",
+            End::Limit(4) => b"limit tasks\n",
+            End::Limit(5) => b"limit stack\n",
+            End::Limit(6) => b"limit depth\n",
+            End::Limit(_) => b"limit text\n",
             End::ReadFault => b"read fault\n",
             End::WriteFault => b"write fault\n",
             End::Memory => b"memory\n",

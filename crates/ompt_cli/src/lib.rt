@@ -24,7 +24,6 @@ mod text;
 mod top_call;
 mod words;
 
-pub use blocks::Blocks;
 pub use end::{End, Refusal};
 pub use report::{ALL_CALLBACKS, Report, SILENT_STEPS, Top};
 pub use serial_run::{Ran, run_serial};

@@ -1,7 +1,7 @@
 //! What a command reports of its run.
 
 use crate::end::End;
-use omp_model::{Cause, History};
+use omp_model::{Blocks, Cause, History};
 
 /// The callbacks that a listing registers: all sixteen of the profile, bit n for number n.
 pub const ALL_CALLBACKS: u64 = 0x0FB3_00FE;
@@ -14,6 +14,8 @@ pub const SILENT_STEPS: u32 = 1_000_000;
 pub struct Report {
     /// Why the run ended.
     pub cause: Cause,
+    /// The program.
+    pub blocks: Blocks,
     /// The callbacks that were registered: bit n for number n.
     pub mask: u64,
     /// How many threads there might be.

@@ -1,14 +1,15 @@
 //! A serial run: threads take turns round and round, each a whole turn with its callback.
 
-ghost use Rattle.std.specs.Prelude.{◌≡◌, ◌≢◌, ◌≤◌, ◌<◌, ◌+◌, ◌++◌, ◌∷◌, [], Some, None, IfOk, OnOk, vec_len, vec_capacity, ℕ, ◌==◌, filter, map};
+ghost use Rattle.std.specs.Prelude.{◌≡◌, ◌≢◌, ◌≤◌, ◌<◌, ◌+◌, ◌++◌, ◌∷◌, [], Some, None, IfOk, OnOk, vec_len, vec_capacity, ℕ, ◌==◌, filter, map, length};
 ghost use Rattle.omp_model.specs.Serial.{Serial, first_enabled, serial};
 ghost use Rattle.omp_model.specs.Cause.{cause_in, cause_of};
 ghost use Rattle.omp_model.specs.Heard.{heard_of};
 ghost use Rattle.omp_model.specs.Records.{record_of, records_of};
-ghost use Rattle.omp_model.specs.Program.{empty_run};
+ghost use Rattle.omp_model.specs.Tame.{TameCause};
+ghost use Rattle.omp_model.specs.Program.{run_of_blocks};
 
 use omp_machine::{Machine, Memory, Went};
-use omp_model::{Cause, Entry, EventRecord, History, What};
+use omp_model::{Blocks, Cause, Entry, EventRecord, History, What};
 use std::alloc::{AllocError, Global};
 
 /// What a serial run gave.
@@ -33,26 +34,34 @@ struct SerialRun {
     next: u8,
 }
 
-/// Runs the empty program serially, with the callbacks of the mask registered, so many threads, and so many silent
+/// Runs the program with these parallel blocks serially, with the callbacks of the mask registered, so many threads, and so many silent
 /// steps at most.
 ///
 /// An error comes only before the first entry. Where memory fails later, the cause is `Memory`, and the history stops
 /// before the turn that found none.
-pub fn run_serial(alloc: Global, mask: u64, threads: u8, steps: u32) -> Result<Ran, Memory>
+pub fn run_serial(
+    alloc: Global,
+    blocks: Blocks,
+    mask: u64,
+    threads: u8,
+    steps: u32,
+) -> Result<Ran, Memory>
+    requires blocks { length blocks ≤ 65536 }
     requires some { 1 ≤ threads }
     requires few { threads ≤ 16 }
     requires steps { 1 ≤ steps }
     requires bounded { steps ≤ 30000000 }
     ensures mask { IfOk result (λ ran. ran.mask ≡ mask) }
-    ensures serial { IfOk result (λ ran. Serial (empty_run mask threads steps) ran.history) }
-    ensures records { IfOk result (λ ran. ran.records.items ≡ records_of (empty_run mask threads steps) ran.history) }
+    ensures serial { IfOk result (λ ran. Serial (run_of_blocks blocks mask threads steps) ran.history) }
+    ensures records { IfOk result (λ ran. ran.records.items ≡ records_of (run_of_blocks blocks mask threads steps) ran.history) }
     ensures heard { IfOk result (λ ran. (t : ℕ) → filter (λ event. event.thread == t) ran.records.items
-        ≡ map record_of (heard_of (empty_run mask threads steps) ran.history t)) }
-    ensures cause { IfOk result (λ ran. ran.cause ≢ Cause.Memory → cause_of (empty_run mask threads steps) ran.history ≡ Some ran.cause) }
-    ensures whole { IfOk result (λ ran. ran.cause ≢ Cause.Memory → ran.history ≡ serial (empty_run mask threads steps)) }
+        ≡ map record_of (heard_of (run_of_blocks blocks mask threads steps) ran.history t)) }
+    ensures cause { IfOk result (λ ran. ran.cause ≢ Cause.Memory → cause_of (run_of_blocks blocks mask threads steps) ran.history ≡ Some ran.cause) }
+    ensures whole { IfOk result (λ ran. ran.cause ≢ Cause.Memory → ran.history ≡ serial (run_of_blocks blocks mask threads steps)) }
+    ensures tame { IfOk result (λ ran. ran.cause ≢ Cause.Memory → TameCause ran.cause) }
     ensures begun { IfOk result (λ ran. ran.cause ≡ Cause.Memory → ran.history ≢ []) }
 {
-    let mut run = SerialRun::new(alloc, mask, threads, steps)?;
+    let mut run = SerialRun::new(alloc, blocks, mask, threads, steps)?;
     let cause = run.finish();
     if cause == Cause::Memory && run.history.is_empty() {
         return Err(AllocError);
@@ -69,16 +78,23 @@ impl SerialRun {
     ghost use Rattle.ompt_cli.specs.SerialRun.{Stands};
 
     /// A run before its first entry.
-    fn new(alloc: Global, mask: u64, threads: u8, steps: u32) -> Result<SerialRun, Memory>
+    fn new(
+        alloc: Global,
+        blocks: Blocks,
+        mask: u64,
+        threads: u8,
+        steps: u32,
+    ) -> Result<SerialRun, Memory>
+        requires blocks { length blocks ≤ 65536 }
         requires some { 1 ≤ threads }
         requires few { threads ≤ 16 }
         requires steps { 1 ≤ steps }
         requires bounded { steps ≤ 30000000 }
-        ensures run { IfOk result (λ serial. serial.machine.run ≡ empty_run mask threads steps) }
+        ensures run { IfOk result (λ serial. serial.machine.run ≡ run_of_blocks blocks mask threads steps) }
         ensures stands { IfOk result Stands }
     {
         Ok(SerialRun {
-            machine: Machine::new(alloc, mask, threads, steps)?,
+            machine: Machine::new(alloc, blocks, mask, threads, steps)?,
             history: Vec::new(alloc),
             records: Vec::new(alloc),
             next: 0,
@@ -92,6 +108,7 @@ impl SerialRun {
         ensures stands { Stands self.new }
         ensures over { result ≢ Cause.Memory → first_enabled self.new.machine.run self.new.machine.state self.new.next ≡ None }
         ensures cause { result ≢ Cause.Memory → cause_in self.new.machine.run self.new.machine.state ≡ Some result }
+        ensures tame { result ≢ Cause.Memory → TameCause result }
     {
         while let Some(thread) = self.machine.first_enabled(self.next) {
             match self.visit(thread) {

@@ -1,12 +1,12 @@
 //! The call that does all: a command from bytes to bytes.
 
-ghost use Rattle.std.specs.Prelude.{◌≡◌, ◌≢◌, IfSome, IsSomeAnd, IsNone, Some, ◌↔◌, ◌⊎◌, []};
+ghost use Rattle.std.specs.Prelude.{ℕ, ◌≡◌, ◌≢◌, IfSome, IsSomeAnd, IsNone, Some, ◌↔◌, ◌⊎◌, []};
 ghost use Rattle.std.specs.Io.KnownBytes.{Appends, Keeps};
 ghost use Rattle.omp_model.specs.Serial.{Serial, serial};
 ghost use Rattle.omp_model.specs.Cause.{cause_of};
 ghost use Rattle.run_edges.specs.Edges.{Rose, AppendsFront};
 ghost use Rattle.ompt_cli.specs.Words.{InForm, InFormWith, texts};
-ghost use Rattle.ompt_cli.specs.Text.{IsRefused, program_text};
+ghost use Rattle.ompt_cli.specs.Text.{IsProgram, IsRefused, Spells};
 ghost use Rattle.ompt_cli.specs.Ends.{IsLost, IsTold};
 ghost use Rattle.ompt_cli.specs.Commands.{EndsAs, MayRefuse, MayRun, out_of, run_of};
 
@@ -55,6 +55,8 @@ pub fn top<R, S: Source, O: Sink, E: Sink>(
 
     // What ran is one serial run of the program, with as many threads as the words ask for.
     ensures asked { IfSome result.ran (λ report. InFormWith (texts words.now) report.threads) }
+    ensures spelled { IfSome result.ran (λ report.
+        IfSome (S.left source.old) (λ text. Spells text report.blocks)) }
     ensures mask { IfSome result.ran (λ report. report.mask ≡ ALL_CALLBACKS) }
     ensures serial { IfSome result.ran (λ report. Serial (run_of report) report.history) }
     ensures cause { IfSome result.ran (λ report. report.cause ≢ Cause.Memory →
@@ -63,13 +65,16 @@ pub fn top<R, S: Source, O: Sink, E: Sink>(
     ensures whole { IfSome result.ran (λ report. report.cause ≢ Cause.Memory →
         report.history ≡ serial (run_of report)) }
 
-    // The end is Done exactly where the run is, unless a write or memory fails.
+    // The end is the run's, unless a write or memory fails.
     ensures done { result.end ≡ End.Done → IsSomeAnd result.ran (λ report. report.cause ≡ Cause.Done) }
+    ensures stuck { result.end ≡ End.Deadlock → IsSomeAnd result.ran (λ report. report.cause ≡ Cause.Deadlock) }
+    ensures limit { (number : ℕ) → result.end ≡ End.Limit number →
+        IsSomeAnd result.ran (λ report. report.cause ≡ Cause.Limit number) }
     ensures unwritten { result.end ≡ End.WriteFault →
-        IsSomeAnd result.ran (λ report. report.cause ≡ Cause.Done) }
+        IsSomeAnd result.ran (λ report. report.cause ≢ Cause.Memory) }
     ensures ended { IfSome result.ran (λ report. EndsAs report.cause result.end) }
     ensures begun { IfSome result.ran (λ report. report.cause ≡ Cause.Memory → report.history ≢ []) }
-    ensures runs { InForm (texts words.now) → S.left source.old ≡ Some program_text → MayRun result.end }
+    ensures runs { InForm (texts words.now) → IsSomeAnd (S.left source.old) IsProgram → MayRun result.end }
 
     // What is written is the run's lines.
     ensures listed { result.end ≢ End.WriteFault → result.end ≢ End.Memory →
@@ -82,7 +87,7 @@ pub fn top<R, S: Source, O: Sink, E: Sink>(
         return tell(without_run(End::Usage), err);
     };
     match read_program(alloc, source) {
-        Ok(()) => tell(list(alloc, threads, out), err),
+        Ok(blocks) => tell(list(alloc, blocks, threads, out), err),
         Err(end) => tell(without_run(end), err),
     }
 }

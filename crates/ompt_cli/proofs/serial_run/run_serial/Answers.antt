@@ -4,7 +4,7 @@ use Rattle.omp_model.specs.Serial.{Serial, serial}
 use Rattle.omp_model.specs.Cause.{cause_in, cause_of}
 use Rattle.omp_model.specs.declared.history.EventRecord.{EventRecord}
 use Rattle.omp_model.specs.Heard.{heard}
-use Rattle.omp_model.specs.Program.{empty_run}
+use Rattle.omp_model.specs.Program.{run_of_blocks}
 use Rattle.omp_model.specs.Records.{records_of}
 use Rattle.omp_model.proofs.Recording.{HasRun-serial, HasRun-records, HasRun-after, HasRun-whole, records-by_thread}
 use Rattle.omp_model.proofs.SerialLaws.{serial-whole}
@@ -28,4 +28,4 @@ returns-clause-whole c = λ found.
 
 pub returns-clause-heard : goal.returns-clause-heard
 returns-clause-heard c = λ t.
-    ap (filter (λ (event : EventRecord). event.thread == t)) (returns-clause-records c) ∙ records-by_thread (heard (empty_run c.args.mask c.args.threads c.args.steps) c.finish-cause.new.self.history.items) t
+    ap (filter (λ (event : EventRecord). event.thread == t)) (returns-clause-records c) ∙ records-by_thread (heard (run_of_blocks c.args.blocks c.args.mask c.args.threads c.args.steps) c.finish-cause.new.self.history.items) t

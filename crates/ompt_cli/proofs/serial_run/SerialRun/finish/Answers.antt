@@ -1,6 +1,7 @@
 use Rattle.std.proofs.Common.{◌<◌, ◌∙◌, sym, arith}
 use Rattle.omp_model.specs.declared.limits.TheConstants.{TURN_LIMIT}
 use Rattle.omp_model.proofs.Turns.{turn-goes}
+use Rattle.omp_model.proofs.Tame.{tame-cause}
 use Rattle.omp_model.proofs.Recording.{first_enabled-enabled}
 use Rattle.ompt_cli.proofs.Visiting.{caused}
 use Rattle.ompt_cli.proofs.serial_run.SerialRun.finish.Goals as goal
@@ -14,3 +15,7 @@ loop-thread-smaller c =
 pub unreachable-requires : goal.unreachable-requires
 unreachable-requires c =
     caused _ _ _ _ _ c.loop-thread.invariant.stands (sym c.first_enabled.ensures ∙ c.in_default.is) (sym c.cause.ensures ∙ c.in-None.is)
+
+pub returns-clause-tame : goal.returns-clause-tame
+returns-clause-tame c = λ found.
+    tame-cause _ _ c.in-Some-cause.cause c.loop-thread.invariant.stands.tame (sym c.cause.ensures ∙ c.in-Some-cause.is)

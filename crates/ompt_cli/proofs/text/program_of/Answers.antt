@@ -1,0 +1,21 @@
+use Rattle.std.proofs.Common.{◌≡◌, ◌≤◌, length, refl, subst, sym, arith}
+use Rattle.ompt_cli.specs.declared.end.Refusal.{Refusal}
+use Rattle.ompt_cli.specs.Text.{IsRefused}
+use Rattle.ompt_cli.proofs.Ending.{spelled-length, spelled-not_refused, other-refused}
+use Rattle.ompt_cli.proofs.text.program_of.Goals as goal
+
+pub returns-in-Ok-Some-clause-few : goal.returns-in-Ok-Some-clause-few
+returns-in-Ok-Some-clause-few c =
+    omega (arith, c.requires, spelled-length c.args.text.now _ (rw c.in-Ok-Some.field-0-is at c.in-Ok-Some.ensures.spells))
+
+pub returns-in-Ok-Some-clause-accepted : goal.returns-in-Ok-Some-clause-accepted
+returns-in-Ok-Some-clause-accepted c = λ why refused.
+    spelled-not_refused c.args.text.now _ why c.requires (rw c.in-Ok-Some.field-0-is at c.in-Ok-Some.ensures.spells) refused
+
+pub returns-in-Ok-None-clause-refused : goal.returns-in-Ok-None-clause-refused
+returns-in-Ok-None-clause-refused c = λ why same.
+    other-refused c.args.text.now why c.requires (c.in-Ok-None.ensures.other (rw c.in-Ok-None.field-0-is refl)) same
+
+pub returns-in-Ok-None-clause-runs : goal.returns-in-Ok-None-clause-runs
+returns-in-Ok-None-clause-runs c = λ program.
+    c.in-Ok-None.ensures.other (rw c.in-Ok-None.field-0-is refl) program.1.0 program.1.1
