@@ -3,7 +3,7 @@
 use ompt_cli::{Top, top};
 use run_edges::{MemSink, MemSource, Memory, Script, Source};
 
-/// The one text that runs.
+/// The text of the first form.
 pub(crate) const PROGRAM: &[u8] = b"int main(void) { return 0; }\n";
 
 /// What is listed of it.
@@ -58,7 +58,7 @@ pub(crate) fn source_of<R: AllocGlobal>(rt: &R, text: &[u8]) -> Result<MemSource
 
 /// A sink that never fails, with room for all that is written here.
 pub(crate) fn ample<R: AllocGlobal>(rt: &R) -> Result<MemSink, Memory> {
-    MemSink::new(rt.alloc(), 200, Vec::new(rt.alloc()))
+    MemSink::new(rt.alloc(), 4000, Vec::new(rt.alloc()))
 }
 
 /// A sink with ample room that takes at most `most` bytes in each of so many writes, and then fails.
