@@ -322,18 +322,19 @@ fn came_to(rt: &impl Abort, ran: &Ran, cause: Cause, entries: usize, records: us
     assert_eq!(rt; ran.records.len(), records);
 }
 
-/// The program without a block.
-fn none(rt: &impl AllocGlobal) -> Result<Blocks, Fail> {
-    Ok(Blocks(Vec::new(rt.alloc())))
-}
-
 #[test]
 fn one_call_of_each_that_takes_memory_succeeds(rt: HostRuntime) -> Result<(), Fail> {
-    let whole = run_serial(rt.alloc(), none(&rt)?, 0x0FB3_00FE, 4, 1_000_000)?;
+    let whole = run_serial(
+        rt.alloc(),
+        Blocks(Vec::new(rt.alloc())),
+        0x0FB3_00FE,
+        4,
+        1_000_000,
+    )?;
     came_to(&rt, &whole, Cause::Done, 8, 4);
-    let short = run_serial(rt.alloc(), none(&rt)?, 0x0FB3_00FE, 4, 1)?;
+    let short = run_serial(rt.alloc(), Blocks(Vec::new(rt.alloc())), 0x0FB3_00FE, 4, 1)?;
     came_to(&rt, &short, Cause::Limit(1), 5, 2);
-    let unheard = run_serial(rt.alloc(), none(&rt)?, 0, 4, 1_000_000)?;
+    let unheard = run_serial(rt.alloc(), Blocks(Vec::new(rt.alloc())), 0, 4, 1_000_000)?;
     came_to(&rt, &unheard, Cause::Done, 8, 0);
     Ok(())
 }
