@@ -1,5 +1,5 @@
 -- How many tasks and regions there are: a turn makes at most one of each, and a Back none.
-use Rattle.std.proofs.Common.{◌≡◌, ℕ, zero, suc, ◌+◌, ◌≤◌, Bool, true, false, nat_le, nat_lt, if◌then◌else◌, List, ◌++◌, ◌∷◌, [], Option, Some, None, length, length-append, refl, ◌∙◌, arith}
+use Rattle.std.proofs.Common.{◌≡◌, ℕ, zero, suc, ◌+◌, ◌≤◌, true, false, nat_le, nat_lt, if◌then◌else◌, List, ◌++◌, ◌∷◌, [], Option, Some, None, length, length-append, refl, ◌∙◌, arith}
 use Rattle.std.proofs.lemmas.List.{length-set}
 use Rattle.omp_model.specs.declared.limits.TheConstants.{STEPS_OF_A_TURN, TURN_LIMIT}
 use Rattle.omp_model.specs.declared.machine.Event.{Event}

@@ -1,12 +1,12 @@
 -- The runs of one region of two, and of two of them, computed: entries, threads, positions and records.
-use Rattle.std.proofs.Common.{ℕ, ◌≡◌, List, [], ◌∷◌, ◌++◌, length, Some, refl, map, take, drop}
+use Rattle.std.proofs.Common.{ℕ, ◌≡◌, List, [], ◌∷◌, length, Some, refl, take, drop}
 use Rattle.ompt_calls.specs.declared.call.Call.{Call}
 use Rattle.ompt_calls.specs.declared.call.Call.TheVariants as call
 use Rattle.omp_model.specs.declared.cause.Cause.TheVariants as cause
 use Rattle.omp_model.specs.declared.history.What.TheVariants.{Go, Back}
 use Rattle.omp_model.specs.declared.history.Entry.{Entry}
 use Rattle.omp_model.specs.declared.history.EventRecord.{EventRecord}
-use Rattle.omp_model.specs.State.{Run, first}
+use Rattle.omp_model.specs.State.{Run}
 use Rattle.omp_model.specs.Silent.{silent}
 use Rattle.omp_model.specs.Events.{event}
 use Rattle.omp_model.specs.Calls.{fresh_word}

@@ -1,5 +1,5 @@
 -- How many blocks a text spells, and why a text isn't refused.
-use Rattle.std.proofs.Common.{◌≡◌, ℕ, suc, ◌+◌, ◌≤◌, List, [], ◌∷◌, ◌++◌, flat_map, length, length-append, Result, Err, Option, Some, None, IsSomeAnd, inl, inr, refl, ap, ◌∙◌, subst, arith}
+use Rattle.std.proofs.Common.{◌≡◌, ℕ, ◌≤◌, List, [], ◌∷◌, ◌++◌, flat_map, length, length-append, Result, Err, Option, Some, None, IsSomeAnd, inl, inr, ap, arith}
 use Rattle.omp_model.specs.declared.blocks.Blocks.{Blocks}
 use Rattle.run_edges.specs.Edges.{ConsumesMore}
 use Rattle.ompt_cli.specs.declared.end.Refusal.{Refusal}

@@ -1,6 +1,4 @@
-use Rattle.std.proofs.Common.{◌≡◌, ◌≤◌, length, refl, subst, sym, arith}
-use Rattle.ompt_cli.specs.declared.end.Refusal.{Refusal}
-use Rattle.ompt_cli.specs.Text.{IsRefused}
+use Rattle.std.proofs.Common.{refl, arith}
 use Rattle.ompt_cli.proofs.Ending.{spelled-length, spelled-not_refused, other-refused}
 use Rattle.ompt_cli.proofs.text.program_of.Goals as goal
 
