@@ -1,5 +1,5 @@
 -- Parts of the definition of an event, for the functions that meet them.
-use Rattle.std.specs.Prelude.{ℕ, Bool, if◌then◌else◌, ◌==◌, length, Option, Some, None}
+use Rattle.std.specs.Prelude.{ℕ, if◌then◌else◌, ◌==◌, length, Option, Some, None}
 use Rattle.omp_model.specs.declared.limits.TheConstants.{INITIAL_TASK}
 use Rattle.omp_model.specs.declared.machine.Instruction.{Instruction}
 use Rattle.omp_model.specs.declared.machine.Instruction.TheVariants.{EnterBlock, LeaveBlock, Return, Parallel}

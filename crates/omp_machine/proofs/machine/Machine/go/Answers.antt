@@ -1,4 +1,4 @@
-use Rattle.std.proofs.Common.{◌≡◌, ◌<◌, ◌≤◌, ◌+◌, ◌∙◌, true, sym, subst, refl, arith, length, IsTrue, IsSome}
+use Rattle.std.proofs.Common.{◌≡◌, ◌<◌, true, sym, subst, arith, IsTrue, IsSome}
 use Rattle.omp_model.specs.declared.limits.TheConstants.{TURN_LIMIT}
 use Rattle.omp_model.specs.State.{Run, State, pending_at}
 use Rattle.omp_model.specs.Turn.{Turn, turn, enabled}
