@@ -41,8 +41,9 @@ impl Model for Board {
     ghost Value = { BoardView };
 
     ghost view = { λ board. record {
-        world = record { threads = board.threads.items; tasks = board.tasks.items; regions = board.regions.items };
-        room = board.room } };
+      world = record { threads = board.threads.items; tasks = board.tasks.items; regions = board.regions.items };
+      room = board.room;
+    } };
 
     ghost invariant = { λ board. (vec_len board.tasks + board.room ≤ vec_capacity board.tasks)
         × (vec_len board.regions + board.room ≤ vec_capacity board.regions) };
@@ -54,9 +55,10 @@ impl Board {
         requires some { 1 ≤ threads }
         requires blocks { length blocks.now ≤ 65536 }
         ensures { IfOk result (λ board. board.world ≡ record {
-            threads = initial_thread ∷ replicate (threads - 1) unmade;
-            tasks = no_task ∷ initial_task (code_of blocks.now) ∷ [];
-            regions = no_region ∷ fresh_region 0 1 0 ∷ [] }) }
+          threads = initial_thread ∷ replicate (threads - 1) unmade;
+          tasks = no_task ∷ initial_task (code_of blocks.now) ∷ [];
+          regions = no_region ∷ fresh_region 0 1 0 ∷ [];
+        }) }
     {
         let threads = all_threads(alloc, threads)?;
         let tasks = all_tasks(alloc, blocks)?;

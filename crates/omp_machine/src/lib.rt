@@ -4,8 +4,10 @@
 //! the first state, `go` does one turn and tells what it came to, `back` lets an event's result take hold, and the
 //! others tell the state.
 //!
-//! The parts are private, a layer each: threads and tasks; the board, which has them and what each event changes; a
-//! state, which has the board, the events whose callbacks haven't returned and the order of a turn.
+//! The parts are private, a layer each. Threads have their stacks, and tasks have what remains of their code. The board
+//! has the threads, tasks and regions of a run, and on it stand the events that threads come to, and the effects that
+//! they have at their Go and at their Back. A state has the board, the events whose callbacks haven't returned and the
+//! order of a turn. The call of an event, and whether it is told, is read off the board.
 //!
 //! Proved by the contracts of [`Machine`], over the definitions of `omp_model`:
 //!
@@ -18,9 +20,9 @@
 //! - [`Machine::enabled`], [`Machine::pending`], [`Machine::halted`], [`Machine::whole`], [`Machine::stuck`],
 //!   [`Machine::first_enabled`] and [`Machine::cause`] answer exactly what the definitions say of the run and the state.
 //!
-//! No clause says that `new` or `go` finds memory: tests run the empty program to its end and to its limit of silent
-//! steps, and compare its four calls with values written out by hand.
-//! `rt plant` lists no wrong body that a contract lets through; the must-fail edits try some that it couldn't judge.
+//! No clause says that `new` or `go` finds memory, nor how far a run comes: tests run the empty program to its end and to
+//! its limit of silent steps, and a region of two threads to its end, and compare what is told with values written out by
+//! hand. The must-fail edits try wrong bodies.
 #![tactic(auto)]
 
 mod board;
@@ -32,6 +34,8 @@ mod machine;
 mod settings;
 mod state;
 mod task;
+#[cfg(test)]
+mod tests;
 mod thread;
 mod went;
 

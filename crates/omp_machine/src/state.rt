@@ -48,13 +48,15 @@ impl Model for State {
     ghost Value = { StateView };
 
     ghost view = { λ state. record {
-        state = record {
-            world = state.board.world;
-            pending = state.pending.items;
-            steps = state.steps;
-            turns = state.turns;
-            halt = state.halt };
-        room = state.board.room } };
+      state = record {
+        world = state.board.world;
+        pending = state.pending.items;
+        steps = state.steps;
+        turns = state.turns;
+        halt = state.halt;
+      };
+      room = state.board.room;
+    } };
 }
 
 impl State {

@@ -36,11 +36,12 @@ impl Model for Task {
     ghost Value = { Standing };
 
     ghost view = { λ task. record {
-        condition = task.condition;
-        region = task.region;
-        stage = task.stage;
-        code = code_view task.code;
-        value = task.value } };
+      condition = task.condition;
+      region = task.region;
+      stage = task.stage;
+      code = code_view task.code;
+      value = task.value;
+    } };
 }
 
 impl Task {

@@ -7,5 +7,5 @@ abbrev pub invariant-loop-requested : goal.invariant-loop-requested
 invariant-loop-requested l =
     record {
       line : l.line ≡ 2 + 2 * l.requested-index;
-      code : l.code.items ++ blocks_code l.line (drop l.requested-index l.blocks) ≡ code_of l.blocks
+      code : l.code.items ++ blocks_code l.line (drop l.requested-index l.blocks) ≡ code_of l.blocks;
     }

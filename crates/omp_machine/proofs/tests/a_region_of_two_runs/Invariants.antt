@@ -1,0 +1,10 @@
+use Rattle.std.proofs.Common.{◌≡◌, ◌≤◌, ◌*◌}
+use Rattle.omp_machine.proofs.tests.a_region_of_two_runs.Given as goal
+
+abbrev pub invariant-loop-turn : goal.invariant-loop-turn
+invariant-loop-turn g l =
+    record {
+      threads : l.machine.run.threads ≡ 2;
+      next : l.next ≤ 2;
+      seq : l.seq ≤ 2 * l._turn;
+    }

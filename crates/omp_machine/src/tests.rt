@@ -1,0 +1,214 @@
+use super::*;
+use omp_model::{Blocks, Cause, EventRecord};
+use ompt_calls::{Call, Frame, Word};
+
+/// Each callback that a tool of the profile registers.
+const ALL: u64 = 0x0FB3_00FE;
+
+/// The place of a construct in line 2, in the first column.
+const PLACE: u64 = 131_073;
+
+/// The flags of a region: a team, invoked by the program.
+const FLAGS: u32 = 0x8000_0001;
+
+const NULL: Word = Word {
+    identity: 0,
+    value: 0,
+};
+
+const ONE: Word = Word {
+    identity: 1,
+    value: 0,
+};
+
+const TWO: Word = Word {
+    identity: 2,
+    value: 0,
+};
+
+const THREE: Word = Word {
+    identity: 3,
+    value: 0,
+};
+
+#[test]
+fn the_empty_program_runs(rt: HostRuntime) -> Result<(), Memory> {
+    let calls = [
+        thread_begin(1, ONE),
+        initial(1, ONE, 1),
+        initial(2, NULL, 0),
+        Call::ThreadEnd { thread: ONE },
+    ];
+    let no_blocks = Blocks(Vec::new(rt.alloc()));
+    let mut machine = Machine::new(rt.alloc(), no_blocks, ALL, 1, 1_000_000)?;
+    assert_eq!(rt; machine.first_enabled(1), Some(0));
+    for call in calls {
+        assert!(rt; machine.enabled(0));
+        let went = machine.go(0)?;
+        assert_eq!(rt; went, Went::Told(call));
+        assert!(rt; !machine.enabled(0), "inside {call:?}");
+        assert!(rt; machine.pending(0), "inside {call:?}");
+        machine.back(0);
+    }
+    assert_eq!(rt; machine.whole(), Some(0));
+    assert_eq!(rt; machine.cause(), Some(Cause::Done));
+    assert!(rt; !machine.enabled(0));
+    assert!(rt; !machine.halted());
+    assert!(rt; !machine.stuck());
+    Ok(())
+}
+
+#[test]
+fn no_callback_is_told_of_an_empty_mask(rt: HostRuntime) -> Result<(), Memory> {
+    let no_blocks = Blocks(Vec::new(rt.alloc()));
+    let mut machine = Machine::new(rt.alloc(), no_blocks, 0, 1, 1_000_000)?;
+    for event in 0..4 {
+        assert!(rt; machine.enabled(0));
+        let went = machine.go(0)?;
+        assert_eq!(rt; went, Went::Untold, "event {event}");
+        assert!(rt; machine.pending(0));
+        machine.back(0);
+    }
+    assert_eq!(rt; machine.cause(), Some(Cause::Done));
+    Ok(())
+}
+
+#[test]
+fn the_second_step_meets_the_limit(rt: HostRuntime) -> Result<(), Memory> {
+    let no_blocks = Blocks(Vec::new(rt.alloc()));
+    let mut machine = Machine::new(rt.alloc(), no_blocks, ALL, 1, 1)?;
+    for _event in 0..2 {
+        assert!(rt; machine.enabled(0));
+        let _begun = machine.go(0)?;
+        assert!(rt; machine.pending(0));
+        machine.back(0);
+    }
+    assert!(rt; machine.enabled(0));
+    let went = machine.go(0)?;
+    assert_eq!(rt; went, Went::Limit(1));
+    assert!(rt; machine.halted());
+    assert_eq!(rt; machine.cause(), Some(Cause::Limit(1)));
+    Ok(())
+}
+
+/// One block that asks for two threads, of two, round and round. The turn of thread 0 at entry 34 is quiet: main returns,
+/// and waits for the worker to end.
+#[test]
+fn a_region_of_two_runs(rt: HostRuntime) -> Result<(), Memory> {
+    let region_begin = Call::ParallelBegin {
+        task: ONE,
+        frame: Frame {
+            exit: 0,
+            enter: 32_769,
+        },
+        region: TWO,
+        requested: 2,
+        flags: FLAGS,
+        codeptr: PLACE,
+    };
+    let region_end = Call::ParallelEnd {
+        region: TWO,
+        task: ONE,
+        flags: FLAGS,
+        codeptr: PLACE,
+    };
+    let records = [
+        record(0, 0, thread_begin(1, ONE)),
+        record(2, 0, initial(1, ONE, 1)),
+        record(4, 0, region_begin),
+        record(6, 1, thread_begin(2, TWO)),
+        record(8, 0, member(1, TWO, TWO, 2, 0)),
+        record(10, 1, member(1, TWO, THREE, 2, 1)),
+        record(12, 0, barrier(1, TWO, TWO)),
+        record(14, 1, barrier(1, TWO, THREE)),
+        record(16, 0, wait(1, TWO, TWO)),
+        record(18, 1, wait(1, TWO, THREE)),
+        record(20, 0, wait(2, NULL, TWO)),
+        record(22, 1, wait(2, NULL, THREE)),
+        record(24, 0, barrier(2, NULL, TWO)),
+        record(26, 1, barrier(2, NULL, THREE)),
+        record(28, 0, member(2, NULL, TWO, 0, 0)),
+        record(30, 1, member(2, NULL, THREE, 0, 1)),
+        record(32, 0, region_end),
+        record(35, 1, Call::ThreadEnd { thread: TWO }),
+        record(37, 0, initial(2, NULL, 0)),
+        record(39, 0, Call::ThreadEnd { thread: ONE }),
+    ];
+    let blocks = Blocks(Vec::from_array(rt.alloc(), [2])?);
+    let mut machine = Machine::new(rt.alloc(), blocks, ALL, 2, 1_000_000)?;
+    let mut told = Vec::new(rt.alloc());
+    let mut seq = 0;
+    let mut next = 0;
+    for _turn in 0..21_u32 {
+        let Some(thread) = machine.first_enabled(next) else {
+            break;
+        };
+        assert!(rt; thread < 2 && machine.enabled(thread));
+        if let Went::Told(call) = machine.go(thread)? {
+            told.push(record(seq, thread, call))?;
+            machine.back(thread);
+            seq += 1;
+        }
+        seq += 1;
+        next = thread + 1;
+    }
+    assert_eq!(rt; told.as_slice(), records.as_slice());
+    assert_eq!(rt; machine.cause(), Some(Cause::Done));
+    Ok(())
+}
+
+/// What is to be told of the event whose Go is the entry with this position.
+fn record(seq: u32, thread: u8, call: Call) -> EventRecord {
+    EventRecord { seq, thread, call }
+}
+
+/// A thread of this kind begins.
+fn thread_begin(kind: u32, thread: Word) -> Call {
+    Call::ThreadBegin { kind, thread }
+}
+
+/// An endpoint of the initial task, whose team has so many members where it begins.
+fn initial(endpoint: u32, region: Word, actual: u32) -> Call {
+    Call::ImplicitTask {
+        endpoint,
+        region,
+        task: ONE,
+        actual,
+        index: 1,
+        flags: 1,
+    }
+}
+
+/// An endpoint of a member's implicit task, whose team has so many members where it begins.
+fn member(endpoint: u32, region: Word, task: Word, actual: u32, index: u32) -> Call {
+    Call::ImplicitTask {
+        endpoint,
+        region,
+        task,
+        actual,
+        index,
+        flags: 2,
+    }
+}
+
+/// An endpoint of a member's barrier.
+fn barrier(endpoint: u32, region: Word, task: Word) -> Call {
+    Call::SyncRegion {
+        kind: 9,
+        endpoint,
+        region,
+        task,
+        codeptr: PLACE,
+    }
+}
+
+/// An endpoint of a member's wait there.
+fn wait(endpoint: u32, region: Word, task: Word) -> Call {
+    Call::SyncRegionWait {
+        kind: 9,
+        endpoint,
+        region,
+        task,
+        codeptr: PLACE,
+    }
+}
