@@ -18,7 +18,9 @@
 //! - [`History::entries`] gives the history's entries.
 //!
 //! Three more rows are lemmas of `proofs/Rows.antt`: with one thread those eight entries are legal; with an empty mask
-//! nothing of them is heard; and with one silent step the run ends at limit 1, in its third turn.
+//! nothing of them is heard; and with one silent step the run ends at limit 1, in its third turn. `proofs/Regions.antt`
+//! has the entries and the records of a region of two, and the entries of two such regions with the number of their
+//! records. `proofs/Tame.antt` shows that a run of parallel blocks ends in no trap, and returns nothing but 0.
 //!
 //! No proof says that the definitions are OpenMP's: that is for their reader to judge.
 //! `rt plant` lists no wrong body that a contract lets through. The two laws have no body to plant one in.

@@ -7,8 +7,9 @@
 //! [`run_serial`] is the run: it visits the threads round and round, and keeps the entries and the records. Its
 //! contract says that the history is serial, that the records are those of the history, and that the cause is its.
 //!
-//! The definitions stand in `specs/`: the form of the words (`Words`), the text that runs and why others are refused
-//! (`Text`), the status and the line of each end (`Ends`), and what a command reports and writes (`Commands`).
+//! The definitions stand in `specs/`: the form of the words (`Words`), the texts that run, with their programs, and why
+//! others are refused (`Text`), the status and the line of each end (`Ends`), and what a command reports and writes
+//! (`Commands`).
 //!
 //! Want of memory is free: no clause says when it comes, only what stands after it. That the calls succeed with ample
 //! memory is shown by the tests in `ompt_tests`.
