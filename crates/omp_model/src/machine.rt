@@ -10,10 +10,7 @@ pub enum Instruction {
     /// A block is left at its end: a silent step.
     LeaveBlock,
     /// A parallel construct with an empty block: an event. The place of the construct is line × 65536 + column.
-    Parallel {
-        requested: u32,
-        codeptr: u64,
-    },
+    Parallel { requested: u32, codeptr: u64 },
     /// The function returns this value: a silent step.
     Return(i32),
 }
