@@ -70,7 +70,7 @@ impl Machine {
     pub fn enabled(&self, thread: u8) -> bool
         ensures { result ≡ enabled self.now.run self.now.state thread }
     {
-        self.state.enabled(&self.settings, thread)
+        self.state.enabled(thread)
     }
 
     /// Whether the thread is inside a callback.

@@ -1,7 +1,7 @@
 //! A state of the machine, and the order of a turn.
 
 ghost use Rattle.std.specs.Prelude.{◌≡◌, ◌≤◌, ◌<◌, ◌+◌, ◌^◌, ◌||◌, None, IfOk, OnOk, IsTrue, is_some, length, nat_le, replicate, Some, slice_set};
-ghost use Rattle.omp_model.specs.State.{first, pending_at};
+ghost use Rattle.omp_model.specs.State.{Run, first, pending_at};
 ghost use Rattle.omp_model.specs.Silent.{Steps, is_step, silent};
 ghost use Rattle.omp_model.specs.Events.{event, fault_at};
 ghost use Rattle.omp_model.specs.Turn.{walk, stepped, halted, happening, after_steps, unlimited, turn, enabled};
@@ -117,13 +117,12 @@ impl State {
         self.board.has_step(thread) || self.board.event(thread).is_some()
     }
 
-    /// Whether the thread may begin a turn.
-    pub fn enabled(&self, settings: &Settings, thread: u8) -> bool
+    /// Whether the thread may begin a turn. What fixes the run has no part in it.
+    pub fn enabled(&self, thread: u8) -> bool
         requires tasks { length self.now.state.world.tasks < 2 ^ 32 }
         requires regions { length self.now.state.world.regions < 2 ^ 32 }
-        ensures { result ≡ enabled (run_of settings.now) self.now.state thread }
+        ensures { (run : Run) → result ≡ enabled run self.now.state thread }
     {
-        let _ = settings;
         self.pending(thread).is_none() && self.halt.is_none() && self.goes_on(thread)
     }
 

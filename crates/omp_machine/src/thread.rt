@@ -14,6 +14,7 @@ pub struct Thread {
     stage: ThreadStage,
     /// The identities of the tasks that it has taken up, the current one last.
     stack: Vec<u32>,
+    /// The region that it is to join next, or 0.
     invited: u32,
 }
 

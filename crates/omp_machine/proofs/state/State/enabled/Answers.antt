@@ -1,10 +1,9 @@
 use Rattle.std.proofs.Common.{rules}
 use Rattle.omp_model.proofs.Turns.{enabled-cheap}
-use Rattle.omp_machine.specs.Settings.{run_of}
 use Rattle.omp_machine.proofs.state.State.enabled.Goals as goal
 
 pub returns-then-is_none-2 : goal.returns-then-is_none-2
-returns-then-is_none-2 c = rw (enabled-cheap (run_of c.args.settings.now) c.args.self.now.state c.args.thread) (search rules)
+returns-then-is_none-2 c = λ run. rw (enabled-cheap run c.args.self.now.state c.args.thread) (search rules)
 
 pub returns-else-is_none-2 : goal.returns-else-is_none-2
-returns-else-is_none-2 c = rw (enabled-cheap (run_of c.args.settings.now) c.args.self.now.state c.args.thread) (search rules)
+returns-else-is_none-2 c = λ run. rw (enabled-cheap run c.args.self.now.state c.args.thread) (search rules)
