@@ -12,15 +12,25 @@
 //! - `{}` of a [`Word`] writes exactly the bytes of `word_text`, `{}` of a [`Frame`] those of `frame_text`, and `{}`
 //!   of a [`Call`] those of `call_text`;
 //! - where memory is left, [`line_of`] returns exactly the bytes of `line_text`;
-//! - [`Call::number`] is `number_of`, the value in `ompt_callbacks_t`.
+//! - [`Call::number`] is `number_of`, the value in `ompt_callbacks_t`;
+//! - the inquiries of a [`Snapshot`] answer what it has: [`Snapshot::get_task_info`] and
+//!   [`Snapshot::get_parallel_info`] the level that is asked for, and `None` exactly where there is none, as `task_info`
+//!   and `parallel_info` say; [`Snapshot::target`] the word at a place, as `target_of` says.
+//!
+//! A [`Reply`] has the stores of a tool. Which of them take effect, and in which words, is the definition `stores_of`;
+//! nothing stores yet.
 //!
 //! A test compares a few lines with texts written out by hand, since a definition cannot check itself.
 #![tactic(auto)]
 
 mod call;
 mod line;
+mod reply;
+mod snapshot;
 #[cfg(test)]
 mod tests;
 
 pub use call::{Call, Frame, Word};
 pub use line::{Memory, line_of};
+pub use reply::{Reply, Store, WordAt};
+pub use snapshot::{RegionLevel, RegionLevels, Snapshot, Target, TaskLevel, TaskLevels};

@@ -1,0 +1,18 @@
+//! The codes of OMPT that a tool meets before it hears a call: what its registrations are answered, and the states that
+//! a thread may have.
+//!
+//! Proved for every number, over the definitions of `specs/`:
+//!
+//! - [`set_answer`] is `answer_of`, and [`is_profile`] is `in_profile`;
+//! - [`next_state`] is `next_of`: the one that follows in the list of the states.
+//!
+//! Tests compare a few answers with values written out by hand. Nothing here takes memory.
+#![tactic(auto)]
+
+mod answers;
+mod states;
+#[cfg(test)]
+mod tests;
+
+pub use answers::{is_profile, set_answer};
+pub use states::next_state;

@@ -1,0 +1,34 @@
+//! What a tool answers to a call: the words that it stores.
+
+/// The place of a data word, as a call's tool names it.
+#[derive(Clone, Copy, Debug, PartialEq, Eq)]
+pub enum WordAt {
+    /// The word of the thread on which the event occurs.
+    Thread,
+    /// The word of the parallel region at this level, counted from 0, the innermost.
+    Parallel(u32),
+    /// The word of the task at this level, counted from 0, the current one.
+    Task(u32),
+    /// The word of the region or the task that the event makes.
+    Fresh,
+}
+
+/// A store into a data word.
+#[derive(Clone, Copy, Debug, PartialEq, Eq)]
+pub struct Store {
+    /// Where. A store at a place that isn't there takes no effect.
+    pub place: WordAt,
+    /// What is stored.
+    pub word: u64,
+}
+
+/// What a tool answers to a call: at most three stores, which take effect in this order.
+#[derive(Clone, Copy, Debug, PartialEq, Eq)]
+pub struct Reply {
+    /// The first store.
+    pub first: Option<Store>,
+    /// The second store.
+    pub second: Option<Store>,
+    /// The third store.
+    pub third: Option<Store>,
+}

@@ -1,0 +1,155 @@
+//! What a tool can inquire during a call: the state right after the event.
+
+ghost use Rattle.std.specs.Prelude.{◌≡◌, slice_get};
+ghost use Rattle.ompt_calls.specs.Snapshot.{task_info, parallel_info, target_of};
+
+use crate::call::{Frame, Word};
+use crate::reply::WordAt;
+use std::marker::Model;
+
+/// A data word that a tool may store into.
+#[derive(Clone, Copy, Debug, PartialEq, Eq)]
+pub enum Target {
+    /// The word of the thread with this number.
+    Thread(u32),
+    /// The word of the parallel region with this identity.
+    Parallel(u32),
+    /// The word of the task with this identity.
+    Task(u32),
+}
+
+/// A task on a thread's stack, as `ompt_get_task_info` tells it (OpenMP 5.2, 19.6.1.14).
+#[derive(Clone, Copy, Debug, PartialEq, Eq)]
+pub struct TaskLevel {
+    /// Its `ompt_task_flag_t`.
+    pub flags: u32,
+    /// Its data word.
+    pub word: Word,
+    /// Its frame.
+    pub frame: Frame,
+    /// The data word of its parallel region.
+    pub region: Word,
+    /// The number of the thread in the team of that region; 0 for the initial task.
+    pub index: u32,
+}
+
+/// A parallel region around a task, as `ompt_get_parallel_info` tells it (OpenMP 5.2, 19.6.1.13).
+#[derive(Clone, Copy, Debug, PartialEq, Eq)]
+pub struct RegionLevel {
+    /// Its data word.
+    pub word: Word,
+    /// How many members its team has.
+    pub team: u32,
+}
+
+/// The tasks on a thread's stack, the current one first. Contracts see them as their list.
+#[derive(Debug, Drop)]
+pub struct TaskLevels(pub Vec<TaskLevel>);
+
+impl Model for TaskLevels {
+    ghost use Rattle.std.specs.Prelude.{List};
+    ghost use Rattle.ompt_calls.specs.declared.snapshot.TaskLevel.{TaskLevel};
+
+    ghost Value = { List TaskLevel };
+
+    ghost view = { λ levels. levels.0.items };
+}
+
+/// The parallel regions around a thread's current task, the innermost first. Contracts see them as their list.
+#[derive(Debug, Drop)]
+pub struct RegionLevels(pub Vec<RegionLevel>);
+
+impl Model for RegionLevels {
+    ghost use Rattle.std.specs.Prelude.{List};
+    ghost use Rattle.ompt_calls.specs.declared.snapshot.RegionLevel.{RegionLevel};
+
+    ghost Value = { List RegionLevel };
+
+    ghost view = { λ levels. levels.0.items };
+}
+
+/// What a tool can inquire during a call.
+#[derive(Debug, Drop)]
+pub struct Snapshot {
+    /// The thread's data word.
+    pub thread: Word,
+    /// The thread's `ompt_state_t`.
+    pub state: u16,
+    /// What the thread waits for (`ompt_wait_id_t`), or 0.
+    pub wait_id: u32,
+    /// The tasks on the thread's stack.
+    pub tasks: TaskLevels,
+    /// The parallel regions around its current task.
+    pub regions: RegionLevels,
+    /// The region or the task that the event makes.
+    pub fresh: Option<Target>,
+}
+
+impl TaskLevels {
+    /// The task at this level.
+    fn get(&self, level: u32) -> Option<TaskLevel>
+        ensures { result ≡ slice_get self.now level }
+    {
+        self.0.get(level as usize).copied()
+    }
+}
+
+impl RegionLevels {
+    /// The region at this level.
+    fn get(&self, level: u32) -> Option<RegionLevel>
+        ensures { result ≡ slice_get self.now level }
+    {
+        self.0.get(level as usize).copied()
+    }
+}
+
+impl Snapshot {
+    /// The thread's state and wait identifier, as `ompt_get_state` answers (OpenMP 5.2, 19.6.1.12).
+    pub fn get_state(&self) -> (u16, u32)
+        ensures state { result.0 ≡ self.now.state }
+        ensures wait_id { result.1 ≡ self.now.wait_id }
+    {
+        (self.state, self.wait_id)
+    }
+
+    /// The thread's data word, as `ompt_get_thread_data` answers (OpenMP 5.2, 19.6.1.3).
+    pub fn get_thread_data(&self) -> Word
+        ensures { result ≡ self.now.thread }
+    {
+        self.thread
+    }
+
+    /// The task at this level, counted from 0, the current one. `None` stands for the answer 0 of `ompt_get_task_info`:
+    /// there is no such level.
+    pub fn get_task_info(&self, level: u32) -> Option<TaskLevel>
+        ensures { result ≡ task_info self.now level }
+    {
+        self.tasks.get(level)
+    }
+
+    /// The parallel region at this level, counted from 0, the innermost. `None` stands for the answer 0 of
+    /// `ompt_get_parallel_info`: there is no such level.
+    pub fn get_parallel_info(&self, level: u32) -> Option<RegionLevel>
+        ensures { result ≡ parallel_info self.now level }
+    {
+        self.regions.get(level)
+    }
+
+    /// The data word at a place, or `None` where the place isn't there.
+    pub fn target(&self, place: WordAt) -> Option<Target>
+        ensures { result ≡ target_of self.now place }
+    {
+        match place {
+            WordAt::Thread => Some(Target::Thread(self.thread.identity.saturating_sub(1))),
+            WordAt::Parallel(level) => {
+                let region = self.regions.get(level)?;
+                Some(Target::Parallel(region.word.identity))
+            }
+            WordAt::Task(level) => {
+                let task = self.tasks.get(level)?;
+                Some(Target::Task(task.word.identity))
+            }
+            WordAt::Fresh => self.fresh,
+        }
+    }
+}
