@@ -106,3 +106,69 @@ fn lines_read_as_stated(rt: HostRuntime) -> Result<(), Memory> {
     }
     Ok(())
 }
+
+/// What a tool can inquire where the only member of a region begins, after it stored 77 into the region's word.
+fn inside_a_region(rt: &impl AllocGlobal) -> Result<Snapshot, Memory> {
+    let region = Word {
+        identity: 2,
+        value: 77,
+    };
+    let member = TaskLevel {
+        flags: 2,
+        word: TWO,
+        frame: Frame { exit: 2, enter: 0 },
+        region,
+        index: 0,
+    };
+    let initial = TaskLevel {
+        flags: 1,
+        word: ONE,
+        frame: Frame {
+            exit: 0,
+            enter: 32769,
+        },
+        region: ONE,
+        index: 0,
+    };
+    let inner = RegionLevel {
+        word: region,
+        team: 1,
+    };
+    let outer = RegionLevel { word: ONE, team: 1 };
+    Ok(Snapshot {
+        thread: ONE,
+        state: 0x001,
+        wait_id: 0,
+        tasks: TaskLevels(vec![in rt.alloc(); member, initial]?),
+        regions: RegionLevels(vec![in rt.alloc(); inner, outer]?),
+        fresh: None,
+    })
+}
+
+#[test]
+fn inquiries_read_the_snapshot(rt: HostRuntime) -> Result<(), Memory> {
+    let snapshot = inside_a_region(&rt)?;
+    assert_eq!(rt; snapshot.get_state(), (0x001, 0));
+    assert_eq!(rt; snapshot.get_thread_data(), ONE);
+    for (level, word) in [(0, Some(TWO)), (1, Some(ONE)), (2, None), (u32::MAX, None)] {
+        let found = snapshot.get_task_info(level).map(|task| task.word);
+        assert_eq!(rt; found, word, "at {level}");
+    }
+    for (level, value) in [(0, Some(77)), (1, Some(0)), (2, None)] {
+        let found = snapshot
+            .get_parallel_info(level)
+            .map(|region| region.word.value);
+        assert_eq!(rt; found, value, "at {level}");
+    }
+    for (place, target) in [
+        (WordAt::Thread, Some(Target::Thread(0))),
+        (WordAt::Parallel(0), Some(Target::Parallel(2))),
+        (WordAt::Parallel(2), None),
+        (WordAt::Task(1), Some(Target::Task(1))),
+        (WordAt::Task(2), None),
+        (WordAt::Fresh, None),
+    ] {
+        assert_eq!(rt; snapshot.target(place), target, "at {place:?}");
+    }
+    Ok(())
+}

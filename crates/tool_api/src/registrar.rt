@@ -1,0 +1,84 @@
+//! The registration of callbacks.
+
+ghost use Rattle.std.specs.Prelude.{◌≡◌, ◌<◌, ◌^◌, ℕ};
+ghost use Rattle.omp_codes.specs.Answers.{answer_of};
+ghost use Rattle.tool_api.specs.Registering.{has, has_after, get_answer};
+
+use omp_codes::set_answer;
+use std::marker::Model;
+
+/// What `set` answers where it registers: `ompt_set_always`.
+const ALWAYS: u8 = 5;
+
+/// What a tool has registered while it is initialized. Contracts see it as a mask: bit n for the callback with number n
+/// in `ompt_callbacks_t` (OpenMP 5.2, 19.4.2).
+#[derive(Debug, Drop)]
+pub struct Registrar {
+    /// The callbacks: bit n for number n.
+    mask: u64,
+}
+
+impl Model for Registrar {
+    ghost use Rattle.std.specs.Prelude.{ℕ};
+
+    ghost Value = { ℕ };
+
+    ghost view = { λ registrar. registrar.mask };
+}
+
+impl Registrar {
+    /// A registrar that has nothing registered.
+    pub fn new() -> Registrar
+        ensures { result ≡ 0 }
+    {
+        Registrar { mask: 0 }
+    }
+
+    /// What is registered: bit n for number n.
+    pub fn mask(&self) -> u64
+        ensures { result ≡ self.now }
+    {
+        self.mask
+    }
+
+    /// Registers the callback with this number, as `ompt_set_callback` does (OpenMP 5.2, 19.5.1): where the answer is 5,
+    /// always, it is registered. Otherwise the answer is 1, never, or 0, an error, and nothing changes.
+    pub fn set(&mut self, number: u32) -> u8
+        ensures answer { result ≡ answer_of number }
+        ensures registers { (other : ℕ) → has self.new other ≡ has_after self.old number other }
+    {
+        let answer = set_answer(number);
+        if answer == ALWAYS {
+            self.mask |= bit(number);
+        }
+        answer
+    }
+
+    /// Whether the callback with this number is registered, as `ompt_get_callback` answers (OpenMP 5.2, 19.5.1): 1 where
+    /// it is, else 0.
+    pub fn get(&self, number: u32) -> u8
+        ensures { result ≡ get_answer self.now number }
+    {
+        let mask = self.mask;
+        if number >= 64 {
+            return 0;
+        }
+        if holds(mask, number) { 1 } else { 0 }
+    }
+}
+
+/// The bit of a callback that is always called.
+fn bit(number: u32) -> u64
+    requires { answer_of number ≡ 5 }
+    ensures { result ≡ 2 ^ number }
+{
+    1 << number
+}
+
+/// Whether this bit of the mask is set.
+fn holds(mask: u64, number: u32) -> bool
+    requires { number < 64 }
+    ensures { result ≡ has mask number }
+{
+    (mask >> number) % 2 == 1
+}
