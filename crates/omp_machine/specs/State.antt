@@ -1,4 +1,4 @@
--- What a state of the code is seen as: the state of the machine, and whether there is room for one more task and region.
+-- What a state of the code is seen as: the state of the machine, and how many more tasks and regions there is room for.
 use Rattle.std.specs.Prelude.{ℕ}
 use Rattle.omp_model.specs.State.{State}
 

@@ -2,6 +2,7 @@
 
 ghost use Rattle.std.specs.Prelude.{◌≡◌, ◌<◌, ◌≤◌};
 ghost use Rattle.omp_model.specs.Calls.{call_of, fresh_word, thread_word, thread_kind, exit_word, enter_word, frame_of, is_registered};
+ghost use Rattle.ompt_calls.specs.declared.call.Call.TheVariants.{ImplicitTask, SyncRegion, SyncRegionWait};
 ghost use Rattle.omp_machine.specs.Standing.{told};
 
 use crate::board::Board;
@@ -91,6 +92,60 @@ fn frame_of(board: &Board, thread: u8) -> Frame
     }
 }
 
+/// The call at one end of the initial task, with the word of this region.
+fn initial_task(endpoint: u32, region: u32, actual: u32) -> Call
+    ensures { result ≡ ImplicitTask endpoint (fresh_word region) (fresh_word INITIAL_TASK) actual 1 1 }
+{
+    Call::ImplicitTask {
+        endpoint,
+        region: fresh_word(region),
+        task: fresh_word(INITIAL_TASK),
+        actual,
+        index: 1,
+        flags: TASK_INITIAL,
+    }
+}
+
+/// The call at one end of the implicit task of a member, with the word of this region.
+fn member_task(thread: u8, endpoint: u32, region: u32, task: u32, actual: u32) -> Call
+    ensures { result ≡ ImplicitTask endpoint (fresh_word region) (fresh_word task) actual thread 2 }
+{
+    Call::ImplicitTask {
+        endpoint,
+        region: fresh_word(region),
+        task: fresh_word(task),
+        actual,
+        index: u32::from(thread),
+        flags: TASK_IMPLICIT,
+    }
+}
+
+/// The call at one end of the barrier of a region, with the word of this region.
+fn barrier(endpoint: u32, region: u32, task: u32, codeptr: u64) -> Call
+    ensures { result ≡ SyncRegion 9 endpoint (fresh_word region) (fresh_word task) codeptr }
+{
+    Call::SyncRegion {
+        kind: BARRIER_IMPLICIT_PARALLEL,
+        endpoint,
+        region: fresh_word(region),
+        task: fresh_word(task),
+        codeptr,
+    }
+}
+
+/// The call at one end of the wait at the barrier of a region, with the word of this region.
+fn barrier_wait(endpoint: u32, region: u32, task: u32, codeptr: u64) -> Call
+    ensures { result ≡ SyncRegionWait 9 endpoint (fresh_word region) (fresh_word task) codeptr }
+{
+    Call::SyncRegionWait {
+        kind: BARRIER_IMPLICIT_PARALLEL,
+        endpoint,
+        region: fresh_word(region),
+        task: fresh_word(task),
+        codeptr,
+    }
+}
+
 /// The callback of the event that has just occurred on the thread, with its arguments (OpenMP 5.2, 19.5.2).
 pub fn call_of(board: &Board, thread: u8, event: Event) -> Call
     ensures { result ≡ call_of board.now.world thread event }
@@ -100,22 +155,8 @@ pub fn call_of(board: &Board, thread: u8, event: Event) -> Call
             kind: thread_kind(thread),
             thread: thread_word(thread),
         },
-        Event::InitialTaskBegin => Call::ImplicitTask {
-            endpoint: SCOPE_BEGIN,
-            region: fresh_word(IMPLICIT_REGION),
-            task: fresh_word(INITIAL_TASK),
-            actual: 1,
-            index: 1,
-            flags: TASK_INITIAL,
-        },
-        Event::InitialTaskEnd => Call::ImplicitTask {
-            endpoint: SCOPE_END,
-            region: fresh_word(0),
-            task: fresh_word(INITIAL_TASK),
-            actual: 0,
-            index: 1,
-            flags: TASK_INITIAL,
-        },
+        Event::InitialTaskBegin => initial_task(SCOPE_BEGIN, IMPLICIT_REGION, 1),
+        Event::InitialTaskEnd => initial_task(SCOPE_END, 0, 0),
         Event::ThreadEnd => Call::ThreadEnd {
             thread: thread_word(thread),
         },
@@ -137,50 +178,23 @@ pub fn call_of(board: &Board, thread: u8, event: Event) -> Call
             flags: PARALLEL_FLAGS,
             codeptr: board.region(region).codeptr,
         },
-        Event::MemberBegin { region, task } => Call::ImplicitTask {
-            endpoint: SCOPE_BEGIN,
-            region: fresh_word(region),
-            task: fresh_word(task),
-            actual: u32::from(board.region(region).size),
-            index: u32::from(thread),
-            flags: TASK_IMPLICIT,
-        },
-        Event::BarrierBegin { region, task } => Call::SyncRegion {
-            kind: BARRIER_IMPLICIT_PARALLEL,
-            endpoint: SCOPE_BEGIN,
-            region: fresh_word(region),
-            task: fresh_word(task),
-            codeptr: board.region(region).codeptr,
-        },
-        Event::WaitBegin { region, task } => Call::SyncRegionWait {
-            kind: BARRIER_IMPLICIT_PARALLEL,
-            endpoint: SCOPE_BEGIN,
-            region: fresh_word(region),
-            task: fresh_word(task),
-            codeptr: board.region(region).codeptr,
-        },
-        Event::WaitEnd { region, task } => Call::SyncRegionWait {
-            kind: BARRIER_IMPLICIT_PARALLEL,
-            endpoint: SCOPE_END,
-            region: fresh_word(0),
-            task: fresh_word(task),
-            codeptr: board.region(region).codeptr,
-        },
-        Event::BarrierEnd { region, task } => Call::SyncRegion {
-            kind: BARRIER_IMPLICIT_PARALLEL,
-            endpoint: SCOPE_END,
-            region: fresh_word(0),
-            task: fresh_word(task),
-            codeptr: board.region(region).codeptr,
-        },
-        Event::MemberEnd { task, .. } => Call::ImplicitTask {
-            endpoint: SCOPE_END,
-            region: fresh_word(0),
-            task: fresh_word(task),
-            actual: 0,
-            index: u32::from(thread),
-            flags: TASK_IMPLICIT,
-        },
+        Event::MemberBegin { region, task } => {
+            let actual = u32::from(board.region(region).size);
+            member_task(thread, SCOPE_BEGIN, region, task, actual)
+        }
+        Event::BarrierBegin { region, task } => {
+            barrier(SCOPE_BEGIN, region, task, board.region(region).codeptr)
+        }
+        Event::WaitBegin { region, task } => {
+            barrier_wait(SCOPE_BEGIN, region, task, board.region(region).codeptr)
+        }
+        Event::WaitEnd { region, task } => {
+            barrier_wait(SCOPE_END, 0, task, board.region(region).codeptr)
+        }
+        Event::BarrierEnd { region, task } => {
+            barrier(SCOPE_END, 0, task, board.region(region).codeptr)
+        }
+        Event::MemberEnd { task, .. } => member_task(thread, SCOPE_END, 0, task, 0),
     }
 }
 

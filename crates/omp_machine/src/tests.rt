@@ -95,6 +95,31 @@ fn the_second_step_meets_the_limit(rt: HostRuntime) -> Result<(), Memory> {
 /// and waits for the worker to end.
 #[test]
 fn a_region_of_two_runs(rt: HostRuntime) -> Result<(), Memory> {
+    let blocks = Blocks(Vec::from_array(rt.alloc(), [2])?);
+    let mut machine = Machine::new(rt.alloc(), blocks, ALL, 2, 1_000_000)?;
+    let mut told = Vec::new(rt.alloc());
+    let mut seq = 0;
+    let mut next = 0;
+    for _turn in 0..21_u32 {
+        let Some(thread) = machine.first_enabled(next) else {
+            break;
+        };
+        assert!(rt; thread < 2 && machine.enabled(thread));
+        if let Went::Told(call) = machine.go(thread)? {
+            told.push(record(seq, thread, call))?;
+            machine.back(thread);
+            seq += 1;
+        }
+        seq += 1;
+        next = thread + 1;
+    }
+    assert_eq!(rt; told.as_slice(), region_of_two().as_slice());
+    assert_eq!(rt; machine.cause(), Some(Cause::Done));
+    Ok(())
+}
+
+/// What is to be told of a region of two.
+fn region_of_two() -> [EventRecord; 20] {
     let region_begin = Call::ParallelBegin {
         task: ONE,
         frame: Frame {
@@ -112,7 +137,7 @@ fn a_region_of_two_runs(rt: HostRuntime) -> Result<(), Memory> {
         flags: FLAGS,
         codeptr: PLACE,
     };
-    let records = [
+    [
         record(0, 0, thread_begin(1, ONE)),
         record(2, 0, initial(1, ONE, 1)),
         record(4, 0, region_begin),
@@ -133,28 +158,7 @@ fn a_region_of_two_runs(rt: HostRuntime) -> Result<(), Memory> {
         record(35, 1, Call::ThreadEnd { thread: TWO }),
         record(37, 0, initial(2, NULL, 0)),
         record(39, 0, Call::ThreadEnd { thread: ONE }),
-    ];
-    let blocks = Blocks(Vec::from_array(rt.alloc(), [2])?);
-    let mut machine = Machine::new(rt.alloc(), blocks, ALL, 2, 1_000_000)?;
-    let mut told = Vec::new(rt.alloc());
-    let mut seq = 0;
-    let mut next = 0;
-    for _turn in 0..21_u32 {
-        let Some(thread) = machine.first_enabled(next) else {
-            break;
-        };
-        assert!(rt; thread < 2 && machine.enabled(thread));
-        if let Went::Told(call) = machine.go(thread)? {
-            told.push(record(seq, thread, call))?;
-            machine.back(thread);
-            seq += 1;
-        }
-        seq += 1;
-        next = thread + 1;
-    }
-    assert_eq!(rt; told.as_slice(), records.as_slice());
-    assert_eq!(rt; machine.cause(), Some(Cause::Done));
-    Ok(())
+    ]
 }
 
 /// What is to be told of the event whose Go is the entry with this position.

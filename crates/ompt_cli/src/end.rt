@@ -8,7 +8,7 @@ ghost use Rattle.ompt_cli.specs.Ends.{line_of_end, status_of};
 pub enum Refusal {
     /// Number 15: the text is longer than 65,536 bytes.
     TooLong,
-    /// Number 16: the text isn't of the form that runs.
+    /// Number 16: the text is of neither form that runs.
     OtherForm,
 }
 

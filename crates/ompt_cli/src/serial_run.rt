@@ -34,8 +34,8 @@ struct SerialRun {
     next: u8,
 }
 
-/// Runs the program with these parallel blocks serially, with the callbacks of the mask registered, so many threads, and so many silent
-/// steps at most.
+/// Runs the program with these parallel blocks serially, with the callbacks of the mask registered, so many threads, and
+/// so many silent steps at most.
 ///
 /// An error comes only before the first entry. Where memory fails later, the cause is `Memory`, and the history stops
 /// before the turn that found none.
