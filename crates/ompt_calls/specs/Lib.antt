@@ -1,3 +1,4 @@
+pub mod Item
 pub mod Line
 pub mod Number
 pub mod Snapshot

@@ -25,6 +25,7 @@
 
 mod call;
 mod line;
+mod mask;
 mod reply;
 mod snapshot;
 #[cfg(test)]
@@ -32,5 +33,6 @@ mod tests;
 
 pub use call::{Call, Frame, Word};
 pub use line::{Memory, line_of};
+pub use mask::is_registered;
 pub use reply::{Reply, Store, WordAt};
 pub use snapshot::{RegionLevel, RegionLevels, Snapshot, Target, TaskLevel, TaskLevels};
