@@ -2,6 +2,7 @@
 use Rattle.std.proofs.Common.{◌≡◌, ℕ, zero, suc, ◌+◌, ◌≤◌, true, false, nat_le, nat_lt, if◌then◌else◌, List, ◌++◌, ◌∷◌, [], Option, Some, None, length, length-append, refl, ◌∙◌, arith}
 use Rattle.std.proofs.lemmas.List.{length-set}
 use Rattle.omp_model.specs.declared.limits.TheConstants.{STEPS_OF_A_TURN, TURN_LIMIT}
+use Rattle.omp_model.specs.declared.machine.Callback.{Callback}
 use Rattle.omp_model.specs.declared.machine.Event.{Event}
 use Rattle.omp_model.specs.declared.machine.Event.TheVariants.{ThreadBegin, InitialTaskBegin, InitialTaskEnd, ThreadEnd, ParallelBegin, ParallelEnd, MemberBegin, BarrierBegin, WaitBegin, WaitEnd, BarrierEnd, MemberEnd}
 use Rattle.omp_model.specs.declared.machine.Halt.{Halt}
@@ -116,9 +117,9 @@ unfolding turn
 turn-makes run S t =
     elim (nat_le TURN_LIMIT (S.turns + 1)) as (λ b. let turned : Turn = if◌then◌else◌ {A = Turn} b (halted S (Limit 2)) (unlimited run S t) in MakesOne S.world turned.state.world) [ true ↦ one-from_same S.world S.world (same S.world) | false ↦ unlimited-makes run S t ]
 
-back-from-makes : (S : State) (t : ℕ) (e : Option Event) → SameMade S.world (back_from S t e).world
+back-from-makes : (S : State) (t : ℕ) (callback : Option Callback) → SameMade S.world (back_from S t callback).world
 back-from-makes S t None = same S.world
-back-from-makes S t (Some e) = at-back-makes S.world t e
+back-from-makes S t (Some callback) = at-back-makes S.world t callback.event
 
 -- the return of a callback makes none
 pub back-makes : (S : State) (t : ℕ) → SameMade S.world (back S t).world

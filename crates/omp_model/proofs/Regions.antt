@@ -9,7 +9,7 @@ use Rattle.omp_model.specs.declared.history.EventRecord.{EventRecord}
 use Rattle.omp_model.specs.State.{Run}
 use Rattle.omp_model.specs.Silent.{silent}
 use Rattle.omp_model.specs.Events.{event}
-use Rattle.omp_model.specs.Calls.{fresh_word}
+use Rattle.omp_model.specs.Words.{fresh_word}
 use Rattle.omp_model.specs.Turn.{walk, unlimited, turn, enabled}
 use Rattle.omp_model.specs.Cause.{cause_of}
 use Rattle.omp_model.specs.Serial.{enabled_among, serial_from, serial}

@@ -1,7 +1,10 @@
 -- The serial histories to the end are one, and `serial` computes it.
 use Rattle.std.specs.Prelude.{◌≡◌, ℕ, zero, suc, ◌+◌, ◌-◌, ◌*◌, ◌<◌, ◌≤◌, true, List, [], ◌∷◌, length, Option, Some, None, refl}
-use Rattle.std.proofs.Common.{sym, ap, ◌∙◌, subst, arith}
+use Rattle.std.proofs.Common.{sym, ap, ◌∙◌, subst, arith, IsTrue}
+use Rattle.std.proofs.lemmas.Bool.{true≢false}
 use Rattle.omp_model.specs.declared.limits.TheConstants.{TURN_LIMIT}
+use Rattle.omp_model.specs.declared.history.What.{What}
+use Rattle.omp_model.specs.declared.history.What.TheVariants.{Go, Put, Back}
 use Rattle.omp_model.specs.declared.history.Entry.{Entry}
 use Rattle.omp_model.specs.declared.machine.Halt.{Halt}
 use Rattle.omp_model.specs.State.{Run, State}
@@ -9,18 +12,24 @@ use Rattle.omp_model.specs.declared.machine.Outcome.{Outcome}
 use Rattle.omp_model.specs.declared.machine.Outcome.TheVariants.{Idle, Quiet, Happens, Halts}
 use Rattle.omp_model.specs.Turn.{turn, enabled}
 use Rattle.omp_model.specs.Legal.{back}
-use Rattle.omp_model.specs.Serial.{first_enabled, Visit, start, go_of, onward_from, onward, inside_after, moved, Leads, WholeSerial, serial_on, serial_from, serial}
+use Rattle.omp_model.specs.Serial.{first_enabled, Visit, start, go_of, onward_from, onward, inside_after, moved, is_no_put, Follows, Leads, StoresNothing, WholeSerial, serial_on, serial_from, serial}
 use Rattle.omp_model.proofs.Turns.{turn-goes, turn-not_idle, turn-quiet, turn-happens, turn-halts, turn-below, back-turns, back-halt}
 use Rattle.omp_model.proofs.Recording.{go_at, back_at, first_enabled-enabled}
 
+-- an entry that stores nothing is the one that stands next
+plain : (run : Run) (v : Visit) (t : ℕ) (what : What) → IsTrue (is_no_put what) → Follows run v t what → onward run v ≡ Some (record { thread = t; what = what })
+plain run v t Go none follows = follows
+plain run v t (Put target word) none follows = absurd (true≢false (sym none))
+plain run v t Back none follows = follows
+
 -- with room for its entries, the serial order from a visit on is the history that leads to the end
-follow : (run : Run) (most : ℕ) (v last : Visit) (H : List Entry) → Leads run v H last → onward run last ≡ None → length H ≤ most → serial_from run most v ≡ H
+follow : (run : Run) (most : ℕ) (v last : Visit) (H : List Entry) → Leads run v H last → onward run last ≡ None → StoresNothing H → length H ≤ most → serial_from run most v ≡ H
 unfolding serial_from
-follow run zero v last [] leads ended room = refl
-follow run zero v last (entry ∷ rest) leads ended room = absurd (omega arith)
-follow run (suc most) v last [] leads ended room = ap (λ o. serial_on o (λ entry. serial_from run most (moved run v entry))) (ap (onward run) leads ∙ ended)
-follow run (suc most) v last (entry ∷ rest) leads ended room =
-    ap (λ o. serial_on o (λ next. serial_from run most (moved run v next))) leads.0 ∙ ap (λ more. entry ∷ more) (follow run most (moved run v entry) last rest leads.1 ended (omega arith))
+follow run zero v last [] leads ended none room = refl
+follow run zero v last (entry ∷ rest) leads ended none room = absurd (omega arith)
+follow run (suc most) v last [] leads ended none room = ap (λ o. serial_on o (λ entry. serial_from run most (moved run v entry))) (ap (onward run) leads ∙ ended)
+follow run (suc most) v last (entry ∷ rest) leads ended none room =
+    ap (λ o. serial_on o (λ next. serial_from run most (moved run v next))) (plain run v entry.thread entry.what none.0 leads.0) ∙ ap (λ more. entry ∷ more) (follow run most (moved run v entry) last rest leads.1 ended none.1 (omega arith))
 
 -- how many turns may be left, by what halted the run and how many there were
 abbrev left_by : Option Halt → ℕ → ℕ
@@ -95,7 +104,7 @@ go_of-some : (o : Option ℕ) (entry : Entry) → go_of o ≡ Some entry → (t 
 go_of-some None entry is = cc
 go_of-some (Some t) entry is = (t, refl, cc)
 
--- the one entry that may stand next spends of the budget
+-- the one entry that stands next without a store spends of the budget
 spends-onward : (run : Run) (v : Visit) (entry : Entry) (inside : Option ℕ) → Ready v.state → v.inside ≡ inside → onward_from run v inside ≡ Some entry → Spends v (moved run v entry)
 spends-onward run v entry (Some t) ready inside is = let same : back_at t ≡ entry = cc in subst (λ x. Spends v (moved run v x)) same (spends-back run v t ready inside)
 spends-onward run v entry None ready inside is =
@@ -103,21 +112,22 @@ spends-onward run v entry None ready inside is =
     subst (λ x. Spends v (moved run v x)) found.2 (spends-go run v found.0 ready inside found.1)
 
 -- the entries from a visit on are within its budget
-within : (run : Run) (v last : Visit) (H : List Entry) → Ready v.state → Leads run v H last → length H ≤ budget v
-within run v last [] ready leads = omega arith
-within run v last (entry ∷ rest) ready leads =
-    let spends = spends-onward run v entry v.inside ready refl leads.0 in
-    let shorter = within run (moved run v entry) last rest spends.ready leads.1 in
+within : (run : Run) (v last : Visit) (H : List Entry) → Ready v.state → StoresNothing H → Leads run v H last → length H ≤ budget v
+within run v last [] ready none leads = omega arith
+within run v last (entry ∷ rest) ready none leads =
+    let spends = spends-onward run v entry v.inside ready refl (plain run v entry.thread entry.what none.0 leads.0) in
+    let shorter = within run (moved run v entry) last rest spends.ready none.1 leads.1 in
     omega arith
 
--- a serial history has at most two entries for each turn that there may be
-pub serial-short : (run : Run) (H : List Entry) (last : Visit) → Leads run (start run) H last → length H ≤ 2 * TURN_LIMIT
-serial-short run H last leads = let short = within run (start run) last H (record { below = λ on. omega arith }) leads in omega arith
+-- a serial history in which nothing is stored has at most two entries for each turn that there may be
+pub serial-short : (run : Run) (H : List Entry) (last : Visit) → StoresNothing H → Leads run (start run) H last → length H ≤ 2 * TURN_LIMIT
+serial-short run H last none leads = let short = within run (start run) last H (record { below = λ on. omega arith }) none leads in omega arith
 
--- a serial history to the end is what `serial` computes
-pub serial-whole : (run : Run) (H : List Entry) → WholeSerial run H → serial run ≡ H
-serial-whole run H whole = follow run (2 * TURN_LIMIT) (start run) whole.last H whole.in_turn whole.ended (serial-short run H whole.last whole.in_turn)
+-- a serial history to the end in which nothing is stored is what `serial` computes
+pub serial-whole : (run : Run) (H : List Entry) → WholeSerial run H → StoresNothing H → serial run ≡ H
+serial-whole run H whole none =
+    follow run (2 * TURN_LIMIT) (start run) whole.last H whole.in_turn whole.ended none (serial-short run H whole.last none whole.in_turn)
 
--- two serial histories to the end are the same
-pub whole-one : (run : Run) (H K : List Entry) → WholeSerial run H → WholeSerial run K → H ≡ K
-whole-one run H K one other = sym (serial-whole run H one) ∙ serial-whole run K other
+-- two of them are the same
+pub whole-one : (run : Run) (H K : List Entry) → WholeSerial run H → WholeSerial run K → StoresNothing H → StoresNothing K → H ≡ K
+whole-one run H K one other none silent = sym (serial-whole run H one none) ∙ serial-whole run K other silent

@@ -9,6 +9,7 @@ use Rattle.omp_model.specs.declared.machine.Condition.{Condition}
 use Rattle.omp_model.specs.declared.machine.Condition.TheVariants as condition
 use Rattle.omp_model.specs.declared.machine.TaskStage.{TaskStage}
 use Rattle.omp_model.specs.declared.machine.TaskStage.TheVariants.{Running, Forked, AtBarrier, Waiting, Passed, Over}
+use Rattle.omp_model.specs.declared.machine.Callback.{Callback}
 use Rattle.omp_model.specs.declared.machine.Event.{Event}
 use Rattle.omp_model.specs.declared.machine.Event.TheVariants.{ThreadBegin, InitialTaskBegin, InitialTaskEnd, ThreadEnd, ParallelBegin, ParallelEnd, MemberBegin, BarrierBegin, WaitBegin, WaitEnd, BarrierEnd, MemberEnd}
 use Rattle.omp_model.specs.declared.machine.Halt.{Halt}
@@ -196,9 +197,9 @@ tame-turn run S t tame =
     elim (nat_le TURN_LIMIT (S.turns + 1)) as (λ b. let turned : Turn = if◌then◌else◌ {A = Turn} b (halted S (Limit 2)) (unlimited run S t) in IsTame turned.state) [ true ↦ record { tasks = tame.tasks; halt = tt } | false ↦ tame-unlimited run S t tame ]
 
 -- the return from an event, if there is one, keeps a state tame
-tame-back-from : (S : State) (t : ℕ) (e : Option Event) → IsTame S → IsTame (back_from S t e)
+tame-back-from : (S : State) (t : ℕ) (callback : Option Callback) → IsTame S → IsTame (back_from S t callback)
 tame-back-from S t None tame = tame
-tame-back-from S t (Some e) tame = record { tasks = tame-take-hold S.world t e tame.tasks; halt = tame.halt }
+tame-back-from S t (Some callback) tame = record { tasks = tame-take-hold S.world t callback.event tame.tasks; halt = tame.halt }
 
 -- and so does the return of a thread's callback
 pub tame-back : (S : State) (t : ℕ) → IsTame S → IsTame (back S t)

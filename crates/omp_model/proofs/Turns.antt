@@ -3,6 +3,7 @@ use Rattle.std.specs.Prelude.{◌≡◌, ℕ, zero, suc, ◌+◌, ◌<◌, Bool,
 use Rattle.std.proofs.Common.{sym, ap, ◌∙◌, subst, add-one, lt-ltb, arith}
 use Rattle.std.proofs.lemmas.Bool.{true≢false, and_parts, leb-false}
 use Rattle.omp_model.specs.declared.limits.TheConstants.{TURN_LIMIT, STEPS_OF_A_TURN}
+use Rattle.omp_model.specs.declared.machine.Callback.{Callback}
 use Rattle.omp_model.specs.declared.machine.Event.{Event}
 use Rattle.omp_model.specs.declared.machine.Halt.{Halt}
 use Rattle.omp_model.specs.declared.machine.Halt.TheVariants.{Limit}
@@ -12,7 +13,7 @@ use Rattle.omp_model.specs.Events.{event, fault_at}
 use Rattle.omp_model.specs.Legal.{back_from, back}
 use Rattle.omp_model.specs.declared.machine.Outcome.{Outcome}
 use Rattle.omp_model.specs.declared.machine.Outcome.TheVariants.{Idle, Quiet, Happens, Halts}
-use Rattle.omp_model.specs.Turn.{Walk, walk_on, walk, stepped, Turn, happening, after_steps, after_walk, halted, counted, unlimited, turn, has_outcome, enabled}
+use Rattle.omp_model.specs.Turn.{Walk, walk_on, walk, stepped, Turn, happening, after_steps, after_walk, halted, counted, unlimited, turn, has_outcome, enabled, called}
 
 -- an event that occurs is an outcome, and so is the trap or limit that it meets
 has-happening : (S : State) (t : ℕ) (e : Event) (h : Option Halt) → has_outcome (happening S t e h).outcome ≡ true
@@ -81,7 +82,7 @@ walk-keeps run (suc left) made S t = walk-on-keeps run S made (silent S.world t)
 abbrev pub Leaves : State → ℕ → State → Outcome → Type 0
 Leaves S t after Idle = (after.turns ≡ S.turns) × (after.halt ≡ S.halt) × (after.pending ≡ S.pending)
 Leaves S t after Quiet = (after.turns ≡ S.turns + 1) × (after.halt ≡ S.halt) × (after.pending ≡ S.pending)
-Leaves S t after (Happens e) = (after.turns ≡ S.turns + 1) × (after.halt ≡ S.halt) × (after.pending ≡ slice_set S.pending t (Some e))
+Leaves S t after (Happens e) = (after.turns ≡ S.turns + 1) × (after.halt ≡ S.halt) × (after.pending ≡ slice_set S.pending t (Some (called e)))
 Leaves S t after (Halts h) = (after.turns ≡ S.turns + 1) × (after.halt ≡ Some h) × (after.pending ≡ S.pending)
 
 -- an event's Go, whether or not it meets a trap or a limit
@@ -182,7 +183,7 @@ turn-happens run S t e goes is =
     record { turns = leaves.0; below = below-limit run S t (ap goes_on is); halt = leaves.1 ∙ (turn-goes run S t goes).halt }
 
 -- the thread is inside the callback of its event
-pub turn-pending : (run : Run) (S : State) (t : ℕ) (e : Event) → (turn run S t).outcome ≡ Happens e → (turn run S t).state.pending ≡ slice_set S.pending t (Some e)
+pub turn-pending : (run : Run) (S : State) (t : ℕ) (e : Event) → (turn run S t).outcome ≡ Happens e → (turn run S t).state.pending ≡ slice_set S.pending t (Some (called e))
 turn-pending run S t e is = (leaves-at run S t (Happens e) is).2
 
 -- a turn of silent steps keeps the pending events
@@ -214,9 +215,9 @@ pub turns-rise : (run : Run) (S : State) (t : ℕ) → enabled run S t ≡ true 
 turns-rise run S t goes = rises S (turn run S t).state t (turn run S t).outcome (has-turn run S t goes) (leaves-turn run S t)
 
 -- a return changes neither the count of turns nor the halt, whether or not there is a pending event
-back_from-keeps : (S : State) (t : ℕ) (o : Option Event) → ((back_from S t o).turns ≡ S.turns) × ((back_from S t o).halt ≡ S.halt)
+back_from-keeps : (S : State) (t : ℕ) (o : Option Callback) → ((back_from S t o).turns ≡ S.turns) × ((back_from S t o).halt ≡ S.halt)
 back_from-keeps S t None = (refl, refl)
-back_from-keeps S t (Some e) = (refl, refl)
+back_from-keeps S t (Some callback) = (refl, refl)
 
 -- a callback's return keeps the count of turns
 pub back-turns : (S : State) (t : ℕ) → (back S t).turns ≡ S.turns

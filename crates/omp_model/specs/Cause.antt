@@ -5,7 +5,7 @@ use Rattle.omp_model.specs.declared.limits.TheConstants.{INITIAL_TASK}
 use Rattle.omp_model.specs.declared.cause.Cause.{Cause}
 use Rattle.omp_model.specs.declared.cause.Cause.TheVariants as cause
 use Rattle.omp_model.specs.declared.history.Entry.{Entry}
-use Rattle.omp_model.specs.declared.machine.Event.{Event}
+use Rattle.omp_model.specs.declared.machine.Callback.{Callback}
 use Rattle.omp_model.specs.declared.machine.Halt.{Halt}
 use Rattle.omp_model.specs.declared.machine.Halt.TheVariants.{Trap, Limit}
 use Rattle.omp_model.specs.State.{Run, World, State, Thread, task_at}
@@ -23,7 +23,7 @@ whole_value W = if threads_over W then (task_at W INITIAL_TASK).value else None
 
 -- no thread is inside a callback
 abbrev pub none_pending : State → Bool
-none_pending S = list_all (λ (event : Option Event). is_none event) S.pending
+none_pending S = list_all (λ (callback : Option Callback). is_none callback) S.pending
 
 -- no thread is enabled and none is inside a callback, the run isn't halted and isn't whole
 abbrev pub is_stuck : Run → State → Bool

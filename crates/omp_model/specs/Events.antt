@@ -1,7 +1,7 @@
 -- Events: when a thread has come to one and it is enabled, what happens at its Go, and what takes hold at its Back.
 -- OpenMP 5.2 has the order of the events of a thread and of the initial task in chapter 12, Initial Task, and their
 -- callbacks in 19.5.2. The states of threads and tasks are this machine's.
-use Rattle.std.specs.Prelude.{ℕ, Bool, true, false, ◌&&◌, ◌||◌, ◌==◌, nat_le, min, take, if◌then◌else◌, List, [], ◌∷◌, Option, Some, None, is_some, length, drop}
+use Rattle.std.specs.Prelude.{ℕ, Bool, true, false, ◌&&◌, ◌||◌, ◌==◌, nat_le, min, take, if◌then◌else◌, List, [], ◌∷◌, Option, Some, None, is_none, is_some, length, drop}
 use Rattle.std.specs.List.{list_all, list_any}
 use Rattle.omp_model.specs.declared.limits.TheConstants.{STACK_LIMIT, INITIAL_TASK}
 use Rattle.omp_model.specs.declared.machine.Instruction.{Instruction}
@@ -30,13 +30,14 @@ is_over stage.Ended = true
 abbrev pub workers_over : World → Bool
 workers_over W = list_all (λ (thread : Thread). is_over thread.stage) (drop 1 W.threads)
 
-abbrev pub is_empty : List Instruction → Bool
-is_empty [] = true
-is_empty (next ∷ rest) = false
+-- what stands first in a task's code
+abbrev pub first_of : List Instruction → Option Instruction
+first_of [] = None
+first_of (next ∷ rest) = Some next
 
 -- the task's function has returned
 abbrev pub has_returned : Task → Bool
-has_returned task = is_empty task.code && is_some task.value
+has_returned task = is_none (first_of task.code) && is_some task.value
 
 -- thread 0 with no task: the initial task stands next, or has been
 abbrev pub around_initial : Condition → Option Event
@@ -69,19 +70,27 @@ abbrev pub may_pass : Region → Bool
 may_pass region = all_members region.size region.arrived || some_member region.size region.passed
 
 -- a task whose code goes on, by what stands first in it. Where nothing does, a member comes to its region's barrier
-abbrev pub event_of_code : World → ℕ → List Instruction → Option Event
-event_of_code W k [] = if k == INITIAL_TASK then initial_end W else Some (BarrierBegin (task_at W k).region k)
-event_of_code W k (EnterBlock ∷ rest) = None
-event_of_code W k (LeaveBlock ∷ rest) = None
-event_of_code W k (Return value ∷ rest) = None
-event_of_code W k (Parallel requested codeptr ∷ rest) = Some (ParallelBegin (length W.regions) requested codeptr)
+abbrev pub event_of_first : World → ℕ → Option Instruction → Option Event
+event_of_first W k None = if k == INITIAL_TASK then initial_end W else Some (BarrierBegin (task_at W k).region k)
+event_of_first W k (Some EnterBlock) = None
+event_of_first W k (Some LeaveBlock) = None
+event_of_first W k (Some (Return value)) = None
+event_of_first W k (Some (Parallel requested codeptr)) = Some (ParallelBegin (length W.regions) requested codeptr)
+
+-- a region ends where all members have left it
+abbrev pub region_end : World → ℕ → Option Event
+region_end W r = if all_members (region_at W r).size (region_at W r).left then Some (ParallelEnd r) else None
+
+-- the wait of a task at a region's barrier ends where it may
+abbrev pub wait_end : World → ℕ → ℕ → Option Event
+wait_end W r k = if may_pass (region_at W r) then Some (WaitEnd r k) else None
 
 -- a thread in this task, by where the task stands
 abbrev pub event_of_task : World → ℕ → TaskStage → Option Event
-event_of_task W k Running = event_of_code W k (task_at W k).code
-event_of_task W k (Forked r) = if all_members (region_at W r).size (region_at W r).left then Some (ParallelEnd r) else None
+event_of_task W k Running = event_of_first W k (first_of (task_at W k).code)
+event_of_task W k (Forked r) = region_end W r
 event_of_task W k AtBarrier = Some (WaitBegin (task_at W k).region k)
-event_of_task W k Waiting = if may_pass (region_at W (task_at W k).region) then Some (WaitEnd (task_at W k).region k) else None
+event_of_task W k Waiting = wait_end W (task_at W k).region k
 event_of_task W k Passed = Some (BarrierEnd (task_at W k).region k)
 event_of_task W k Over = Some (MemberEnd (task_at W k).region k)
 

@@ -1,25 +1,24 @@
 -- What is heard of a history: each registered event whose Back stands there.
 use Rattle.std.specs.Prelude.{ℕ, ◌+◌, Bool, true, false, ◌&&◌, ◌||◌, ◌==◌, if◌then◌else◌, List, [], ◌∷◌, ◌++◌, filter}
 use Rattle.ompt_calls.specs.declared.call.Call.{Call}
-use Rattle.ompt_calls.specs.Number.{number_of}
+use Rattle.ompt_calls.specs.declared.snapshot.Snapshot.{Snapshot}
+use Rattle.ompt_calls.specs.Item.{Item}
+use Rattle.ompt_calls.specs.Number.{number_of, is_registered}
+use Rattle.ompt_calls.specs.Snapshot.{Stored}
 use Rattle.omp_model.specs.declared.history.What.{What}
-use Rattle.omp_model.specs.declared.history.What.TheVariants.{Go, Back}
+use Rattle.omp_model.specs.declared.history.What.TheVariants.{Go, Put, Back}
 use Rattle.omp_model.specs.declared.history.Entry.{Entry}
 use Rattle.omp_model.specs.State.{Run, State, first}
-use Rattle.omp_model.specs.Calls.{call_of, is_registered}
+use Rattle.omp_model.specs.Calls.{call_of}
+use Rattle.omp_model.specs.Snapshots.{snap_of}
 use Rattle.omp_model.specs.declared.machine.Outcome.{Outcome}
 use Rattle.omp_model.specs.declared.machine.Outcome.TheVariants.{Idle, Quiet, Happens, Halts}
 use Rattle.omp_model.specs.Turn.{turn}
 use Rattle.omp_model.specs.Legal.{entered}
 
--- what is heard of an event: the position of its Go, its thread, and its call
-pub record Item : Type 0 where
-  pub seq : ℕ
-  pub thread : ℕ
-  pub call : Call
-
 abbrev pub is_back : What → Bool
 is_back Go = false
+is_back (Put target word) = false
 is_back Back = true
 
 -- a Back of the thread stands among these entries
@@ -27,22 +26,35 @@ abbrev pub has_back : ℕ → List Entry → Bool
 has_back t [] = false
 has_back t (entry ∷ rest) = (is_back entry.what && entry.thread == t) || has_back t rest
 
+-- the stores of an entry of the thread, and of those after it, up to the Back
+abbrev pub stores_at : What → List Stored → List Stored
+stores_at Go more = more
+stores_at (Put target word) more = record { target = target; word = word } ∷ more
+stores_at Back more = []
+
+-- the stores of the thread among these entries, up to its Back
+abbrev pub stores_in : ℕ → List Entry → List Stored
+stores_in t [] = []
+stores_in t (entry ∷ rest) = if entry.thread == t then stores_at entry.what (stores_in t rest) else stores_in t rest
+
 -- the call is heard where it is registered and its Back comes
-abbrev pub heard_call : Run → ℕ → ℕ → Call → List Entry → List Item
-heard_call run position t call rest =
+abbrev pub heard_call : Run → ℕ → ℕ → Call → Snapshot → List Entry → List Item
+heard_call run position t call snapshot rest =
     if is_registered run.mask (number_of call) && has_back t rest
-    then record { seq = position; thread = t; call = call } ∷ []
+    then record { seq = position; thread = t; call = call; snapshot = snapshot; stores = stores_in t rest } ∷ []
     else []
 
 abbrev pub heard_outcome : Run → ℕ → ℕ → State → Outcome → List Entry → List Item
 heard_outcome run position t after Idle rest = []
 heard_outcome run position t after Quiet rest = []
-heard_outcome run position t after (Happens event) rest = heard_call run position t (call_of after.world t event) rest
+heard_outcome run position t after (Happens event) rest =
+    heard_call run position t (call_of after.world t event) (snap_of after.world t event) rest
 heard_outcome run position t after (Halts halt) rest = []
 
 -- what is heard of one entry, which these follow
 abbrev pub heard_at : Run → State → ℕ → ℕ → What → List Entry → List Item
 heard_at run S position t Go rest = heard_outcome run position t (turn run S t).state (turn run S t).outcome rest
+heard_at run S position t (Put target word) rest = []
 heard_at run S position t Back rest = []
 
 -- what is heard of these entries on all threads, in order, from this state and position on

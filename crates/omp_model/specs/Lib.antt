@@ -1,6 +1,9 @@
 pub mod State
 pub mod Silent
 pub mod Events
+pub mod Words
+pub mod Frames
+pub mod Snapshots
 pub mod Calls
 pub mod Turn
 pub mod Legal

@@ -7,7 +7,7 @@ use Rattle.omp_model.specs.declared.history.What.TheVariants.{Go, Back}
 use Rattle.omp_model.specs.declared.history.Entry.{Entry}
 use Rattle.omp_model.specs.declared.history.EventRecord.{EventRecord}
 use Rattle.omp_model.specs.State.{Run}
-use Rattle.omp_model.specs.Calls.{fresh_word}
+use Rattle.omp_model.specs.Words.{fresh_word}
 
 -- the code of a main whose parallel blocks ask for so many threads. The first construct stands in line 2, and each takes
 -- two lines. The place of a construct is line × 65536 + column

@@ -1,11 +1,12 @@
 -- The records of a history, and their lines.
 use Rattle.std.specs.Prelude.{ℕ, List, map}
 use Rattle.std.specs.List.{flat_map}
+use Rattle.ompt_calls.specs.Item.{Item}
 use Rattle.ompt_calls.specs.Line.{line_text}
 use Rattle.omp_model.specs.declared.history.Entry.{Entry}
 use Rattle.omp_model.specs.declared.history.EventRecord.{EventRecord}
 use Rattle.omp_model.specs.State.{Run}
-use Rattle.omp_model.specs.Heard.{Item, heard}
+use Rattle.omp_model.specs.Heard.{heard}
 
 -- what is recorded of an item
 abbrev pub record_of : Item → EventRecord

@@ -1,5 +1,5 @@
--- The state of the machine: tasks and threads with what they have come to, and beside them the events whose callbacks
--- haven't returned, the counts of silent steps and turns, and what halted the run.
+-- The state of the machine: tasks and threads with what they have come to, and beside them the callbacks that haven't
+-- returned, the counts of silent steps and turns, and what halted the run.
 use Rattle.std.specs.Prelude.{ℕ, ℤ, zero, suc, ◌-◌, Bool, false, true, List, [], ◌∷◌, ◌++◌, Option, None, length, take, drop, replicate, slice_index_or, slice_set}
 use Rattle.omp_model.specs.declared.limits.TheConstants.{TEAM_LIMIT, IMPLICIT_REGION}
 use Rattle.omp_model.specs.declared.machine.Instruction.{Instruction}
@@ -11,7 +11,7 @@ use Rattle.omp_model.specs.declared.machine.ThreadStage.TheVariants as stage
 use Rattle.omp_model.specs.declared.machine.TaskStage.{TaskStage}
 use Rattle.omp_model.specs.declared.machine.TaskStage.TheVariants as task_stage
 use Rattle.omp_model.specs.declared.machine.Region.{Region}
-use Rattle.omp_model.specs.declared.machine.Event.{Event}
+use Rattle.omp_model.specs.declared.machine.Callback.{Callback}
 use Rattle.omp_model.specs.declared.machine.Halt.{Halt}
 
 -- what fixes a run: main's code, the callbacks that are registered (bit n for number n), how many threads there may be,
@@ -22,21 +22,23 @@ pub record Run : Type 0 where
   pub threads : ℕ
   pub steps : ℕ
 
--- a thread: how far it has come, the tasks that it has taken up, by identity, the current one last, and the region that
--- it is to join next, or 0
+-- a thread: how far it has come, the tasks that it has taken up, by identity, the current one last, the region that it is
+-- to join next, or 0, and what was last stored into its data word, or 0
 pub record Thread : Type 0 where
   pub stage : ThreadStage
   pub stack : List ℕ
   pub invited : ℕ
+  pub word : ℕ
 
--- a task: how far it has come, its region, where it stands, its remaining code, and the value that the last call to end
--- in it gave
+-- a task: how far it has come, its region, where it stands, its remaining code, the value that the last call to end in it
+-- gave, and what was last stored into its data word, or 0
 pub record Task : Type 0 where
   pub condition : Condition
   pub region : ℕ
   pub stage : TaskStage
   pub code : List Instruction
   pub value : Option ℤ
+  pub word : ℕ
 
 -- what events change: the threads by number, and the tasks and regions by identity. At identity 0 stands none
 pub record World : Type 0 where
@@ -46,8 +48,8 @@ pub record World : Type 0 where
 
 pub record State : Type 0 where
   pub world : World
-  -- for each thread the event whose callback hasn't returned
-  pub pending : List (Option Event)
+  -- for each thread the callback that it is inside
+  pub pending : List (Option Callback)
   -- how many silent steps were made so far
   pub steps : ℕ
   -- how many turns were begun so far
@@ -55,12 +57,13 @@ pub record State : Type 0 where
   -- what halted the run
   pub halt : Option Halt
 
--- a thread that wasn't made, and the task that there is none
+-- a thread that wasn't made
 abbrev pub unmade : Thread
-unmade = record { stage = stage.Unmade; stack = []; invited = 0 }
+unmade = record { stage = stage.Unmade; stack = []; invited = 0; word = 0 }
 
+-- the task that there is none
 abbrev pub no_task : Task
-no_task = record { condition = condition.Finished; region = 0; stage = task_stage.Over; code = []; value = None }
+no_task = record { condition = condition.Finished; region = 0; stage = task_stage.Over; code = []; value = None; word = 0 }
 
 -- a region that so many members are to join, none of which has come to anything
 abbrev pub none_so_far : List Bool
@@ -68,24 +71,26 @@ none_so_far = replicate TEAM_LIMIT false
 
 abbrev pub fresh_region : ℕ → ℕ → ℕ → Region
 fresh_region task size codeptr =
-    record { task = task; size = size; codeptr = codeptr; arrived = none_so_far; passed = none_so_far; left = none_so_far }
+    record { task = task; size = size; codeptr = codeptr; word = 0; arrived = none_so_far; passed = none_so_far; left = none_so_far }
 
 -- the region that there is none
 abbrev pub no_region : Region
 no_region = fresh_region 0 0 0
 
--- the thread with this number, and the task with this identity
+-- the thread with this number
 abbrev pub thread_at : World → ℕ → Thread
 thread_at W t = slice_index_or W.threads t unmade
 
+-- the task with this identity
 abbrev pub task_at : World → ℕ → Task
 task_at W k = slice_index_or W.tasks k no_task
 
+-- the region with this identity
 abbrev pub region_at : World → ℕ → Region
 region_at W r = slice_index_or W.regions r no_region
 
--- the event of this thread whose callback hasn't returned
-abbrev pub pending_at : State → ℕ → Option Event
+-- the callback that this thread is inside
+abbrev pub pending_at : State → ℕ → Option Callback
 pending_at S t = slice_index_or S.pending t None
 
 -- the current task of this thread, or 0
@@ -95,13 +100,15 @@ top_of stack = slice_index_or stack (length stack - 1) 0
 abbrev pub current : World → ℕ → ℕ
 current W t = top_of (thread_at W t).stack
 
--- one thread, or one task, is changed
+-- one thread is changed
 abbrev pub with_thread : World → ℕ → Thread → World
 with_thread W t thread = record W { threads = slice_set W.threads t thread }
 
+-- one task is changed
 abbrev pub with_task : World → ℕ → Task → World
 with_task W k task = record W { tasks = slice_set W.tasks k task }
 
+-- one region is changed
 abbrev pub with_region : World → ℕ → Region → World
 with_region W r region = record W { regions = slice_set W.regions r region }
 
@@ -172,15 +179,15 @@ left W r i = with_region W r (record (region_at W r) { left = slice_set (region_
 
 -- the implicit task of a member, which starts at once
 abbrev pub member_task : ℕ → Task
-member_task r = record { condition = condition.Started; region = r; stage = task_stage.Running; code = EnterBlock ∷ LeaveBlock ∷ []; value = None }
+member_task r = record { condition = condition.Started; region = r; stage = task_stage.Running; code = EnterBlock ∷ LeaveBlock ∷ []; value = None; word = 0 }
 
 -- the initial task, before it starts
 abbrev pub initial_task : List Instruction → Task
-initial_task code = record { condition = condition.Made; region = IMPLICIT_REGION; stage = task_stage.Running; code = code; value = None }
+initial_task code = record { condition = condition.Made; region = IMPLICIT_REGION; stage = task_stage.Running; code = code; value = None; word = 0 }
 
 -- the thread that is there from the start
 abbrev pub initial_thread : Thread
-initial_thread = record { stage = stage.Made; stack = []; invited = 0 }
+initial_thread = record { stage = stage.Made; stack = []; invited = 0; word = 0 }
 
 -- the state before the first entry: thread 0 and the initial task are made
 abbrev pub first : Run → State

@@ -1,6 +1,7 @@
 -- A turn: up to 64 silent steps of a thread, and then the next event, where the thread has come to one that is enabled.
 use Rattle.std.specs.Prelude.{ℕ, zero, suc, ◌+◌, ◌&&◌, Bool, true, false, nat_le, nat_lt, if◌then◌else◌, Option, Some, None, is_none, slice_set}
 use Rattle.omp_model.specs.declared.limits.TheConstants.{STEPS_OF_A_TURN, TURN_LIMIT}
+use Rattle.omp_model.specs.declared.machine.Callback.{Callback}
 use Rattle.omp_model.specs.declared.machine.Event.{Event}
 use Rattle.omp_model.specs.declared.machine.Halt.{Halt}
 use Rattle.omp_model.specs.declared.machine.Halt.TheVariants.{Limit}
@@ -42,13 +43,17 @@ counted S = record S { turns = S.turns + 1 }
 abbrev pub halted : State → Halt → Turn
 halted S halt = record { outcome = Halts halt; state = record (counted S) { halt = Some halt } }
 
+-- the callback of an event, before its tool has stored anything
+abbrev pub called : Event → Callback
+called event = record { event = event; stores = 0 }
+
 -- the event occurs, unless its Go meets a trap or a limit
 abbrev pub happening : State → ℕ → Event → Option Halt → Turn
 happening S t event (Some halt) = halted S halt
 happening S t event None =
     record {
       outcome = Happens event;
-      state = record (counted S) { world = at_go S.world t event; pending = slice_set S.pending t (Some event) };
+      state = record (counted S) { world = at_go S.world t event; pending = slice_set S.pending t (Some (called event)) };
     }
 
 -- after the silent steps: the event that the thread has come to, or none

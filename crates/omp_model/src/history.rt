@@ -2,7 +2,7 @@
 
 ghost use Rattle.std.specs.Prelude.{◌≡◌};
 
-use ompt_calls::Call;
+use ompt_calls::{Call, Target};
 use std::marker::Model;
 
 /// What one entry of a history is.
@@ -10,6 +10,8 @@ use std::marker::Model;
 pub enum What {
     /// One turn of the thread.
     Go,
+    /// The tool of the thread's event stores this number into a data word.
+    Put(Target, u64),
     /// The callback of the thread's event has returned, and the event's result takes hold.
     Back,
 }

@@ -4,16 +4,17 @@ ghost use Rattle.std.specs.Prelude.{◌≡◌, ℕ, ◌≤◌, List, Some};
 ghost use Rattle.omp_model.specs.declared.history.Entry.{Entry};
 ghost use Rattle.omp_model.specs.State.{Run};
 ghost use Rattle.omp_model.specs.Cause.{cause_of};
-ghost use Rattle.omp_model.specs.Serial.{WholeSerial, serial};
+ghost use Rattle.omp_model.specs.Serial.{WholeSerial, StoresNothing, serial};
 ghost use Rattle.omp_model.specs.Records.{records_of};
 ghost use Rattle.omp_model.specs.Program.{empty_run, empty_history, empty_records};
 
 use crate::cause::Cause;
 
-/// Two serial histories to the end are the same, and they are `serial`.
+/// Two serial histories to the end in which nothing is stored are the same, and they are `serial`.
 pub fn serial_history_is_one()
-    ensures one { (run : Run) (history other : List Entry) → WholeSerial run history → WholeSerial run other → history ≡ other }
-    ensures named { (run : Run) (history : List Entry) → WholeSerial run history → serial run ≡ history }
+    ensures one { (run : Run) (history other : List Entry) → WholeSerial run history → WholeSerial run other →
+        StoresNothing history → StoresNothing other → history ≡ other }
+    ensures named { (run : Run) (history : List Entry) → WholeSerial run history → StoresNothing history → serial run ≡ history }
 {}
 
 /// With all callbacks registered, a million silent steps and 1 to 16 threads, the serial run of the empty program has

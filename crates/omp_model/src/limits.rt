@@ -9,6 +9,9 @@ pub const TURN_LIMIT: u32 = 524_288;
 /// The most tasks on a thread's stack (limit 5).
 pub const STACK_LIMIT: usize = 256;
 
+/// The most words that a tool stores during one callback.
+pub const STORE_LIMIT: u8 = 3;
+
 /// The identity of the initial task.
 pub const INITIAL_TASK: u32 = 1;
 

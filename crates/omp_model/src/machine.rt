@@ -52,6 +52,8 @@ pub struct Region {
     pub size: u8,
     /// The place of the construct.
     pub codeptr: u64,
+    /// What a tool last stored into its data word, or 0.
+    pub word: u64,
     /// The members that have arrived at the barrier.
     pub arrived: [bool; TEAM_LIMIT],
     /// The members whose wait at the barrier has ended.
@@ -124,6 +126,15 @@ pub enum Event {
         region: u32,
         task: u32,
     },
+}
+
+/// The callback that a thread is inside.
+#[derive(Clone, Copy, Debug, PartialEq, Eq)]
+pub struct Callback {
+    /// The event that it is of.
+    pub event: Event,
+    /// How many words its tool has stored so far.
+    pub stores: u8,
 }
 
 /// What halted a run.
