@@ -1,24 +1,31 @@
 -- What a serial run has come to, however its history goes on: the invariant of a loop that appends each turn's entries.
-use Rattle.std.specs.Prelude.{◌≡◌, ℕ, zero, suc, ◌+◌, ◌-◌, ◌<◌, ◌≤◌, true, false, if◌then◌else◌, List, [], ◌∷◌, ◌++◌, length, map, Option, Some, None, IsSome, refl}
+use Rattle.std.specs.Prelude.{◌≡◌, ℕ, zero, suc, ◌+◌, ◌-◌, ◌<◌, ◌≤◌, Bool, true, false, ◌&&◌, if◌then◌else◌, List, [], ◌∷◌, ◌++◌, length, map, Option, Some, None, IsSome, refl}
 use Rattle.std.proofs.Common.{filter, cond, ◌==◌, sym, ap, ◌∙◌, subst, subst₂, ◌⊎◌, inl, inr, append_assoc, append-nil, length-append, eq-eqb, arith}
 use Rattle.std.proofs.lemmas.Bool.{cases_eq, cases_lt}
-use Rattle.std.proofs.lemmas.List.{map-append}
+use Rattle.std.proofs.lemmas.List.{length-map}
 use Rattle.ompt_calls.specs.declared.call.Call.{Call}
-use Rattle.ompt_calls.specs.Number.{number_of}
+use Rattle.ompt_calls.specs.declared.snapshot.Snapshot.{Snapshot}
+use Rattle.ompt_calls.specs.declared.snapshot.Target.{Target}
+use Rattle.ompt_calls.specs.Item.{Item}
+use Rattle.ompt_calls.specs.Number.{number_of, is_registered}
+use Rattle.ompt_calls.specs.Snapshot.{Stored}
 use Rattle.omp_model.specs.declared.limits.TheConstants.{TURN_LIMIT}
 use Rattle.omp_model.specs.declared.history.What.TheVariants.{Go, Back}
 use Rattle.omp_model.specs.declared.history.Entry.{Entry}
 use Rattle.omp_model.specs.declared.history.EventRecord.{EventRecord}
+use Rattle.omp_model.specs.declared.machine.Callback.{Callback}
 use Rattle.omp_model.specs.declared.machine.Event.{Event}
 use Rattle.omp_model.specs.State.{Run, State, first, pending_at}
-use Rattle.omp_model.specs.Calls.{call_of, is_registered}
+use Rattle.omp_model.specs.Calls.{call_of}
+use Rattle.omp_model.specs.Snapshots.{snap_of}
 use Rattle.omp_model.specs.declared.machine.Outcome.{Outcome}
 use Rattle.omp_model.specs.declared.machine.Outcome.TheVariants.{Idle, Quiet, Happens, Halts}
 use Rattle.omp_model.specs.Turn.{turn, enabled}
-use Rattle.omp_model.specs.Legal.{back, after_from, after, AllowsFrom}
-use Rattle.omp_model.specs.Heard.{Item, heard_call, heard_outcome, heard_from}
-use Rattle.omp_model.specs.Serial.{enabled_among, or_else, first_enabled, Visit, start, go_of, onward_from, inside_after, Leads, Serial, WholeSerial}
-use Rattle.omp_model.specs.Records.{record_of, records_of}
+use Rattle.omp_model.specs.Legal.{put_from, put, back, after_from, after, AllowsFrom}
+use Rattle.omp_model.specs.Heard.{has_back, stores_in, heard_call, heard_outcome, heard_from, heard}
+use Rattle.omp_model.specs.Serial.{enabled_among, or_else, first_enabled, Visit, start, go_of, onward_from, inside_after, Leads, StoresNothing, Serial, WholeSerial}
+use Rattle.omp_model.specs.Storing.{put_all, MayStore, put_at, puts_at}
+use Rattle.omp_model.specs.Records.{record_of}
 use Rattle.omp_model.specs.Running.{HasRun}
 use Rattle.omp_model.proofs.Turns.{turns-rise, turn-below, back-turns, back-halt}
 
@@ -83,12 +90,13 @@ first_enabled-none run S next low is =
     none-among run S 0 run.threads (λ t bottom high. elim (cases_lt t next) [ inl before ↦ among-none run S 0 next t parts.1 (omega arith) (omega arith) | inr from ↦ among-none run S next (run.threads - next) t parts.0 from (omega arith) ])
 
 -- before the first entry
-pub HasRun-start : (run : Run) → HasRun run [] [] (start run)
-HasRun-start run = record { legal = λ rest allows. allows; reached = λ rest. refl; in_turn = λ rest last leads. leads; recorded = λ rest. refl; short = omega arith; running = λ on. omega arith; outside = refl }
+pub HasRun-start : (run : Run) → HasRun run [] (start run)
+HasRun-start run =
+    record { legal = λ rest allows. allows; reached = λ rest. refl; in_turn = λ rest last leads. leads; heard_on = λ rest. refl; short = omega arith; running = λ on. omega arith; outside = refl }
 
 -- a history of which this is known is legal and serial
-pub HasRun-serial : {run : Run} {H : List Entry} {R : List EventRecord} {v : Visit} → HasRun run H R v → Serial run H
-HasRun-serial {run} {H} {R} {v} has =
+pub HasRun-serial : {run : Run} {H : List Entry} {v : Visit} → HasRun run H v → Serial run H
+HasRun-serial {run} {H} {v} has =
     record {
       legal = subst (λ K. AllowsFrom run (first run) K) (append-nil H) (has.legal [] tt);
       last = v;
@@ -96,16 +104,12 @@ HasRun-serial {run} {H} {R} {v} has =
     }
 
 -- the state after it
-pub HasRun-after : {run : Run} {H : List Entry} {R : List EventRecord} {v : Visit} → HasRun run H R v → after run H ≡ v.state
-HasRun-after {run} {H} {R} {v} has = subst (λ K. after_from run (first run) K ≡ v.state) (append-nil H) (has.reached [])
-
--- its records
-pub HasRun-records : {run : Run} {H : List Entry} {R : List EventRecord} {v : Visit} → HasRun run H R v → records_of run H ≡ R
-HasRun-records {run} {H} {R} {v} has = subst (λ K. map record_of (heard_from run (first run) 0 K) ≡ R) (append-nil H) (has.recorded [] ∙ append-nil R)
+pub HasRun-after : {run : Run} {H : List Entry} {v : Visit} → HasRun run H v → after run H ≡ v.state
+HasRun-after {run} {H} {v} has = subst (λ K. after_from run (first run) K ≡ v.state) (append-nil H) (has.reached [])
 
 -- it is a whole one where it is no thread's turn
-pub HasRun-whole : {run : Run} {H : List Entry} {R : List EventRecord} {v : Visit} → HasRun run H R v → first_enabled run v.state v.next ≡ None → WholeSerial run H
-HasRun-whole {run} {H} {R} {v} has none =
+pub HasRun-whole : {run : Run} {H : List Entry} {v : Visit} → HasRun run H v → first_enabled run v.state v.next ≡ None → WholeSerial run H
+HasRun-whole {run} {H} {v} has none =
     record {
       legal = (HasRun-serial has).legal;
       last = v;
@@ -120,11 +124,107 @@ unheard run position t S Quiet rest is = refl
 unheard run position t S (Happens e) rest is = cc
 unheard run position t S (Halts h) rest is = refl
 
+-- a store keeps the count of turns and what halted the run
+put_from-keeps : (S : State) (t : ℕ) (target : Target) (word : ℕ) (callback : Option Callback) → ((put_from S t target word callback).turns ≡ S.turns) × ((put_from S t target word callback).halt ≡ S.halt)
+put_from-keeps S t target word None = (refl, refl)
+put_from-keeps S t target word (Some callback) = (refl, refl)
+
+-- and so do all the stores of a callback
+put_all-turns : (S : State) (t : ℕ) (stores : List Stored) → (put_all S t stores).turns ≡ S.turns
+put_all-turns S t [] = refl
+put_all-turns S t (store ∷ rest) = put_all-turns (put S t store.target store.word) t rest ∙ (put_from-keeps S t store.target store.word (pending_at S t)).0
+
+put_all-halt : (S : State) (t : ℕ) (stores : List Stored) → (put_all S t stores).halt ≡ S.halt
+put_all-halt S t [] = refl
+put_all-halt S t (store ∷ rest) = put_all-halt (put S t store.target store.word) t rest ∙ (put_from-keeps S t store.target store.word (pending_at S t)).1
+
+-- the entries of the stores of a callback and of its return, and those after it
+abbrev pub reply_at : ℕ → List Stored → List Entry → List Entry
+reply_at t stores rest = puts_at t stores ++ back_at t ∷ rest
+
+-- they are allowed in turn
+reply-legal : (run : Run) (S : State) (t : ℕ) (stores : List Stored) (rest : List Entry) → MayStore run S t stores → IsSome (pending_at (put_all S t stores) t) → AllowsFrom run (back (put_all S t stores) t) rest → AllowsFrom run S (reply_at t stores rest)
+reply-legal run S t [] rest may inside allows = (inside, allows)
+reply-legal run S t (store ∷ stores) rest may inside allows = (may.0, reply-legal run (put S t store.target store.word) t stores rest may.1 inside allows)
+
+-- they lead to the state after the return
+reply-after : (run : Run) (S : State) (t : ℕ) (stores : List Stored) (rest : List Entry) → after_from run S (reply_at t stores rest) ≡ after_from run (back (put_all S t stores) t) rest
+reply-after run S t [] rest = refl
+reply-after run S t (store ∷ stores) rest = reply-after run (put S t store.target store.word) t stores rest
+
+-- they are in turn
+reply-leads : (run : Run) (S : State) (t next : ℕ) (stores : List Stored) (rest : List Entry) (last : Visit) → Leads run (record { state = back (put_all S t stores) t; next = next; inside = None }) rest last → Leads run (record { state = S; next = next; inside = Some t }) (reply_at t stores rest) last
+reply-leads run S t next [] rest last leads = (refl, leads)
+reply-leads run S t next (store ∷ stores) rest last leads = (refl, reply-leads run (put S t store.target store.word) t next stores rest last leads)
+
+-- nothing begins to be heard in them
+reply-heard : (run : Run) (S : State) (position t : ℕ) (stores : List Stored) (rest : List Entry) → heard_from run S position (reply_at t stores rest) ≡ heard_from run (back (put_all S t stores) t) (position + length stores + 1) rest
+reply-heard run S position t [] rest = ap (λ p. heard_from run (back S t) p rest) (omega arith)
+reply-heard run S position t (store ∷ stores) rest =
+    reply-heard run (put S t store.target store.word) (position + 1) t stores rest ∙ ap (λ p. heard_from run (back (put_all (put S t store.target store.word) t stores) t) p rest) (omega arith)
+
+-- the return stands among them
+reply-back : (t : ℕ) (stores : List Stored) (rest : List Entry) → has_back t (reply_at t stores rest) ≡ true
+reply-back t [] rest = rw (eq-eqb t t refl) refl
+reply-back t (store ∷ stores) rest = reply-back t stores rest
+
+-- and the stores are theirs
+reply-stores : (t : ℕ) (stores : List Stored) (rest : List Entry) → stores_in t (reply_at t stores rest) ≡ stores
+reply-stores t [] rest = rw (eq-eqb t t refl) refl
+reply-stores t (store ∷ stores) rest = rw (eq-eqb t t refl) (ap (λ more. store ∷ more) (reply-stores t stores rest))
+
+-- what is heard of a call with these stores, whatever comes after its return
+abbrev pub said_of : Run → ℕ → ℕ → Call → Snapshot → List Stored → List Item
+said_of run position t call snapshot stores =
+    if is_registered run.mask (number_of call)
+    then record { seq = position; thread = t; call = call; snapshot = snapshot; stores = stores } ∷ []
+    else []
+
+heard-said : (run : Run) (position t : ℕ) (call : Call) (snapshot : Snapshot) (stores : List Stored) (rest : List Entry) → heard_call run position t call snapshot (reply_at t stores rest) ≡ said_of run position t call snapshot stores
+heard-said run position t call snapshot stores rest = rw (reply-back t stores rest, reply-stores t stores rest) (said (is_registered run.mask (number_of call)))
+  where
+    one : List Item
+    one = record { seq = position; thread = t; call = call; snapshot = snapshot; stores = stores } ∷ []
+
+    said : (b : Bool) → (if b && true then one else []) ≡ (if b then one else [])
+    said true = refl
+    said false = refl
+
+-- the entries of a turn with an event, with what its tool stores
+abbrev pub event_at : ℕ → List Stored → List Entry
+event_at t stores = go_at t ∷ reply_at t stores []
+
+-- with more entries after them
+event-then : (t : ℕ) (stores : List Stored) (rest : List Entry) → event_at t stores ++ rest ≡ go_at t ∷ reply_at t stores rest
+event-then t stores rest = ap (λ more. go_at t ∷ more) (append_assoc (puts_at t stores) (back_at t ∷ []) rest)
+
+-- what is heard of them, and after them
+event-heard : (run : Run) (S : State) (position t : ℕ) (e : Event) (stores : List Stored) (rest : List Entry) → (turn run S t).outcome ≡ Happens e
+    → heard_from run S position (go_at t ∷ reply_at t stores rest) ≡ said_of run position t (call_of (turn run S t).state.world t e) (snap_of (turn run S t).state.world t e) stores ++ heard_from run (back (put_all (turn run S t).state t stores) t) (position + 1 + length stores + 1) rest
+event-heard run S position t e stores rest happens =
+    let between : State = (turn run S t).state in
+    ap (λ o. heard_outcome run position t between o (reply_at t stores rest) ++ heard_from run between (position + 1) (reply_at t stores rest)) happens
+    ∙ ap (λ said. said ++ heard_from run between (position + 1) (reply_at t stores rest)) (heard-said run position t (call_of between.world t e) (snap_of between.world t e) stores rest)
+    ∙ ap (λ more. said_of run position t (call_of between.world t e) (snap_of between.world t e) stores ++ more) (reply-heard run between (position + 1) t stores rest)
+
+-- what is heard grows by this
+pub heard-event :
+    {run : Run} {H : List Entry} {v : Visit} (t : ℕ) (e : Event) (stores : List Stored) → HasRun run H v → (turn run v.state t).outcome ≡ Happens e
+    → heard run (H ++ event_at t stores) ≡ heard run H ++ said_of run (length H) t (call_of (turn run v.state t).state.world t e) (snap_of (turn run v.state t).state.world t e) stores
+heard-event {run} {H} {v} t e stores has happens =
+    has.heard_on (event_at t stores)
+    ∙ ap (λ more. heard run H ++ more) (event-heard run v.state (length H) t e stores [] happens ∙ append-nil (said_of run (length H) t (call_of (turn run v.state t).state.world t e) (snap_of (turn run v.state t).state.world t e) stores))
+
+-- and not at all by a turn with no event
+pub heard-alone : {run : Run} {H : List Entry} {v : Visit} (t : ℕ) → HasRun run H v → inside_after (turn run v.state t).outcome t ≡ None → heard run (H ++ go_at t ∷ []) ≡ heard run H
+heard-alone {run} {H} {v} t has alone =
+    has.heard_on (go_at t ∷ []) ∙ ap (λ items. heard run H ++ (items ++ [])) (unheard run (length H) t (turn run v.state t).state (turn run v.state t).outcome [] alone) ∙ append-nil (heard run H)
+
 -- the history grows by a turn with no event
 pub HasRun-alone :
-    {run : Run} {H : List Entry} {R : List EventRecord} {v : Visit} (t : ℕ) → HasRun run H R v → first_enabled run v.state v.next ≡ Some t → inside_after (turn run v.state t).outcome t ≡ None
-    → HasRun run (H ++ go_at t ∷ []) R (record { state = (turn run v.state t).state; next = t + 1; inside = None })
-HasRun-alone {run} {H} {R} {v} t has is alone =
+    {run : Run} {H : List Entry} {v : Visit} (t : ℕ) → HasRun run H v → first_enabled run v.state v.next ≡ Some t → inside_after (turn run v.state t).outcome t ≡ None
+    → HasRun run (H ++ go_at t ∷ []) (record { state = (turn run v.state t).state; next = t + 1; inside = None })
+HasRun-alone {run} {H} {v} t has is alone =
     let goes = first_enabled-enabled run v.state v.next t is in
     let reach : Visit = record { state = (turn run v.state t).state; next = t + 1; inside = None } in
     let along = λ (rest : List Entry). sym (append_assoc H (go_at t ∷ []) rest) in
@@ -137,93 +237,57 @@ HasRun-alone {run} {H} {R} {v} t has is alone =
             ap (onward_from run v) has.outside ∙ ap go_of is,
             subst (λ i. Leads run (record { state = (turn run v.state t).state; next = t + 1; inside = i }) rest last) (sym alone) leads,
           ));
-      recorded = λ rest.
-          subst₂ (λ K p. map record_of (heard_from run (first run) 0 K) ≡ R ++ map record_of (heard_from run reach.state p rest)) (along rest) (sym (length-append H (go_at t ∷ [])))
-          (has.recorded (go_at t ∷ rest) ∙ ap (λ items. R ++ map record_of (items ++ heard_from run reach.state (length H + 1) rest)) (unheard run (length H) t reach.state (turn run v.state t).outcome rest alone));
+      heard_on = λ rest.
+          subst (λ K. heard run K ≡ heard run (H ++ go_at t ∷ []) ++ heard_from run reach.state (length (H ++ go_at t ∷ [])) rest) (along rest)
+          (has.heard_on (go_at t ∷ rest)
+          ∙ ap (λ items. heard run H ++ (items ++ heard_from run reach.state (length H + 1) rest)) (unheard run (length H) t reach.state (turn run v.state t).outcome rest alone)
+          ∙ subst₂ (λ before p. heard run H ++ heard_from run reach.state (length H + 1) rest ≡ before ++ heard_from run reach.state p rest) (sym (heard-alone t has alone)) (sym (length-append H (go_at t ∷ []))) refl);
       short = let long = length-append H (go_at t ∷ []) in let rise = turns-rise run v.state t goes in let shorter = has.short in omega arith;
       running = λ on. turn-below run v.state t goes on;
       outside = refl;
     }
 
--- the history grows by a turn with an event and its callback's return, and the records by what is heard of it
-HasRun-paired :
-    {run : Run} {H : List Entry} {R : List EventRecord} {v : Visit} (t : ℕ) (e : Event) (told : List EventRecord) → HasRun run H R v → first_enabled run v.state v.next ≡ Some t → (turn run v.state t).outcome ≡ Happens e
-    → IsSome (pending_at (turn run v.state t).state t) → ((rest : List Entry) → map record_of (heard_call run (length H) t (call_of (turn run v.state t).state.world t e) (back_at t ∷ rest)) ≡ told)
-    → HasRun run (H ++ go_at t ∷ back_at t ∷ []) (R ++ told) (record { state = back (turn run v.state t).state t; next = t + 1; inside = None })
-HasRun-paired {run} {H} {R} {v} t e told has is happens inside heard =
+-- the history grows by a turn with an event, what its tool stores, and its callback's return
+pub HasRun-event :
+    {run : Run} {H : List Entry} {v : Visit} (t : ℕ) (e : Event) (stores : List Stored) → HasRun run H v → first_enabled run v.state v.next ≡ Some t → (turn run v.state t).outcome ≡ Happens e
+    → length stores ≤ 3 → MayStore run (turn run v.state t).state t stores → IsSome (pending_at (put_all (turn run v.state t).state t stores) t)
+    → HasRun run (H ++ event_at t stores) (record { state = back (put_all (turn run v.state t).state t stores) t; next = t + 1; inside = None })
+HasRun-event {run} {H} {v} t e stores has is happens few may inside =
     let goes = first_enabled-enabled run v.state v.next t is in
     let between : State = (turn run v.state t).state in
-    let reach : Visit = record { state = back between t; next = t + 1; inside = None } in
-    let both : List Entry = go_at t ∷ back_at t ∷ [] in
-    let along = λ (rest : List Entry). sym (append_assoc H both rest) in
-    let long : length (H ++ both) ≡ length H + 1 + 1 = omega (arith, length-append H both) in
+    let stored : State = put_all between t stores in
+    let reach : Visit = record { state = back stored t; next = t + 1; inside = None } in
+    let said : List Item = said_of run (length H) t (call_of between.world t e) (snap_of between.world t e) stores in
+    let along = λ (rest : List Entry). ap (λ more. H ++ more) (sym (event-then t stores rest)) ∙ sym (append_assoc H (event_at t stores) rest) in
+    let long : length (H ++ event_at t stores) ≡ length H + 1 + length stores + 1 =
+    omega (arith, length-append H (event_at t stores), length-append (puts_at t stores) (back_at t ∷ []), length-map stores (put_at t)) in
     record {
-      legal = λ rest allows. subst (λ K. AllowsFrom run (first run) K) (along rest) (has.legal (go_at t ∷ back_at t ∷ rest) (goes, (inside, allows)));
-      reached = λ rest. subst (λ K. after_from run (first run) K ≡ after_from run reach.state rest) (along rest) (has.reached (go_at t ∷ back_at t ∷ rest));
+      legal = λ rest allows. subst (λ K. AllowsFrom run (first run) K) (along rest) (has.legal (go_at t ∷ reply_at t stores rest) (goes, reply-legal run between t stores rest may inside allows));
+      reached = λ rest. subst (λ K. after_from run (first run) K ≡ after_from run reach.state rest) (along rest) (has.reached (go_at t ∷ reply_at t stores rest) ∙ reply-after run between t stores rest);
       in_turn = λ rest last leads.
           subst (λ K. Leads run (start run) K last) (along rest)
-          (has.in_turn (go_at t ∷ back_at t ∷ rest) last
-          (ap (onward_from run v) has.outside ∙ ap go_of is, (ap (λ o. onward_from run (record { state = between; next = t + 1; inside = inside_after o t }) (inside_after o t)) happens, leads)));
-      recorded = λ rest.
-          subst₂ (λ K p. map record_of (heard_from run (first run) 0 K) ≡ (R ++ told) ++ map record_of (heard_from run reach.state p rest)) (along rest) (sym long)
-          (has.recorded (go_at t ∷ back_at t ∷ rest)
-          ∙ ap (λ o. R ++ map record_of (heard_outcome run (length H) t between o (back_at t ∷ rest) ++ heard_from run reach.state (length H + 1 + 1) rest)) happens
-          ∙ ap (λ records. R ++ records) (map-append record_of (heard_call run (length H) t (call_of between.world t e) (back_at t ∷ rest)) (heard_from run reach.state (length H + 1 + 1) rest) ∙ ap (λ records. records ++ map record_of (heard_from run reach.state (length H + 1 + 1) rest)) (heard rest))
-          ∙ sym (append_assoc R told (map record_of (heard_from run reach.state (length H + 1 + 1) rest))));
-      short = let rise = turns-rise run v.state t goes in let kept = back-turns between t in let shorter = has.short in omega arith;
+          (has.in_turn (go_at t ∷ reply_at t stores rest) last
+          (ap (onward_from run v) has.outside ∙ ap go_of is, subst (λ i. Leads run (record { state = between; next = t + 1; inside = i }) (reply_at t stores rest) last) (sym (ap (λ o. inside_after o t) happens)) (reply-leads run between t (t + 1) stores rest last leads)));
+      heard_on = λ rest.
+          subst (λ K. heard run K ≡ heard run (H ++ event_at t stores) ++ heard_from run reach.state (length (H ++ event_at t stores)) rest) (along rest)
+          (has.heard_on (go_at t ∷ reply_at t stores rest)
+          ∙ ap (λ more. heard run H ++ more) (event-heard run v.state (length H) t e stores rest happens)
+          ∙ sym (append_assoc (heard run H) said (heard_from run reach.state (length H + 1 + length stores + 1) rest))
+          ∙ subst₂ (λ before p. (heard run H ++ said) ++ heard_from run reach.state (length H + 1 + length stores + 1) rest ≡ before ++ heard_from run reach.state p rest) (sym (heard-event t e stores has happens)) (sym long) refl);
+      short = let rise = turns-rise run v.state t goes in let kept = put_all-turns between t stores in let same = back-turns stored t in let shorter = has.short in omega arith;
       running = λ on.
-          let below = turn-below run v.state t goes (sym (back-halt between t) ∙ on) in
-          subst (λ n. n < TURN_LIMIT) (sym (back-turns between t)) below;
+          let below = turn-below run v.state t goes (sym (put_all-halt between t stores) ∙ sym (back-halt stored t) ∙ on) in
+          subst (λ n. n < TURN_LIMIT) (sym (back-turns stored t ∙ put_all-turns between t stores)) below;
       outside = refl;
     }
-
--- what is heard of a registered call whose Back comes next
-heard-told : (run : Run) (position t : ℕ) (call : Call) (rest : List Entry) → is_registered run.mask (number_of call) ≡ true → map record_of (heard_call run position t call (back_at t ∷ rest)) ≡ record { seq = position; thread = t; call = call } ∷ []
-heard-told run position t call rest registered = rw (registered, eq-eqb t t refl)
-
--- nothing is heard of a call that isn't registered
-heard-untold : (run : Run) (position t : ℕ) (call : Call) (rest : List Entry) → is_registered run.mask (number_of call) ≡ false → map record_of (heard_call run position t call rest) ≡ []
-heard-untold run position t call rest registered = rw registered
-
--- the history grows by a turn with an event that is registered, and its callback's return
-pub HasRun-told_pair :
-    {run : Run} {H : List Entry} {R : List EventRecord} {v : Visit} (t : ℕ) (e : Event) → HasRun run H R v → first_enabled run v.state v.next ≡ Some t → (turn run v.state t).outcome ≡ Happens e
-    → IsSome (pending_at (turn run v.state t).state t) → is_registered run.mask (number_of (call_of (turn run v.state t).state.world t e)) ≡ true
-    → HasRun run (H ++ go_at t ∷ back_at t ∷ []) (R ++ record { seq = length H; thread = t; call = call_of (turn run v.state t).state.world t e } ∷ []) (record { state = back (turn run v.state t).state t; next = t + 1; inside = None })
-HasRun-told_pair {run} {H} {R} {v} t e has is happens inside registered =
-    let call = call_of (turn run v.state t).state.world t e in
-    HasRun-paired t e (record { seq = length H; thread = t; call = call } ∷ []) has is happens inside (λ rest. heard-told run (length H) t call rest registered)
-
--- the history grows by a turn with an event that isn't registered, and its callback's return
-pub HasRun-untold_pair :
-    {run : Run} {H : List Entry} {R : List EventRecord} {v : Visit} (t : ℕ) (e : Event) → HasRun run H R v → first_enabled run v.state v.next ≡ Some t → (turn run v.state t).outcome ≡ Happens e
-    → IsSome (pending_at (turn run v.state t).state t) → is_registered run.mask (number_of (call_of (turn run v.state t).state.world t e)) ≡ false
-    → HasRun run (H ++ go_at t ∷ back_at t ∷ []) R (record { state = back (turn run v.state t).state t; next = t + 1; inside = None })
-HasRun-untold_pair {run} {H} {R} {v} t e has is happens inside registered =
-    let call = call_of (turn run v.state t).state.world t e in
-    let reach : Visit = record { state = back (turn run v.state t).state t; next = t + 1; inside = None } in
-    subst (λ K. HasRun run (H ++ go_at t ∷ back_at t ∷ []) K reach) (append-nil R) (HasRun-paired t e [] has is happens inside (λ rest. heard-untold run (length H) t call (back_at t ∷ rest) registered))
-
--- two entries may be pushed one after the other
-pushed-pair : (run : Run) (H : List Entry) (R : List EventRecord) (v : Visit) (one other : Entry) → HasRun run (H ++ one ∷ other ∷ []) R v → HasRun run ((H ++ one ∷ []) ++ other ∷ []) R v
-pushed-pair run H R v one other has = subst (λ K. HasRun run K R v) (sym (append_assoc H (one ∷ []) (other ∷ []))) has
-
--- the same of a registered event, where the entries are pushed one after the other
-pub HasRun-told :
-    {run : Run} {H : List Entry} {R : List EventRecord} {v : Visit} (t : ℕ) (e : Event) → HasRun run H R v → first_enabled run v.state v.next ≡ Some t → (turn run v.state t).outcome ≡ Happens e
-    → IsSome (pending_at (turn run v.state t).state t) → is_registered run.mask (number_of (call_of (turn run v.state t).state.world t e)) ≡ true
-    → HasRun run ((H ++ go_at t ∷ []) ++ back_at t ∷ []) (R ++ record { seq = length H; thread = t; call = call_of (turn run v.state t).state.world t e } ∷ []) (record { state = back (turn run v.state t).state t; next = t + 1; inside = None })
-HasRun-told t e has is happens inside registered = pushed-pair _ _ _ _ (go_at t) (back_at t) (HasRun-told_pair t e has is happens inside registered)
-
--- the same of an event that isn't registered
-pub HasRun-untold :
-    {run : Run} {H : List Entry} {R : List EventRecord} {v : Visit} (t : ℕ) (e : Event) → HasRun run H R v → first_enabled run v.state v.next ≡ Some t → (turn run v.state t).outcome ≡ Happens e
-    → IsSome (pending_at (turn run v.state t).state t) → is_registered run.mask (number_of (call_of (turn run v.state t).state.world t e)) ≡ false
-    → HasRun run ((H ++ go_at t ∷ []) ++ back_at t ∷ []) R (record { state = back (turn run v.state t).state t; next = t + 1; inside = None })
-HasRun-untold t e has is happens inside registered = pushed-pair _ _ _ _ (go_at t) (back_at t) (HasRun-untold_pair t e has is happens inside registered)
 
 -- the records of one thread are what is heard on it
 pub records-by_thread : (items : List Item) (t : ℕ) → filter (λ (event : EventRecord). event.thread == t) (map record_of items) ≡ map record_of (filter (λ (item : Item). item.thread == t) items)
 records-by_thread [] t = refl
 records-by_thread (item ∷ items) t =
     elim (item.thread == t) as (λ b. cond b (record_of item ∷ filter (λ (event : EventRecord). event.thread == t) (map record_of items)) (filter (λ (event : EventRecord). event.thread == t) (map record_of items)) ≡ map record_of (cond b (item ∷ filter (λ (item : Item). item.thread == t) items) (filter (λ (item : Item). item.thread == t) items))) [ true ↦ ap (λ others. record_of item ∷ others) (records-by_thread items t) | false ↦ records-by_thread items t ]
+
+-- a history in which nothing is stored, with more such entries
+pub StoresNothing-append : (H K : List Entry) → StoresNothing H → StoresNothing K → StoresNothing (H ++ K)
+StoresNothing-append [] K none silent = silent
+StoresNothing-append (entry ∷ H) K none silent = (none.0, StoresNothing-append H K none.1 silent)

@@ -10,6 +10,7 @@ pub mod Legal
 pub mod Cause
 pub mod Heard
 pub mod Serial
+pub mod Storing
 pub mod Records
 pub mod Program
 pub mod Running

@@ -38,6 +38,9 @@ pub use cause::Cause;
 pub use history::{Entry, EventRecord, History, What};
 pub use laws::{empty_program_ends, serial_history_is_one};
 pub use limits::{
-    IMPLICIT_REGION, INITIAL_TASK, STACK_LIMIT, STEPS_OF_A_TURN, STORE_LIMIT, TEAM_LIMIT, TURN_LIMIT,
+    IMPLICIT_REGION, INITIAL_TASK, STACK_LIMIT, STEPS_OF_A_TURN, STORE_LIMIT, TEAM_LIMIT,
+    TURN_LIMIT,
 };
-pub use machine::{Callback, Condition, Event, Halt, Instruction, Outcome, Region, TaskStage, ThreadStage};
+pub use machine::{
+    Callback, Condition, Event, Halt, Instruction, Outcome, Region, TaskStage, ThreadStage,
+};
