@@ -1,15 +1,49 @@
-//! What a tool meets of the runtime: today the registration of callbacks.
+//! What a tool and a runtime ask of each other: the registration of callbacks, and the calls that a tool gets.
 //!
-//! Proved for every number:
+//! A runtime calls a tool as a [`ToolPart`]: [`ToolPart::initialize`], [`ToolPart::callback`] for each event that the
+//! tool has registered, and [`ToolPart::finalize`]. A part keeps a relation, `stands_for`, between itself and a record of
+//! its calls: what each call of `initialize` answered and left registered, what each call of `callback` told and which of
+//! its stores took effect, and how many calls of `finalize` there were. Each kind of part defines the relation for itself.
+//!
+//! Every part promises, for every record that it stands for:
+//!
+//! - after `initialize`, `callback` and `finalize` it stands for the record with that call at its end;
+//! - after a `callback` that found no memory it stands for the same record.
+//!
+//! In return it is promised that nothing is registered yet when `initialize` is called. What a part does with a call, and
+//! whether it finds memory, is left to its own contracts.
+//!
+//! Proved by the contracts of each `impl`, over the definitions of `specs/`:
+//!
+//! - [`Guest`] hands each call on to the [`GuestTool`] in its box, and stands for what that tool stands for. So a call
+//!   that is left out, doubled or answered otherwise isn't proved;
+//! - [`Quiet`] leaves nothing registered, answers 0 to `initialize`, and stores nothing: that is `QuietFor`. Its
+//!   `callback` is never an error;
+//! - [`Handed`] stands for what the part that it holds stands for: that is `HandedFor`.
+//!
+//! Proved for every number, by the contracts of [`Registrar`]:
 //!
 //! - [`Registrar::new`] has nothing registered;
 //! - [`Registrar::set`] answers what `omp_codes` says, and registers the callback exactly where that is 5; all others
 //!   stay as they were;
 //! - [`Registrar::get`] answers 1 exactly where the callback is registered, and else 0.
+//!
+//! Tests run a small tool in a box, and compare its answers with values written out by hand. The must-fail edits try wrong
+//! bodies.
 #![tactic(auto)]
 
+mod guest;
+mod guest_tool;
+mod handed;
+mod part;
+mod quiet;
 mod registrar;
 #[cfg(test)]
 mod tests;
 
+pub use guest::Guest;
+pub use guest_tool::GuestTool;
+pub use handed::Handed;
+pub use part::{Memory, ToolPart};
+pub use quiet::Quiet;
 pub use registrar::Registrar;

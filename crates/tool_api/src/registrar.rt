@@ -1,10 +1,12 @@
 //! The registration of callbacks.
 
-ghost use Rattle.std.specs.Prelude.{◌≡◌, ◌<◌, ◌^◌, ℕ};
+ghost use Rattle.std.specs.Prelude.{◌≡◌, ◌^◌, ℕ};
 ghost use Rattle.omp_codes.specs.Answers.{answer_of};
-ghost use Rattle.tool_api.specs.Registering.{has, has_after, get_answer};
+ghost use Rattle.ompt_calls.specs.Number.{is_registered};
+ghost use Rattle.tool_api.specs.Registering.{is_registered_after, get_answer};
 
 use omp_codes::set_answer;
+use ompt_calls::is_registered;
 use std::marker::Model;
 
 /// What `set` answers where it registers: `ompt_set_always`.
@@ -45,7 +47,7 @@ impl Registrar {
     /// always, it is registered. Otherwise the answer is 1, never, or 0, an error, and nothing changes.
     pub fn set(&mut self, number: u32) -> u8
         ensures answer { result ≡ answer_of number }
-        ensures registers { (other : ℕ) → has self.new other ≡ has_after self.old number other }
+        ensures registers { (other : ℕ) → is_registered self.new other ≡ is_registered_after self.old number other }
     {
         let answer = set_answer(number);
         if answer == ALWAYS {
@@ -59,11 +61,11 @@ impl Registrar {
     pub fn get(&self, number: u32) -> u8
         ensures { result ≡ get_answer self.now number }
     {
-        let mask = self.mask;
-        if number >= 64 {
-            return 0;
+        if is_registered(self.mask, number) {
+            1
+        } else {
+            0
         }
-        if holds(mask, number) { 1 } else { 0 }
     }
 }
 
@@ -73,12 +75,4 @@ fn bit(number: u32) -> u64
     ensures { result ≡ 2 ^ number }
 {
     1 << number
-}
-
-/// Whether this bit of the mask is set.
-fn holds(mask: u64, number: u32) -> bool
-    requires { number < 64 }
-    ensures { result ≡ has mask number }
-{
-    (mask >> number) % 2 == 1
 }

@@ -1,0 +1,43 @@
+//! A part that does nothing.
+
+ghost use Rattle.std.specs.Prelude.{IfOk, OnErr, IsOk};
+ghost use Rattle.ompt_calls.specs.Item.{item_of};
+ghost use Rattle.tool_api.specs.Record.{Record, QuietFor, told};
+
+use crate::part::{Memory, ToolPart};
+use crate::registrar::Registrar;
+use ompt_calls::{Call, Reply, Snapshot};
+
+/// A part that registers nothing, answers 0 to `initialize`, and stores nothing.
+#[derive(Clone, Copy, Debug, PartialEq, Eq)]
+pub struct Quiet;
+
+impl ToolPart for Quiet {
+    ghost stands_for = { QuietFor };
+
+    fn initialize(&mut self, _registrar: &mut Registrar) -> u32 {
+        0
+    }
+
+    fn callback(
+        &mut self,
+        seq: u32,
+        thread: u8,
+        call: &Call,
+        snapshot: &Snapshot,
+    ) -> Result<Reply, Memory>
+        ensures heard { IfOk result (λ reply. (h : Record) → QuietFor self.old h → QuietFor self.new (told h (item_of seq thread call.now snapshot.now reply))) }
+        ensures memory { OnErr result ((h : Record) → QuietFor self.old h → QuietFor self.new h) }
+
+        // It takes no memory.
+        ensures no_error { IsOk result }
+    {
+        Ok(Reply {
+            first: None,
+            second: None,
+            third: None,
+        })
+    }
+
+    fn finalize(&mut self) {}
+}
