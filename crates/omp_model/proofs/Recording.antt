@@ -10,7 +10,6 @@ use Rattle.ompt_calls.specs.Item.{Item}
 use Rattle.ompt_calls.specs.Number.{number_of, is_registered}
 use Rattle.ompt_calls.specs.Snapshot.{Stored}
 use Rattle.omp_model.specs.declared.limits.TheConstants.{TURN_LIMIT}
-use Rattle.omp_model.specs.declared.history.What.TheVariants.{Go, Back}
 use Rattle.omp_model.specs.declared.history.Entry.{Entry}
 use Rattle.omp_model.specs.declared.history.EventRecord.{EventRecord}
 use Rattle.omp_model.specs.declared.machine.Callback.{Callback}
@@ -24,18 +23,10 @@ use Rattle.omp_model.specs.Turn.{turn, enabled}
 use Rattle.omp_model.specs.Legal.{put_from, put, back, after_from, after, AllowsFrom}
 use Rattle.omp_model.specs.Heard.{has_back, stores_in, heard_call, heard_outcome, heard_from, heard}
 use Rattle.omp_model.specs.Serial.{enabled_among, or_else, first_enabled, Visit, start, go_of, onward_from, inside_after, Leads, StoresNothing, Serial, WholeSerial}
-use Rattle.omp_model.specs.Storing.{put_all, MayStore, put_at, puts_at}
+use Rattle.omp_model.specs.Storing.{put_all, MayStore, put_at, puts_at, go_at, back_at, event_reply}
 use Rattle.omp_model.specs.Records.{record_of}
 use Rattle.omp_model.specs.Running.{HasRun}
 use Rattle.omp_model.proofs.Turns.{turns-rise, turn-below, back-turns, back-halt}
-
--- the entry of a turn
-abbrev pub go_at : ℕ → Entry
-go_at t = record { thread = t; what = Go }
-
--- the entry of its callback's return
-abbrev pub back_at : ℕ → Entry
-back_at t = record { thread = t; what = Back }
 
 -- the thread that is found is enabled
 among-enabled : (run : Run) (S : State) (from count t : ℕ) → enabled_among run S from count ≡ Some t → enabled run S t ≡ true
@@ -192,7 +183,7 @@ heard-said run position t call snapshot stores rest = rw (reply-back t stores re
 
 -- the entries of a turn with an event, with what its tool stores
 abbrev pub event_at : ℕ → List Stored → List Entry
-event_at t stores = go_at t ∷ reply_at t stores []
+event_at t stores = go_at t ∷ event_reply t stores
 
 -- with more entries after them
 event-then : (t : ℕ) (stores : List Stored) (rest : List Entry) → event_at t stores ++ rest ≡ go_at t ∷ reply_at t stores rest

@@ -14,7 +14,8 @@ use Rattle.omp_model.specs.Turn.{turn, enabled}
 use Rattle.omp_model.specs.Legal.{back}
 use Rattle.omp_model.specs.Serial.{first_enabled, Visit, start, go_of, onward_from, onward, inside_after, moved, is_no_put, Follows, Leads, StoresNothing, WholeSerial, serial_on, serial_from, serial}
 use Rattle.omp_model.proofs.Turns.{turn-goes, turn-not_idle, turn-quiet, turn-happens, turn-halts, turn-below, back-turns, back-halt}
-use Rattle.omp_model.proofs.Recording.{go_at, back_at, first_enabled-enabled}
+use Rattle.omp_model.specs.Storing.{go_at, back_at}
+use Rattle.omp_model.proofs.Recording.{first_enabled-enabled}
 
 -- an entry that stores nothing is the one that stands next
 plain : (run : Run) (v : Visit) (t : ℕ) (what : What) → IsTrue (is_no_put what) → Follows run v t what → onward run v ≡ Some (record { thread = t; what = what })

@@ -18,7 +18,12 @@ use Rattle.omp_model.specs.declared.machine.Outcome.TheVariants.{Idle, Quiet}
 use Rattle.omp_model.specs.State.{Run, World, State, Task, thread_at, task_at, no_task, current, conditioned, placed, pending_at, first}
 use Rattle.omp_model.specs.Silent.{Silence, NoStep, Steps, after_step, step_at, step_of, silence_of, silent}
 use Rattle.omp_model.specs.Events.{event, fault_at, push_fault, at_go, at_back}
-use Rattle.omp_model.specs.Legal.{back_from, back}
+use Rattle.ompt_calls.specs.declared.snapshot.Target.{Target}
+use Rattle.ompt_calls.specs.declared.snapshot.Target.TheVariants as target
+use Rattle.ompt_calls.specs.Snapshot.{Stored}
+use Rattle.omp_model.specs.Words.{stored}
+use Rattle.omp_model.specs.Storing.{put_all}
+use Rattle.omp_model.specs.Legal.{put_from, put, back_from, back}
 use Rattle.omp_model.specs.Turn.{Walk, walk_on, walk, stepped, Turn, counted, happening, after_steps, after_walk, halted, unlimited, turn}
 use Rattle.omp_model.specs.Cause.{threads_over, whole_value, is_stuck, cause_of_value, cause_of_whole, cause_by_halt, cause_in}
 use Rattle.omp_model.specs.Program.{blocks_code, run_of_blocks}
@@ -204,6 +209,22 @@ tame-back-from S t (Some callback) tame = record { tasks = tame-take-hold S.worl
 -- and so does the return of a thread's callback
 pub tame-back : (S : State) (t : ℕ) → IsTame S → IsTame (back S t)
 tame-back S t tame = tame-back-from S t (pending_at S t) tame
+
+-- a store changes no task's code and no value
+tame-stored : (W : World) (target : Target) (word : ℕ) → TameTasks W.tasks → TameTasks (stored W target word).tasks
+tame-stored W (target.Thread t) word all = all
+tame-stored W (target.Parallel r) word all = all
+tame-stored W (target.Task k) word all = let one = tame-at W.tasks k all in tame-set W.tasks k _ all (record { code = one.code; value = one.value })
+
+tame-put-from : (S : State) (t : ℕ) (target : Target) (word : ℕ) (callback : Option Callback) → IsTame S → IsTame (put_from S t target word callback)
+tame-put-from S t target word None tame = tame
+tame-put-from S t target word (Some callback) tame = record { tasks = tame-stored S.world target word tame.tasks; halt = tame.halt }
+
+-- the stores of a callback keep a state tame
+pub tame-put-all : (S : State) (t : ℕ) (stores : List Stored) → IsTame S → IsTame (put_all S t stores)
+tame-put-all S t [] tame = tame
+tame-put-all S t (store ∷ rest) tame =
+    tame-put-all (put S t store.target store.word) t rest (tame-put-from S t store.target store.word (pending_at S t) tame)
 
 -- main's code returns nothing but 0
 zero-blocks : (line : ℕ) (blocks : List ℕ) → ReturnsZero (blocks_code line blocks)

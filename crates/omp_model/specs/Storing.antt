@@ -1,7 +1,7 @@
 -- What the stores of a callback come to, one after another.
-use Rattle.std.specs.Prelude.{ℕ, IsTrue, List, [], ◌∷◌, map}
+use Rattle.std.specs.Prelude.{ℕ, IsTrue, List, [], ◌∷◌, ◌++◌, map}
 use Rattle.ompt_calls.specs.Snapshot.{Stored}
-use Rattle.omp_model.specs.declared.history.What.TheVariants.{Put}
+use Rattle.omp_model.specs.declared.history.What.TheVariants.{Go, Put, Back}
 use Rattle.omp_model.specs.declared.history.Entry.{Entry}
 use Rattle.omp_model.specs.State.{Run, State}
 use Rattle.omp_model.specs.Legal.{put, may}
@@ -24,3 +24,15 @@ put_at t store = record { thread = t; what = Put store.target store.word }
 -- the entries of these stores
 abbrev pub puts_at : ℕ → List Stored → List Entry
 puts_at t stores = map (put_at t) stores
+
+-- the entry of a turn
+abbrev pub go_at : ℕ → Entry
+go_at t = record { thread = t; what = Go }
+
+-- the entry of a callback's return
+abbrev pub back_at : ℕ → Entry
+back_at t = record { thread = t; what = Back }
+
+-- the entries of a reply with these stores: the stores and the return
+abbrev pub event_reply : ℕ → List Stored → List Entry
+event_reply t stores = puts_at t stores ++ back_at t ∷ []

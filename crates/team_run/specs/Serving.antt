@@ -1,0 +1,63 @@
+-- What the parts of a run are called for: each registered event of its thread, and the first of them also for the start and the
+-- end of the run.
+use Rattle.std.specs.Prelude.{ℕ, ◌≡◌, ◌<◌, ◌==◌, Bool, if◌then◌else◌, List, [], ◌∷◌, ◌++◌, length, slice_index_or}
+use Rattle.ompt_calls.specs.declared.call.Call.{Call}
+use Rattle.ompt_calls.specs.declared.snapshot.Snapshot.{Snapshot}
+use Rattle.ompt_calls.specs.declared.reply.Reply.{Reply}
+use Rattle.ompt_calls.specs.Item.{Item, item_of}
+use Rattle.ompt_calls.specs.Snapshot.{stores_of}
+use Rattle.tool_api.specs.Record.{Record, initialized, told, finalized}
+use Rattle.omp_model.specs.declared.history.Entry.{Entry}
+use Rattle.omp_model.specs.State.{Run, State}
+use Rattle.omp_model.specs.Legal.{back}
+use Rattle.omp_model.specs.Heard.{heard_of}
+use Rattle.omp_model.specs.Storing.{put_all, event_reply}
+
+-- the record after the calls of these items
+abbrev pub served : Record → List Item → Record
+served h items = record h { calls = h.calls ++ items }
+
+-- each part that stood for what its thread had heard of one history stands for what it has heard of the other
+pub record Serves {P : Type 0} (stands_for : P → Record → Type 0) (run : Run) (parts : List P) (history : List Entry) (after : List P) (longer : List Entry) : Type 0 where
+  pub as_many : length after ≡ length parts
+  pub each : (k : ℕ) (d : P) (h : Record) → k < length parts → stands_for (slice_index_or parts k d) (served h (heard_of run history k)) → stands_for (slice_index_or after k d) (served h (heard_of run longer k))
+
+-- the record of part k where the part of thread t was called for this item
+abbrev pub told_on : ℕ → ℕ → Item → Record → Record
+told_on t k item h = if k == t then told h item else h
+
+-- the callback of thread t's event was answered with this reply: its stores, the return, and the call of the thread's part
+pub record Answers {P : Type 0} (stands_for : P → Record → Type 0) (seq t : ℕ) (call : Call) (snapshot : Snapshot) (state : State) (parts : List P) (history : List Entry) (after : State) (others : List P) (longer : List Entry) : Type 0 where
+  pub reply : Reply
+  pub state_is : after ≡ back (put_all state t (stores_of reply snapshot)) t
+  pub history_is : longer ≡ history ++ event_reply t (stores_of reply snapshot)
+  pub as_many : length others ≡ length parts
+  pub each : (k : ℕ) (d : P) (h : Record) → k < length parts → stands_for (slice_index_or parts k d) h → stands_for (slice_index_or others k d) (told_on t k (item_of seq t call snapshot reply) h)
+
+-- each part stands for what it stood for
+pub record SameServed {P : Type 0} (stands_for : P → Record → Type 0) (parts others : List P) : Type 0 where
+  pub as_many : length others ≡ length parts
+  pub each : (k : ℕ) (d : P) (h : Record) → k < length parts → stands_for (slice_index_or parts k d) h → stands_for (slice_index_or others k d) h
+
+-- the mask of a run whose first part answered this and registered these
+abbrev pub mask_of : ℕ → ℕ → ℕ
+mask_of answer registered = if answer == 0 then 0 else registered
+
+-- an active part is finished at the end
+abbrev pub finished_by : ℕ → Record → Record
+finished_by answer h = if answer == 0 then h else finalized h
+
+-- the first part's record after a run: it was started with this answer and this registered, called for these items, and finished
+-- where it is active
+abbrev pub first_record : ℕ → ℕ → List Item → Record → Record
+first_record answer registered items h = finished_by answer (served (initialized h answer registered) items)
+
+-- the parts of a run with this history: the first was started and finished, and each was called for what its thread heard, in
+-- order, and for nothing else
+pub record RunsFor {P : Type 0} (stands_for : P → Record → Type 0) (run : Run) (history : List Entry) (parts after : List P) : Type 0 where
+  pub as_many : length after ≡ length parts
+  pub answer : ℕ
+  pub registered : ℕ
+  pub mask_is : run.mask ≡ mask_of answer registered
+  pub first : (d : P) (h : Record) → stands_for (slice_index_or parts 0 d) h → stands_for (slice_index_or after 0 d) (first_record answer registered (heard_of run history 0) h)
+  pub others : (k : ℕ) (d : P) (h : Record) → 0 < k → k < length parts → stands_for (slice_index_or parts k d) h → stands_for (slice_index_or after k d) (served h (heard_of run history k))

@@ -1,0 +1,10 @@
+//! Runs of a program, with the parts of a tool.
+#![tactic(auto)]
+
+mod entries;
+mod ran;
+mod serial;
+mod serial_run;
+
+pub use ran::{Memory, Ran};
+pub use serial::run_serial;

@@ -1,0 +1,19 @@
+//! What a run gave.
+
+use omp_model::{Cause, History};
+
+/// The error of a call that found no memory.
+pub type Memory = std::alloc::AllocError;
+
+/// What a run gave.
+#[derive(Drop)]
+pub struct Ran<P> {
+    /// Why it ended.
+    pub cause: Cause,
+    /// The callbacks that were registered: bit n for number n.
+    pub mask: u64,
+    /// Its entries.
+    pub history: History,
+    /// The parts, by thread.
+    pub parts: Vec<P>,
+}

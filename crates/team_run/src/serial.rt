@@ -1,0 +1,66 @@
+//! The serial run: threads take turns round and round, each a whole turn with its callback.
+
+ghost use Rattle.std.specs.Prelude.{◌≡◌, ◌≢◌, ◌≤◌, [], Some, IfOk, length, ℕ};
+ghost use Rattle.omp_model.specs.Serial.{Serial, serial};
+ghost use Rattle.omp_model.specs.Cause.{cause_of};
+ghost use Rattle.omp_model.specs.Tame.{TameCause};
+ghost use Rattle.omp_model.specs.Program.{run_of_blocks};
+ghost use Rattle.team_run.specs.Serving.{RunsFor};
+ghost use Rattle.team_run.specs.Standing.{HearsOwn, HearsSilent};
+
+use crate::ran::{Memory, Ran};
+use crate::serial_run::SerialRun;
+use omp_model::{Blocks, Cause};
+use std::alloc::{AllocError, Global};
+use tool_api::{Registrar, ToolPart};
+
+/// Runs the program with these parallel blocks serially, with so many threads, and so many silent steps at most. Part t is
+/// called for the events of thread t.
+///
+/// Part 0 is started before the first entry. What it registers is heard, where it answers another number than 0, and else
+/// nothing. Where it answers another number than 0 it is finished after the last entry.
+///
+/// An error comes only before the first entry. Where memory fails later, the cause is `Memory`. The history then stops before
+/// the turn that found none, or after the Go of the event whose callback found none.
+pub fn run_serial<P: ToolPart>(
+    alloc: Global,
+    blocks: Blocks,
+    threads: u8,
+    steps: u32,
+    parts: Vec<P>,
+) -> Result<Ran<P>, Memory>
+    requires blocks { length blocks ≤ 65536 }
+    requires some { 1 ≤ threads }
+    requires few { threads ≤ 16 }
+    requires steps { 1 ≤ steps }
+    requires bounded { steps ≤ 30000000 }
+    requires parts { length parts.items ≡ threads }
+    ensures serial { IfOk result (λ ran. Serial (run_of_blocks blocks ran.mask threads steps) ran.history) }
+    ensures parts { IfOk result (λ ran. RunsFor P.stands_for (run_of_blocks blocks ran.mask threads steps) ran.history parts.items ran.parts.items) }
+    ensures own { IfOk result (λ ran. HearsOwn (run_of_blocks blocks ran.mask threads steps) ran.history) }
+    ensures cause { IfOk result (λ ran. ran.cause ≢ Cause.Memory → cause_of (run_of_blocks blocks ran.mask threads steps) ran.history ≡ Some ran.cause) }
+    ensures whole { IfOk result (λ ran. ran.cause ≢ Cause.Memory → HearsSilent (run_of_blocks blocks ran.mask threads steps) ran.history
+        → ran.history ≡ serial (run_of_blocks blocks ran.mask threads steps)) }
+    ensures tame { IfOk result (λ ran. ran.cause ≢ Cause.Memory → TameCause ran.cause) }
+    ensures begun { IfOk result (λ ran. ran.cause ≡ Cause.Memory → ran.history ≢ []) }
+{
+    let mut parts = parts;
+    let mut registrar = Registrar::new();
+    let answer = parts[0].initialize(&mut registrar);
+    let mask = if answer == 0 { 0 } else { registrar.mask() };
+    let mut run = SerialRun::new(alloc, blocks, mask, threads, steps, parts)?;
+    let cause = run.finish();
+    if cause == Cause::Memory && run.history.len() == 0 {
+        return Err(AllocError);
+    }
+    let SerialRun { history, mut parts, .. } = run;
+    if answer != 0 {
+        parts[0].finalize();
+    }
+    Ok(Ran {
+        cause,
+        mask,
+        history: history.into_history(),
+        parts,
+    })
+}
