@@ -14,3 +14,4 @@ pub mod Records
 pub mod Program
 pub mod Running
 pub mod Tame
+pub mod Storing
