@@ -15,3 +15,4 @@ pub mod Program
 pub mod Running
 pub mod Tame
 pub mod Storing
+pub mod Made
