@@ -15,3 +15,5 @@ pub mod Records
 pub mod Program
 pub mod Running
 pub mod Tame
+pub mod Storing
+pub mod Made
