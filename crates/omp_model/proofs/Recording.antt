@@ -282,3 +282,30 @@ records-by_thread (item ∷ items) t =
 pub StoresNothing-append : (H K : List Entry) → StoresNothing H → StoresNothing K → StoresNothing (H ++ K)
 StoresNothing-append [] K none silent = silent
 StoresNothing-append (entry ∷ H) K none silent = (none.0, StoresNothing-append H K none.1 silent)
+
+-- nothing is heard of an event whose callback hasn't returned
+unreturned : (run : Run) (position t : ℕ) (call : Call) (snapshot : Snapshot) → heard_call run position t call snapshot [] ≡ []
+unreturned run position t call snapshot = none (is_registered run.mask (number_of call))
+  where
+    one : List Item
+    one = record { seq = position; thread = t; call = call; snapshot = snapshot; stores = [] } ∷ []
+
+    none : (b : Bool) → (if b && false then one else []) ≡ []
+    none true = refl
+    none false = refl
+
+pub heard-pending : {run : Run} {H : List Entry} {v : Visit} (t : ℕ) (e : Event) → HasRun run H v → (turn run v.state t).outcome ≡ Happens e → heard run (H ++ go_at t ∷ []) ≡ heard run H
+heard-pending {run} {H} {v} t e has happens =
+    let between : State = (turn run v.state t).state in
+    has.heard_on (go_at t ∷ [])
+    ∙ ap (λ o. heard run H ++ (heard_outcome run (length H) t between o [] ++ [])) happens
+    ∙ ap (λ items. heard run H ++ (items ++ [])) (unreturned run (length H) t (call_of between.world t e) (snap_of between.world t e)) ∙ append-nil (heard run H)
+
+-- a history at whose end a thread is inside a callback is serial too
+pub HasRun-pending : {run : Run} {H : List Entry} {v : Visit} (t : ℕ) (e : Event) → HasRun run H v → first_enabled run v.state v.next ≡ Some t → (turn run v.state t).outcome ≡ Happens e → Serial run (H ++ go_at t ∷ [])
+HasRun-pending {run} {H} {v} t e has is happens =
+    record {
+      legal = has.legal (go_at t ∷ []) (first_enabled-enabled run v.state v.next t is, tt);
+      last = record { state = (turn run v.state t).state; next = t + 1; inside = inside_after (turn run v.state t).outcome t };
+      in_turn = has.in_turn (go_at t ∷ []) _ (ap (onward_from run v) has.outside ∙ ap go_of is, refl);
+    }

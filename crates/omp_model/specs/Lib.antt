@@ -15,5 +15,4 @@ pub mod Records
 pub mod Program
 pub mod Running
 pub mod Tame
-pub mod Storing
 pub mod Made

@@ -24,7 +24,7 @@ pub record Serves {P : Type 0} (stands_for : P → Record → Type 0) (run : Run
 
 -- the record of part k where the part of thread t was called for this item
 abbrev pub told_on : ℕ → ℕ → Item → Record → Record
-told_on t k item h = if k == t then told h item else h
+told_on t k item h = if t == k then told h item else h
 
 -- the callback of thread t's event was answered with this reply: its stores, the return, and the call of the thread's part
 pub record Answers {P : Type 0} (stands_for : P → Record → Type 0) (seq t : ℕ) (call : Call) (snapshot : Snapshot) (state : State) (parts : List P) (history : List Entry) (after : State) (others : List P) (longer : List Entry) : Type 0 where

@@ -1,0 +1,107 @@
+-- What parts stand for after what their threads hear.
+use Rattle.std.proofs.Common.{◌≡◌, ℕ, ◌+◌, ◌<◌, ◌≤◌, ◌==◌, Bool, true, false, if◌then◌else◌, cond, List, [], ◌∷◌, ◌++◌, filter, length, slice_index_or, refl, sym, ap, subst, ◌∙◌, append_assoc, append-nil, eq-eqb, arith}
+use Rattle.std.proofs.lemmas.List.Elements.{filter-append}
+use Rattle.std.proofs.lemmas.Bool.{cases_eq}
+use Rattle.ompt_calls.specs.Item.{Item}
+use Rattle.tool_api.specs.Record.{Record, told}
+use Rattle.omp_model.specs.declared.history.Entry.{Entry}
+use Rattle.omp_model.specs.State.{Run}
+use Rattle.omp_model.specs.Heard.{heard, heard_of}
+use Rattle.team_run.specs.Serving.{served, Serves, told_on, SameServed}
+use Rattle.team_run.specs.Standing.{AreSilent, HearsSilent, HearsOwn}
+
+-- the items of one thread
+abbrev pub on_thread : ℕ → List Item → List Item
+on_thread k items = filter (λ (item : Item). item.thread == k) items
+
+-- a record with no more calls
+pub served-nil : (h : Record) → served h [] ≡ h
+served-nil h = ap (λ calls. record h { calls = calls }) (append-nil h.calls)
+
+-- a record with one more call
+told-served : (h : Record) (items : List Item) (item : Item) → told (served h items) item ≡ served h (items ++ item ∷ [])
+told-served h items item = ap (λ calls. record h { calls = calls }) (append_assoc h.calls items (item ∷ []))
+
+-- what a thread has heard where more was heard
+pub heard_of-more : (run : Run) (H K : List Entry) (items : List Item) (k : ℕ) → heard run K ≡ heard run H ++ items → heard_of run K k ≡ heard_of run H k ++ on_thread k items
+heard_of-more run H K items k more =
+    ap (on_thread k) more ∙ filter-append (λ (item : Item). item.thread == k) (heard run H) items
+
+-- and where nothing more was
+pub heard_of-same : (run : Run) (H K : List Entry) (k : ℕ) → heard run K ≡ heard run H → heard_of run K k ≡ heard_of run H k
+heard_of-same run H K k same = ap (on_thread k) same
+
+-- the part of the thread is told of one item more, and the others are told of nothing
+told_on-served : (t k : ℕ) (h : Record) (items : List Item) (item : Item) → item.thread ≡ t → told_on t k item (served h items) ≡ served h (items ++ on_thread k (item ∷ []))
+told_on-served t k h items item is =
+    rw is (elim (t == k) as (λ b. (if b then told (served h items) item else served h items) ≡ served h (items ++ cond b (item ∷ []) [])) [ true ↦ told-served h items item | false ↦ ap (λ more. served h more) (sym (append-nil items)) ])
+
+module _ {P : Type 0} (stands_for : P → Record → Type 0) (run : Run) where
+  -- where nothing changes
+  pub serves-same : (parts : List P) (H : List Entry) → Serves stands_for run parts H parts H
+  serves-same parts H = record { as_many = refl; each = λ k d h below stands. stands }
+
+  -- one step after another
+  pub serves-then : (parts between after : List P) (H K L : List Entry) → Serves stands_for run parts H between K → Serves stands_for run between K after L → Serves stands_for run parts H after L
+  serves-then parts between after H K L first second =
+      record {
+        as_many = second.as_many ∙ first.as_many;
+        each = λ k d h below stands. second.each k d h (subst (λ n. k < n) (sym first.as_many) below) (first.each k d h below stands);
+      }
+
+  -- where nothing more is heard, and the parts stand for what they stood for
+  pub serves-unheard : (parts others : List P) (H K : List Entry) → heard run K ≡ heard run H → SameServed stands_for parts others → Serves stands_for run parts H others K
+  serves-unheard parts others H K same kept =
+      record {
+        as_many = kept.as_many;
+        each = λ k d h below stands. subst (λ items. stands_for (slice_index_or others k d) (served h items)) (sym (heard_of-same run H K k same)) (kept.each k d (served h (heard_of run H k)) below stands);
+      }
+
+  -- where one item more is heard, and the part of its thread was told of it
+  pub serves-told :
+      (parts others : List P) (H K : List Entry) (t : ℕ) (item : Item) → item.thread ≡ t → heard run K ≡ heard run H ++ item ∷ [] → length others ≡ length parts
+      → ((k : ℕ) (d : P) (h : Record) → k < length parts → stands_for (slice_index_or parts k d) h → stands_for (slice_index_or others k d) (told_on t k item h)) → Serves stands_for run parts H others K
+  serves-told parts others H K t item is more as_many each =
+      record {
+        as_many = as_many;
+        each = λ k d h below stands.
+            subst (λ (h : Record). stands_for (slice_index_or others k d) h) (told_on-served t k h (heard_of run H k) item is ∙ ap (λ items. served h items) (sym (heard_of-more run H K (item ∷ []) k more)))
+            (each k d (served h (heard_of run H k)) below stands);
+      }
+
+-- calls that are silent are so in both parts
+pub silent-front : (xs ys : List Item) → AreSilent (xs ++ ys) → AreSilent xs
+silent-front [] ys silent = tt
+silent-front (x ∷ xs) ys silent = (silent.0, silent-front xs ys silent.1)
+
+pub silent-back : (xs ys : List Item) → AreSilent (xs ++ ys) → AreSilent ys
+silent-back [] ys silent = silent
+silent-back (x ∷ xs) ys silent = silent-back xs ys silent.1
+
+module _ (run : Run) (H K : List Entry) (items : List Item) (more : heard run K ≡ heard run H ++ items) where
+  -- what was silent before
+  pub hears-front : HearsSilent run K → HearsSilent run H
+  hears-front silent = λ k below. silent-front (heard_of run H k) (on_thread k items) (subst AreSilent (heard_of-more run H K items k more) (silent k below))
+
+  -- and what is heard now
+  pub hears-back : (t : ℕ) → t < run.threads → HearsSilent run K → AreSilent (on_thread t items)
+  hears-back t below silent = silent-back (heard_of run H t) (on_thread t items) (subst AreSilent (heard_of-more run H K items t more) (silent t below))
+
+-- an item of its own thread
+own-item : (t : ℕ) (item : Item) → item.thread ≡ t → on_thread t (item ∷ []) ≡ item ∷ []
+own-item t item is = rw (is, eq-eqb t t refl) refl
+
+pub item-silent : (run : Run) (H K : List Entry) (t : ℕ) (item : Item) → item.thread ≡ t → heard run K ≡ heard run H ++ item ∷ [] → t < run.threads → HearsSilent run K → item.stores ≡ []
+item-silent run H K t item is more below silent =
+    (subst AreSilent (own-item t item is) (hears-back run H K (item ∷ []) more t below silent)).0
+
+-- nothing is heard on a thread that the run doesn't have, where one item more is heard on another
+other-item : (t k : ℕ) (item : Item) → item.thread ≡ t → t < k → on_thread k (item ∷ []) ≡ []
+other-item t k item is below = rw (is, lt-not_eqb t k below) refl
+
+pub own-told : (run : Run) (H K : List Entry) (t : ℕ) (item : Item) → item.thread ≡ t → t < run.threads → heard run K ≡ heard run H ++ item ∷ [] → HearsOwn run H → HearsOwn run K
+own-told run H K t item is below more own = λ k past.
+    heard_of-more run H K (item ∷ []) k more ∙ ap (λ items. items ++ on_thread k (item ∷ [])) (own k past) ∙ other-item t k item is (omega arith)
+
+pub own-unheard : (run : Run) (H K : List Entry) → heard run K ≡ heard run H → HearsOwn run H → HearsOwn run K
+own-unheard run H K same own = λ k past. heard_of-same run H K k same ∙ own k past
