@@ -1,6 +1,6 @@
--- Every identity that stands in a state was made, and so was every word that a tool can store into.
+-- Every identity that stands in a state is of a task or a region that was made.
 use Rattle.std.proofs.Common.{◌≡◌, ℕ, zero, suc, ◌+◌, ◌-◌, ◌<◌, ◌≤◌, min, true, false, nat_le, nat_lt, if◌then◌else◌, List, [], ◌∷◌, ◌++◌, ◌&&◌, ◌==◌, take, replicate, slice_set, Option, Some, None, slice_index_or, length, refl, sym, ap, subst, inl, inr, arith}
-use Rattle.std.proofs.lemmas.List.{length-set, length-append, length-take, get_or-take, get_or_append_left, get_or_push, length_push}
+use Rattle.std.proofs.lemmas.List.{length-set, length-append, get_or_append_left, get_or_push, length_push}
 use Rattle.std.proofs.lemmas.Bool.{cases_lt, ne_eqb}
 use Rattle.omp_model.specs.declared.limits.TheConstants.{STEPS_OF_A_TURN, TURN_LIMIT, INITIAL_TASK}
 use Rattle.ompt_calls.specs.declared.snapshot.Target.{Target}
@@ -21,7 +21,7 @@ use Rattle.omp_model.specs.declared.machine.TaskStage.{TaskStage}
 use Rattle.omp_model.specs.declared.machine.TaskStage.TheVariants.{Running, Forked, AtBarrier, Waiting, Passed, Over}
 use Rattle.omp_model.specs.declared.machine.ThreadStage.{ThreadStage}
 use Rattle.omp_model.specs.declared.machine.ThreadStage.TheVariants as stage
-use Rattle.omp_model.specs.State.{Run, World, State, Thread, Task, unmade, no_task, fresh_region, thread_at, task_at, region_at, pending_at, current, with_thread, with_task, with_region, staged, conditioned, placed, task_made, region_made, pushed, popped, joined, forked, passed, arrived, left, summoned, invited, opened, member_task, first}
+use Rattle.omp_model.specs.State.{Run, World, State, Thread, Task, unmade, no_task, fresh_region, thread_at, task_at, region_at, pending_at, current, with_thread, with_task, with_region, staged, conditioned, placed, task_made, region_made, pushed, popped, joined, forked, passed, invited, opened, member_task, first}
 use Rattle.omp_model.specs.Silent.{Silence, NoStep, Steps, after_step, step_at, step_of, silence_of, silent}
 use Rattle.omp_model.specs.Events.{around_initial, has_returned, idle_worker, workers_over, event_without_task, initial_end, first_of, event_of_first, all_members, region_end, may_pass, wait_end, event_of_task, event_in, event_joining, event_at, event, fault_at, at_go, at_back}
 use Rattle.omp_model.specs.Words.{is_made_thread, stored}
@@ -34,7 +34,7 @@ identity-more : (k count more : ℕ) → count ≤ more → IsIdentity k count �
 identity-more k count more grows one = record { some = one.some; below = omega arith }
 
 -- what is so of an element, and of what is written in its place, is so of it after a write
-at-set : {A : Type 0} (P : A → Type 0) (d : A) (xs : List A) (i k : ℕ) (x : A) → P (slice_index_or xs k d) → (k ≡ i → P x) → P (slice_index_or (slice_set xs i x) k d)
+pub at-set : {A : Type 0} (P : A → Type 0) (d : A) (xs : List A) (i k : ℕ) (x : A) → P (slice_index_or xs k d) → (k ≡ i → P x) → P (slice_index_or (slice_set xs i x) k d)
 at-set P d [] i k x old new = old
 at-set P d (y ∷ ys) zero zero x old new = new refl
 at-set P d (y ∷ ys) zero (suc k) x old new = old
@@ -367,7 +367,7 @@ unfolding event
 arrives W t made = arrives-at W t (thread_at W t).stage made
 
 -- it still is after the Go
-abbrev IsMadeThread : Thread → Type 0
+abbrev pub IsMadeThread : Thread → Type 0
 IsMadeThread thread = is_made_thread thread.stage ≡ true
 
 stage-go : (W : World) (t : ℕ) (e : Event) → IsMadeThread (thread_at W t) → IsMadeThread (thread_at (at_go W t e) t)
@@ -405,7 +405,7 @@ event-go W t (MemberEnd r k) made comes = tt
 pending-after : (S : State) (after : World) → WellMade S → length S.world.regions ≤ length after.regions → (t : ℕ) → PendingMade (length after.regions) (pending_at S t)
 pending-after S after well grows t = pending-more (length S.world.regions) (length after.regions) (pending_at S t) grows (well.pending t)
 
--- a silent step keeps the region of its task
+-- a silent step leaves the region of its task
 abbrev SameRegion : Task → Option Task → Type 0
 SameRegion task None = Unit {0}
 SameRegion task (Some after) = after.region ≡ task.region
@@ -439,7 +439,7 @@ unfolding silent
 made-silent W t made =
     let task = task_at W (current W t) in made-silence W (current W t) (step_of task) made (region-step_at task task.stage)
 
--- so do all the silent steps of a turn
+-- and the silent steps of a turn keep a state well made
 made-walk-on : (run : Run) (S : State) (made : ℕ) (s : Silence) (more : World → Walk) → WellMade S → StepMade S.world s → ((W : World) → MadeAfter S.world W → WellMade (more W).state) → WellMade (walk_on run S made s more).state
 made-walk-on run S made NoStep more well kept keeps = well
 made-walk-on run S made (Steps after) more well kept keeps =
@@ -452,9 +452,9 @@ made-walk run (suc left) made S t well =
     made-walk-on run S made (silent S.world t) (λ after. walk run left (made + 1) (stepped S after) t) well (made-silent S.world t well.world) (λ W after. made-walk run left (made + 1) (stepped S W) t (record { world = after.world; pending = pending-after S W well after.regions }))
 
 -- the thread of an event that has occurred was made, and so was what the event makes
-record Occurs (W : World) (t : ℕ) (e : Event) : Type 0 where
-  thread : IsMadeThread (thread_at W t)
-  event : EventMade (length W.regions) e
+pub record Occurs (W : World) (t : ℕ) (e : Event) : Type 0 where
+  pub thread : IsMadeThread (thread_at W t)
+  pub event : EventMade (length W.regions) e
 
 abbrev OccursIf : World → ℕ → Outcome → Type 0
 OccursIf W t Idle = Unit {0}
@@ -504,7 +504,7 @@ pub made-turn : (run : Run) (S : State) (t : ℕ) → WellMade S → WellMade (t
 made-turn run S t well = (made-limited run S t well).state
 
 -- the event of a turn, where it occurs
-occurs : (run : Run) (S : State) (t : ℕ) (e : Event) → WellMade S → (turn run S t).outcome ≡ Happens e → Occurs (turn run S t).state.world t e
+pub occurs : (run : Run) (S : State) (t : ℕ) (e : Event) → WellMade S → (turn run S t).outcome ≡ Happens e → Occurs (turn run S t).state.world t e
 occurs run S t e well happens = subst (OccursIf (turn run S t).state.world t) happens (made-limited run S t well).outcome
 
 -- the return from an event, if there is one, keeps a state well made
