@@ -40,28 +40,28 @@ unfolding silent event walk unlimited turn enabled enabled_among serial_from
 region-entries = refl
 
 -- what is recorded of an event
-abbrev pub said : ℕ → ℕ → Call → EventRecord
-said seq t said_call = record { seq = seq; thread = t; call = said_call }
+abbrev pub said : ℕ → ℕ → ℕ → Call → EventRecord
+said seq t state said_call = record { seq = seq; thread = t; state = state; wait_id = 0; call = said_call }
 
 abbrev pub region_records : List EventRecord
 region_records =
-    said 0 0 (call.ThreadBegin 1 (fresh_word 1)) ∷ said 2 0 (call.ImplicitTask 1 (fresh_word 1) (fresh_word 1) 1 1 1)
-    ∷ said 4 0 (call.ParallelBegin (fresh_word 1) (record { exit = 0; enter = 32769 }) (fresh_word 2) 2 2147483649 131073)
-    ∷ said 6 1 (call.ThreadBegin 2 (fresh_word 2)) ∷ said 8 0 (call.ImplicitTask 1 (fresh_word 2) (fresh_word 2) 2 0 2)
-    ∷ said 10 1 (call.ImplicitTask 1 (fresh_word 2) (fresh_word 3) 2 1 2)
-    ∷ said 12 0 (call.SyncRegion 9 1 (fresh_word 2) (fresh_word 2) 131073)
-    ∷ said 14 1 (call.SyncRegion 9 1 (fresh_word 2) (fresh_word 3) 131073)
-    ∷ said 16 0 (call.SyncRegionWait 9 1 (fresh_word 2) (fresh_word 2) 131073)
-    ∷ said 18 1 (call.SyncRegionWait 9 1 (fresh_word 2) (fresh_word 3) 131073)
-    ∷ said 20 0 (call.SyncRegionWait 9 2 (fresh_word 0) (fresh_word 2) 131073)
-    ∷ said 22 1 (call.SyncRegionWait 9 2 (fresh_word 0) (fresh_word 3) 131073)
-    ∷ said 24 0 (call.SyncRegion 9 2 (fresh_word 0) (fresh_word 2) 131073)
-    ∷ said 26 1 (call.SyncRegion 9 2 (fresh_word 0) (fresh_word 3) 131073)
-    ∷ said 28 0 (call.ImplicitTask 2 (fresh_word 0) (fresh_word 2) 0 0 2)
-    ∷ said 30 1 (call.ImplicitTask 2 (fresh_word 0) (fresh_word 3) 0 1 2)
-    ∷ said 32 0 (call.ParallelEnd (fresh_word 2) (fresh_word 1) 2147483649 131073)
-    ∷ said 35 1 (call.ThreadEnd (fresh_word 2)) ∷ said 37 0 (call.ImplicitTask 2 (fresh_word 0) (fresh_word 1) 0 1 1)
-    ∷ said 39 0 (call.ThreadEnd (fresh_word 1)) ∷ []
+    said 0 0 0x101 (call.ThreadBegin 1 (fresh_word 1)) ∷ said 2 0 0x000 (call.ImplicitTask 1 (fresh_word 1) (fresh_word 1) 1 1 1)
+    ∷ said 4 0 0x101 (call.ParallelBegin (fresh_word 1) (record { exit = 0; enter = 32769 }) (fresh_word 2) 2 2147483649 131073)
+    ∷ said 6 1 0x101 (call.ThreadBegin 2 (fresh_word 2)) ∷ said 8 0 0x001 (call.ImplicitTask 1 (fresh_word 2) (fresh_word 2) 2 0 2)
+    ∷ said 10 1 0x001 (call.ImplicitTask 1 (fresh_word 2) (fresh_word 3) 2 1 2)
+    ∷ said 12 0 0x101 (call.SyncRegion 9 1 (fresh_word 2) (fresh_word 2) 131073)
+    ∷ said 14 1 0x101 (call.SyncRegion 9 1 (fresh_word 2) (fresh_word 3) 131073)
+    ∷ said 16 0 0x011 (call.SyncRegionWait 9 1 (fresh_word 2) (fresh_word 2) 131073)
+    ∷ said 18 1 0x011 (call.SyncRegionWait 9 1 (fresh_word 2) (fresh_word 3) 131073)
+    ∷ said 20 0 0x101 (call.SyncRegionWait 9 2 (fresh_word 0) (fresh_word 2) 131073)
+    ∷ said 22 1 0x101 (call.SyncRegionWait 9 2 (fresh_word 0) (fresh_word 3) 131073)
+    ∷ said 24 0 0x101 (call.SyncRegion 9 2 (fresh_word 0) (fresh_word 2) 131073)
+    ∷ said 26 1 0x101 (call.SyncRegion 9 2 (fresh_word 0) (fresh_word 3) 131073)
+    ∷ said 28 0 0x101 (call.ImplicitTask 2 (fresh_word 0) (fresh_word 2) 0 0 2)
+    ∷ said 30 1 0x100 (call.ImplicitTask 2 (fresh_word 0) (fresh_word 3) 0 1 2)
+    ∷ said 32 0 0x101 (call.ParallelEnd (fresh_word 2) (fresh_word 1) 2147483649 131073)
+    ∷ said 35 1 0x101 (call.ThreadEnd (fresh_word 2)) ∷ said 37 0 0x101 (call.ImplicitTask 2 (fresh_word 0) (fresh_word 1) 0 1 1)
+    ∷ said 39 0 0x101 (call.ThreadEnd (fresh_word 1)) ∷ []
 
 pub region-records : records_of (on_two (2 ∷ [])) region_of_two ≡ region_records
 unfolding silent event walk unlimited turn enabled enabled_among serial_from
@@ -87,7 +87,7 @@ unfolding silent event walk unlimited turn enabled enabled_among serial_from
 regions-length = refl
 
 pub regions-records : take 3 (drop 17 (records_of (on_two (2 ∷ 2 ∷ [])) (serial (on_two (2 ∷ 2 ∷ [])))))
-    ≡ said 34 0 (call.ParallelBegin (fresh_word 1) (record { exit = 0; enter = 32769 }) (fresh_word 3) 2 2147483649 262145) ∷ said 36 1 (call.ImplicitTask 1 (fresh_word 3) (fresh_word 4) 2 1 2) ∷ said 38 0 (call.ImplicitTask 1 (fresh_word 3) (fresh_word 5) 2 0 2) ∷ []
+    ≡ said 34 0 0x101 (call.ParallelBegin (fresh_word 1) (record { exit = 0; enter = 32769 }) (fresh_word 3) 2 2147483649 262145) ∷ said 36 1 0x001 (call.ImplicitTask 1 (fresh_word 3) (fresh_word 4) 2 1 2) ∷ said 38 0 0x001 (call.ImplicitTask 1 (fresh_word 3) (fresh_word 5) 2 0 2) ∷ []
 unfolding silent event walk unlimited turn enabled enabled_among serial_from
 regions-records = refl
 

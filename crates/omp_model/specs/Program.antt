@@ -41,4 +41,7 @@ empty_history = go_zero ∷ back_zero ∷ go_zero ∷ back_zero ∷ go_zero ∷ 
 -- the four records, with all callbacks registered
 abbrev pub empty_records : List EventRecord
 empty_records =
-    record { seq = 0; thread = 0; call = ThreadBegin 1 (fresh_word 1) } ∷ record { seq = 2; thread = 0; call = ImplicitTask 1 (fresh_word 1) (fresh_word 1) 1 1 1 } ∷ record { seq = 4; thread = 0; call = ImplicitTask 2 (fresh_word 0) (fresh_word 1) 0 1 1 } ∷ record { seq = 6; thread = 0; call = ThreadEnd (fresh_word 1) } ∷ []
+    record { seq = 0; thread = 0; state = 0x101; wait_id = 0; call = ThreadBegin 1 (fresh_word 1) }
+    ∷ record { seq = 2; thread = 0; state = 0x000; wait_id = 0; call = ImplicitTask 1 (fresh_word 1) (fresh_word 1) 1 1 1 }
+    ∷ record { seq = 4; thread = 0; state = 0x101; wait_id = 0; call = ImplicitTask 2 (fresh_word 0) (fresh_word 1) 0 1 1 }
+    ∷ record { seq = 6; thread = 0; state = 0x101; wait_id = 0; call = ThreadEnd (fresh_word 1) } ∷ []

@@ -10,7 +10,14 @@ use Rattle.omp_model.specs.Heard.{heard}
 
 -- what is recorded of an item
 abbrev pub record_of : Item → EventRecord
-record_of item = record { seq = item.seq; thread = item.thread; call = item.call }
+record_of item =
+    record {
+      seq = item.seq;
+      thread = item.thread;
+      state = item.snapshot.state;
+      wait_id = item.snapshot.wait_id;
+      call = item.call;
+    }
 
 -- the records of what is heard of a history on all threads, in order of position
 abbrev pub records_of : Run → List Entry → List EventRecord

@@ -1,7 +1,7 @@
 -- What parts stand for after what their threads hear.
-use Rattle.std.proofs.Common.{◌≡◌, ℕ, ◌+◌, ◌<◌, ◌≤◌, ◌==◌, Bool, true, false, if◌then◌else◌, cond, List, [], ◌∷◌, ◌++◌, filter, length, slice_index_or, refl, sym, ap, subst, ◌∙◌, append_assoc, append-nil, eq-eqb, arith}
+use Rattle.std.proofs.Common.{◌≡◌, ℕ, ◌+◌, ◌<◌, ◌≤◌, ◌==◌, Bool, true, false, if◌then◌else◌, cond, List, [], ◌∷◌, ◌++◌, filter, length, slice_index_or, refl, sym, ap, subst, ◌∙◌, append_assoc, append-nil, eq-eqb, arith, inl, inr}
 use Rattle.std.proofs.lemmas.List.Elements.{filter-append}
-use Rattle.std.proofs.lemmas.Bool.{cases_eq}
+use Rattle.std.proofs.lemmas.Bool.Decides.{eqb_tells}
 use Rattle.ompt_calls.specs.Item.{Item}
 use Rattle.tool_api.specs.Record.{Record, told}
 use Rattle.omp_model.specs.declared.history.Entry.{Entry}
@@ -31,10 +31,15 @@ heard_of-more run H K items k more =
 pub heard_of-same : (run : Run) (H K : List Entry) (k : ℕ) → heard run K ≡ heard run H → heard_of run K k ≡ heard_of run H k
 heard_of-same run H K k same = ap (on_thread k) same
 
+-- a call, or none
+told-by : (b : Bool) (h : Record) (items : List Item) (item : Item) → (if b then told (served h items) item else served h items) ≡ served h (items ++ cond b (item ∷ []) [])
+told-by true h items item = told-served h items item
+told-by false h items item = ap (λ more. served h more) (sym (append-nil items))
+
 -- the part of the thread is told of one item more, and the others are told of nothing
 told_on-served : (t k : ℕ) (h : Record) (items : List Item) (item : Item) → item.thread ≡ t → told_on t k item (served h items) ≡ served h (items ++ on_thread k (item ∷ []))
 told_on-served t k h items item is =
-    rw is (elim (t == k) as (λ b. (if b then told (served h items) item else served h items) ≡ served h (items ++ cond b (item ∷ []) [])) [ true ↦ told-served h items item | false ↦ ap (λ more. served h more) (sym (append-nil items)) ])
+    subst (λ u. told_on t k item (served h items) ≡ served h (items ++ cond (u == k) (item ∷ []) [])) (sym is) (told-by (t == k) h items item)
 
 module _ {P : Type 0} (stands_for : P → Record → Type 0) (run : Run) where
   -- where nothing changes
@@ -95,9 +100,13 @@ pub item-silent : (run : Run) (H K : List Entry) (t : ℕ) (item : Item) → ite
 item-silent run H K t item is more below silent =
     (subst AreSilent (own-item t item is) (hears-back run H K (item ∷ []) more t below silent)).0
 
+-- two numbers of which one is less
+apart : (t k : ℕ) → t < k → (t == k) ≡ false
+apart t k below = elim (eqb_tells t k) [ inl same ↦ absurd (omega (arith, same.1, below)) | inr different ↦ different.0 ]
+
 -- nothing is heard on a thread that the run doesn't have, where one item more is heard on another
 other-item : (t k : ℕ) (item : Item) → item.thread ≡ t → t < k → on_thread k (item ∷ []) ≡ []
-other-item t k item is below = rw (is, lt-not_eqb t k below) refl
+other-item t k item is below = rw (is, apart t k below) refl
 
 pub own-told : (run : Run) (H K : List Entry) (t : ℕ) (item : Item) → item.thread ≡ t → t < run.threads → heard run K ≡ heard run H ++ item ∷ [] → HearsOwn run H → HearsOwn run K
 own-told run H K t item is below more own = λ k past.
