@@ -1,4 +1,5 @@
 pub mod Inviting
+pub mod Levels
 pub mod Searching
 pub mod Sound
 pub mod Telling

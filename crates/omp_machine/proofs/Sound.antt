@@ -2,6 +2,9 @@
 use Rattle.std.proofs.Common.{◌≡◌, ℕ, zero, suc, ◌<◌, List, [], ◌∷◌, Option, Some, None, true, IsTrue, IsSome, length, get_or-set_same, refl, sym, ap, ◌∙◌, arith}
 use Rattle.std.proofs.lemmas.List.{length-set}
 use Rattle.std.proofs.lemmas.Bool.{true≢false}
+use Rattle.ompt_calls.specs.declared.snapshot.Target.{Target}
+use Rattle.ompt_calls.specs.declared.snapshot.Target.TheVariants as target
+use Rattle.omp_model.specs.declared.machine.Callback.{Callback}
 use Rattle.omp_model.specs.declared.machine.Event.{Event}
 use Rattle.omp_model.specs.declared.machine.Event.TheVariants.{ThreadBegin, InitialTaskBegin, InitialTaskEnd, ThreadEnd, ParallelBegin, ParallelEnd, MemberBegin, BarrierBegin, WaitBegin, WaitEnd, BarrierEnd, MemberEnd}
 use Rattle.omp_model.specs.declared.machine.Halt.{Halt}
@@ -11,7 +14,8 @@ use Rattle.omp_model.specs.declared.machine.Outcome.TheVariants.{Idle, Quiet, Ha
 use Rattle.omp_model.specs.State.{Run, World, Thread, State, pending_at, invited}
 use Rattle.omp_model.specs.Events.{at_back}
 use Rattle.omp_model.specs.Turn.{turn, enabled}
-use Rattle.omp_model.specs.Legal.{back, back_from}
+use Rattle.omp_model.specs.Words.{stored}
+use Rattle.omp_model.specs.Legal.{back, back_from, put, put_from}
 use Rattle.omp_model.proofs.Turns.{Leaves, leaves-turn, turn-below, turn-pending, turn-goes, turns-rise, back-turns, back-halt}
 use Rattle.omp_model.proofs.Makes.{turn-makes, back-makes}
 use Rattle.omp_model.proofs.Threads.{turn-threads, happens-made}
@@ -78,13 +82,13 @@ at-back-threads W t (WaitEnd r k) = refl
 at-back-threads W t (BarrierEnd r k) = refl
 at-back-threads W t (MemberEnd r k) = refl
 
-back-from-threads : (S : State) (t : ℕ) (e : Option Event) → length (back_from S t e).world.threads ≡ length S.world.threads
+back-from-threads : (S : State) (t : ℕ) (callback : Option Callback) → length (back_from S t callback).world.threads ≡ length S.world.threads
 back-from-threads S t None = refl
-back-from-threads S t (Some e) = at-back-threads S.world t e
+back-from-threads S t (Some callback) = at-back-threads S.world t callback.event
 
-back-from-pending : (S : State) (t : ℕ) (e : Option Event) → length (back_from S t e).pending ≡ length S.pending
+back-from-pending : (S : State) (t : ℕ) (callback : Option Callback) → length (back_from S t callback).pending ≡ length S.pending
 back-from-pending S t None = refl
-back-from-pending S t (Some e) = length-set _ _ _
+back-from-pending S t (Some callback) = length-set _ _ _
 
 pub sound-back : (S : State) (t threads : ℕ) → IsSound threads S → IsSound threads (back S t)
 sound-back S t threads sound =
@@ -96,4 +100,41 @@ sound-back S t threads sound =
       turns = omega (arith, sound.turns, back-turns S t);
       tasks = omega (arith, sound.tasks, back-turns S t, (back-makes S t).tasks);
       regions = omega (arith, sound.regions, back-turns S t, (back-makes S t).regions);
+    }
+
+-- a store keeps how many threads, tasks and regions there are
+record SameCounts (W after : World) : Type 0 where
+  pub threads : length after.threads ≡ length W.threads
+  pub tasks : length after.tasks ≡ length W.tasks
+  pub regions : length after.regions ≡ length W.regions
+
+stored-counts : (W : World) (place : Target) (word : ℕ) → SameCounts W (stored W place word)
+stored-counts W (target.Thread t) word = record { threads = length-set _ _ _; tasks = refl; regions = refl }
+stored-counts W (target.Parallel r) word = record { threads = refl; tasks = refl; regions = length-set _ _ _ }
+stored-counts W (target.Task k) word = record { threads = refl; tasks = length-set _ _ _; regions = refl }
+
+-- what a store leaves of a state
+record PutKeeps (S after : State) : Type 0 where
+  pub pending : length after.pending ≡ length S.pending
+  pub turns : after.turns ≡ S.turns
+  pub halt : after.halt ≡ S.halt
+  pub counts : SameCounts S.world after.world
+
+put-from-keeps : (S : State) (t : ℕ) (place : Target) (word : ℕ) (callback : Option Callback) → PutKeeps S (put_from S t place word callback)
+put-from-keeps S t place word None =
+    record { pending = refl; turns = refl; halt = refl; counts = record { threads = refl; tasks = refl; regions = refl } }
+put-from-keeps S t place word (Some callback) =
+    record { pending = length-set _ _ _; turns = refl; halt = refl; counts = stored-counts S.world place word }
+
+pub sound-put : (S : State) (t threads : ℕ) (place : Target) (word : ℕ) → IsSound threads S → IsSound threads (put S t place word)
+sound-put S t threads place word sound =
+    let keeps = put-from-keeps S t place word (pending_at S t) in
+    record {
+      pending_of_each = keeps.pending ∙ sound.pending_of_each;
+      each_thread = keeps.counts.threads ∙ sound.each_thread;
+      turns_left = λ on. let left = sound.turns_left (sym keeps.halt ∙ on) in omega (arith, left, keeps.turns);
+      few = sound.few;
+      turns = omega (arith, sound.turns, keeps.turns);
+      tasks = omega (arith, sound.tasks, keeps.turns, keeps.counts.tasks);
+      regions = omega (arith, sound.regions, keeps.turns, keeps.counts.regions);
     }

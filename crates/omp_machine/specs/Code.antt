@@ -1,5 +1,5 @@
 -- What remains of a task's code, as the list of its instructions.
-use Rattle.std.specs.Prelude.{Bool, true, false, List, [], ◌∷◌, Option, Some, None}
+use Rattle.std.specs.Prelude.{Bool, true, false, List, [], ◌∷◌}
 use Rattle.omp_model.specs.declared.machine.Instruction.{Instruction}
 use Rattle.omp_model.specs.declared.machine.Instruction.TheVariants as instruction
 use Rattle.omp_machine.specs.declared.code.Code.{Code}
@@ -10,11 +10,6 @@ code_view (code.List list) = list.items
 code_view code.BlockToEnter = instruction.EnterBlock ∷ instruction.LeaveBlock ∷ []
 code_view code.BlockToLeave = instruction.LeaveBlock ∷ []
 code_view code.Nothing = []
-
--- what stands first
-abbrev pub first_of : List Instruction → Option Instruction
-first_of [] = None
-first_of (next ∷ rest) = Some next
 
 -- the instruction is a silent step
 abbrev pub is_silent : Instruction → Bool

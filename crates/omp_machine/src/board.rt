@@ -1,13 +1,15 @@
 //! What events change: the threads by number, and the tasks and regions by identity.
 
-ghost use Rattle.std.specs.Prelude.{◌≡◌, ◌<◌, ◌≤◌, None, Some, IfOk, OnOk, IsTrue, length, ◌∷◌, [], ◌-◌, replicate, slice_set, true};
+ghost use Rattle.std.specs.Prelude.{◌≡◌, ◌<◌, ◌≤◌, None, Some, IfOk, OnOk, IsTrue, length, ◌∷◌, [], ◌-◌, replicate, slice_get, slice_set, true};
 ghost use Rattle.omp_model.specs.State.{thread_at, task_at, region_at, current, staged, pushed, popped, conditioned, placed, forked, joined, opened, arrived, passed, left, task_made, region_made, unmade, no_task, no_region, initial_task, initial_thread, fresh_region};
 ghost use Rattle.omp_model.specs.Silent.{Steps, is_step, silent};
-ghost use Rattle.omp_model.specs.State.{invited, member_task};
-ghost use Rattle.omp_model.specs.Events.{has_returned, is_over, workers_over};
+ghost use Rattle.omp_model.specs.State.{invited, member_task, with_region, with_task, with_thread};
+ghost use Rattle.omp_model.specs.Words.{is_made, is_made_identity, is_made_thread, stored};
+ghost use Rattle.omp_model.specs.Frames.{task_in};
+ghost use Rattle.omp_model.specs.Snapshots.{height_of};
+ghost use Rattle.omp_model.specs.Events.{first_of, has_returned, is_over, workers_over};
 ghost use Rattle.omp_model.specs.Cause.{threads_over};
 ghost use Rattle.omp_model.specs.Program.{code_of};
-ghost use Rattle.omp_machine.specs.Code.{first_of};
 
 use crate::task::Task;
 use crate::thread::Thread;
@@ -15,6 +17,7 @@ use omp_model::{
     Blocks, Condition, INITIAL_TASK, Instruction, Region, STACK_LIMIT, TEAM_LIMIT, TaskStage,
     ThreadStage,
 };
+use ompt_calls::Target;
 use std::alloc::{AllocError, Global};
 use std::marker::Model;
 
@@ -133,6 +136,47 @@ impl Board {
         }
     }
 
+    /// What a tool last stored into the thread's data word, or 0.
+    pub fn stored_in_thread(&self, thread: u8) -> u64
+        ensures { result ≡ (thread_at self.now.world thread).word }
+    {
+        match self.threads.get(thread as usize) {
+            Some(thread) => thread.word(),
+            None => 0,
+        }
+    }
+
+    /// The task that has so many below it on the thread's stack, or 0.
+    pub fn task_in(&self, thread: u8, below: usize) -> u32
+        ensures { result ≡ task_in self.now.world thread below }
+    {
+        match self.threads.get(thread as usize) {
+            Some(thread) => thread.task_in(below),
+            None => 0,
+        }
+    }
+
+    /// The lowest task of the thread's stack, if there is one.
+    pub fn lowest(&self, thread: u8) -> Option<u32>
+        ensures { result ≡ slice_get (thread_at self.now.world thread).stack 0 }
+    {
+        match self.threads.get(thread as usize) {
+            Some(thread) => thread.lowest(),
+            None => None,
+        }
+    }
+
+    /// How many tasks there are on the stack of thread 0 up to this one, or 0 where it isn't there.
+    pub fn height_of(&self, task: u32) -> usize
+        ensures counted { result ≡ height_of self.now.world task }
+        ensures bounded { result ≤ STACK_LIMIT }
+    {
+        match self.threads.first() {
+            Some(thread) => thread.height_of(task),
+            None => 0,
+        }
+    }
+
     /// How many tasks are on the thread's stack.
     pub fn depth(&self, thread: u8) -> usize
         ensures counted { result ≡ length (thread_at self.now.world thread).stack }
@@ -226,6 +270,16 @@ impl Board {
         }
     }
 
+    /// What a tool last stored into the task's data word, or 0.
+    pub fn stored_in_task(&self, task: u32) -> u64
+        ensures { result ≡ (task_at self.now.world task).word }
+    {
+        match self.tasks.get(task as usize) {
+            Some(task) => task.word(),
+            None => 0,
+        }
+    }
+
     /// The region with this identity.
     pub fn region(&self, region: u32) -> Region
         ensures { result ≡ region_at self.now.world region }
@@ -248,6 +302,27 @@ impl Board {
         ensures { result ≡ threads_over self.now.world }
     {
         self.threads.iter().all(is_over)
+    }
+
+    /// Whether the thread, region or task whose word this is was made.
+    pub fn is_made(&self, target: Target) -> bool
+        ensures { result ≡ is_made self.now.world target }
+    {
+        match target {
+            Target::Thread(thread) => self.is_made_thread(thread),
+            Target::Parallel(region) => is_made_identity(region, self.regions.len()),
+            Target::Task(task) => is_made_identity(task, self.tasks.len()),
+        }
+    }
+
+    /// Whether the thread was made.
+    fn is_made_thread(&self, thread: u32) -> bool
+        ensures { result ≡ is_made_thread (thread_at self.now.world thread).stage }
+    {
+        match self.threads.get(thread as usize) {
+            Some(thread) => thread.stage() != ThreadStage::Unmade,
+            None => false,
+        }
     }
 
     /// The thread has come so far.
@@ -344,35 +419,76 @@ impl Board {
     pub fn arrive(&mut self, region: u32, member: u8)
         ensures { self.new ≡ record self.old { world = arrived self.old.world region member } }
     {
-        let index = region as usize;
-        if index < self.regions.len() {
-            let mut region = self.regions[index];
-            mark(&mut region.arrived, member);
-            self.regions[index] = region;
-        }
+        let mut after = self.region(region);
+        mark(&mut after.arrived, member);
+        self.set_region(region, after);
     }
 
     /// The member's wait at the region's barrier has ended.
     pub fn pass(&mut self, region: u32, member: u8)
         ensures { self.new ≡ record self.old { world = passed self.old.world region member } }
     {
-        let index = region as usize;
-        if index < self.regions.len() {
-            let mut region = self.regions[index];
-            mark(&mut region.passed, member);
-            self.regions[index] = region;
-        }
+        let mut after = self.region(region);
+        mark(&mut after.passed, member);
+        self.set_region(region, after);
     }
 
     /// The member has left the region.
     pub fn leave(&mut self, region: u32, member: u8)
         ensures { self.new ≡ record self.old { world = left self.old.world region member } }
     {
+        let mut after = self.region(region);
+        mark(&mut after.left, member);
+        self.set_region(region, after);
+    }
+
+    /// The region is this from now on, if there is one.
+    fn set_region(&mut self, region: u32, after: Region)
+        ensures { self.new ≡ record self.old { world = with_region self.old.world region after } }
+    {
         let index = region as usize;
         if index < self.regions.len() {
-            let mut region = self.regions[index];
-            mark(&mut region.left, member);
-            self.regions[index] = region;
+            self.regions[index] = after;
+        }
+    }
+
+    /// This is stored into the data word of the thread, region or task.
+    pub fn store(&mut self, target: Target, word: u64)
+        ensures { self.new ≡ record self.old { world = stored self.old.world target word } }
+    {
+        match target {
+            Target::Thread(thread) => self.store_in_thread(thread, word),
+            Target::Parallel(region) => self.store_in_region(region, word),
+            Target::Task(task) => self.store_in_task(task, word),
+        }
+    }
+
+    /// This is stored into the data word of the thread.
+    fn store_in_thread(&mut self, thread: u32, word: u64)
+        ensures { self.new ≡ record self.old { world = with_thread self.old.world thread (record (thread_at self.old.world thread) { word = word }) } }
+    {
+        let index = thread as usize;
+        if index < self.threads.len() {
+            self.threads[index].store(word);
+        }
+    }
+
+    /// This is stored into the data word of the region.
+    fn store_in_region(&mut self, region: u32, word: u64)
+        ensures { self.new ≡ record self.old { world = with_region self.old.world region (record (region_at self.old.world region) { word = word }) } }
+    {
+        let mut after = self.region(region);
+        after.word = word;
+        self.set_region(region, after);
+    }
+
+    /// This is stored into the data word of the task.
+    fn store_in_task(&mut self, task: u32, word: u64)
+        ensures { self.new ≡ record self.old { world = with_task self.old.world task (record (task_at self.old.world task) { word = word }) } }
+    {
+        let index = task as usize;
+        if index < self.tasks.len() {
+            self.tasks[index].store(word);
         }
     }
 
@@ -413,10 +529,18 @@ pub fn fresh_region(task: u32, size: u8, codeptr: u64) -> Region
         task,
         size,
         codeptr,
+        word: 0,
         arrived: [false; TEAM_LIMIT],
         passed: [false; TEAM_LIMIT],
         left: [false; TEAM_LIMIT],
     }
+}
+
+/// Whether the identity is one of so many, of which 0 stands for none.
+fn is_made_identity(identity: u32, count: usize) -> bool
+    ensures { result ≡ is_made_identity identity count }
+{
+    0 < identity && (identity as usize) < count
 }
 
 /// Whether the thread wasn't made, or has ended.

@@ -3,7 +3,8 @@
 ghost use Rattle.std.specs.Prelude.{◌≡◌, ◌<◌, ◌≤◌, ◌+◌, ◌*◌, ◌^◌, length, drop, IfOk};
 ghost use Rattle.omp_model.specs.Program.{code_of};
 ghost use Rattle.omp_model.specs.declared.machine.Instruction.TheVariants.{Parallel};
-ghost use Rattle.omp_machine.specs.Code.{code_view, first_of};
+ghost use Rattle.omp_model.specs.Events.{first_of};
+ghost use Rattle.omp_machine.specs.Code.{code_view};
 
 use omp_model::{Blocks, Instruction};
 use std::alloc::{AllocError, Global};

@@ -2,9 +2,8 @@
 
 ghost use Rattle.std.specs.Prelude.{◌≡◌, ◌<◌, ◌^◌, length};
 ghost use Rattle.omp_model.specs.State.{task_at};
-ghost use Rattle.omp_model.specs.Events.{all_members, event, event_in, event_joining, event_of_code, event_of_task, event_without_task, fault_at, idle_worker, initial_end, may_pass, push_fault, some_member};
+ghost use Rattle.omp_model.specs.Events.{all_members, event, event_in, event_joining, event_of_first, event_of_task, event_without_task, fault_at, idle_worker, initial_end, may_pass, push_fault, region_end, some_member, wait_end};
 ghost use Rattle.omp_model.specs.Cause.{whole_value};
-ghost use Rattle.omp_machine.specs.Events.{event_of_first, region_end, wait_end};
 
 use crate::board::Board;
 use omp_model::{

@@ -30,14 +30,17 @@ mod call;
 mod code;
 mod effects;
 mod events;
+mod frames;
 mod machine;
 mod settings;
+mod snapshot;
 mod state;
 mod task;
 #[cfg(test)]
 mod tests;
 mod thread;
 mod went;
+mod words;
 
 pub use machine::{Machine, Memory};
 pub use went::Went;

@@ -3,16 +3,20 @@
 ghost use Rattle.std.specs.Prelude.{◌≡◌, ◌<◌, ◌≤◌, IfOk, OnOk, OnErr, IsSome, IsTrue, is_some, length, ◌-◌};
 ghost use Rattle.omp_model.specs.State.{first, pending_at};
 ghost use Rattle.omp_model.specs.Turn.{turn, enabled};
-ghost use Rattle.omp_model.specs.Legal.{back};
+ghost use Rattle.omp_model.specs.Words.{is_made};
+ghost use Rattle.omp_model.specs.Legal.{back, may, put};
+ghost use Rattle.omp_model.specs.declared.history.What.TheVariants.{Put};
 ghost use Rattle.omp_model.specs.Serial.{enabled_among, first_enabled};
 ghost use Rattle.omp_model.specs.Cause.{whole_value, is_stuck, cause_of_value, cause_of_halt, cause_in};
 ghost use Rattle.omp_model.specs.Program.{run_of_blocks};
 ghost use Rattle.omp_machine.specs.Standing.{Standing, went_of, is_call};
 
 use crate::settings::Settings;
+use crate::snapshot::Levels;
 use crate::state::State;
 use crate::went::Went;
 use omp_model::{Blocks, Cause, Halt};
+use ompt_calls::Target;
 use std::alloc::Global;
 use std::marker::Model;
 
@@ -22,6 +26,8 @@ pub type Memory = std::alloc::AllocError;
 /// The machine of a run. Contracts see its run, and the state that it has come to.
 #[derive(Drop)]
 pub struct Machine {
+    /// Where its memory comes from.
+    alloc: Global,
     /// What fixes its run.
     settings: Settings,
     /// What the run has come to.
@@ -63,7 +69,11 @@ impl Machine {
             steps,
         };
         let state = State::new(alloc, &settings)?;
-        Ok(Machine { settings, state })
+        Ok(Machine {
+            alloc,
+            settings,
+            state,
+        })
     }
 
     /// Whether the thread may begin a turn.
@@ -148,9 +158,25 @@ impl Machine {
         ensures waits { IfOk result (λ went. IsTrue (is_call went) → IsSome (pending_at self.new.state thread)) }
         ensures err { OnErr result (self.new ≡ self.old) }
     {
+        let levels = Levels::new(self.alloc)?;
         self.state.reserve()?;
         let outcome = self.state.turn(&self.settings, thread);
-        Ok(self.state.went(&self.settings, thread, outcome))
+        Ok(self.state.went(&self.settings, thread, outcome, levels))
+    }
+
+    /// Whether the thread, region or task whose data word this is was made.
+    pub fn made(&self, target: Target) -> bool
+        ensures { result ≡ is_made self.now.state.world target }
+    {
+        self.state.is_made(target)
+    }
+
+    /// The tool of the thread's event stores this into the data word. No memory is taken.
+    pub fn put(&mut self, thread: u8, target: Target, word: u64)
+        requires { IsTrue (may self.old.run self.old.state thread (Put target word)) }
+        ensures { self.new ≡ record self.old { state = put self.old.state thread target word } }
+    {
+        self.state.put(thread, target, word);
     }
 
     /// The callback of the thread's event has returned, and the event's result takes hold.

@@ -1,20 +1,23 @@
 //! A state of the machine, and the order of a turn.
 
-ghost use Rattle.std.specs.Prelude.{◌≡◌, ◌≤◌, ◌<◌, ◌+◌, ◌^◌, ◌||◌, None, IfOk, OnOk, IsTrue, is_some, length, nat_le, replicate, Some, slice_set};
+ghost use Rattle.std.specs.Prelude.{◌≡◌, ◌≤◌, ◌<◌, ◌+◌, ◌^◌, ◌||◌, None, IfOk, IfSome, OnOk, IsTrue, is_some, length, nat_le, replicate, Some, slice_set};
 ghost use Rattle.omp_model.specs.State.{Run, first, pending_at};
 ghost use Rattle.omp_model.specs.Silent.{Steps, is_step, silent};
 ghost use Rattle.omp_model.specs.Events.{event, fault_at};
-ghost use Rattle.omp_model.specs.Turn.{walk, stepped, halted, happening, after_steps, unlimited, turn, enabled};
-ghost use Rattle.omp_model.specs.Legal.{back};
+ghost use Rattle.omp_model.specs.Words.{is_made};
+ghost use Rattle.omp_model.specs.Turn.{called, walk, stepped, halted, happening, after_steps, unlimited, turn, enabled};
+ghost use Rattle.omp_model.specs.Legal.{back, put};
 ghost use Rattle.omp_model.specs.Cause.{none_pending, whole_value};
 ghost use Rattle.omp_machine.specs.Settings.{run_of};
 ghost use Rattle.omp_machine.specs.Standing.{went_after};
 
 use crate::board::Board;
-use crate::call::{call_of, told};
+use crate::call::told;
 use crate::settings::Settings;
+use crate::snapshot::Levels;
 use crate::went::Went;
-use omp_model::{Event, Halt, Outcome, STEPS_OF_A_TURN, TURN_LIMIT};
+use omp_model::{Callback, Event, Halt, Outcome, STEPS_OF_A_TURN, STORE_LIMIT, TURN_LIMIT};
+use ompt_calls::Target;
 use std::alloc::{AllocError, Global};
 use std::marker::Model;
 
@@ -32,8 +35,8 @@ struct Walk {
 pub struct State {
     /// The threads, tasks and regions.
     board: Board,
-    /// For each thread the event whose callback hasn't returned.
-    pending: Vec<Option<Event>>,
+    /// For each thread the callback that it is inside.
+    pending: Vec<Option<Callback>>,
     /// How many silent steps were made so far.
     steps: u32,
     /// How many turns were begun so far.
@@ -77,12 +80,12 @@ impl State {
         })
     }
 
-    /// The event of the thread whose callback hasn't returned.
-    pub fn pending(&self, thread: u8) -> Option<Event>
+    /// The callback that the thread is inside.
+    pub fn pending(&self, thread: u8) -> Option<Callback>
         ensures { result ≡ pending_at self.now.state thread }
     {
         match self.pending.get(thread as usize) {
-            Some(event) => *event,
+            Some(callback) => *callback,
             None => None,
         }
     }
@@ -105,7 +108,7 @@ impl State {
     pub fn none_pending(&self) -> bool
         ensures { result ≡ none_pending self.now.state }
     {
-        self.pending.iter().all(|event| event.is_none())
+        self.pending.iter().all(|callback| callback.is_none())
     }
 
     /// Whether a silent step or an event of the thread stands next.
@@ -198,20 +201,20 @@ impl State {
             Some(halt) => self.halt_by(halt),
             None => {
                 self.board.at_go(thread, event);
-                self.set_pending(thread, Some(event));
+                self.set_pending(thread, Some(called(event)));
                 self.turns += 1;
                 Outcome::Happens(event)
             }
         }
     }
 
-    /// The thread is inside the callback of this event from now on, or of none.
-    fn set_pending(&mut self, thread: u8, event: Option<Event>)
-        ensures { self.new.state ≡ record self.old.state { pending = slice_set self.old.state.pending thread event } }
+    /// The thread is inside this callback from now on, or inside none.
+    fn set_pending(&mut self, thread: u8, callback: Option<Callback>)
+        ensures { self.new.state ≡ record self.old.state { pending = slice_set self.old.state.pending thread callback } }
     {
         let index = thread as usize;
         if index < self.pending.len() {
-            self.pending[index] = event;
+            self.pending[index] = callback;
         }
     }
 
@@ -253,12 +256,12 @@ impl State {
     }
 
     /// What the turn of the thread that has just come to this tells its caller.
-    pub fn went(&self, settings: &Settings, thread: u8, outcome: Outcome) -> Went
+    pub fn went(&self, settings: &Settings, thread: u8, outcome: Outcome, levels: Levels) -> Went
         ensures { result ≡ went_after (run_of settings.now) self.now.state thread outcome }
     {
         match outcome {
             Outcome::Idle | Outcome::Quiet => Went::Quiet,
-            Outcome::Happens(event) => told(settings.mask, call_of(&self.board, thread, event)),
+            Outcome::Happens(event) => told(settings.mask, &self.board, thread, event, levels),
             Outcome::Halts(Halt::Trap(number)) => Went::Trapped(number),
             Outcome::Halts(Halt::Limit(number)) => Went::Limit(number),
         }
@@ -293,15 +296,51 @@ impl State {
     pub fn back(&mut self, thread: u8)
         ensures { self.new.state ≡ back self.old.state thread }
     {
-        if let Some(event) = self.pending(thread) {
-            self.board.at_back(thread, event);
+        if let Some(callback) = self.pending(thread) {
+            self.board.at_back(thread, callback.event);
             self.set_pending(thread, None);
         }
+    }
+
+    /// The tool of the thread's event stores this into the word.
+    pub fn put(&mut self, thread: u8, target: Target, word: u64)
+        requires { IfSome (pending_at self.old.state thread) (λ callback. callback.stores < STORE_LIMIT) }
+        ensures { self.new.state ≡ put self.old.state thread target word }
+    {
+        if let Some(callback) = self.pending(thread) {
+            self.board.store(target, word);
+            self.set_pending(thread, Some(stored_once_more(callback)));
+        }
+    }
+
+    /// Whether the thread, region or task whose word this is was made.
+    pub fn is_made(&self, target: Target) -> bool
+        ensures { result ≡ is_made self.now.state.world target }
+    {
+        self.board.is_made(target)
+    }
+}
+
+/// The callback of the event, before its tool has stored anything.
+fn called(event: Event) -> Callback
+    ensures { result ≡ called event }
+{
+    Callback { event, stores: 0 }
+}
+
+/// The callback after one more store of its tool.
+fn stored_once_more(callback: Callback) -> Callback
+    requires { callback.stores < STORE_LIMIT }
+    ensures { result ≡ record callback { stores = callback.stores + 1 } }
+{
+    Callback {
+        stores: callback.stores + 1,
+        ..callback
     }
 }
 
 /// For so many threads, that none is inside a callback.
-fn nobody(alloc: Global, threads: u8) -> Result<Vec<Option<Event>>, AllocError>
+fn nobody(alloc: Global, threads: u8) -> Result<Vec<Option<Callback>>, AllocError>
     ensures { IfOk result (λ pending. pending.items ≡ replicate threads None) }
 {
     let mut pending = Vec::new(alloc);

@@ -3,9 +3,9 @@
 ghost use Rattle.std.specs.Prelude.{◌≡◌, ◌≤◌, length, drop, Some, IfOk, IsTrue};
 ghost use Rattle.omp_model.specs.State.{no_task, initial_task, member_task};
 ghost use Rattle.omp_model.specs.Silent.{step_of};
-ghost use Rattle.omp_model.specs.Events.{has_returned};
+ghost use Rattle.omp_model.specs.Events.{first_of, has_returned};
 ghost use Rattle.omp_model.specs.Program.{code_of};
-ghost use Rattle.omp_machine.specs.Code.{first_of, is_silent};
+ghost use Rattle.omp_machine.specs.Code.{is_silent};
 ghost use Rattle.omp_machine.specs.Steps.{has_next};
 ghost use Rattle.omp_model.specs.declared.machine.TaskStage.TheVariants.{Forked};
 
@@ -27,6 +27,8 @@ pub struct Task {
     code: Code,
     /// The value that the last call to end in it gave.
     value: Option<i32>,
+    /// What a tool last stored into its data word, or 0.
+    word: u64,
 }
 
 impl Model for Task {
@@ -41,6 +43,7 @@ impl Model for Task {
       stage = task.stage;
       code = code_view task.code;
       value = task.value;
+      word = task.word;
     } };
 }
 
@@ -55,6 +58,7 @@ impl Task {
             stage: TaskStage::Over,
             code: Code::Nothing,
             value: None,
+            word: 0,
         }
     }
 
@@ -70,6 +74,7 @@ impl Task {
             stage: TaskStage::Running,
             code,
             value: None,
+            word: 0,
         })
     }
 
@@ -83,6 +88,7 @@ impl Task {
             stage: TaskStage::Running,
             code: Code::BlockToEnter,
             value: None,
+            word: 0,
         }
     }
 
@@ -141,6 +147,20 @@ impl Task {
         ensures { result ≡ self.now.value }
     {
         self.value
+    }
+
+    /// What a tool last stored into the task's data word, or 0.
+    pub fn word(&self) -> u64
+        ensures { result ≡ self.now.word }
+    {
+        self.word
+    }
+
+    /// This is stored into the task's data word.
+    pub fn store(&mut self, word: u64)
+        ensures { self.new ≡ record self.old { word = word } }
+    {
+        self.word = word;
     }
 
     /// Whether the task's function has returned.

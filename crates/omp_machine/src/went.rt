@@ -1,14 +1,15 @@
 //! What a turn tells its caller.
 
-use ompt_calls::Call;
+use ompt_calls::{Call, Snapshot};
 
 /// What a turn came to, for the caller that runs the tools.
-#[derive(Clone, Copy, Debug, PartialEq, Eq)]
+#[derive(Debug, Drop)]
 pub enum Went {
     /// Silent steps alone.
     Quiet,
-    /// An event whose callback is registered, with its call. The thread waits for `back`.
-    Told(Call),
+    /// An event whose callback is registered, with its call and what can be inquired during it. The thread waits for
+    /// `back`.
+    Told(Call, Snapshot),
     /// An event whose callback isn't registered. The thread waits for `back`.
     Untold,
     /// The trap with this number ended the run.

@@ -1,0 +1,60 @@
+-- One more level of a snapshot.
+use Rattle.std.proofs.Common.{◌≡◌, ℕ, zero, suc, ◌+◌, ◌-◌, ◌<◌, ◌≤◌, ◌≢◌, ◌==◌, if◌then◌else◌, true, false, List, [], ◌∷◌, ◌++◌, length, drop, drop-cons, slice_index_or, eq-eqb, add-one, append-nil, refl, ap, append_assoc, inl, inr, arith}
+use Rattle.std.proofs.lemmas.Bool.Decides.{eqb_tells}
+use Rattle.std.proofs.Math.ListN.{drop_of_length-le}
+use Rattle.ompt_calls.specs.declared.snapshot.TaskLevel.{TaskLevel}
+use Rattle.ompt_calls.specs.declared.snapshot.RegionLevel.{RegionLevel}
+use Rattle.omp_model.specs.declared.limits.TheConstants.{INITIAL_TASK}
+use Rattle.omp_model.specs.declared.machine.Event.{Event}
+use Rattle.omp_model.specs.State.{World, task_at, region_at}
+use Rattle.omp_model.specs.Snapshots.{task_level, lowest_levels, height_of, outer_levels, regions_after}
+use Rattle.omp_machine.specs.Levels.{outer_count, region_level}
+
+-- the levels beyond a stack are the lowest ones of thread 0, as many as are counted
+pub outer-counted : (W : World) (t : ℕ) (event : Event) (stack : List ℕ) → outer_levels W t event stack ≡ lowest_levels W t event 0 (outer_count W stack)
+unfolding lowest_levels
+outer-counted W t event [] = refl
+outer-counted W t event (lowest ∷ above) =
+    elim (lowest == INITIAL_TASK) as (λ b. let height = height_of W (region_at W (task_at W lowest).region).task in (if b then [] else lowest_levels W t event 0 height) ≡ lowest_levels W t event 0 (if b then 0 else height)) [ true ↦ refl | false ↦ refl ]
+
+-- one more level of a task
+pub lowest-more : (W : World) (t : ℕ) (event : Event) (u left : ℕ) (levels after : List TaskLevel) (level : TaskLevel) → 0 < left → level ≡ task_level W t event u (left - 1) → after ≡ levels ++ level ∷ [] → after ++ lowest_levels W t event u (left - 1) ≡ levels ++ lowest_levels W t event u left
+unfolding lowest_levels
+lowest-more W t event u zero levels after level some is pushed = absurd (omega arith)
+lowest-more W t event u (suc left) levels after level some is pushed =
+    let one : suc left - 1 ≡ left = omega arith in
+    rw (pushed, is, one) (append_assoc levels (task_level W t event u left ∷ []) (lowest_levels W t event u left))
+
+-- no level is left
+pub lowest-none : (W : World) (t : ℕ) (event : Event) (u left : ℕ) (levels : List TaskLevel) → left ≤ 0 → levels ++ lowest_levels W t event u left ≡ levels
+unfolding lowest_levels
+lowest-none W t event u zero levels none = append-nil levels
+lowest-none W t event u (suc left) levels none = absurd (omega arith)
+
+-- one more level of a region, which isn't the last one again
+region-more : (W : World) (last : ℕ) (level : TaskLevel) (rest : List TaskLevel) (levels : List RegionLevel) → (level.region.identity == last) ≡ false → (levels ++ region_level W level.region ∷ []) ++ regions_after W level.region.identity rest ≡ levels ++ regions_after W last (level ∷ rest)
+unfolding regions_after
+region-more W last level rest levels other = rw other (append_assoc levels (region_level W level.region ∷ []) (regions_after W level.region.identity rest))
+
+pub region-next : (W : World) (tasks : List TaskLevel) (i last next : ℕ) (d : TaskLevel) (levels after : List RegionLevel) (new : RegionLevel) → i < length tasks → (slice_index_or tasks i d).region.identity ≢ last → new ≡ region_level W (slice_index_or tasks i d).region → next ≡ (slice_index_or tasks i d).region.identity → after ≡ levels ++ new ∷ [] → after ++ regions_after W next (drop (i + 1) tasks) ≡ levels ++ regions_after W last (drop i tasks)
+region-next W tasks i last next d levels after new below other is same pushed =
+    let level : TaskLevel = slice_index_or tasks i d in
+    let unrolled : drop i tasks ≡ level ∷ drop (i + 1) tasks = rw (add-one, drop-cons tasks i d) refl in
+    let differs : (level.region.identity == last) ≡ false = elim (eqb_tells level.region.identity last) [ inl equal ↦ absurd (other equal.1) | inr unequal ↦ unequal.0 ] in
+    rw (pushed, is, same, unrolled) (region-more W last level (drop (i + 1) tasks) levels differs)
+
+-- the last one again
+region-same : (W : World) (last : ℕ) (level : TaskLevel) (rest : List TaskLevel) → (level.region.identity == last) ≡ true → regions_after W last rest ≡ regions_after W last (level ∷ rest)
+unfolding regions_after
+region-same W last level rest again = rw again refl
+
+pub region-again : (W : World) (tasks : List TaskLevel) (i last next : ℕ) (d : TaskLevel) (levels : List RegionLevel) → i < length tasks → (slice_index_or tasks i d).region.identity ≡ last → next ≡ last → levels ++ regions_after W next (drop (i + 1) tasks) ≡ levels ++ regions_after W last (drop i tasks)
+region-again W tasks i last next d levels below again same =
+    let level : TaskLevel = slice_index_or tasks i d in
+    let unrolled : drop i tasks ≡ level ∷ drop (i + 1) tasks = rw (add-one, drop-cons tasks i d) refl in
+    rw (same, unrolled) (ap (λ others. levels ++ others) (region-same W last level (drop (i + 1) tasks) (eq-eqb level.region.identity last again)))
+
+-- no level is left
+pub regions-none : (W : World) (last : ℕ) (tasks : List TaskLevel) (i : ℕ) (levels : List RegionLevel) → length tasks ≤ i → levels ++ regions_after W last (drop i tasks) ≡ levels
+unfolding regions_after
+regions-none W last tasks i levels past = rw (drop_of_length-le tasks past) (append-nil levels)
