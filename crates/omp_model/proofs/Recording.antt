@@ -121,7 +121,7 @@ put_from-keeps S t target word None = (refl, refl)
 put_from-keeps S t target word (Some callback) = (refl, refl)
 
 -- and so do all the stores of a callback
-put_all-turns : (S : State) (t : ℕ) (stores : List Stored) → (put_all S t stores).turns ≡ S.turns
+pub put_all-turns : (S : State) (t : ℕ) (stores : List Stored) → (put_all S t stores).turns ≡ S.turns
 put_all-turns S t [] = refl
 put_all-turns S t (store ∷ rest) = put_all-turns (put S t store.target store.word) t rest ∙ (put_from-keeps S t store.target store.word (pending_at S t)).0
 

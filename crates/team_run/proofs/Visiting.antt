@@ -1,5 +1,5 @@
 -- A serial run after one more visit, and at its end.
-use Rattle.std.proofs.Common.{◌≡◌, ℕ, ℤ, zero, suc, ◌+◌, ◌<◌, ◌≤◌, Bool, true, false, ◌&&◌, if◌then◌else◌, List, [], ◌∷◌, ◌++◌, length, length-append, replicate, slice_set, slice_index_or, get_or-set_same, Option, Some, None, IsSome, is_none, refl, sym, ap, subst, ◌∙◌, inl, inr, arith, append-nil}
+use Rattle.std.proofs.Common.{◌≡◌, ℕ, ℤ, zero, suc, ◌+◌, ◌<◌, ◌≤◌, Bool, true, false, ◌&&◌, if◌then◌else◌, List, [], ◌∷◌, ◌++◌, length, length-append, replicate, slice_set, slice_index_or, get_or-set_same, Option, Some, None, IsSome, is_none, refl, sym, ap, subst, ◌∙◌, inl, inr, arith, append-nil, append_assoc, Result, Ok, Err, OnOk, OnErr}
 use Rattle.std.specs.List.{list_all}
 use Rattle.std.proofs.lemmas.Bool.{true≢false, cases_lt}
 use Rattle.std.proofs.lemmas.List.{length-set, get_or_past}
@@ -25,17 +25,20 @@ use Rattle.omp_model.specs.Turn.{turn, called}
 use Rattle.omp_model.specs.Legal.{put_from, put, back_from, back}
 use Rattle.omp_model.specs.Heard.{heard, heard_of}
 use Rattle.omp_model.specs.Serial.{Serial, first_enabled, enabled_among, inside_after, StoresNothing}
-use Rattle.omp_model.specs.Storing.{put_all, MayStore, go_at, back_at}
+use Rattle.omp_model.specs.Storing.{put_all, MayStore, go_at, back_at, event_reply}
 use Rattle.omp_model.specs.Cause.{none_pending, whole_value, is_stuck, cause_of_whole, cause_by_halt, cause_in}
 use Rattle.omp_model.specs.Tame.{IsTame}
 use Rattle.omp_model.specs.Made.{WellMade}
-use Rattle.omp_model.proofs.Turns.{Leaves, leaves-turn, turn-pending}
-use Rattle.omp_model.proofs.Recording.{HasRun-start, HasRun-alone, HasRun-event, HasRun-serial, HasRun-pending, heard-alone, heard-event, heard-pending, said_of, event_at, first_enabled-below, first_enabled-none, StoresNothing-append}
+use Rattle.omp_model.proofs.Turns.{Leaves, leaves-turn, turn-pending, turns-rise, back-turns}
+use Rattle.omp_model.proofs.Recording.{HasRun-start, HasRun-alone, HasRun-event, HasRun-serial, HasRun-pending, heard-alone, heard-event, heard-pending, said_of, event_at, first_enabled-below, first_enabled-enabled, first_enabled-none, put_all-turns, StoresNothing-append}
 use Rattle.omp_model.proofs.Tame.{tame-turn, tame-back, tame-put-all}
 use Rattle.omp_model.proofs.Made.{made-first, made-turn, made-back}
 use Rattle.omp_model.proofs.Targets.{made-put_all, may-store, pending-put_all}
 use Rattle.team_run.specs.Standing.{AreSilent, HearsSilent, HearsOwn, StandsAt, StopsAt}
-use Rattle.team_run.proofs.Serving.{hears-front, item-silent, own-told, own-unheard, heard_of-same}
+use Rattle.omp_machine.proofs.Telling.{IsTold}
+use Rattle.tool_api.specs.Record.{Record}
+use Rattle.team_run.specs.Serving.{Serves, SameServed, Answers}
+use Rattle.team_run.proofs.Serving.{serves-told, serves-unheard, hears-front, item-silent, own-told, own-unheard, heard_of-same}
 
 abbrev all_none : List (Option Callback) → Bool
 all_none pending = list_all (λ (callback : Option Callback). is_none callback) pending
@@ -245,3 +248,90 @@ caused-halt run S None halted none nobody no_cause = caused-whole run S (whole_v
 pub caused : (run : Run) (S : State) (from : ℕ) (H : List Entry) → StandsAt run S from H → first_enabled run S from ≡ None → cause_in run S ≡ None → ⊥
 caused run S from H stands over no_cause =
     caused-halt run S S.halt refl (first_enabled-none run S from stands.within over) stands.nobody no_cause
+
+-- after a turn whose event was told, answered and returned from
+pub record Visited {P : Type 0} (stands_for : P → Record → Type 0) (run : Run) (S : State) (H : List Entry) (t : ℕ) (parts : List P) (after : State) (others : List P) (longer : List Entry) : Type 0 where
+  pub serves : Serves stands_for run parts H others longer
+  pub stands : StandsAt run after (t + 1) longer
+  pub turns : after.turns ≡ S.turns + 1
+
+module _ (run : Run) (S : State) (from : ℕ) (H : List Entry) (t : ℕ) (stands : StandsAt run S from H) (turns : first_enabled run S from ≡ Some t) (e : Event) (happens : (turn run S t).outcome ≡ Happens e) (waits : IsSome (pending_at (turn run S t).state t)) {P : Type 0} (stands_for : P → Record → Type 0) (parts : List P) where
+  abbrev inner : State
+  inner = (turn run S t).state
+
+  rises : inner.turns ≡ S.turns + 1
+  rises = turns-rise run S t (first_enabled-enabled run S from t turns)
+
+  -- with the answer of the thread's part
+  pub visited-told : is_registered run.mask (number_of (call_of inner.world t e)) ≡ true → (after : State) (others : List P) (longer : List Entry) → Answers stands_for (length H) t (call_of inner.world t e) (snap_of inner.world t e) inner parts (H ++ go_at t ∷ []) after others longer → Visited stands_for run S H t parts after others longer
+  visited-told registered after others longer answers =
+      let stores : List Stored = stores_of answers.reply (snap_of inner.world t e) in
+      let history : longer ≡ H ++ event_at t stores = answers.history_is ∙ append_assoc H (go_at t ∷ []) (event_reply t stores) in
+      let more : heard run longer ≡ heard run H ++ item_with run S from H t stands turns e happens waits stores ∷ [] = ap (heard run) history ∙ told-heard run S from H t stands turns e happens waits registered stores in
+      record {
+        serves = serves-told stands_for run parts others H longer t (item_with run S from H t stands turns e happens waits stores) refl more answers.as_many answers.each;
+        stands = rw (answers.state_is, history) (stands-told run S from H t stands turns e happens waits registered stores (stores-few answers.reply (snap_of inner.world t e)) (may-reply run S from H t stands turns e happens waits registered answers.reply));
+        turns = rw answers.state_is (back-turns (put_all inner t stores) t ∙ put_all-turns inner t stores ∙ rises);
+      }
+
+  -- without a part's answer, where the callback isn't registered
+  pub visited-untold : is_registered run.mask (number_of (call_of inner.world t e)) ≡ false → Visited stands_for run S H t parts (back inner t) parts (H ++ event_at t [])
+  visited-untold unregistered =
+      record {
+        serves = serves-unheard stands_for run parts parts H (H ++ event_at t []) (untold-heard run S from H t stands turns e happens waits unregistered) (record { as_many = refl; each = λ k d h below stands. stands });
+        stands = stands-untold run S from H t stands turns e happens waits unregistered;
+        turns = back-turns inner t ∙ rises;
+      }
+
+  -- where the part found no memory, nothing more was heard
+  pub serves-inside : (others : List P) → SameServed stands_for parts others → Serves stands_for run parts H others (H ++ go_at t ∷ [])
+  serves-inside others kept = serves-unheard stands_for run parts others H (H ++ go_at t ∷ []) (heard-pending t e stands.has_run happens) kept
+
+module _ (run : Run) (S : State) (from : ℕ) (H : List Entry) (t : ℕ) (stands : StandsAt run S from H) (turns : first_enabled run S from ≡ Some t) {P : Type 0} (stands_for : P → Record → Type 0) (parts : List P) where
+  -- after a turn with no event
+  pub visited-alone : inside_after (turn run S t).outcome t ≡ None → Visited stands_for run S H t parts (turn run S t).state parts (H ++ go_at t ∷ [])
+  visited-alone none =
+      record {
+        serves = serves-unheard stands_for run parts parts H (H ++ go_at t ∷ []) (heard-alone t stands.has_run none) (record { as_many = refl; each = λ k d h below stands. stands });
+        stands = stands-alone run S from H t stands turns none;
+        turns = turns-rise run S t (first_enabled-enabled run S from t turns);
+      }
+
+module _ (run : Run) (S : State) (from : ℕ) (H : List Entry) (t : ℕ) (stands : StandsAt run S from H) (turns : first_enabled run S from ≡ Some t) (waits : IsSome (pending_at (turn run S t).state t)) (call : Call) (snapshot : Snapshot) (said : IsTold run (turn run S t).state t (turn run S t).outcome call snapshot) where
+  -- the stores of any reply to what was told may stand next
+  pub may-said : (reply : Reply) → MayStore run (turn run S t).state t (stores_of reply snapshot)
+  may-said reply =
+      subst (λ (snapshot : Snapshot). MayStore run (turn run S t).state t (stores_of reply snapshot)) said.snapshot_is (may-reply run S from H t stands turns said.event said.happens waits said.registered reply)
+
+  pub inside-said : (stores : List Stored) → IsSome (pending_at (put_all (turn run S t).state t stores) t)
+  inside-said stores = inside-still run S from H t stands turns said.event said.happens waits stores
+
+  -- the history at which the run stops where the part found no memory
+  pub stops-said : StopsAt run (H ++ go_at t ∷ [])
+  stops-said = stops-inside run S from H t stands turns said.event said.happens
+
+  module _ {P : Type 0} (stands_for : P → Record → Type 0) (parts others : List P) where
+    -- after the part's answer
+    pub visited-said :
+        (seq : ℕ) (state : State) (before : List Entry) → seq ≡ length H → state ≡ (turn run S t).state → before ≡ H ++ go_at t ∷ []
+        → (after : State) (longer : List Entry) → Answers stands_for seq t call snapshot state parts before after others longer → Visited stands_for run S H t parts after others longer
+    visited-said seq state before seq_is state_is before_is after longer answers =
+        let one = subst (λ seq. Answers stands_for seq t call snapshot state parts before after others longer) seq_is answers in
+        let two = subst (λ (state : State). Answers stands_for (length H) t call snapshot state parts before after others longer) state_is one in
+        let three = subst (λ (before : List Entry). Answers stands_for (length H) t call snapshot (turn run S t).state parts before after others longer) before_is two in
+        let four = subst (λ (call : Call). Answers stands_for (length H) t call snapshot (turn run S t).state parts (H ++ go_at t ∷ []) after others longer) (sym said.call_is) three in
+        let five = subst (λ (snapshot : Snapshot). Answers stands_for (length H) t (call_of (turn run S t).state.world t said.event) snapshot (turn run S t).state parts (H ++ go_at t ∷ []) after others longer) (sym said.snapshot_is) four in
+        visited-told run S from H t stands turns said.event said.happens waits stands_for parts said.registered after others longer five
+
+    -- where it found no memory
+    pub serves-said : SameServed stands_for parts others → Serves stands_for run parts H others (H ++ go_at t ∷ [])
+    serves-said kept = serves-inside run S from H t stands turns said.event said.happens waits stands_for parts others kept
+
+-- what follows from either answer
+pub from_either : {X E : Type 0} (r : Result X E) {A B C : Type 0} → OnOk r A → OnErr r B → (A → C) → (B → C) → C
+from_either (Ok x) ok err f g = f ok
+from_either (Err e) ok err f g = g err
+
+pub from_ok : {X E : Type 0} (r : Result X E) {A C : Type 0} → OnOk r A → (A → C) → OnOk r C
+from_ok (Ok x) ok f = f ok
+from_ok (Err e) ok f = tt
