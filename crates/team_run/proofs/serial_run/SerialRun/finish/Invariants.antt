@@ -1,0 +1,18 @@
+use Rattle.std.proofs.Common.{◌≡◌, ◌-◌}
+use Rattle.omp_model.specs.declared.limits.TheConstants.{TURN_LIMIT}
+use Rattle.team_run.specs.Serving.{Serves}
+use Rattle.team_run.specs.Standing.{StandsAt}
+use Rattle.team_run.proofs.serial_run.SerialRun.finish.Given as goal
+
+-- the run stands where its history leads to, and its parts were called for what was heard
+abbrev pub invariant-loop-thread : goal.invariant-loop-thread
+invariant-loop-thread g l =
+    record {
+      run : l.self.machine.run ≡ l.initial.self.machine.run;
+      stands : StandsAt l.self.machine.run l.self.machine.state l.self.next l.self.history.entries;
+      serves : Serves g.P.ToolPart.stands_for l.initial.self.machine.run l.initial.self.parts.items l.initial.self.history.entries l.self.parts.items l.self.history.entries;
+    }
+
+-- the turns that are left
+abbrev pub decreases-loop-thread : goal.decreases-loop-thread
+decreases-loop-thread g l = TURN_LIMIT - l.self.machine.state.turns
