@@ -37,7 +37,7 @@ one-here event = rw (eq-eqb event.seq event.seq refl) refl
 count-cons : (position : ℕ) (event : EventRecord) (events : List EventRecord) → count_at position (event ∷ events) ≡ one_at position event + count_at position events
 count-cons position event events = sum_by-cons (one_at position) event events
 
--- where one is counted, no event is later only
+-- a position that is counted among events from the least on is at least that
 counted-from : (least position : ℕ) (events : List EventRecord) → AreFrom least events → 0 < count_at position events → least ≤ position
 counted-from least position [] from some = omega arith
 counted-from least position (event ∷ events) from some =
@@ -67,7 +67,7 @@ first-same x y xs ys above sorted (inr later) counts =
     let high = counted-from y.seq x.seq (y ∷ ys) (omega arith, sorted) (omega arith) in
     absurd (omega arith)
 
--- without the first
+-- the same without the first of each
 rest-among : (x : EventRecord) (xs events : List EventRecord) → count_at x.seq events ≡ 0 → AreAmong (x ∷ xs) events → AreAmong xs events
 rest-among x xs [] none among = tt
 rest-among x xs (event ∷ events) none among =
@@ -75,19 +75,26 @@ rest-among x xs (event ∷ events) none among =
     let one = one-here x in
     elim (among.0) as (λ _. AreAmong xs (event ∷ events)) [ inl same ↦ absurd (let here : one_at x.seq event ≡ 1 = rw same one in omega arith) | inr later ↦ (later, rest-among x xs events (omega arith) among.1) ]
 
-pub rises-once : (xs ys : List EventRecord) → AreRising xs → AreSorted ys → AreAmong xs ys → ((position : ℕ) → count_at position xs ≡ count_at position ys) → ys ≡ xs
+counts-rest : (x y : EventRecord) (xs ys : List EventRecord) → y ≡ x → ((position : ℕ) → count_at position (x ∷ xs) ≡ count_at position (y ∷ ys)) → (position : ℕ) → count_at position xs ≡ count_at position ys
+counts-rest x y xs ys first counts position =
+    let left = count-cons position x xs in
+    let right = count-cons position y ys in
+    let same : one_at position y ≡ one_at position x = ap (one_at position) first in
+    omega (arith, counts position)
+
+-- sorted events, each among the rising ones and as many at each position, are the rising ones
+rises-once : (xs ys : List EventRecord) → AreRising xs → AreSorted ys → AreAmong xs ys → ((position : ℕ) → count_at position xs ≡ count_at position ys) → ys ≡ xs
 rises-once [] [] rising sorted among counts = refl
 rises-once [] (y ∷ ys) rising sorted among counts = absurd among.0
 rises-once (x ∷ xs) [] rising sorted among counts = let here = count-cons x.seq x xs in let one = one-here x in let same = counts x.seq in absurd (omega arith)
 rises-once (x ∷ xs) (y ∷ ys) rising sorted among counts =
     let first = first-same x y xs ys rising.0 sorted.0 among.0 (counts x.seq) in
-    let rest : (position : ℕ) → count_at position xs ≡ count_at position ys =
-    λ position. let left = count-cons position x xs in let right = count-cons position y ys in let same : one_at position y ≡ one_at position x = ap (one_at position) first in omega (arith, counts position) in
+    let rest = counts-rest x y xs ys first counts in
     let none : count_at x.seq xs ≡ 0 = count-none x.seq xs rising.0 in
     let once = rises-once xs ys rising.1 sorted.1 (rest-among x xs ys (sym (rest x.seq) ∙ none) among.1) rest in
     cc
 
--- by the list's permutation and order, as a sort ensures them
+-- the same, from a permutation and an order as a sort ensures them
 among-contains : (xs : List EventRecord) (event : EventRecord) → Contains xs event → IsAmong xs event
 among-contains [] event (k, below, is) = absurd (omega arith)
 among-contains (x ∷ xs) event (zero, below, is) = inl (sym is)

@@ -8,19 +8,20 @@
 //! record of its calls exactly where
 //!
 //! - each `initialize` answered 1, and left the mask `0x0FB300FE` registered: no callback less, and none more;
-//! - each call of `callback` told the lister is in its list, once and in order, and no other is;
-//! - none of those calls was answered by a store;
-//! - no tool within the lister is recorded: it has none.
+//! - its list has each call of `callback` once and in order, and nothing else;
+//! - none of those calls was answered by a store that took effect;
+//! - no tool is recorded within the lister, which holds none.
 //!
 //! A `callback` that found no memory is an error, and leaves the list as it was. That a lister finds memory where there
-//! is some is left to the tests.
+//! is some isn't proved: the tests show it.
 //!
 //! Proved by the contracts of the functions that are named:
 //!
-//! - [`Lister::new`] has an empty list, and [`Lister::events`] gives the list;
-//! - [`lines_text`] has the lines of every list of events whose positions rise and of which each lister has those of its
-//!   own thread, in order: that is `AreShared` of `specs/Order.antt`. There is at most one such list. Where there is
-//!   none, nothing is said of the text.
+//! - [`Lister::new`] has an empty list, and [`Lister::events`] gives the list. `proofs/Standing.antt` shows that a lister
+//!   with an empty list stands for a record in which nothing was called;
+//! - [`lines_text`] has the lines of the events that the listers share: events whose positions rise, of which each lister
+//!   has those of its own thread, in order. That is `AreShared` of `specs/Order.antt`. Where the listers share none so,
+//!   nothing is said of the text.
 //!
 //! What a line says is in `specs/` of `ompt_calls`. The records are sorted by std's sort, so the cost is n log n for n
 //! records.
