@@ -1,0 +1,4 @@
+pub mod Gathering
+pub mod Registering
+pub mod Rising
+pub mod Standing

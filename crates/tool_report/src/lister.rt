@@ -1,0 +1,86 @@
+//! A part that keeps what it is told.
+
+ghost use Rattle.std.specs.Prelude.{◌≡◌, []};
+ghost use Rattle.tool_report.specs.Lister.{ListerFor};
+
+use omp_model::EventRecord;
+use ompt_calls::{Call, Reply, Snapshot};
+use std::alloc::Global;
+use std::marker::Model;
+use tool_api::{Memory, Registrar, ToolPart};
+
+/// What a lister answers to `initialize`: it is active.
+const ACTIVE: u32 = 1;
+
+/// The callbacks of the profile, by their numbers in `ompt_callbacks_t` (OpenMP 5.2, 19.4.2).
+const CALLBACKS: [u32; 16] = [1, 2, 3, 4, 5, 6, 7, 16, 17, 20, 21, 23, 24, 25, 26, 27];
+
+/// The reply that stores nothing.
+const NOTHING: Reply = Reply {
+    first: None,
+    second: None,
+    third: None,
+};
+
+/// A part that keeps a record of each call of `callback`, in order. Contracts see it as that list.
+#[derive(Debug, Drop)]
+pub struct Lister {
+    /// The records, in the order of the calls.
+    events: Vec<EventRecord>,
+}
+
+impl Model for Lister {
+    ghost use Rattle.std.specs.Prelude.{List};
+    ghost use Rattle.omp_model.specs.declared.history.EventRecord.{EventRecord};
+
+    ghost Value = { List EventRecord };
+
+    ghost view = { λ lister. lister.events.items };
+}
+
+impl Lister {
+    /// A lister that was told nothing yet.
+    pub fn new(alloc: Global) -> Lister
+        ensures { result ≡ [] }
+    {
+        Lister {
+            events: Vec::new(alloc),
+        }
+    }
+
+    /// The records, in the order of the calls.
+    pub fn events(&self) -> &[EventRecord]
+        ensures { result.now ≡ self.now }
+    {
+        self.events.as_slice()
+    }
+}
+
+impl ToolPart for Lister {
+    ghost stands_for = { ListerFor };
+
+    fn initialize(&mut self, registrar: &mut Registrar) -> u32 {
+        for number in CALLBACKS {
+            registrar.set(number);
+        }
+        ACTIVE
+    }
+
+    fn callback(
+        &mut self,
+        seq: u32,
+        thread: u8,
+        call: &Call,
+        _snapshot: &Snapshot,
+    ) -> Result<Reply, Memory> {
+        let event = EventRecord {
+            seq,
+            thread,
+            call: *call,
+        };
+        self.events.push(event)?;
+        Ok(NOTHING)
+    }
+
+    fn finalize(&mut self) {}
+}
