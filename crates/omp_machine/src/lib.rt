@@ -31,6 +31,7 @@ mod code;
 mod effects;
 mod events;
 mod frames;
+mod levels;
 mod machine;
 mod settings;
 mod snapshot;
