@@ -1,6 +1,7 @@
+pub mod Filling
 pub mod Inviting
-pub mod Levels
 pub mod Searching
 pub mod Sound
+pub mod Storing
 pub mod Telling
 pub mod Walking

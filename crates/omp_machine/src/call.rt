@@ -1,18 +1,15 @@
-//! The call of an event, and whether it is told.
+//! The call of an event.
 
 ghost use Rattle.std.specs.Prelude.{◌≡◌};
 ghost use Rattle.omp_model.specs.Calls.{call_of, thread_kind};
-ghost use Rattle.omp_model.specs.Snapshots.{snap_of};
 ghost use Rattle.ompt_calls.specs.declared.call.Call.TheVariants.{ImplicitTask, SyncRegion, SyncRegionWait};
-ghost use Rattle.omp_machine.specs.Standing.{told};
 
 use crate::board::Board;
 use crate::frames::current_frame;
-use crate::snapshot::{Levels, snapshot_of};
-use crate::went::Went;
+use crate::levels::{TASK_IMPLICIT, TASK_INITIAL};
 use crate::words::null_word;
 use omp_model::{Event, IMPLICIT_REGION, INITIAL_TASK};
-use ompt_calls::{Call, Word, is_registered};
+use ompt_calls::{Call, Word};
 
 /// `ompt_thread_initial` of `ompt_thread_t` (OpenMP 5.2, 19.4.4.10).
 const INITIAL_THREAD: u32 = 1;
@@ -25,12 +22,6 @@ const SCOPE_BEGIN: u32 = 1;
 
 /// `ompt_scope_end` of `ompt_scope_endpoint_t`.
 const SCOPE_END: u32 = 2;
-
-/// `ompt_task_initial` of `ompt_task_flag_t` (OpenMP 5.2, 19.4.4).
-const TASK_INITIAL: u32 = 1;
-
-/// `ompt_task_implicit` of `ompt_task_flag_t`.
-const TASK_IMPLICIT: u32 = 2;
 
 /// `ompt_parallel_invoker_program` and `ompt_parallel_team` of `ompt_parallel_flag_t` (OpenMP 5.2, 19.4.4).
 const PARALLEL_FLAGS: u32 = 0x8000_0001;
@@ -172,17 +163,5 @@ pub fn call_of(board: &Board, thread: u8, event: Event) -> Call
         Event::MemberEnd { task, .. } => {
             member_task(thread, SCOPE_END, null_word(), board.task_word(task), 0)
         }
-    }
-}
-
-/// A callback tells its tool where it is registered, with what can be inquired during it.
-pub fn told(mask: u64, board: &Board, thread: u8, event: Event, levels: Levels) -> Went
-    ensures { result ≡ told mask (call_of board.now.world thread event) (snap_of board.now.world thread event) }
-{
-    let call = call_of(board, thread, event);
-    if is_registered(mask, call.number()) {
-        Went::Told(call, snapshot_of(board, thread, event, levels))
-    } else {
-        Went::Untold
     }
 }

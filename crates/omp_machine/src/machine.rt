@@ -11,8 +11,8 @@ ghost use Rattle.omp_model.specs.Cause.{whole_value, is_stuck, cause_of_value, c
 ghost use Rattle.omp_model.specs.Program.{run_of_blocks};
 ghost use Rattle.omp_machine.specs.Standing.{Standing, went_of, is_call};
 
+use crate::levels::Levels;
 use crate::settings::Settings;
-use crate::snapshot::Levels;
 use crate::state::State;
 use crate::went::Went;
 use omp_model::{Blocks, Cause, Halt};

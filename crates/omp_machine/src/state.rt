@@ -12,10 +12,9 @@ ghost use Rattle.omp_machine.specs.Settings.{run_of};
 ghost use Rattle.omp_machine.specs.Standing.{went_after};
 
 use crate::board::Board;
-use crate::call::told;
+use crate::levels::Levels;
 use crate::settings::Settings;
-use crate::snapshot::Levels;
-use crate::went::Went;
+use crate::went::{Went, told};
 use omp_model::{Callback, Event, Halt, Outcome, STEPS_OF_A_TURN, STORE_LIMIT, TURN_LIMIT};
 use ompt_calls::Target;
 use std::alloc::{AllocError, Global};

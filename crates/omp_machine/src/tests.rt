@@ -1,9 +1,12 @@
 use super::*;
 use omp_model::{Blocks, Cause, EventRecord};
-use ompt_calls::{Call, Frame, Word};
+use ompt_calls::{Call, Frame, RegionLevel, Target, TaskLevel, Word};
 
 /// Each callback that a tool of the profile registers.
 const ALL: u64 = 0x0FB3_00FE;
+
+/// The begin of parallel regions, and implicit tasks.
+const REGIONS_AND_TASKS: u64 = 0x88;
 
 /// The place of a construct in line 2, in the first column.
 const PLACE: u64 = 131_073;
@@ -31,6 +34,24 @@ const THREE: Word = Word {
     value: 0,
 };
 
+/// The word of region 2, into which 77 was stored.
+const STORED: Word = Word {
+    identity: 2,
+    value: 77,
+};
+
+/// The level of the initial task, which waits for a region.
+const INITIAL_LEVEL: TaskLevel = TaskLevel {
+    flags: 1,
+    word: ONE,
+    frame: Frame {
+        exit: 0,
+        enter: 32_769,
+    },
+    region: ONE,
+    index: 0,
+};
+
 #[test]
 fn the_empty_program_runs(rt: HostRuntime) -> Result<(), Memory> {
     let calls = [
@@ -45,7 +66,7 @@ fn the_empty_program_runs(rt: HostRuntime) -> Result<(), Memory> {
     for call in calls {
         assert!(rt; machine.enabled(0));
         let went = machine.go(0)?;
-        assert_eq!(rt; went, Went::Told(call));
+        assert_eq!(rt; told(went), Some(call));
         assert!(rt; !machine.enabled(0), "inside {call:?}");
         assert!(rt; machine.pending(0), "inside {call:?}");
         machine.back(0);
@@ -65,7 +86,7 @@ fn no_callback_is_told_of_an_empty_mask(rt: HostRuntime) -> Result<(), Memory> {
     for event in 0..4 {
         assert!(rt; machine.enabled(0));
         let went = machine.go(0)?;
-        assert_eq!(rt; went, Went::Untold, "event {event}");
+        assert!(rt; matches!(went, Went::Untold), "event {event}");
         assert!(rt; machine.pending(0));
         machine.back(0);
     }
@@ -85,7 +106,7 @@ fn the_second_step_meets_the_limit(rt: HostRuntime) -> Result<(), Memory> {
     }
     assert!(rt; machine.enabled(0));
     let went = machine.go(0)?;
-    assert_eq!(rt; went, Went::Limit(1));
+    assert!(rt; matches!(went, Went::Limit(1)));
     assert!(rt; machine.halted());
     assert_eq!(rt; machine.cause(), Some(Cause::Limit(1)));
     Ok(())
@@ -97,7 +118,7 @@ fn the_second_step_meets_the_limit(rt: HostRuntime) -> Result<(), Memory> {
 fn a_region_of_two_runs(rt: HostRuntime) -> Result<(), Memory> {
     let blocks = Blocks(Vec::from_array(rt.alloc(), [2])?);
     let mut machine = Machine::new(rt.alloc(), blocks, ALL, 2, 1_000_000)?;
-    let mut told = Vec::new(rt.alloc());
+    let mut heard = Vec::new(rt.alloc());
     let mut seq = 0;
     let mut next = 0;
     for _turn in 0..21_u32 {
@@ -105,32 +126,119 @@ fn a_region_of_two_runs(rt: HostRuntime) -> Result<(), Memory> {
             break;
         };
         assert!(rt; thread < 2 && machine.enabled(thread));
-        if let Went::Told(call) = machine.go(thread)? {
-            told.push(record(seq, thread, call))?;
+        if let Went::Told(call, _) = machine.go(thread)? {
+            heard.push(record(seq, thread, call))?;
             machine.back(thread);
             seq += 1;
         }
         seq += 1;
         next = thread + 1;
     }
-    assert_eq!(rt; told.as_slice(), region_of_two().as_slice());
+    assert_eq!(rt; heard.as_slice(), region_of_two().as_slice());
     assert_eq!(rt; machine.cause(), Some(Cause::Done));
     Ok(())
 }
 
+/// A tool that hears regions and implicit tasks stores 77 into the word of a region, and finds it there at the next event.
+#[test]
+fn a_tool_stores(rt: HostRuntime) -> Result<(), Memory> {
+    let blocks = Blocks(Vec::from_array(rt.alloc(), [2])?);
+    let mut machine = Machine::new(rt.alloc(), blocks, REGIONS_AND_TASKS, 1, 1_000_000)?;
+    for call in [None, Some(initial(1, ONE, 1))] {
+        assert!(rt; machine.enabled(0));
+        let went = machine.go(0)?;
+        assert_eq!(rt; told(went), call);
+        assert!(rt; machine.pending(0));
+        machine.back(0);
+    }
+    for (target, made) in [
+        (Target::Thread(0), true),
+        (Target::Thread(1), false),
+        (Target::Parallel(0), false),
+        (Target::Parallel(1), true),
+        (Target::Parallel(2), false),
+        (Target::Task(0), false),
+        (Target::Task(1), true),
+        (Target::Task(2), false),
+    ] {
+        assert_eq!(rt; machine.made(target), made, "{target:?}");
+    }
+    assert!(rt; machine.enabled(0));
+    let Went::Told(forked, _) = machine.go(0)? else {
+        panic!(rt; "no region was told");
+    };
+    assert_eq!(rt; forked, region_begin());
+    assert!(rt; machine.made(Target::Parallel(2)));
+    machine.put(0, Target::Parallel(2), 77);
+    assert!(rt; machine.pending(0));
+    machine.back(0);
+    assert!(rt; machine.enabled(0));
+    let Went::Told(begun, snapshot) = machine.go(0)? else {
+        panic!(rt; "no member was told");
+    };
+    assert_eq!(rt; begun, member(1, STORED, TWO, 1, 0));
+    assert_eq!(rt; snapshot.get_state(), (0x001, 0));
+    assert_eq!(rt; snapshot.get_thread_data(), ONE);
+    let levels = [level_of(TWO, frame(2, 0), STORED, 0), INITIAL_LEVEL];
+    assert_eq!(rt; snapshot.tasks.0.as_slice(), levels.as_slice());
+    let regions = [region(STORED, 1), region(ONE, 1)];
+    assert_eq!(rt; snapshot.regions.0.as_slice(), regions.as_slice());
+    assert_eq!(rt; snapshot.fresh, None);
+    Ok(())
+}
+
+/// The worker of a region of two: what it can inquire where its implicit task begins, and where that task ends.
+#[test]
+fn a_worker_has_levels(rt: HostRuntime) -> Result<(), Memory> {
+    let blocks = Blocks(Vec::from_array(rt.alloc(), [2])?);
+    let mut machine = Machine::new(rt.alloc(), blocks, REGIONS_AND_TASKS, 2, 1_000_000)?;
+    let mut begun = None;
+    let mut ended = None;
+    let mut next = 0;
+    for _turn in 0..21_u32 {
+        let Some(thread) = machine.first_enabled(next) else {
+            break;
+        };
+        assert!(rt; thread < 2 && machine.enabled(thread));
+        match machine.go(thread)? {
+            Went::Told(Call::ImplicitTask { endpoint, .. }, snapshot) if thread == 1 => {
+                if endpoint == 1 {
+                    begun = Some(snapshot);
+                } else {
+                    ended = Some(snapshot);
+                }
+            }
+            _ => {}
+        }
+        if machine.pending(thread) {
+            machine.back(thread);
+        }
+        next = thread + 1;
+    }
+    let (Some(begun), Some(ended)) = (begun, ended) else {
+        panic!(rt; "no worker was told");
+    };
+    assert_eq!(rt; begun.get_state(), (0x001, 0));
+    assert_eq!(rt; begun.get_thread_data(), TWO);
+    let levels = [level_of(THREE, frame(65_537, 0), TWO, 1), INITIAL_LEVEL];
+    assert_eq!(rt; begun.tasks.0.as_slice(), levels.as_slice());
+    let regions = [region(TWO, 2), region(ONE, 1)];
+    assert_eq!(rt; begun.regions.0.as_slice(), regions.as_slice());
+    assert_eq!(rt; ended.get_state(), (0x100, 0));
+    assert!(rt; ended.tasks.0.is_empty() && ended.regions.0.is_empty());
+    Ok(())
+}
+
+/// The call that was told, if one was.
+fn told(went: Went) -> Option<Call> {
+    match went {
+        Went::Told(call, _) => Some(call),
+        _ => None,
+    }
+}
+
 /// What is to be told of a region of two.
 fn region_of_two() -> [EventRecord; 20] {
-    let region_begin = Call::ParallelBegin {
-        task: ONE,
-        frame: Frame {
-            exit: 0,
-            enter: 32_769,
-        },
-        region: TWO,
-        requested: 2,
-        flags: FLAGS,
-        codeptr: PLACE,
-    };
     let region_end = Call::ParallelEnd {
         region: TWO,
         task: ONE,
@@ -140,7 +248,7 @@ fn region_of_two() -> [EventRecord; 20] {
     [
         record(0, 0, thread_begin(1, ONE)),
         record(2, 0, initial(1, ONE, 1)),
-        record(4, 0, region_begin),
+        record(4, 0, region_begin()),
         record(6, 1, thread_begin(2, TWO)),
         record(8, 0, member(1, TWO, TWO, 2, 0)),
         record(10, 1, member(1, TWO, THREE, 2, 1)),
@@ -164,6 +272,39 @@ fn region_of_two() -> [EventRecord; 20] {
 /// What is to be told of the event whose Go is the entry with this position.
 fn record(seq: u32, thread: u8, call: Call) -> EventRecord {
     EventRecord { seq, thread, call }
+}
+
+/// The region of the construct in line 2 begins. It asks for two threads.
+fn region_begin() -> Call {
+    Call::ParallelBegin {
+        task: ONE,
+        frame: frame(0, 32_769),
+        region: TWO,
+        requested: 2,
+        flags: FLAGS,
+        codeptr: PLACE,
+    }
+}
+
+/// A frame.
+fn frame(exit: u32, enter: u32) -> Frame {
+    Frame { exit, enter }
+}
+
+/// The level of a member's task.
+fn level_of(word: Word, frame: Frame, region: Word, index: u32) -> TaskLevel {
+    TaskLevel {
+        flags: 2,
+        word,
+        frame,
+        region,
+        index,
+    }
+}
+
+/// The level of a region.
+fn region(word: Word, team: u32) -> RegionLevel {
+    RegionLevel { word, team }
 }
 
 /// A thread of this kind begins.

@@ -1,6 +1,6 @@
 use Rattle.std.proofs.Common.{◌≡◌, ◌++◌, ◌∷◌, [], ◌∙◌, sym, arith}
-use Rattle.omp_machine.proofs.Levels.{lowest-more, lowest-none}
-use Rattle.omp_machine.proofs.snapshot.push_lowest.Goals as goal
+use Rattle.omp_machine.proofs.Filling.{lowest-more, lowest-none}
+use Rattle.omp_machine.proofs.levels.push_lowest.Goals as goal
 
 pub loop-below-preserved : goal.loop-below-preserved
 loop-below-preserved c =

@@ -1,6 +1,6 @@
 use Rattle.std.proofs.Common.{◌≡◌, ◌+◌, ◌≤◌, ◌++◌, vec_len, vec_capacity}
 use Rattle.omp_model.specs.Snapshots.{lowest_levels}
-use Rattle.omp_machine.proofs.snapshot.push_lowest.Given as goal
+use Rattle.omp_machine.proofs.levels.push_lowest.Given as goal
 
 -- the levels so far, and those that are left
 abbrev pub invariant-loop-below : goal.invariant-loop-below

@@ -1,21 +1,13 @@
 -- One more level of a snapshot.
-use Rattle.std.proofs.Common.{◌≡◌, ℕ, zero, suc, ◌+◌, ◌-◌, ◌<◌, ◌≤◌, ◌≢◌, ◌==◌, if◌then◌else◌, true, false, List, [], ◌∷◌, ◌++◌, length, drop, drop-cons, slice_index_or, eq-eqb, add-one, append-nil, refl, ap, append_assoc, inl, inr, arith}
+use Rattle.std.proofs.Common.{◌≡◌, ℕ, zero, suc, ◌+◌, ◌-◌, ◌<◌, ◌≤◌, ◌≢◌, ◌==◌, true, false, List, [], ◌∷◌, ◌++◌, length, drop, drop-cons, slice_index_or, eq-eqb, add-one, append-nil, refl, ap, append_assoc, inl, inr, arith}
 use Rattle.std.proofs.lemmas.Bool.Decides.{eqb_tells}
 use Rattle.std.proofs.Math.ListN.{drop_of_length-le}
 use Rattle.ompt_calls.specs.declared.snapshot.TaskLevel.{TaskLevel}
 use Rattle.ompt_calls.specs.declared.snapshot.RegionLevel.{RegionLevel}
-use Rattle.omp_model.specs.declared.limits.TheConstants.{INITIAL_TASK}
 use Rattle.omp_model.specs.declared.machine.Event.{Event}
-use Rattle.omp_model.specs.State.{World, task_at, region_at}
-use Rattle.omp_model.specs.Snapshots.{task_level, lowest_levels, height_of, outer_levels, regions_after}
-use Rattle.omp_machine.specs.Levels.{outer_count, region_level}
-
--- the levels beyond a stack are the lowest ones of thread 0, as many as are counted
-pub outer-counted : (W : World) (t : ℕ) (event : Event) (stack : List ℕ) → outer_levels W t event stack ≡ lowest_levels W t event 0 (outer_count W stack)
-unfolding lowest_levels
-outer-counted W t event [] = refl
-outer-counted W t event (lowest ∷ above) =
-    elim (lowest == INITIAL_TASK) as (λ b. let height = height_of W (region_at W (task_at W lowest).region).task in (if b then [] else lowest_levels W t event 0 height) ≡ lowest_levels W t event 0 (if b then 0 else height)) [ true ↦ refl | false ↦ refl ]
+use Rattle.omp_model.specs.State.{World}
+use Rattle.omp_model.specs.Snapshots.{task_level, lowest_levels, regions_after}
+use Rattle.omp_machine.specs.Levels.{region_level}
 
 -- one more level of a task
 pub lowest-more : (W : World) (t : ℕ) (event : Event) (u left : ℕ) (levels after : List TaskLevel) (level : TaskLevel) → 0 < left → level ≡ task_level W t event u (left - 1) → after ≡ levels ++ level ∷ [] → after ++ lowest_levels W t event u (left - 1) ≡ levels ++ lowest_levels W t event u left

@@ -1,7 +1,7 @@
 use Rattle.std.proofs.Common.{◌≡◌, ◌++◌, ◌∷◌, [], ◌∙◌, sym, arith}
-use Rattle.omp_machine.proofs.Levels.{region-next, region-again, regions-none}
-use Rattle.omp_machine.proofs.snapshot.push_regions.Goals as goal
-use Rattle.omp_machine.proofs.snapshot.push_regions.Goals.{then-level-last, else-level-last}
+use Rattle.omp_machine.proofs.Filling.{region-next, region-again, regions-none}
+use Rattle.omp_machine.proofs.levels.push_regions.Goals as goal
+use Rattle.omp_machine.proofs.levels.push_regions.Goals.{then-level-last, else-level-last}
 
 pub loop-level-preserved : goal.loop-level-preserved
 loop-level-preserved c = elim c.if-level-last.branch [

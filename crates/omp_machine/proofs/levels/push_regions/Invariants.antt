@@ -1,6 +1,6 @@
 use Rattle.std.proofs.Common.{◌≡◌, ◌+◌, ◌≤◌, ◌++◌, drop, vec_len, vec_capacity}
 use Rattle.omp_model.specs.Snapshots.{region_levels, regions_after}
-use Rattle.omp_machine.proofs.snapshot.push_regions.Given as goal
+use Rattle.omp_machine.proofs.levels.push_regions.Given as goal
 
 -- the levels so far, and those that are left
 abbrev pub invariant-loop-level : goal.invariant-loop-level
