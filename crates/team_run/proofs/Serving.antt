@@ -1,13 +1,14 @@
 -- What parts stand for after what their threads hear.
-use Rattle.std.proofs.Common.{◌≡◌, ℕ, ◌+◌, ◌<◌, ◌≤◌, ◌==◌, Bool, true, false, if◌then◌else◌, cond, List, [], ◌∷◌, ◌++◌, filter, length, slice_index_or, refl, sym, ap, subst, ◌∙◌, append_assoc, append-nil, eq-eqb, arith, inl, inr}
+use Rattle.std.proofs.Common.{◌≡◌, ℕ, ◌<◌, ◌==◌, Bool, true, false, if◌then◌else◌, cond, List, [], ◌∷◌, ◌++◌, filter, length, take, drop, slice_index_or, refl, sym, ap, subst, ◌∙◌, append_assoc, append-nil, eq-eqb, arith, inl, inr}
+use Rattle.std.proofs.lemmas.List.{take_all, drop_all}
 use Rattle.std.proofs.lemmas.List.Elements.{filter-append}
 use Rattle.std.proofs.lemmas.Bool.Decides.{eqb_tells}
 use Rattle.ompt_calls.specs.Item.{Item}
-use Rattle.tool_api.specs.Record.{Record, told}
+use Rattle.tool_api.specs.Record.{Record, initialized, told}
 use Rattle.omp_model.specs.declared.history.Entry.{Entry}
 use Rattle.omp_model.specs.State.{Run}
 use Rattle.omp_model.specs.Heard.{heard, heard_of}
-use Rattle.team_run.specs.Serving.{served, Serves, told_on, SameServed}
+use Rattle.team_run.specs.Serving.{served, Serves, told_on, SameServed, mask_of, finished_by, RunsFor}
 use Rattle.team_run.specs.Standing.{AreSilent, HearsSilent, HearsOwn}
 
 -- the items of one thread
@@ -114,3 +115,30 @@ own-told run H K t item is below more own = λ k past.
 
 pub own-unheard : (run : Run) (H K : List Entry) → heard run K ≡ heard run H → HearsOwn run H → HearsOwn run K
 own-unheard run H K same own = λ k past. heard_of-same run H K k same ∙ own k past
+
+-- a slice of a whole vector, written back
+pub written-back : {P : Type 0} (new items : List P) (len : ℕ) → length new ≡ length items → length items ≡ len → take len (new ++ drop (length new) items) ≡ new
+written-back new items len same all =
+    ap (λ more. take len (new ++ more)) (drop_all (length new) items (omega (arith, same))) ∙ ap (take len) (append-nil new) ∙ take_all len new (omega (arith, same, all))
+
+-- the first part was started, all were called, and the first was finished
+pub runs-whole :
+    {P : Type 0} (stands_for : P → Record → Type 0) (run : Run) (H : List Entry) (parts started between after : List P) (answer registered : ℕ) → run.mask ≡ mask_of answer registered → 0 < length parts
+    → length started ≡ length parts → ((d : P) (h : Record) → stands_for (slice_index_or parts 0 d) h → stands_for (slice_index_or started 0 d) (initialized h answer registered))
+    → ((k : ℕ) (d : P) → 0 < k → slice_index_or started k d ≡ slice_index_or parts k d) → Serves stands_for run started [] between H
+    → length after ≡ length between → ((d : P) (h : Record) → stands_for (slice_index_or between 0 d) h → stands_for (slice_index_or after 0 d) (finished_by answer h))
+    → ((k : ℕ) (d : P) → 0 < k → slice_index_or after k d ≡ slice_index_or between k d) → RunsFor stands_for run H parts after
+runs-whole {P} stands_for run H parts started between after answer registered mask_is some as_many first others serves as_many_too last others_too =
+    record {
+      as_many = as_many_too ∙ serves.as_many ∙ as_many;
+      answer = answer;
+      registered = registered;
+      mask_is = mask_is;
+      first = λ d h stands. last d (served (initialized h answer registered) (heard_of run H 0)) (serves.each 0 d (initialized h answer registered) (omega (arith, some, as_many)) (from-nothing 0 d (initialized h answer registered) (first d h stands)));
+      others = λ k d h past below stands.
+          subst (λ (part : P). stands_for part (served h (heard_of run H k))) (sym (others_too k d past))
+          (serves.each k d h (omega (arith, below, as_many)) (from-nothing k d h (subst (λ (part : P). stands_for part h) (sym (others k d past)) stands)));
+    }
+  where
+    from-nothing : (k : ℕ) (d : P) (h : Record) → stands_for (slice_index_or started k d) h → stands_for (slice_index_or started k d) (served h (heard_of run [] k))
+    from-nothing k d h stands = subst (λ (h : Record). stands_for (slice_index_or started k d) h) (sym (served-nil h)) stands

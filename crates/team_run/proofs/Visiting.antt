@@ -1,5 +1,5 @@
 -- A serial run after one more visit, and at its end.
-use Rattle.std.proofs.Common.{◌≡◌, ℕ, ℤ, zero, suc, ◌+◌, ◌<◌, ◌≤◌, Bool, true, false, ◌&&◌, if◌then◌else◌, List, [], ◌∷◌, ◌++◌, length, length-append, replicate, slice_set, slice_index_or, get_or-set_same, Option, Some, None, IsSome, is_none, refl, sym, ap, subst, ◌∙◌, inl, inr, arith, append-nil, append_assoc, Result, Ok, Err, OnOk, OnErr}
+use Rattle.std.proofs.Common.{◌≡◌, ℕ, ℤ, zero, suc, ◌+◌, ◌<◌, ◌≤◌, Bool, true, false, ◌&&◌, List, [], ◌∷◌, ◌++◌, length, length-append, replicate, slice_set, slice_index_or, get_or-set_same, Option, Some, None, IsSome, is_none, refl, sym, ap, subst, ◌∙◌, inl, inr, arith, append-nil, append_assoc, Result, Ok, Err, OnOk, OnErr}
 use Rattle.std.specs.List.{list_all}
 use Rattle.std.proofs.lemmas.Bool.{true≢false, cases_lt}
 use Rattle.std.proofs.lemmas.List.{length-set, get_or_past}
@@ -23,18 +23,17 @@ use Rattle.omp_model.specs.Calls.{call_of}
 use Rattle.omp_model.specs.Snapshots.{snap_of}
 use Rattle.omp_model.specs.Turn.{turn, called}
 use Rattle.omp_model.specs.Legal.{put_from, put, back_from, back}
-use Rattle.omp_model.specs.Heard.{heard, heard_of}
-use Rattle.omp_model.specs.Serial.{Serial, first_enabled, enabled_among, inside_after, StoresNothing}
-use Rattle.omp_model.specs.Storing.{put_all, MayStore, go_at, back_at, event_reply}
+use Rattle.omp_model.specs.Heard.{heard}
+use Rattle.omp_model.specs.Serial.{first_enabled, enabled_among, inside_after, StoresNothing}
+use Rattle.omp_model.specs.Storing.{put_all, MayStore, go_at, event_reply}
 use Rattle.omp_model.specs.Cause.{none_pending, whole_value, is_stuck, cause_of_whole, cause_by_halt, cause_in}
 use Rattle.omp_model.specs.Tame.{IsTame}
-use Rattle.omp_model.specs.Made.{WellMade}
 use Rattle.omp_model.proofs.Turns.{Leaves, leaves-turn, turn-pending, turns-rise, back-turns}
-use Rattle.omp_model.proofs.Recording.{HasRun-start, HasRun-alone, HasRun-event, HasRun-serial, HasRun-pending, heard-alone, heard-event, heard-pending, said_of, event_at, first_enabled-below, first_enabled-enabled, first_enabled-none, put_all-turns, StoresNothing-append}
+use Rattle.omp_model.proofs.Recording.{HasRun-start, HasRun-alone, HasRun-event, HasRun-serial, HasRun-pending, heard-alone, heard-event, heard-pending, event_at, first_enabled-below, first_enabled-enabled, first_enabled-none, put_all-turns, StoresNothing-append}
 use Rattle.omp_model.proofs.Tame.{tame-turn, tame-back, tame-put-all}
 use Rattle.omp_model.proofs.Made.{made-first, made-turn, made-back}
 use Rattle.omp_model.proofs.Targets.{made-put_all, may-store, pending-put_all}
-use Rattle.team_run.specs.Standing.{AreSilent, HearsSilent, HearsOwn, StandsAt, StopsAt}
+use Rattle.team_run.specs.Standing.{AreSilent, StandsAt, StopsAt}
 use Rattle.omp_machine.proofs.Telling.{IsTold}
 use Rattle.tool_api.specs.Record.{Record}
 use Rattle.team_run.specs.Serving.{Serves, SameServed, Answers}
@@ -87,7 +86,7 @@ nobody-back : (run : Run) (S : State) (t : ℕ) (event : Event) (stores : List S
 nobody-back run S t event stores nobody happens waits =
     let between : State = (turn run S t).state in
     let same : (back (put_all between t stores) t).pending ≡ slice_set S.pending t None =
-        back-pending (put_all between t stores) t (pending_at (put_all between t stores) t) waits ∙ put_all-others between t stores ∙ ap (λ pending. slice_set pending t None) (turn-pending run S t event happens) ∙ set-twice S.pending t (Some (called event)) None in
+    back-pending (put_all between t stores) t (pending_at (put_all between t stores) t) waits ∙ put_all-others between t stores ∙ ap (λ pending. slice_set pending t None) (turn-pending run S t event happens) ∙ set-twice S.pending t (Some (called event)) None in
     ap all_none same ∙ all_none-set S.pending t nobody
 
 -- a turn with no event leaves the callbacks alone

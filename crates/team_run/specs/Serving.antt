@@ -1,6 +1,6 @@
 -- What the parts of a run are called for: each registered event of its thread, and the first of them also for the start and the
 -- end of the run.
-use Rattle.std.specs.Prelude.{ℕ, ◌≡◌, ◌<◌, ◌==◌, Bool, if◌then◌else◌, List, [], ◌∷◌, ◌++◌, length, slice_index_or}
+use Rattle.std.specs.Prelude.{ℕ, ◌≡◌, ◌<◌, ◌==◌, if◌then◌else◌, List, ◌++◌, length, slice_index_or}
 use Rattle.ompt_calls.specs.declared.call.Call.{Call}
 use Rattle.ompt_calls.specs.declared.snapshot.Snapshot.{Snapshot}
 use Rattle.ompt_calls.specs.declared.reply.Reply.{Reply}

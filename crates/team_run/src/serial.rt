@@ -1,11 +1,12 @@
 //! The serial run: threads take turns round and round, each a whole turn with its callback.
 
-ghost use Rattle.std.specs.Prelude.{◌≡◌, ◌≢◌, ◌≤◌, [], Some, IfOk, length, ℕ};
+ghost use Rattle.std.specs.Prelude.{◌≡◌, ◌≢◌, ◌<◌, ◌≤◌, [], Some, IfOk, length, slice_index_or, ℕ};
 ghost use Rattle.omp_model.specs.Serial.{Serial, serial};
 ghost use Rattle.omp_model.specs.Cause.{cause_of};
 ghost use Rattle.omp_model.specs.Tame.{TameCause};
 ghost use Rattle.omp_model.specs.Program.{run_of_blocks};
-ghost use Rattle.team_run.specs.Serving.{RunsFor};
+ghost use Rattle.tool_api.specs.Record.{Record, initialized};
+ghost use Rattle.team_run.specs.Serving.{RunsFor, finished_by, mask_of};
 ghost use Rattle.team_run.specs.Standing.{HearsOwn, HearsSilent};
 
 use crate::ran::{Memory, Ran};
@@ -45,22 +46,71 @@ pub fn run_serial<P: ToolPart>(
     ensures begun { IfOk result (λ ran. ran.cause ≡ Cause.Memory → ran.history ≢ []) }
 {
     let mut parts = parts;
-    let mut registrar = Registrar::new();
-    let answer = parts[0].initialize(&mut registrar);
-    let mask = if answer == 0 { 0 } else { registrar.mask() };
+    let start = initialize_first(&mut parts);
+    let mask = mask_of(start);
     let mut run = SerialRun::new(alloc, blocks, mask, threads, steps, parts)?;
     let cause = run.finish();
     if cause == Cause::Memory && run.history.len() == 0 {
         return Err(AllocError);
     }
-    let SerialRun { history, mut parts, .. } = run;
-    if answer != 0 {
-        parts[0].finalize();
-    }
+    let SerialRun {
+        history,
+        mut parts,
+        ..
+    } = run;
+    finalize_first(start, &mut parts);
     Ok(Ran {
         cause,
         mask,
         history: history.into_history(),
         parts,
     })
+}
+
+/// What the first part answered to its start, and the callbacks that it registered (bit n for number n).
+#[derive(Clone, Copy)]
+struct Start {
+    answer: u32,
+    registered: u64,
+}
+
+/// Starts the first part.
+fn initialize_first<P: ToolPart>(parts: &mut [P]) -> Start
+    requires { 0 < length parts.old }
+    ensures as_many { length parts.new ≡ length parts.old }
+    ensures first { (d : P) (h : Record) → P.stands_for (slice_index_or parts.old 0 d) h
+        → P.stands_for (slice_index_or parts.new 0 d) (initialized h result.answer result.registered) }
+    ensures others { (k : ℕ) (d : P) → 0 < k → slice_index_or parts.new k d ≡ slice_index_or parts.old k d }
+{
+    let mut registrar = Registrar::new();
+    let answer = parts[0].initialize(&mut registrar);
+    Start {
+        answer,
+        registered: registrar.mask(),
+    }
+}
+
+/// What is heard of a run: what the first part registered, where it is active.
+fn mask_of(start: Start) -> u64
+    ensures { result ≡ mask_of start.answer start.registered }
+{
+    if start.answer == 0 {
+        0
+    } else {
+        start.registered
+    }
+}
+
+/// Finishes the first part, where it is active.
+fn finalize_first<P: ToolPart>(start: Start, parts: &mut [P])
+    requires { 0 < length parts.old }
+    ensures as_many { length parts.new ≡ length parts.old }
+    ensures first { (d : P) (h : Record) → P.stands_for (slice_index_or parts.old 0 d) h
+        → P.stands_for (slice_index_or parts.new 0 d) (finished_by start.answer h) }
+    ensures others { (k : ℕ) (d : P) → 0 < k → slice_index_or parts.new k d ≡ slice_index_or parts.old k d }
+{
+    if start.answer == 0 {
+        return;
+    }
+    parts[0].finalize();
 }

@@ -1,18 +1,12 @@
-use Rattle.std.proofs.Common.{◌≡◌, ◌<◌, ◌∙◌, sym, refl, ap, arith, length, IsSome, true, false, inl, inr, ◌∷◌, [], ◌++◌, append_assoc, OnOk, OnErr}
-use Rattle.ompt_calls.specs.declared.reply.Reply.{Reply}
+use Rattle.std.proofs.Common.{◌≡◌, ◌<◌, ◌∙◌, sym, refl, ap, arith, length, IsSome, true, false, inl, inr, ◌∷◌, [], ◌++◌, append_assoc}
 use Rattle.omp_model.specs.declared.limits.TheConstants.{TURN_LIMIT}
 use Rattle.omp_model.specs.State.{Run, State, pending_at}
 use Rattle.omp_model.specs.Turn.{turn}
-use Rattle.omp_model.specs.Calls.{call_of}
-use Rattle.omp_model.specs.Snapshots.{snap_of}
 use Rattle.omp_model.specs.Storing.{go_at, back_at}
 use Rattle.omp_model.proofs.Turns.{turn-goes}
 use Rattle.omp_model.proofs.Recording.{first_enabled-enabled, first_enabled-below, event_at}
-use Rattle.omp_machine.specs.declared.went.Went.TheVariants.{Told, Untold}
 use Rattle.omp_machine.specs.Standing.{went_of, is_call}
-use Rattle.omp_machine.proofs.Telling.{IsTold, IsUntold, told-by, untold-by, alone-by}
-use Rattle.team_run.specs.Serving.{Answers, SameServed, Serves}
-use Rattle.team_run.proofs.Serving.{serves-same}
+use Rattle.omp_machine.proofs.Telling.{told-by, untold-by, alone-by}
 use Rattle.ompt_calls.specs.Snapshot.{stores_of}
 use Rattle.omp_model.specs.Legal.{back}
 use Rattle.team_run.proofs.Visiting.{stops-here, may-said, inside-said, stops-said, visited-said, serves-said, visited-untold, visited-alone, from_either, from_ok}
@@ -72,8 +66,8 @@ returns-in-Told-clause-serves g c =
     let before_is : c.push.new.self.entries ≡ c.args.self.now.history.entries ++ go_at t ∷ [] = rw (c.push.ensures.entries, c.in_ok-reserve.ensures.entries) refl in
     let seq_is : c.len-seq.result ≡ length c.args.self.now.history.entries = c.len-seq.ensures ∙ ap length c.in_ok-reserve.ensures.entries in
     from_either c.serve.result c.serve.ensures.answers c.serve.ensures.memory
-      (λ answered. (visited-said run S _ _ t c.requires.stands c.requires.turn waits _ _ said g.P.ToolPart.stands_for c.args.self.now.parts.items _ _ _ _ seq_is state_is before_is _ _ answered).serves)
-      (λ kept. rw (kept.0, before_is) (serves-said run S _ _ t c.requires.stands c.requires.turn waits _ _ said g.P.ToolPart.stands_for _ _ kept.1))
+    (λ answered. (visited-said run S _ _ t c.requires.stands c.requires.turn waits _ _ said g.P.ToolPart.stands_for c.args.self.now.parts.items _ _ _ _ seq_is state_is before_is _ _ answered).serves)
+    (λ kept. rw (kept.0, before_is) (serves-said run S _ _ t c.requires.stands c.requires.turn waits _ _ said g.P.ToolPart.stands_for _ _ kept.1))
 
 pub returns-in-Told-clause-stops : goal.returns-in-Told-clause-stops
 returns-in-Told-clause-stops g c =
@@ -87,8 +81,8 @@ returns-in-Told-clause-stops g c =
     let before_is : c.push.new.self.entries ≡ c.args.self.now.history.entries ++ go_at t ∷ [] = rw (c.push.ensures.entries, c.in_ok-reserve.ensures.entries) refl in
     let seq_is : c.len-seq.result ≡ length c.args.self.now.history.entries = c.len-seq.ensures ∙ ap length c.in_ok-reserve.ensures.entries in
     from_either c.serve.result c.serve.ensures.answers c.serve.ensures.memory
-      (λ answered. stops-here _ _ _ _ (visited-said run S _ _ t c.requires.stands c.requires.turn waits _ _ said g.P.ToolPart.stands_for c.args.self.now.parts.items _ _ _ _ seq_is state_is before_is _ _ answered).stands)
-      (λ kept. rw (kept.0, before_is) (stops-said run S _ _ t c.requires.stands c.requires.turn waits _ _ said))
+    (λ answered. stops-here _ _ _ _ (visited-said run S _ _ t c.requires.stands c.requires.turn waits _ _ said g.P.ToolPart.stands_for c.args.self.now.parts.items _ _ _ _ seq_is state_is before_is _ _ answered).stands)
+    (λ kept. rw (kept.0, before_is) (stops-said run S _ _ t c.requires.stands c.requires.turn waits _ _ said))
 
 pub returns-in-Told-clause-stands : goal.returns-in-Told-clause-stands
 returns-in-Told-clause-stands g c =

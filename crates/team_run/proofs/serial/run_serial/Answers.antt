@@ -1,0 +1,52 @@
+use Rattle.std.proofs.Common.{◌≡◌, ◌∙◌, Some, sym, ap, subst, [], length, arith}
+use Rattle.omp_model.specs.State.{Run}
+use Rattle.omp_model.specs.Cause.{cause_in, cause_of}
+use Rattle.omp_model.specs.Serial.{serial}
+use Rattle.omp_model.specs.Program.{run_of_blocks}
+use Rattle.omp_model.proofs.Recording.{HasRun-after, HasRun-whole}
+use Rattle.omp_model.proofs.SerialLaws.{serial-whole}
+use Rattle.team_run.specs.Standing.{HearsSilent}
+use Rattle.team_run.specs.Serving.{RunsFor, Serves}
+use Rattle.team_run.proofs.Serving.{runs-whole, written-back}
+use Rattle.team_run.proofs.serial.run_serial.Goals as goal
+
+pub returns-clause-parts : goal.returns-clause-parts
+returns-clause-parts g c =
+    let stands_for = g.P.ToolPart.stands_for in
+    let first = c.initialize_first-start.result in
+    let parts = c.deref_mut.result.now in
+    let started = c.initialize_first-start.new.parts in
+    let begun = c.in_ok-run.run' in
+    let ended = c.finish-cause.new.self in
+    let between = c.deref_mut-2.result.now in
+    let after = c.finalize_first.new.parts in
+    let started_is : begun.parts.items ≡ started =
+    ap (λ parts. parts.items) c.in_ok-run.ensures.parts ∙ written-back started c.args.parts.items c.args.parts.len (c.initialize_first-start.ensures.as_many ∙ ap length c.deref_mut.ensures.value) (sym c.args.parts.ok.0) in
+    let from_nothing : Serves stands_for begun.machine.run begun.parts.items [] ended.parts.items ended.history.entries =
+    subst (λ history. Serves stands_for begun.machine.run begun.parts.items history ended.parts.items ended.history.entries) c.in_ok-run.ensures.fresh c.finish-cause.ensures.serves in
+    let from_start : Serves stands_for begun.machine.run started [] ended.parts.items ended.history.entries =
+    subst (λ started. Serves stands_for begun.machine.run started [] ended.parts.items ended.history.entries) started_is from_nothing in
+    let serves : Serves stands_for begun.machine.run started [] between ended.history.entries =
+    subst (λ between. Serves stands_for begun.machine.run started [] between ended.history.entries) (sym c.deref_mut-2.ensures.value) from_start in
+    let whole : RunsFor stands_for begun.machine.run ended.history.entries parts after =
+    runs-whole stands_for begun.machine.run ended.history.entries parts started between after first.answer first.registered (ap (λ (run : Run). run.mask) c.in_ok-run.ensures.run ∙ c.mask_of-mask.ensures) (omega (arith, c.requires.some, c.requires.parts, ap length c.deref_mut.ensures.value)) c.initialize_first-start.ensures.as_many c.initialize_first-start.ensures.first c.initialize_first-start.ensures.others serves c.finalize_first.ensures.as_many c.finalize_first.ensures.first c.finalize_first.ensures.others in
+    let of_items : RunsFor stands_for begun.machine.run ended.history.entries c.args.parts.items after =
+    subst (λ parts. RunsFor stands_for begun.machine.run ended.history.entries parts after) c.deref_mut.ensures.value whole in
+    let of_run : RunsFor stands_for (run_of_blocks c.args.blocks c.mask_of-mask.result c.args.threads c.args.steps) ended.history.entries c.args.parts.items after =
+    subst (λ (run : Run). RunsFor stands_for run ended.history.entries c.args.parts.items after) c.in_ok-run.ensures.run of_items in
+    let of_history : RunsFor stands_for (run_of_blocks c.args.blocks c.mask_of-mask.result c.args.threads c.args.steps) c.into_history.result c.args.parts.items after =
+    subst (λ history. RunsFor stands_for (run_of_blocks c.args.blocks c.mask_of-mask.result c.args.threads c.args.steps) history c.args.parts.items after) (sym c.into_history.ensures) of_run in
+    subst (λ after. RunsFor stands_for (run_of_blocks c.args.blocks c.mask_of-mask.result c.args.threads c.args.steps) c.into_history.result c.args.parts.items after) (sym (written-back after ended.parts.items ended.parts.len (c.finalize_first.ensures.as_many ∙ ap length c.deref_mut-2.ensures.value) (sym ended.parts.ok.0))) of_history
+
+pub returns-clause-cause : goal.returns-clause-cause
+returns-clause-cause g c = λ found.
+    let same : c.finish-cause.new.self.machine.run ≡ run_of_blocks c.args.blocks c.mask_of-mask.result c.args.threads c.args.steps = c.finish-cause.ensures.run ∙ c.in_ok-run.ensures.run in
+    let stands = c.finish-cause.ensures.stands found in
+    subst (λ history. cause_of (run_of_blocks c.args.blocks c.mask_of-mask.result c.args.threads c.args.steps) history ≡ Some c.finish-cause.result) (sym c.into_history.ensures) (subst (λ (run : Run). cause_of run c.finish-cause.new.self.history.entries ≡ Some c.finish-cause.result) same (ap (cause_in c.finish-cause.new.self.machine.run) (HasRun-after stands.has_run) ∙ c.finish-cause.ensures.cause found))
+
+pub returns-clause-whole : goal.returns-clause-whole
+returns-clause-whole g c = λ found silent.
+    let same : c.finish-cause.new.self.machine.run ≡ run_of_blocks c.args.blocks c.mask_of-mask.result c.args.threads c.args.steps = c.finish-cause.ensures.run ∙ c.in_ok-run.ensures.run in
+    let stands = c.finish-cause.ensures.stands found in
+    let quiet : HearsSilent (run_of_blocks c.args.blocks c.mask_of-mask.result c.args.threads c.args.steps) c.finish-cause.new.self.history.entries = rw (← c.into_history.ensures) silent in
+    rw c.into_history.ensures (subst (λ (run : Run). c.finish-cause.new.self.history.entries ≡ serial run) same (sym (serial-whole c.finish-cause.new.self.machine.run c.finish-cause.new.self.history.entries (HasRun-whole stands.has_run (c.finish-cause.ensures.over found)) (stands.silent (subst (λ (run : Run). HearsSilent run c.finish-cause.new.self.history.entries) (sym same) quiet)))))
