@@ -8,7 +8,7 @@ use Rattle.tool_api.specs.Record.{Record, initialized, told}
 use Rattle.omp_model.specs.declared.history.Entry.{Entry}
 use Rattle.omp_model.specs.State.{Run}
 use Rattle.omp_model.specs.Heard.{heard, heard_of}
-use Rattle.team_run.specs.Serving.{served, Serves, told_on, SameServed, mask_of, finished_by, RunsFor}
+use Rattle.team_run.specs.Serving.{served, Serves, told_on, SameServed, mask_of, finished_by, RunsFor, SameKinds}
 use Rattle.team_run.specs.Standing.{AreSilent, HearsSilent, HearsOwn}
 
 -- the items of one thread
@@ -142,3 +142,11 @@ runs-whole {P} stands_for run H parts started between after answer registered ma
   where
     from-nothing : (k : ℕ) (d : P) (h : Record) → stands_for (slice_index_or started k d) h → stands_for (slice_index_or started k d) (served h (heard_of run [] k))
     from-nothing k d h stands = subst (λ (h : Record). stands_for (slice_index_or started k d) h) (sym (served-nil h)) stands
+
+-- the kinds of parts, where nothing changes, and where one step follows another
+pub kinds-same : {P : Type 0} (kind : P → ℕ) (parts : List P) → SameKinds kind parts parts
+kinds-same kind parts = record { each = λ k d below. refl }
+
+pub kinds-then : {P : Type 0} (kind : P → ℕ) (parts between after : List P) → length between ≡ length parts → SameKinds kind parts between → SameKinds kind between after → SameKinds kind parts after
+kinds-then kind parts between after as_many first second =
+    record { each = λ k d below. second.each k d (omega (arith, below, as_many)) ∙ first.each k d below }

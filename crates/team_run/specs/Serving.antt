@@ -34,6 +34,10 @@ pub record Answers {P : Type 0} (stands_for : P → Record → Type 0) (seq t : 
   pub as_many : length others ≡ length parts
   pub each : (k : ℕ) (d : P) (h : Record) → k < length parts → stands_for (slice_index_or parts k d) h → stands_for (slice_index_or others k d) (told_on t k (item_of seq t call snapshot reply) h)
 
+-- each part is of the kind of which it was
+pub record SameKinds {P : Type 0} (kind : P → ℕ) (parts others : List P) : Type 0 where
+  pub each : (k : ℕ) (d : P) → k < length parts → kind (slice_index_or others k d) ≡ kind (slice_index_or parts k d)
+
 -- each part stands for what it stood for
 pub record SameServed {P : Type 0} (stands_for : P → Record → Type 0) (parts others : List P) : Type 0 where
   pub as_many : length others ≡ length parts

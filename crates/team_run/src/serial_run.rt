@@ -9,7 +9,7 @@ ghost use Rattle.omp_model.specs.Cause.{cause_in};
 ghost use Rattle.omp_model.specs.Storing.{MayStore, back_at, put_all, puts_at};
 ghost use Rattle.omp_model.specs.Tame.{TameCause};
 ghost use Rattle.omp_model.specs.Program.{run_of_blocks};
-ghost use Rattle.team_run.specs.Serving.{Answers, SameServed, Serves};
+ghost use Rattle.team_run.specs.Serving.{Answers, SameKinds, SameServed, Serves};
 ghost use Rattle.team_run.specs.Standing.{StandsAt, StopsAt};
 
 use crate::entries::Entries;
@@ -68,6 +68,7 @@ impl<P: ToolPart> SerialRun<P> {
         requires parts { length self.old.parts.items ≡ self.old.machine.run.threads }
         ensures run { self.new.machine.run ≡ self.old.machine.run }
         ensures serves { Serves P.stands_for self.old.machine.run self.old.parts.items self.old.history.entries self.new.parts.items self.new.history.entries }
+        ensures kinds { SameKinds P.kind self.old.parts.items self.new.parts.items }
         ensures stops { StopsAt self.old.machine.run self.new.history.entries }
         ensures stands { result ≢ Cause.Memory → StandsAt self.new.machine.run self.new.machine.state self.new.next self.new.history.entries }
         ensures over { result ≢ Cause.Memory → first_enabled self.new.machine.run self.new.machine.state self.new.next ≡ None }
@@ -93,6 +94,7 @@ impl<P: ToolPart> SerialRun<P> {
         requires parts { length self.old.parts.items ≡ self.old.machine.run.threads }
         ensures run { self.new.machine.run ≡ self.old.machine.run }
         ensures serves { Serves P.stands_for self.old.machine.run self.old.parts.items self.old.history.entries self.new.parts.items self.new.history.entries }
+        ensures kinds { SameKinds P.kind self.old.parts.items self.new.parts.items }
         ensures stops { StopsAt self.old.machine.run self.new.history.entries }
         ensures stands { OnOk result (StandsAt self.new.machine.run self.new.machine.state self.new.next self.new.history.entries) }
         ensures turns { OnOk result (self.new.machine.state.turns ≡ self.old.machine.state.turns + 1) }
@@ -129,6 +131,7 @@ impl<P: ToolPart> SerialRun<P> {
         requires inside { (reply : Reply) → IsSome (pending_at (put_all self.old.machine.state thread (stores_of reply snapshot.now)) thread) }
         ensures run { self.new.machine.run ≡ self.old.machine.run }
         ensures next { self.new.next ≡ self.old.next }
+        ensures kinds { SameKinds P.kind self.old.parts.items self.new.parts.items }
         ensures answers { OnOk result (Answers P.stands_for seq thread call.now snapshot.now self.old.machine.state self.old.parts.items self.old.history.entries self.new.machine.state self.new.parts.items self.new.history.entries) }
         ensures memory { OnErr result ((self.new.history.entries ≡ self.old.history.entries) × SameServed P.stands_for self.old.parts.items self.new.parts.items) }
     {

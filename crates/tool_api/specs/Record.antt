@@ -45,3 +45,7 @@ pub record QuietFor (part : Quiet) (h : Record) : Type 0 where
   pub started : StartedWith 0 0 h.started
   pub silent : StoresNothing h.calls
   pub alone : h.within ≡ []
+
+-- each is of the same kind
+abbrev pub quiet_kind : Quiet → ℕ
+quiet_kind quiet = 0

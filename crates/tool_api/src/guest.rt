@@ -12,6 +12,8 @@ pub struct Guest(pub Box<dyn GuestTool>);
 impl ToolPart for Guest {
     ghost stands_for = { λ guest h. (GuestTool-box guest.0).stands_for guest.0.value h };
 
+    ghost kind = { λ guest. 0 };
+
     fn initialize(&mut self, registrar: &mut Registrar) -> u32 {
         self.0.initialize(registrar)
     }

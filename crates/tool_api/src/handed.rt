@@ -1,6 +1,6 @@
 //! A part that a runtime is handed.
 
-ghost use Rattle.tool_api.specs.Handed.{HandedFor};
+ghost use Rattle.tool_api.specs.Handed.{HandedFor, kind_of};
 
 use crate::guest::Guest;
 use crate::part::{Memory, ToolPart};
@@ -19,6 +19,8 @@ pub enum Handed {
 
 impl ToolPart for Handed {
     ghost stands_for = { HandedFor (λ guest h. (GuestTool-box guest.0).stands_for guest.0.value h) };
+
+    ghost kind = { kind_of };
 
     fn initialize(&mut self, registrar: &mut Registrar) -> u32 {
         match self {

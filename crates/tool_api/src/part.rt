@@ -1,6 +1,6 @@
 //! What a part of a tool is asked for.
 
-ghost use Rattle.std.specs.Prelude.{◌≡◌, IfOk, OnErr};
+ghost use Rattle.std.specs.Prelude.{ℕ, ◌≡◌, IfOk, OnErr};
 ghost use Rattle.ompt_calls.specs.Item.{item_of};
 ghost use Rattle.tool_api.specs.Record.{Record, initialized, told, finalized};
 
@@ -13,16 +13,20 @@ pub type Memory = std::alloc::AllocError;
 /// A tool, or a part of one, as a runtime calls it.
 ///
 /// `stands_for` says which records a part may have behind it. Each call keeps this: a part that stands for a record stands
-/// afterwards for the record with that call, and after an error for the same record.
+/// afterwards for the record with that call, and after an error for the same record. `kind` is a number that no call
+/// changes, by which a part that may be of several kinds is told again.
 pub trait ToolPart: Drop + Send {
     ghost stands_for: { Self → Record → Type 0 };
+
+    ghost kind: { Self → ℕ };
 
     /// Starts the part, as `ompt_initialize_t` does (OpenMP 5.2, 19.5.1.1). It may register callbacks meanwhile. With
     /// the answer 0 the tool is inactive, and with any other one it is active.
     fn initialize(&mut self, registrar: &mut Registrar) -> u32
         // Nothing is registered yet.
         requires { registrar.old ≡ 0 }
-        ensures { (h : Record) → stands_for self.old h → stands_for self.new (initialized h result registrar.new) };
+        ensures started { (h : Record) → stands_for self.old h → stands_for self.new (initialized h result registrar.new) }
+        ensures kept { kind self.new ≡ kind self.old };
 
     /// Tells the part of an event: its position in the history, its thread, and its callback with the arguments. The
     /// snapshot has what can be inquired meanwhile, and the reply what the part stores.
@@ -34,9 +38,11 @@ pub trait ToolPart: Drop + Send {
         snapshot: &Snapshot,
     ) -> Result<Reply, Memory>
         ensures heard { IfOk result (λ reply. (h : Record) → stands_for self.old h → stands_for self.new (told h (item_of seq thread call.now snapshot.now reply))) }
-        ensures memory { OnErr result ((h : Record) → stands_for self.old h → stands_for self.new h) };
+        ensures memory { OnErr result ((h : Record) → stands_for self.old h → stands_for self.new h) }
+        ensures kept { kind self.new ≡ kind self.old };
 
     /// Finishes the part, as `ompt_finalize_t` does (OpenMP 5.2, 19.5.1.2).
     fn finalize(&mut self)
-        ensures { (h : Record) → stands_for self.old h → stands_for self.new (finalized h) };
+        ensures finished { (h : Record) → stands_for self.old h → stands_for self.new (finalized h) }
+        ensures kept { kind self.new ≡ kind self.old };
 }

@@ -1,8 +1,8 @@
 //! A part that does nothing.
 
-ghost use Rattle.std.specs.Prelude.{IfOk, OnErr, IsOk};
+ghost use Rattle.std.specs.Prelude.{◌≡◌, IfOk, OnErr, IsOk};
 ghost use Rattle.ompt_calls.specs.Item.{item_of};
-ghost use Rattle.tool_api.specs.Record.{Record, QuietFor, told};
+ghost use Rattle.tool_api.specs.Record.{Record, QuietFor, quiet_kind, told};
 
 use crate::part::{Memory, ToolPart};
 use crate::registrar::Registrar;
@@ -14,6 +14,8 @@ pub struct Quiet;
 
 impl ToolPart for Quiet {
     ghost stands_for = { QuietFor };
+
+    ghost kind = { quiet_kind };
 
     fn initialize(&mut self, _registrar: &mut Registrar) -> u32 {
         0
@@ -28,6 +30,7 @@ impl ToolPart for Quiet {
     ) -> Result<Reply, Memory>
         ensures heard { IfOk result (λ reply. (h : Record) → QuietFor self.old h → QuietFor self.new (told h (item_of seq thread call.now snapshot.now reply))) }
         ensures memory { OnErr result ((h : Record) → QuietFor self.old h → QuietFor self.new h) }
+        ensures kept { quiet_kind self.new ≡ quiet_kind self.old }
 
         // It takes no memory.
         ensures no_error { IsOk result }

@@ -59,6 +59,8 @@ impl Lister {
 impl ToolPart for Lister {
     ghost stands_for = { ListerFor };
 
+    ghost kind = { λ lister. 0 };
+
     fn initialize(&mut self, registrar: &mut Registrar) -> u32 {
         for number in CALLBACKS {
             registrar.set(number);
@@ -71,11 +73,13 @@ impl ToolPart for Lister {
         seq: u32,
         thread: u8,
         call: &Call,
-        _snapshot: &Snapshot,
+        snapshot: &Snapshot,
     ) -> Result<Reply, Memory> {
         let event = EventRecord {
             seq,
             thread,
+            state: snapshot.state,
+            wait_id: snapshot.wait_id,
             call: *call,
         };
         self.events.push(event)?;

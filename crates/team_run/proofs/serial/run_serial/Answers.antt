@@ -5,9 +5,9 @@ use Rattle.omp_model.specs.Serial.{serial}
 use Rattle.omp_model.specs.Program.{run_of_blocks}
 use Rattle.omp_model.proofs.Recording.{HasRun-after, HasRun-whole}
 use Rattle.omp_model.proofs.SerialLaws.{serial-whole}
-use Rattle.team_run.specs.Standing.{HearsSilent}
-use Rattle.team_run.specs.Serving.{RunsFor, Serves}
-use Rattle.team_run.proofs.Serving.{runs-whole, written-back}
+use Rattle.team_run.specs.Standing.{HearsOwn, HearsSilent}
+use Rattle.team_run.specs.Serving.{RunsFor, SameKinds, Serves}
+use Rattle.team_run.proofs.Serving.{kinds-then, runs-whole, written-back}
 use Rattle.team_run.proofs.serial.run_serial.Goals as goal
 
 pub returns-clause-parts : goal.returns-clause-parts
@@ -50,3 +50,26 @@ returns-clause-whole g c = λ found silent.
     let stands = c.finish-cause.ensures.stands found in
     let quiet : HearsSilent (run_of_blocks c.args.blocks c.mask_of-mask.result c.args.threads c.args.steps) c.finish-cause.new.self.history.entries = rw (← c.into_history.ensures) silent in
     rw c.into_history.ensures (subst (λ (run : Run). c.finish-cause.new.self.history.entries ≡ serial run) same (sym (serial-whole c.finish-cause.new.self.machine.run c.finish-cause.new.self.history.entries (HasRun-whole stands.has_run (c.finish-cause.ensures.over found)) (stands.silent (subst (λ (run : Run). HearsSilent run c.finish-cause.new.self.history.entries) (sym same) quiet)))))
+
+pub returns-clause-kinds : goal.returns-clause-kinds
+returns-clause-kinds g c =
+    let kind = g.P.ToolPart.kind in
+    let items = c.args.parts.items in
+    let started = c.initialize_first-start.new.parts in
+    let ended = c.finish-cause.new.self.parts in
+    let after = c.finalize_first.new.parts in
+    let started_is : c.in_ok-run.run'.parts.items ≡ started =
+        ap (λ parts. parts.items) c.in_ok-run.ensures.parts ∙ written-back started items c.args.parts.len (c.initialize_first-start.ensures.as_many ∙ ap length c.deref_mut.ensures.value) (sym c.args.parts.ok.0) in
+    let first : SameKinds kind items started = subst (λ parts. SameKinds kind parts started) c.deref_mut.ensures.value c.initialize_first-start.ensures.kinds in
+    let second : SameKinds kind started ended.items = subst (λ started. SameKinds kind started ended.items) started_is c.finish-cause.ensures.kinds in
+    let third : SameKinds kind ended.items after = subst (λ between. SameKinds kind between after) c.deref_mut-2.ensures.value c.finalize_first.ensures.kinds in
+    let as_many : length started ≡ length items = c.initialize_first-start.ensures.as_many ∙ ap length c.deref_mut.ensures.value in
+    let whole : SameKinds kind items after =
+        kinds-then kind items ended.items after (c.finish-cause.ensures.serves.as_many ∙ ap length started_is ∙ as_many) (kinds-then kind items started ended.items as_many first second) third in
+    subst (λ after. SameKinds kind items after) (sym (written-back after ended.items ended.len (c.finalize_first.ensures.as_many ∙ ap length c.deref_mut-2.ensures.value) (sym ended.ok.0))) whole
+
+pub returns-clause-own : goal.returns-clause-own
+returns-clause-own g c =
+    let run : Run = run_of_blocks c.args.blocks c.mask_of-mask.result c.args.threads c.args.steps in
+    let own : HearsOwn run c.finish-cause.new.self.history.entries = subst (λ (run : Run). HearsOwn run c.finish-cause.new.self.history.entries) c.in_ok-run.ensures.run c.finish-cause.ensures.stops.own in
+    subst (λ history. HearsOwn run history) (sym c.into_history.ensures) own

@@ -1,6 +1,6 @@
 use Rattle.std.proofs.Common.{◌≡◌, ◌-◌}
 use Rattle.omp_model.specs.declared.limits.TheConstants.{TURN_LIMIT}
-use Rattle.team_run.specs.Serving.{Serves}
+use Rattle.team_run.specs.Serving.{Serves, SameKinds}
 use Rattle.team_run.specs.Standing.{StandsAt}
 use Rattle.team_run.proofs.serial_run.SerialRun.finish.Given as goal
 
@@ -11,6 +11,7 @@ invariant-loop-thread g l =
       run : l.self.machine.run ≡ l.initial.self.machine.run;
       stands : StandsAt l.self.machine.run l.self.machine.state l.self.next l.self.history.entries;
       serves : Serves g.P.ToolPart.stands_for l.initial.self.machine.run l.initial.self.parts.items l.initial.self.history.entries l.self.parts.items l.self.history.entries;
+      kinds : SameKinds g.P.ToolPart.kind l.initial.self.parts.items l.self.parts.items;
     }
 
 -- the turns that are left

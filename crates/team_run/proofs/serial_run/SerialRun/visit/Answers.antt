@@ -9,6 +9,7 @@ use Rattle.omp_machine.specs.Standing.{went_of, is_call}
 use Rattle.omp_machine.proofs.Telling.{told-by, untold-by, alone-by}
 use Rattle.ompt_calls.specs.Snapshot.{stores_of}
 use Rattle.omp_model.specs.Legal.{back}
+use Rattle.team_run.proofs.Serving.{kinds-same}
 use Rattle.team_run.proofs.Visiting.{stops-here, may-said, inside-said, stops-said, visited-said, serves-said, visited-untold, visited-alone, from_either, from_ok}
 use Rattle.team_run.proofs.serial_run.SerialRun.visit.Goals as goal
 
@@ -161,6 +162,7 @@ returns-in-Quiet g c =
     record {
       run = rw c.in_ok-went.ensures.turn refl;
       serves = rw before_is visited.serves;
+      kinds = kinds-same g.P.ToolPart.kind c.args.self.now.parts.items;
       stops = rw before_is (stops-here _ _ _ _ visited.stands);
       stands = rw (c.in_ok-went.ensures.turn, before_is) visited.stands;
       turns = rw c.in_ok-went.ensures.turn visited.turns;
