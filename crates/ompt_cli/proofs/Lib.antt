@@ -1,4 +1,5 @@
 pub mod Decimal
 pub mod BlockText
-pub mod Visiting
+pub mod Handing
+pub mod Listing
 pub mod Ending

@@ -5,14 +5,17 @@ use Rattle.omp_model.specs.declared.cause.Cause.TheVariants as cause
 use Rattle.omp_model.specs.State.{Run}
 use Rattle.omp_model.specs.Records.{records_of, lines_of}
 use Rattle.omp_model.specs.Program.{run_of_blocks}
+use Rattle.omp_model.specs.declared.history.EventRecord.{EventRecord}
+use Rattle.ompt_cli.specs.declared.words.Command.{Command}
+use Rattle.ompt_cli.specs.declared.words.Command.TheVariants.{List as Listing, Run as Running}
 use Rattle.ompt_cli.specs.declared.end.Refusal.{Refusal}
 use Rattle.ompt_cli.specs.declared.end.End.{End}
 use Rattle.ompt_cli.specs.declared.end.End.TheVariants.{Done, Usage, Refused, Deadlock, Limit, ReadFault, WriteFault, Memory}
 use Rattle.ompt_cli.specs.declared.report.TheConstants.{SILENT_STEPS}
 use Rattle.ompt_cli.specs.declared.report.Report.{Report}
 
--- the run that a report is of
-abbrev pub run_of : Report → Run
+-- the run that a report is of. A guest is a box of a vtable and what lies behind it
+abbrev pub run_of : {Table : Type 0} {Behind : Table → Type 0} → Report Table Behind → Run
 run_of report = run_of_blocks report.blocks report.mask report.threads SILENT_STEPS
 
 -- nothing is written of a run that found no memory
@@ -24,10 +27,16 @@ unless_memory cause.Deadlock lines = lines
 unless_memory (cause.Limit number) lines = lines
 unless_memory cause.Memory lines = []
 
--- what a listing writes: a line for each record of the run, if there was one
-abbrev pub out_of : Option Report → List ℕ
+-- what a command writes of its run: a listing a line for each record, and `run` what the program prints, which is nothing yet
+abbrev pub written_by : Command → List EventRecord → List ℕ
+written_by Listing records = lines_of records
+written_by Running records = []
+
+-- what a command writes, if there was a run
+abbrev pub out_of : {Table : Type 0} {Behind : Table → Type 0} → Option (Report Table Behind) → List ℕ
 out_of None = []
-out_of (Some report) = unless_memory report.cause (lines_of (records_of (run_of report) report.history))
+out_of (Some report) =
+    unless_memory report.cause (written_by report.command (records_of (run_of report) report.history))
 
 -- the end of a command whose text is refused for this: that refusal, or what comes before it
 abbrev pub MayRefuse : Refusal → End → Type 0

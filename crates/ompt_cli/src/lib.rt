@@ -17,15 +17,18 @@
 
 mod blocks;
 mod end;
+mod ended;
+mod guests;
+mod job;
 mod list;
-mod listing;
+mod program;
 mod report;
-mod serial_run;
+mod run;
 mod text;
 mod top_call;
 mod words;
 
 pub use end::{End, Refusal};
 pub use report::{ALL_CALLBACKS, Report, SILENT_STEPS, Top};
-pub use serial_run::{Ran, run_serial};
 pub use top_call::top;
+pub use words::Command;

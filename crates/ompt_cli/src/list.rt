@@ -1,45 +1,42 @@
 //! The command `list`: it runs the program serially, and writes a line for each event.
 
-ghost use Rattle.std.specs.Prelude.{ℕ, ◌≡◌, ◌≢◌, ◌≤◌, IfSome, IsSomeAnd, Some, None, [], length, IfOk};
+ghost use Rattle.std.specs.Prelude.{ℕ, ◌≡◌, ◌≢◌, IfSome, IsSomeAnd, List, [], replicate, IfOk};
 ghost use Rattle.std.specs.Io.KnownBytes.{Appends, Keeps};
+ghost use Rattle.omp_model.specs.declared.history.EventRecord.{EventRecord};
 ghost use Rattle.omp_model.specs.Serial.{Serial, serial};
 ghost use Rattle.omp_model.specs.Cause.{cause_of};
 ghost use Rattle.omp_model.specs.Records.{lines_of};
 ghost use Rattle.omp_model.specs.Tame.{TameCause};
 ghost use Rattle.run_edges.specs.Edges.{Rose, AppendsFront};
+ghost use Rattle.tool_report.specs.Order.{AreShared};
 ghost use Rattle.ompt_cli.specs.Commands.{EndsAs, EndsWith, IsAfterRun, TellsRun, out_of, run_of, unless_memory};
 
 use crate::end::End;
-use crate::listing::lines_text;
+use crate::ended::{Ended, without_run};
+use crate::job::Job;
+use crate::program::copied;
 use crate::report::{ALL_CALLBACKS, Report, SILENT_STEPS};
-use crate::serial_run::run_serial;
-use omp_model::{Blocks, Cause, EventRecord};
+use crate::words::Command;
+use omp_model::Cause;
 use run_edges::{Sink, write_all};
 use std::alloc::{AllocError, Global};
+use team_run::run_serial;
+use tool_api::GuestTool;
+use tool_report::{Lister, lines_text};
 
-/// How a command ended, and what it reports of its run, if there was one.
-#[derive(Drop)]
-pub(crate) struct Ended {
-    pub end: End,
-    pub ran: Option<Report>,
-}
-
-/// A command that ended before its run.
-pub(crate) fn without_run(end: End) -> Ended
-    ensures { result ≡ record { end = end; ran = None } }
-{
-    Ended { end, ran: None }
-}
-
-/// Runs the program with so many threads, and writes its lines.
-pub(crate) fn list<O: Sink>(alloc: Global, blocks: Blocks, threads: u8, out: &mut O) -> Ended
-    requires blocks { length blocks ≤ 65536 }
-    requires some { 1 ≤ threads }
-    requires few { threads ≤ 16 }
+/// Runs the job, and writes its lines. The guests come back as they were.
+pub(crate) fn list<O: Sink>(
+    alloc: Global,
+    job: Job,
+    guests: Vec<Box<dyn GuestTool>>,
+    out: &mut O,
+) -> Ended
     ensures end { IsAfterRun result.end }
     ensures write { result.end ≡ End.WriteFault → Rose (O.faults out.old) (O.faults out.new) }
     ensures ran { IfSome result.ran (λ report.
-        (report.blocks ≡ blocks) × (report.threads ≡ threads) × (report.mask ≡ ALL_CALLBACKS)) }
+        (report.command ≡ Command.List) × (report.blocks ≡ job.blocks) × (report.threads ≡ job.threads)) }
+    ensures guests { IfSome result.ran (λ report. report.guests ≡ guests) }
+    ensures mask { IfSome result.ran (λ report. report.mask ≡ ALL_CALLBACKS) }
     ensures serial { IfSome result.ran (λ report. Serial (run_of report) report.history) }
     ensures cause { IfSome result.ran (λ report. report.cause ≢ Cause.Memory →
         cause_of (run_of report) report.history ≡ Some report.cause) }
@@ -59,20 +56,26 @@ pub(crate) fn list<O: Sink>(alloc: Global, blocks: Blocks, threads: u8, out: &mu
         AppendsFront (O.held out.old) (O.held out.new) (out_of result.ran) }
     ensures kept { result.end ≡ End.Memory → Keeps (O.held out.old) (O.held out.new) }
 {
+    let Job { blocks, threads } = job;
     let Ok(program) = copied(alloc, &blocks) else {
         return without_run(End::Memory);
     };
-    let ran = match run_serial(alloc, program, ALL_CALLBACKS, threads, SILENT_STEPS) {
+    let Ok(parts) = listers(alloc, threads) else {
+        return without_run(End::Memory);
+    };
+    let ran = match run_serial(alloc, program, threads, SILENT_STEPS, parts) {
         Ok(ran) => ran,
         Err(_) => return without_run(End::Memory),
     };
-    let end = write_run(alloc, ran.cause, &ran.records, out);
+    let end = write_run(alloc, ran.cause, &ran.parts, out);
     let report = Report {
+        command: Command::List,
         cause: ran.cause,
         blocks,
         mask: ran.mask,
         threads,
         history: ran.history,
+        guests,
     };
     Ended {
         end,
@@ -80,47 +83,50 @@ pub(crate) fn list<O: Sink>(alloc: Global, blocks: Blocks, threads: u8, out: &mu
     }
 }
 
-/// The same blocks once more.
-fn copied(alloc: Global, blocks: &Blocks) -> Result<Blocks, AllocError>
-    ensures { IfOk result (λ copy. copy ≡ blocks.now) }
+/// A lister for each of so many threads.
+fn listers(alloc: Global, threads: u8) -> Result<Vec<Lister>, AllocError>
+    ensures { IfOk result (λ parts. parts.items ≡ replicate threads []) }
 {
-    let mut teams = Vec::new(alloc);
-    teams.extend_from_slice(blocks.teams())?;
-    Ok(Blocks(teams))
+    let mut parts = Vec::new(alloc);
+    for _thread in 0..threads {
+        parts.push(Lister::new(alloc))?;
+    }
+    Ok(parts)
 }
 
-/// Writes a line for each record of a run that ended in this cause, unless it found no memory. It answers how the command
+/// Writes a line for each event of a run that ended in this cause, unless it found no memory. It answers how the command
 /// ends.
-fn write_run<O: Sink>(alloc: Global, cause: Cause, records: &[EventRecord], out: &mut O) -> End
+fn write_run<O: Sink>(alloc: Global, cause: Cause, parts: &[Lister], out: &mut O) -> End
     requires { cause ≢ Cause.Memory → TameCause cause }
     ensures end { EndsAs cause result }
-    ensures listed { result ≢ End.WriteFault → result ≢ End.Memory →
-        Appends (O.held out.old) (O.held out.new) (unless_memory cause (lines_of records.now)) }
-    ensures part { result ≡ End.WriteFault →
-        AppendsFront (O.held out.old) (O.held out.new) (unless_memory cause (lines_of records.now)) }
+    ensures listed { (events : List EventRecord) → AreShared events parts.now → result ≢ End.WriteFault → result ≢ End.Memory →
+        Appends (O.held out.old) (O.held out.new) (unless_memory cause (lines_of events)) }
+    ensures part { (events : List EventRecord) → AreShared events parts.now → result ≡ End.WriteFault →
+        AppendsFront (O.held out.old) (O.held out.new) (unless_memory cause (lines_of events)) }
     ensures write { result ≡ End.WriteFault → Rose (O.faults out.old) (O.faults out.new) }
     ensures kept { result ≡ End.Memory → Keeps (O.held out.old) (O.held out.new) }
 {
     match cause {
-        Cause::Done => write_lines(alloc, End::Done, records, out),
-        Cause::Deadlock => write_lines(alloc, End::Deadlock, records, out),
-        Cause::Limit(number) => write_lines(alloc, End::Limit(number), records, out),
+        Cause::Done => write_lines(alloc, End::Done, parts, out),
+        Cause::Deadlock => write_lines(alloc, End::Deadlock, parts, out),
+        Cause::Limit(number) => write_lines(alloc, End::Limit(number), parts, out),
         Cause::Memory => End::Memory,
         Cause::Returned(_) | Cause::Trapped(_) => unreachable!(),
     }
 }
 
-/// Writes a line for each record. It answers this end, unless a write or memory failed.
-fn write_lines<O: Sink>(alloc: Global, whole: End, records: &[EventRecord], out: &mut O) -> End
+/// Writes a line for each event. It answers this end, unless a write or memory failed.
+fn write_lines<O: Sink>(alloc: Global, whole: End, parts: &[Lister], out: &mut O) -> End
     requires { TellsRun whole }
     ensures end { EndsWith whole result }
-    ensures listed { result ≢ End.WriteFault → result ≢ End.Memory →
-        Appends (O.held out.old) (O.held out.new) (lines_of records.now) }
-    ensures part { result ≡ End.WriteFault → AppendsFront (O.held out.old) (O.held out.new) (lines_of records.now) }
+    ensures listed { (events : List EventRecord) → AreShared events parts.now → result ≢ End.WriteFault → result ≢ End.Memory →
+        Appends (O.held out.old) (O.held out.new) (lines_of events) }
+    ensures part { (events : List EventRecord) → AreShared events parts.now → result ≡ End.WriteFault →
+        AppendsFront (O.held out.old) (O.held out.new) (lines_of events) }
     ensures write { result ≡ End.WriteFault → Rose (O.faults out.old) (O.faults out.new) }
     ensures kept { result ≡ End.Memory → Keeps (O.held out.old) (O.held out.new) }
 {
-    let Ok(lines) = lines_text(alloc, records) else {
+    let Ok(lines) = lines_text(alloc, parts) else {
         return End::Memory;
     };
     match write_all(out, &lines) {

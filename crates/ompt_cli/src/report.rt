@@ -1,7 +1,9 @@
 //! What a command reports of its run.
 
 use crate::end::End;
+use crate::words::Command;
 use omp_model::{Blocks, Cause, History};
+use tool_api::GuestTool;
 
 /// The callbacks that a listing registers: all sixteen of the profile, bit n for number n.
 pub const ALL_CALLBACKS: u64 = 0x0FB3_00FE;
@@ -12,6 +14,8 @@ pub const SILENT_STEPS: u32 = 1_000_000;
 /// What a command reports of its run.
 #[derive(Drop)]
 pub struct Report {
+    /// The command that ran.
+    pub command: Command,
     /// Why the run ended.
     pub cause: Cause,
     /// The program.
@@ -22,6 +26,8 @@ pub struct Report {
     pub threads: u8,
     /// The run's entries.
     pub history: History,
+    /// The guests that were handed in, in their order.
+    pub guests: Vec<Box<dyn GuestTool>>,
 }
 
 /// What a command came to.

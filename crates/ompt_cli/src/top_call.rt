@@ -8,21 +8,29 @@ ghost use Rattle.run_edges.specs.Edges.{Rose, AppendsFront};
 ghost use Rattle.ompt_cli.specs.Words.{InForm, InFormWith, texts};
 ghost use Rattle.ompt_cli.specs.Text.{IsProgram, IsRefused, Spells};
 ghost use Rattle.ompt_cli.specs.Ends.{IsLost, IsTold};
+ghost use Rattle.team_run.specs.Standing.{HearsSilent};
 ghost use Rattle.ompt_cli.specs.Commands.{EndsAs, MayRefuse, MayRun, out_of, run_of};
+ghost use Rattle.ompt_cli.specs.Guests.{GuestsAfter};
 
 use crate::end::{End, Refusal};
-use crate::list::{Ended, list, without_run};
+use crate::ended::{Ended, without_run};
+use crate::job::Job;
+use crate::list::list;
 use crate::report::{ALL_CALLBACKS, Top};
+use crate::run::run;
 use crate::text::read_program;
-use crate::words::threads_of;
+use crate::words::{Asked, Command, asked_of};
 use omp_model::Cause;
 use run_edges::{Sink, Source, write_all};
 use std::alloc::Global;
+use tool_api::GuestTool;
 
 /// Does what the words say: it reads the program from `source`, runs it, writes what is defined to `out`, and one line
-/// to `err` where the status isn't 0.
+/// to `err` where the status isn't 0. For `run`, guest t is the part of thread t, and guest 0 is initialized; for `list`
+/// the guests come back as they were.
 ///
 /// `words` don't contain the program's own name. `rt` stands for the runtime, of which a serial run takes nothing.
+/// Where nothing ran the guests are dropped.
 pub fn top<R, S: Source, O: Sink, E: Sink>(
     _rt: &R,
     alloc: Global,
@@ -30,6 +38,7 @@ pub fn top<R, S: Source, O: Sink, E: Sink>(
     source: &mut S,
     out: &mut O,
     err: &mut E,
+    guests: Vec<Box<dyn GuestTool>>,
 ) -> Top
     // The line of the end is told and the status is the end's number, unless a write of the line failed.
     ensures told { IsTold result.status result.end (E.held err.old) (E.held err.new)
@@ -54,16 +63,24 @@ pub fn top<R, S: Source, O: Sink, E: Sink>(
     ensures write { result.end ≡ End.WriteFault → Rose (O.faults out.old) (O.faults out.new) }
 
     // What ran is one serial run of the program, with as many threads as the words ask for.
-    ensures asked { IfSome result.ran (λ report. InFormWith (texts words.now) report.threads) }
+    ensures asked { IfSome result.ran (λ report. InFormWith (texts words.now) report.command report.threads) }
     ensures spelled { IfSome result.ran (λ report.
         IfSome (S.left source.old) (λ text. Spells text report.blocks)) }
-    ensures mask { IfSome result.ran (λ report. report.mask ≡ ALL_CALLBACKS) }
+    ensures mask { IfSome result.ran (λ report. report.command ≡ Command.List → report.mask ≡ ALL_CALLBACKS) }
     ensures serial { IfSome result.ran (λ report. Serial (run_of report) report.history) }
     ensures cause { IfSome result.ran (λ report. report.cause ≢ Cause.Memory →
         cause_of (run_of report) report.history ≡ Some report.cause) }
 
-    ensures whole { IfSome result.ran (λ report. report.cause ≢ Cause.Memory →
+    // It is the one in which nothing is stored: for a listing, and where no tool stored anything.
+    ensures whole { IfSome result.ran (λ report. report.command ≡ Command.List → report.cause ≢ Cause.Memory →
         report.history ≡ serial (run_of report)) }
+    ensures silent_run { IfSome result.ran (λ report. report.cause ≢ Cause.Memory →
+        HearsSilent (run_of report) report.history → report.history ≡ serial (run_of report)) }
+
+    // Guest t was called for what thread t heard, in its order, and for nothing else.
+    ensures guests { IfSome result.ran (λ report.
+        GuestsAfter (λ guest h. (GuestTool-box guest).stands_for guest.value h) report.command (run_of report) report.history
+            guests.items report.guests.items) }
 
     // The end is the run's, unless a write or memory fails.
     ensures done { result.end ≡ End.Done → IsSomeAnd result.ran (λ report. report.cause ≡ Cause.Done) }
@@ -83,12 +100,13 @@ pub fn top<R, S: Source, O: Sink, E: Sink>(
         AppendsFront (O.held out.old) (O.held out.new) (out_of result.ran) }
     ensures kept { result.end ≡ End.Memory → Keeps (O.held out.old) (O.held out.new) }
 {
-    let Some(threads) = threads_of(words) else {
+    let Some(Asked { command, threads }) = asked_of(words) else {
         return tell(without_run(End::Usage), err);
     };
-    match read_program(alloc, source) {
-        Ok(blocks) => tell(list(alloc, blocks, threads, out), err),
-        Err(end) => tell(without_run(end), err),
+    match (read_program(alloc, source), command) {
+        (Ok(blocks), Command::List) => tell(list(alloc, Job::new(blocks, threads), guests, out), err),
+        (Ok(blocks), Command::Run) => tell(run(alloc, Job::new(blocks, threads), guests), err),
+        (Err(end), _) => tell(without_run(end), err),
     }
 }
 

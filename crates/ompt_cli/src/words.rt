@@ -1,24 +1,52 @@
-//! The form of the words: `list --serial --threads K`.
+//! The form of the words: `list` or `run`, and then `--serial --threads K`.
 
 ghost use Rattle.std.specs.Prelude.{ℕ, ◌≡◌, ◌≢◌, ◌≤◌, IfSome};
 ghost use Rattle.std.specs.Fmt.{decimal};
-ghost use Rattle.ompt_cli.specs.Words.{InForm, InFormWith, texts};
+ghost use Rattle.ompt_cli.specs.Words.{InForm, InFormWith, command_word, texts};
 
-/// The number of threads that the words ask for, or `None` where they aren't in the form.
-pub(crate) fn threads_of(words: &[String]) -> Option<u8>
-    ensures asked { IfSome result (λ threads. InFormWith (texts words.now) threads) }
+/// A command that runs a program.
+#[derive(Clone, Copy, Debug, PartialEq, Eq)]
+pub enum Command {
+    /// It writes a line for each event.
+    List,
+    /// It calls the guests for the events of their threads.
+    Run,
+}
+
+/// What the words ask for.
+#[derive(Clone, Copy)]
+pub(crate) struct Asked {
+    /// The command.
+    pub command: Command,
+    /// How many threads there may be.
+    pub threads: u8,
+}
+
+/// What the words ask for, or `None` where they aren't in the form.
+pub(crate) fn asked_of(words: &[String]) -> Option<Asked>
+    ensures asked { IfSome result (λ asked. InFormWith (texts words.now) asked.command asked.threads) }
     ensures other { result ≡ None → ¬ InForm (texts words.now) }
 {
     let [command, serial, threads, number] = words else {
         return None;
     };
-    if command.as_str() == "list"
-        && serial.as_str() == "--serial"
-        && threads.as_str() == "--threads"
-    {
-        number_of(number.as_str())
-    } else {
-        None
+    if serial.as_str() != "--serial" || threads.as_str() != "--threads" {
+        return None;
+    }
+    let command = command_of(command.as_str())?;
+    let threads = number_of(number.as_str())?;
+    Some(Asked { command, threads })
+}
+
+/// The command that a word names.
+fn command_of(word: &str) -> Option<Command>
+    ensures some { IfSome result (λ command. word.now ≡ command_word command) }
+    ensures other { result ≡ None → (command : Command) → word.now ≢ command_word command }
+{
+    match word.as_bytes() {
+        b"list" => Some(Command::List),
+        b"run" => Some(Command::Run),
+        _ => None,
     }
 }
 

@@ -1,0 +1,44 @@
+-- What guests stand for after a run: guest t was the part of thread t.
+use Rattle.std.specs.Prelude.{ℕ, ◌≡◌, ◌<◌, ◌≤◌, List, [], ◌∷◌, ◌++◌, length, slice_index_or}
+use Rattle.tool_api.specs.Record.{Record}
+use Rattle.tool_api.specs.declared.guest.Guest.{Guest}
+use Rattle.tool_api.specs.declared.handed.Handed.{Handed}
+use Rattle.tool_api.specs.declared.handed.Handed.TheVariants as held
+use Rattle.omp_model.specs.declared.history.Entry.{Entry}
+use Rattle.omp_model.specs.State.{Run}
+use Rattle.omp_model.specs.Heard.{heard_of}
+use Rattle.team_run.specs.Serving.{served, mask_of, first_record}
+use Rattle.ompt_cli.specs.declared.words.Command.{Command}
+use Rattle.ompt_cli.specs.declared.words.Command.TheVariants.{List as Listing, Run as Running}
+
+-- guest 0 was started, with this answer and these callbacks registered, called for what thread 0 heard, and finished where it is
+-- active; guest t was called for what thread t heard; those past the threads are as they were. Where there is no guest, nothing is
+-- registered
+pub record GuestsServe {B : Type 0} (stands_for : B → Record → Type 0) (run : Run) (history : List Entry) (guests after : List B) : Type 0 where
+  pub as_many : length after ≡ length guests
+  pub answer : ℕ
+  pub registered : ℕ
+  pub mask_is : run.mask ≡ mask_of answer registered
+  pub nobody : length guests ≡ 0 → answer ≡ 0
+  pub first : (d : B) (h : Record) → 0 < length guests → stands_for (slice_index_or guests 0 d) h → stands_for (slice_index_or after 0 d) (first_record answer registered (heard_of run history 0) h)
+  pub others : (k : ℕ) (d : B) (h : Record) → 0 < k → k < run.threads → k < length guests → stands_for (slice_index_or guests k d) h → stands_for (slice_index_or after k d) (served h (heard_of run history k))
+  pub rest : (k : ℕ) (d : B) → run.threads ≤ k → slice_index_or after k d ≡ slice_index_or guests k d
+
+-- what guests stand for after a command: a listing leaves them as they were
+abbrev pub GuestsAfter : {B : Type 0} → (B → Record → Type 0) → Command → Run → List Entry → List B → List B → Type 0
+GuestsAfter stands_for Listing run history guests after = after ≡ guests
+GuestsAfter stands_for Running run history guests after = GuestsServe stands_for run history guests after
+
+-- the guests that these parts hold, in order
+abbrev pub guests_of : {Table : Type 0} {Behind : Table → Type 0} {B : Type 0} → (Guest Table Behind → B) → List (Handed Table Behind) → List B
+guests_of box [] = []
+guests_of box (held.Guest guest ∷ parts) = box guest ∷ guests_of box parts
+guests_of box (held.Quiet quiet ∷ parts) = guests_of box parts
+
+-- the parts hold the first of these guests, in order, and where there are no more, none; and these are left
+abbrev pub HandOut : {Table : Type 0} {Behind : Table → Type 0} {B : Type 0} → (Guest Table Behind → B) → List B → List (Handed Table Behind) → List B → Type 0
+HandOut box guests [] rest = guests ≡ rest
+HandOut box [] (held.Guest guest ∷ parts) rest = ⊥
+HandOut box (b ∷ guests) (held.Guest guest ∷ parts) rest = (box guest ≡ b) × HandOut box guests parts rest
+HandOut box [] (held.Quiet quiet ∷ parts) rest = HandOut box [] parts rest
+HandOut box (b ∷ guests) (held.Quiet quiet ∷ parts) rest = ⊥
