@@ -1,6 +1,9 @@
--- How many blocks a text spells, and why a text isn't refused.
-use Rattle.std.proofs.Common.{◌≡◌, ℕ, ◌≤◌, List, [], ◌∷◌, ◌++◌, flat_map, length, length-append, Result, Err, Option, Some, None, IsSomeAnd, inl, inr, ap, arith}
+-- How many blocks a text spells, why a text isn't refused, and what is written where there is nothing to write.
+use Rattle.std.proofs.Common.{◌≡◌, ℕ, ◌≤◌, List, [], ◌∷◌, ◌++◌, flat_map, length, length-append, Result, Err, Option, Some, None, IsSomeAnd, inl, inr, refl, ap, arith}
 use Rattle.omp_model.specs.declared.blocks.Blocks.{Blocks}
+use Rattle.omp_model.specs.declared.cause.Cause.{Cause}
+use Rattle.omp_model.specs.declared.cause.Cause.TheVariants as cause
+use Rattle.ompt_cli.specs.Commands.{unless_memory}
 use Rattle.run_edges.specs.Edges.{ConsumesMore}
 use Rattle.ompt_cli.specs.declared.end.Refusal.{Refusal}
 use Rattle.ompt_cli.specs.declared.end.Refusal.TheVariants.{TooLong, OtherForm}
@@ -39,3 +42,12 @@ pub program-not_long : (old new : Option (List ℕ)) → IsSomeAnd old IsProgram
 program-not_long None new program more = program
 program-not_long (Some text) None program more = more.2
 program-not_long (Some text) (Some rest) program more = absurd (omega (arith, longer text more.0 rest more.2, more.1, program.0))
+
+-- nothing is written of nothing, whatever the cause
+pub nothing-of : (c : Cause) → unless_memory c [] ≡ []
+nothing-of cause.Done = refl
+nothing-of (cause.Returned value) = refl
+nothing-of (cause.Trapped number) = refl
+nothing-of cause.Deadlock = refl
+nothing-of (cause.Limit number) = refl
+nothing-of cause.Memory = refl

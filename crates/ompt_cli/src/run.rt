@@ -4,7 +4,7 @@ ghost use Rattle.std.specs.Prelude.{ℕ, ◌≡◌, ◌≢◌, IfSome, IsSomeAnd
 ghost use Rattle.omp_model.specs.Serial.{Serial, serial};
 ghost use Rattle.omp_model.specs.Cause.{cause_of};
 ghost use Rattle.team_run.specs.Standing.{HearsSilent};
-ghost use Rattle.ompt_cli.specs.Commands.{EndsAs, IsAfterRun, run_of};
+ghost use Rattle.ompt_cli.specs.Commands.{EndsAs, IsAfterRun, out_of, run_of};
 ghost use Rattle.ompt_cli.specs.Guests.{GuestsServe};
 
 use crate::end::End;
@@ -27,6 +27,7 @@ pub(crate) fn run(
 ) -> Ended
     ensures end { IsAfterRun result.end }
     ensures unwritten { result.end ≢ End.WriteFault }
+    ensures nothing { out_of result.ran ≡ [] }
     ensures ran { IfSome result.ran (λ report.
         (report.command ≡ Command.Run) × (report.blocks ≡ job.blocks) × (report.threads ≡ job.threads)) }
     ensures guests { IfSome result.ran (λ report.

@@ -4,6 +4,7 @@ use Rattle.ompt_cli.specs.declared.report.TheConstants.{SILENT_STEPS}
 use Rattle.omp_model.specs.Program.{run_of_blocks}
 use Rattle.ompt_cli.specs.Guests.{HandOut, guests_of}
 use Rattle.ompt_cli.proofs.Handing.{guests-serve}
+use Rattle.ompt_cli.proofs.Ending.{nothing-of}
 use Rattle.ompt_cli.proofs.run.run.Goals as goal
 
 pub returns-clause-guests : goal.returns-clause-guests
@@ -17,3 +18,6 @@ returns-clause-guests g c =
         c.reverse-2.ensures.items ∙ c.take_back.ensures ∙ ap (λ items. guests_of (λ guest. guest.0) ran.parts.items ++ reverse items) c.in-Ok-reserve.ensures.items in
     let runs = rw c.in-Ok.ensures at c.in-Ok-run_serial.ensures.parts in
     rw waiting (guests-serve (λ guest. guest.0) _ (run_of_blocks c.job.inside.blocks ran.mask c.job.inside.threads SILENT_STEPS) ran.history c.args.guests.items parts ran.parts.items rest c.job.invariant.1 c.in-Ok-hand_out.ensures.each out c.in-Ok-run_serial.ensures.kinds runs)
+
+pub returns-clause-nothing : goal.returns-clause-nothing
+returns-clause-nothing g c = nothing-of c.in-Ok-run_serial.ran.cause
