@@ -1,22 +1,21 @@
 -- Guests are handed out to threads, and taken back.
-use Rattle.std.proofs.Common.{◌≡◌, ℕ, zero, suc, ◌+◌, ◌<◌, ◌≤◌, ◌==◌, Bool, true, false, if◌then◌else◌, List, [], ◌∷◌, ◌++◌, length, reverse, slice_index_or, refl, sym, ap, subst, ◌∙◌, append_assoc, arith}
+use Rattle.std.proofs.Common.{◌≡◌, ℕ, zero, suc, ◌<◌, ◌≤◌, ◌==◌, Bool, true, false, if◌then◌else◌, List, [], ◌∷◌, ◌++◌, length, slice_index_or, refl, sym, ap, subst, arith}
 use Rattle.std.proofs.lemmas.List.{nil_from_length}
 use Rattle.tool_api.specs.Record.{Record, QuietFor, StartedWith, initialized, finalized}
 use Rattle.tool_api.specs.declared.quiet.Quiet.{Quiet}
 use Rattle.tool_api.specs.Handed.{HandedFor, kind_of}
-use Rattle.tool_api.specs.declared.guest.Guest.{Guest}
 use Rattle.tool_api.specs.declared.handed.Handed.{Handed}
 use Rattle.tool_api.specs.declared.handed.Handed.TheVariants as held
 use Rattle.omp_model.specs.declared.history.Entry.{Entry}
 use Rattle.omp_model.specs.State.{Run}
 use Rattle.omp_model.specs.Heard.{heard_of}
-use Rattle.team_run.specs.Serving.{served, mask_of, finished_by, first_record, RunsFor, SameKinds}
+use Rattle.team_run.specs.Serving.{served, finished_by, first_record, RunsFor, SameKinds}
 use Rattle.ompt_cli.specs.Guests.{GuestsServe, HandOut, guests_of}
 use Rattle.ompt_cli.proofs.Listing.{nothing_called}
 
-module _ {Table : Type 0} {Behind : Table → Type 0} {B : Type 0} (box : Guest Table Behind → B) where
+module _ {G : Type 0} {B : Type 0} (box : G → B) where
   -- one part more
-  pub handed-more : (queue : List B) (parts : List (Handed Table Behind)) (between : List B) (part : Handed Table Behind) (rest : List B) → HandOut box queue parts between → HandOut box between (part ∷ []) rest → HandOut box queue (parts ++ part ∷ []) rest
+  pub handed-more : (queue : List B) (parts : List (Handed G)) (between : List B) (part : Handed G) (rest : List B) → HandOut box queue parts between → HandOut box between (part ∷ []) rest → HandOut box queue (parts ++ part ∷ []) rest
   handed-more queue [] between part rest out more = subst (λ queue. HandOut box queue (part ∷ []) rest) (sym out) more
   handed-more [] (held.Guest guest ∷ parts) between part rest out more = absurd out
   handed-more (b ∷ queue) (held.Guest guest ∷ parts) between part rest out more = (out.0, handed-more queue parts between part rest out.1 more)
@@ -24,7 +23,7 @@ module _ {Table : Type 0} {Behind : Table → Type 0} {B : Type 0} (box : Guest 
   handed-more (b ∷ queue) (held.Quiet quiet ∷ parts) between part rest out more = absurd out
 
   -- the guests of one part more
-  pub guests-more : (parts : List (Handed Table Behind)) (part : Handed Table Behind) → guests_of box (parts ++ part ∷ []) ≡ guests_of box parts ++ guests_of box (part ∷ [])
+  pub guests-more : (parts : List (Handed G)) (part : Handed G) → guests_of box (parts ++ part ∷ []) ≡ guests_of box parts ++ guests_of box (part ∷ [])
   guests-more [] part = refl
   guests-more (held.Guest guest ∷ parts) part = ap (λ guests. box guest ∷ guests) (guests-more parts part)
   guests-more (held.Quiet quiet ∷ parts) part = guests-more parts part
@@ -36,13 +35,13 @@ kinds-head kind x y xs ys same = same.each 0 x (omega arith)
 kinds-tail : {P : Type 0} (kind : P → ℕ) (x y : P) (xs ys : List P) → SameKinds kind (x ∷ xs) (y ∷ ys) → SameKinds kind xs ys
 kinds-tail kind x y xs ys same = record { each = λ k d below. same.each (suc k) d (omega (arith, below)) }
 
-module _ {Table : Type 0} {Behind : Table → Type 0} {B : Type 0} (box : Guest Table Behind → B) (stands : B → Record → Type 0) where
+module _ {G : Type 0} {B : Type 0} (box : G → B) (stands : B → Record → Type 0) where
   -- what a part stands for: what its guest does
-  abbrev For : Handed Table Behind → Record → Type 0
+  abbrev For : Handed G → Record → Type 0
   For part h = HandedFor (λ guest h. stands (box guest) h) part h
 
   -- the guests are as many as they were
-  as-many : (guests : List B) (parts after : List (Handed Table Behind)) (rest : List B) → HandOut box guests parts rest → length after ≡ length parts → SameKinds kind_of parts after → length (guests_of box after ++ rest) ≡ length guests
+  as-many : (guests : List B) (parts after : List (Handed G)) (rest : List B) → HandOut box guests parts rest → length after ≡ length parts → SameKinds kind_of parts after → length (guests_of box after ++ rest) ≡ length guests
   as-many guests [] [] rest out same kinds = ap length (sym out)
   as-many guests [] (a ∷ after) rest out same kinds = absurd (omega (arith, same))
   as-many guests (p ∷ parts) [] rest out same kinds = absurd (omega (arith, same))
@@ -54,7 +53,7 @@ module _ {Table : Type 0} {Behind : Table → Type 0} {B : Type 0} (box : Guest 
   as-many (b ∷ guests) (held.Quiet q ∷ parts) (a ∷ after) rest out same kinds = absurd out
 
   -- the part of a guest stands for what the guest does
-  guest-in : (guests : List B) (parts : List (Handed Table Behind)) (rest : List B) → HandOut box guests parts rest → (k : ℕ) (d : B) (e : Handed Table Behind) (h : Record) → k < length parts → k < length guests → stands (slice_index_or guests k d) h → For (slice_index_or parts k e) h
+  guest-in : (guests : List B) (parts : List (Handed G)) (rest : List B) → HandOut box guests parts rest → (k : ℕ) (d : B) (e : Handed G) (h : Record) → k < length parts → k < length guests → stands (slice_index_or guests k d) h → For (slice_index_or parts k e) h
   guest-in guests [] rest out k d e h below some for = absurd (omega (arith, below))
   guest-in [] (held.Guest g ∷ parts) rest out k d e h below some for = absurd out
   guest-in (b ∷ guests) (held.Guest g ∷ parts) rest out zero d e h below some for = subst (λ (b : B). stands b h) (sym out.0) for
@@ -63,7 +62,7 @@ module _ {Table : Type 0} {Behind : Table → Type 0} {B : Type 0} (box : Guest 
   guest-in (b ∷ guests) (held.Quiet q ∷ parts) rest out k d e h below some for = absurd out
 
   -- and afterwards the guest for what the part does
-  guest-out : (guests : List B) (parts after : List (Handed Table Behind)) (rest : List B) → HandOut box guests parts rest → length after ≡ length parts → SameKinds kind_of parts after → (k : ℕ) (d : B) (e : Handed Table Behind) (h : Record) → k < length parts → k < length guests → For (slice_index_or after k e) h → stands (slice_index_or (guests_of box after ++ rest) k d) h
+  guest-out : (guests : List B) (parts after : List (Handed G)) (rest : List B) → HandOut box guests parts rest → length after ≡ length parts → SameKinds kind_of parts after → (k : ℕ) (d : B) (e : Handed G) (h : Record) → k < length parts → k < length guests → For (slice_index_or after k e) h → stands (slice_index_or (guests_of box after ++ rest) k d) h
   guest-out guests [] after rest out same kinds k d e h below some for = absurd (omega (arith, below))
   guest-out guests (p ∷ parts) [] rest out same kinds k d e h below some for = absurd (omega (arith, same))
   guest-out [] (p ∷ parts) (a ∷ after) rest out same kinds k d e h below some for = absurd (omega (arith, some))
@@ -74,7 +73,7 @@ module _ {Table : Type 0} {Behind : Table → Type 0} {B : Type 0} (box : Guest 
   guest-out (b ∷ guests) (held.Quiet q ∷ parts) (a ∷ after) rest out same kinds k d e h below some for = absurd out
 
   -- those past the parts are as they were
-  guest-past : (guests : List B) (parts after : List (Handed Table Behind)) (rest : List B) → HandOut box guests parts rest → length after ≡ length parts → SameKinds kind_of parts after → (k : ℕ) (d : B) → length parts ≤ k → slice_index_or (guests_of box after ++ rest) k d ≡ slice_index_or guests k d
+  guest-past : (guests : List B) (parts after : List (Handed G)) (rest : List B) → HandOut box guests parts rest → length after ≡ length parts → SameKinds kind_of parts after → (k : ℕ) (d : B) → length parts ≤ k → slice_index_or (guests_of box after ++ rest) k d ≡ slice_index_or guests k d
   guest-past guests [] [] rest out same kinds k d past = ap (λ guests. slice_index_or guests k d) (sym out)
   guest-past guests [] (a ∷ after) rest out same kinds k d past = absurd (omega (arith, same))
   guest-past guests (p ∷ parts) [] rest out same kinds k d past = absurd (omega (arith, same))
@@ -98,7 +97,7 @@ module _ {Table : Type 0} {Behind : Table → Type 0} {B : Type 0} (box : Guest 
       unfinished true for = for.started
       unfinished false for = for.started
 
-  first-answer : (run : Run) (H : List Entry) (parts after : List (Handed Table Behind)) (rest : List B) → 1 ≤ length parts → HandOut box [] parts rest → length after ≡ length parts → SameKinds kind_of parts after → (runs : RunsFor For run H parts after) → runs.answer ≡ 0
+  first-answer : (run : Run) (H : List Entry) (parts after : List (Handed G)) (rest : List B) → 1 ≤ length parts → HandOut box [] parts rest → length after ≡ length parts → SameKinds kind_of parts after → (runs : RunsFor For run H parts after) → runs.answer ≡ 0
   first-answer run H [] after rest some out same kinds runs = absurd (omega (arith, some))
   first-answer run H (p ∷ parts) [] rest some out same kinds runs = absurd (omega (arith, same))
   first-answer run H (held.Guest g ∷ parts) (a ∷ after) rest some out same kinds runs = absurd out
@@ -110,7 +109,7 @@ module _ {Table : Type 0} {Behind : Table → Type 0} {B : Type 0} (box : Guest 
       fresh-quiet = record { started = λ k d below. absurd (omega (arith, below)); silent = λ k d below. absurd (omega (arith, below)); alone = refl }
 
   -- so the guests stand for what their threads heard
-  pub guests-serve : (run : Run) (H : List Entry) (guests : List B) (parts after : List (Handed Table Behind)) (rest : List B) → 1 ≤ run.threads → length parts ≡ run.threads → HandOut box guests parts rest → SameKinds kind_of parts after → RunsFor For run H parts after → GuestsServe stands run H guests (guests_of box after ++ rest)
+  pub guests-serve : (run : Run) (H : List Entry) (guests : List B) (parts after : List (Handed G)) (rest : List B) → 1 ≤ run.threads → length parts ≡ run.threads → HandOut box guests parts rest → SameKinds kind_of parts after → RunsFor For run H parts after → GuestsServe stands run H guests (guests_of box after ++ rest)
   guests-serve run H guests [] after rest some each out kinds runs = absurd (omega (arith, some, each))
   guests-serve run H guests (p ∷ parts) after rest some each out kinds runs =
       record {

@@ -1,12 +1,11 @@
 -- The listers of a run: what they kept is what is recorded of the run.
-use Rattle.std.proofs.Common.{◌≡◌, ℕ, ◌+◌, ◌<◌, ◌≤◌, ◌==◌, ◌&&◌, Bool, true, false, if◌then◌else◌, cond, List, [], ◌∷◌, ◌++◌, filter, map, length, replicate, slice_index_or, refl, sym, ap, subst, ◌∙◌, zero, suc, arith}
-use Rattle.std.specs.Prelude.{All}
-use Rattle.std.proofs.lemmas.List.{map-append, get_or-replicate, length-replicate}
+use Rattle.std.proofs.Common.{◌≡◌, ℕ, ◌+◌, ◌<◌, ◌≤◌, ◌==◌, ◌&&◌, Bool, true, false, if◌then◌else◌, List, [], ◌∷◌, ◌++◌, map, length, replicate, slice_index_or, refl, sym, ap, subst, ◌∙◌, zero, suc, arith}
+use Rattle.std.proofs.lemmas.List.{get_or-replicate, length-replicate}
 use Rattle.ompt_calls.specs.declared.call.Call.{Call}
 use Rattle.ompt_calls.specs.declared.snapshot.Snapshot.{Snapshot}
 use Rattle.ompt_calls.specs.Item.{Item}
 use Rattle.ompt_calls.specs.Number.{number_of, is_registered}
-use Rattle.tool_api.specs.Record.{Record, Start, initialized, finalized, StoresNothing}
+use Rattle.tool_api.specs.Record.{Record, initialized, finalized, StoresNothing}
 use Rattle.tool_report.specs.Lister.{ListerFor, all_callbacks}
 use Rattle.tool_report.specs.Order.{AreFrom, AreRising, AreShared}
 use Rattle.omp_model.specs.declared.history.Entry.{Entry}
@@ -23,7 +22,7 @@ use Rattle.omp_model.specs.Legal.{entered}
 use Rattle.omp_model.specs.Heard.{has_back, stores_in, heard_call, heard_outcome, heard_at, heard_from, heard, heard_of}
 use Rattle.omp_model.specs.Records.{record_of, records_of}
 use Rattle.omp_model.proofs.Recording.{records-by_thread}
-use Rattle.team_run.specs.Serving.{served, mask_of, finished_by, first_record, RunsFor}
+use Rattle.team_run.specs.Serving.{served, mask_of, finished_by, RunsFor}
 use Rattle.team_run.specs.Standing.{AreSilent, HearsOwn, HearsSilent}
 
 -- at most one item, of this position

@@ -1,7 +1,6 @@
 -- What guests stand for after a run: guest t was the part of thread t.
-use Rattle.std.specs.Prelude.{ℕ, ◌≡◌, ◌<◌, ◌≤◌, List, [], ◌∷◌, ◌++◌, length, slice_index_or}
+use Rattle.std.specs.Prelude.{ℕ, ◌≡◌, ◌<◌, ◌≤◌, List, [], ◌∷◌, length, slice_index_or}
 use Rattle.tool_api.specs.Record.{Record}
-use Rattle.tool_api.specs.declared.guest.Guest.{Guest}
 use Rattle.tool_api.specs.declared.handed.Handed.{Handed}
 use Rattle.tool_api.specs.declared.handed.Handed.TheVariants as held
 use Rattle.omp_model.specs.declared.history.Entry.{Entry}
@@ -30,13 +29,13 @@ GuestsAfter stands_for Listing run history guests after = after ≡ guests
 GuestsAfter stands_for Running run history guests after = GuestsServe stands_for run history guests after
 
 -- the guests that these parts hold, in order
-abbrev pub guests_of : {Table : Type 0} {Behind : Table → Type 0} {B : Type 0} → (Guest Table Behind → B) → List (Handed Table Behind) → List B
+abbrev pub guests_of : {G : Type 0} {B : Type 0} → (G → B) → List (Handed G) → List B
 guests_of box [] = []
 guests_of box (held.Guest guest ∷ parts) = box guest ∷ guests_of box parts
 guests_of box (held.Quiet quiet ∷ parts) = guests_of box parts
 
 -- the parts hold the first of these guests, in order, and where there are no more, none; and these are left
-abbrev pub HandOut : {Table : Type 0} {Behind : Table → Type 0} {B : Type 0} → (Guest Table Behind → B) → List B → List (Handed Table Behind) → List B → Type 0
+abbrev pub HandOut : {G : Type 0} {B : Type 0} → (G → B) → List B → List (Handed G) → List B → Type 0
 HandOut box guests [] rest = guests ≡ rest
 HandOut box [] (held.Guest guest ∷ parts) rest = ⊥
 HandOut box (b ∷ guests) (held.Guest guest ∷ parts) rest = (box guest ≡ b) × HandOut box guests parts rest

@@ -18,6 +18,7 @@
 mod blocks;
 mod end;
 mod ended;
+mod guest_part;
 mod guests;
 mod job;
 mod list;

@@ -20,11 +20,7 @@ use team_run::run_serial;
 use tool_api::GuestTool;
 
 /// Runs the job. Guest t is the part of thread t; threads past the guests have none.
-pub(crate) fn run(
-    alloc: Global,
-    job: Job,
-    guests: Vec<Box<dyn GuestTool>>,
-) -> Ended
+pub(crate) fn run(alloc: Global, job: Job, guests: Vec<Box<dyn GuestTool>>) -> Ended
     ensures end { IsAfterRun result.end }
     ensures unwritten { result.end ≢ End.WriteFault }
     ensures nothing { out_of result.ran ≡ [] }

@@ -80,7 +80,7 @@ pub fn top<R, S: Source, O: Sink, E: Sink>(
     // Guest t was called for what thread t heard, in its order, and for nothing else.
     ensures guests { IfSome result.ran (λ report.
         GuestsAfter (λ guest h. (GuestTool-box guest).stands_for guest.value h) report.command (run_of report) report.history
-            guests.items report.guests.items) }
+        guests.items report.guests.items) }
 
     // The end is the run's, unless a write or memory fails.
     ensures done { result.end ≡ End.Done → IsSomeAnd result.ran (λ report. report.cause ≡ Cause.Done) }
@@ -104,7 +104,10 @@ pub fn top<R, S: Source, O: Sink, E: Sink>(
         return tell(without_run(End::Usage), err);
     };
     match (read_program(alloc, source), command) {
-        (Ok(blocks), Command::List) => tell(list(alloc, Job::new(blocks, threads), guests, out), err),
+        (Ok(blocks), Command::List) => tell(
+            list(alloc, Job::new(blocks, threads), guests, out),
+            err,
+        ),
         (Ok(blocks), Command::Run) => tell(run(alloc, Job::new(blocks, threads), guests), err),
         (Err(end), _) => tell(without_run(end), err),
     }

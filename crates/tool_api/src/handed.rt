@@ -8,17 +8,18 @@ use crate::quiet::Quiet;
 use crate::registrar::Registrar;
 use ompt_calls::{Call, Reply, Snapshot};
 
-/// A tool in a box, or none. It passes each call to the part that it holds, and stands for what that part stands for.
+/// A tool, or none. It passes each call to the part that it holds, and stands for what
+/// that part stands for.
 #[derive(Drop)]
-pub enum Handed {
-    /// A tool in a box.
-    Guest(Guest),
+pub enum Handed<G = Guest> {
+    /// A tool.
+    Guest(G),
     /// No tool: the part that does nothing.
     Quiet(Quiet),
 }
 
-impl ToolPart for Handed {
-    ghost stands_for = { HandedFor (λ guest h. (GuestTool-box guest.0).stands_for guest.0.value h) };
+impl<G: ToolPart> ToolPart for Handed<G> {
+    ghost stands_for = { HandedFor G.stands_for };
 
     ghost kind = { kind_of };
 

@@ -1,4 +1,4 @@
-use Rattle.std.proofs.Common.{◌≡◌, ◌∷◌, [], length, length-append, reverse, arith}
+use Rattle.std.proofs.Common.{◌∷◌, [], length-append, reverse, arith}
 use Rattle.ompt_cli.proofs.Handing.{handed-more}
 use Rattle.ompt_cli.proofs.guests.hand_out.Goals as goal
 

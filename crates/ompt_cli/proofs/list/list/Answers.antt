@@ -1,12 +1,10 @@
-use Rattle.std.proofs.Common.{◌≡◌, ℕ, ◌∷◌, [], List, replicate, refl, sym, subst, ap, ◌∙◌}
-use Rattle.tool_report.specs.Lister.{ListerFor}
+use Rattle.std.proofs.Common.{◌≡◌, ℕ, List, refl, subst}
 use Rattle.tool_report.specs.Order.{AreShared}
 use Rattle.omp_model.specs.State.{Run}
 use Rattle.omp_model.specs.Serial.{serial}
 use Rattle.omp_model.specs.Program.{run_of_blocks}
 use Rattle.omp_model.specs.Records.{records_of}
-use Rattle.team_run.specs.Serving.{RunsFor}
-use Rattle.team_run.specs.Standing.{HearsOwn, HearsSilent}
+use Rattle.team_run.specs.Standing.{HearsSilent}
 use Rattle.ompt_cli.specs.declared.report.TheConstants.{SILENT_STEPS}
 use Rattle.ompt_cli.proofs.Listing.{lists-all, lists-silent, lists-shared}
 use Rattle.ompt_cli.proofs.list.list.Goals as goal
@@ -33,7 +31,7 @@ returns-clause-listed g c =
     let runs = rw c.in-Ok-listers.ensures at c.in-Ok-run_serial.ensures.parts in
     let shared : AreShared (records_of run ran.history) ran.parts.items = lists-shared run ran.history c.job.inside.threads ran.parts.items c.job.invariant.1 runs refl c.in-Ok-run_serial.ensures.own in
     let of_program : AreShared (records_of (run_of_blocks c.job.inside.blocks ran.mask c.job.inside.threads SILENT_STEPS) ran.history) ran.parts.items =
-        subst (λ (blocks : List ℕ). AreShared (records_of (run_of_blocks blocks ran.mask c.job.inside.threads SILENT_STEPS) ran.history) ran.parts.items) c.in-Ok.ensures shared in
+    subst (λ (blocks : List ℕ). AreShared (records_of (run_of_blocks blocks ran.mask c.job.inside.threads SILENT_STEPS) ran.history) ran.parts.items) c.in-Ok.ensures shared in
     c.write_run-end.ensures.listed _ (rw c.deref.ensures.value of_program)
 
 pub returns-clause-part : goal.returns-clause-part
@@ -43,5 +41,5 @@ returns-clause-part g c =
     let runs = rw c.in-Ok-listers.ensures at c.in-Ok-run_serial.ensures.parts in
     let shared : AreShared (records_of run ran.history) ran.parts.items = lists-shared run ran.history c.job.inside.threads ran.parts.items c.job.invariant.1 runs refl c.in-Ok-run_serial.ensures.own in
     let of_program : AreShared (records_of (run_of_blocks c.job.inside.blocks ran.mask c.job.inside.threads SILENT_STEPS) ran.history) ran.parts.items =
-        subst (λ (blocks : List ℕ). AreShared (records_of (run_of_blocks blocks ran.mask c.job.inside.threads SILENT_STEPS) ran.history) ran.parts.items) c.in-Ok.ensures shared in
+    subst (λ (blocks : List ℕ). AreShared (records_of (run_of_blocks blocks ran.mask c.job.inside.threads SILENT_STEPS) ran.history) ran.parts.items) c.in-Ok.ensures shared in
     c.write_run-end.ensures.part _ (rw c.deref.ensures.value of_program)
