@@ -293,14 +293,8 @@ fn a_reply_stores_thrice(rt: HostRuntime) -> Result<(), Memory> {
         (begun.seq, begun.word, begun.call),
         (6, ONE, member(1, TWO, TWO, 1, 0))
     );
-    let task = Word {
-        identity: 2,
-        value: 22,
-    };
-    let team = Word {
-        identity: 2,
-        value: 33,
-    };
+    let task = word(2, 22);
+    let team = word(2, 33);
     assert_eq!(rt; (at_barrier.seq, at_barrier.word), (11, word(1, 11)));
     assert_eq!(rt;
         at_barrier.call,
