@@ -9,7 +9,9 @@ use std::marker::Model;
 /// The entries of a run under way. Contracts see how many more there is room for, beside the entries.
 #[derive(Drop)]
 pub(crate) struct Entries {
+    /// The entries, in order.
     entries: Vec<Entry>,
+    /// How many more can be added without memory.
     room: usize,
 }
 

@@ -68,10 +68,12 @@ pub fn run_serial<P: ToolPart>(
     })
 }
 
-/// What the first part answered to its start, and the callbacks that it registered (bit n for number n).
+/// What came of the start of the first part.
 #[derive(Clone, Copy)]
 struct Start {
+    /// What it answered: 0 is inactive.
     answer: u32,
+    /// The callbacks that it registered: bit n for number n.
     registered: u64,
 }
 

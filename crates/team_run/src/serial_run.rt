@@ -26,7 +26,9 @@ const ENTRIES_OF_A_TURN: usize = 5;
 /// A serial run under way.
 #[derive(Drop)]
 pub(crate) struct SerialRun<P> {
+    /// The machine, after the last entry.
     pub machine: Machine,
+    /// The entries so far.
     pub history: Entries,
     /// The parts, by thread.
     pub parts: Vec<P>,
