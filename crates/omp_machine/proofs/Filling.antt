@@ -1,5 +1,5 @@
 -- One more level of a snapshot.
-use Rattle.std.proofs.Common.{◌≡◌, ℕ, zero, suc, ◌+◌, ◌-◌, ◌<◌, ◌≤◌, ◌≢◌, ◌==◌, true, false, List, [], ◌∷◌, ◌++◌, length, drop, drop-cons, slice_index_or, eq-eqb, add-one, append-nil, refl, ap, append_assoc, inl, inr, arith}
+use Rattle.std.proofs.Common.{◌≡◌, ℕ, zero, suc, ◌+◌, ◌-◌, ◌<◌, ◌≤◌, List, [], ◌∷◌, ◌++◌, ◌∙◌, length, drop, drop-cons, slice_index_or, add-one, append-nil, refl, ap, append_assoc, inl, inr, arith}
 use Rattle.std.proofs.lemmas.Bool.Decides.{eqb_tells}
 use Rattle.std.proofs.Math.ListN.{drop_of_length-le}
 use Rattle.ompt_calls.specs.declared.snapshot.TaskLevel.{TaskLevel}
@@ -7,7 +7,7 @@ use Rattle.ompt_calls.specs.declared.snapshot.RegionLevel.{RegionLevel}
 use Rattle.omp_model.specs.declared.machine.Event.{Event}
 use Rattle.omp_model.specs.State.{World}
 use Rattle.omp_model.specs.Snapshots.{task_level, lowest_levels, regions_after}
-use Rattle.omp_machine.specs.Levels.{region_level}
+use Rattle.omp_machine.specs.Levels.{unless_again}
 
 -- one more level of a task
 pub lowest-more : (W : World) (t : ℕ) (event : Event) (u left : ℕ) (levels after : List TaskLevel) (level : TaskLevel) → 0 < left → level ≡ task_level W t event u (left - 1) → after ≡ levels ++ level ∷ [] → after ++ lowest_levels W t event u (left - 1) ≡ levels ++ lowest_levels W t event u left
@@ -23,28 +23,20 @@ unfolding lowest_levels
 lowest-none W t event u zero levels none = append-nil levels
 lowest-none W t event u (suc left) levels none = absurd (omega arith)
 
--- one more level of a region, which isn't the last one again
-region-more : (W : World) (last : ℕ) (level : TaskLevel) (rest : List TaskLevel) (levels : List RegionLevel) → (level.region.identity == last) ≡ false → (levels ++ region_level W level.region ∷ []) ++ regions_after W level.region.identity rest ≡ levels ++ regions_after W last (level ∷ rest)
+-- one more level of a region, unless it is the last one again
+region-more : (W : World) (last : ℕ) (level : TaskLevel) (rest : List TaskLevel) → unless_again W last level.region ++ regions_after W level.region.identity rest ≡ regions_after W last (level ∷ rest)
 unfolding regions_after
-region-more W last level rest levels other = rw other (append_assoc levels (region_level W level.region ∷ []) (regions_after W level.region.identity rest))
+region-more W last level rest =
+    elim (eqb_tells level.region.identity last) [
+      | inl again ↦ rw again.0 (ap (λ identity. regions_after W identity rest) again.1)
+      | inr other ↦ rw other.0 refl
+    ]
 
-pub region-next : (W : World) (tasks : List TaskLevel) (i last next : ℕ) (d : TaskLevel) (levels after : List RegionLevel) (new : RegionLevel) → i < length tasks → (slice_index_or tasks i d).region.identity ≢ last → new ≡ region_level W (slice_index_or tasks i d).region → next ≡ (slice_index_or tasks i d).region.identity → after ≡ levels ++ new ∷ [] → after ++ regions_after W next (drop (i + 1) tasks) ≡ levels ++ regions_after W last (drop i tasks)
-region-next W tasks i last next d levels after new below other is same pushed =
+pub region-next : (W : World) (tasks : List TaskLevel) (i last : ℕ) (d : TaskLevel) (levels after : List RegionLevel) → i < length tasks → after ≡ levels ++ unless_again W last (slice_index_or tasks i d).region → after ++ regions_after W (slice_index_or tasks i d).region.identity (drop (i + 1) tasks) ≡ levels ++ regions_after W last (drop i tasks)
+region-next W tasks i last d levels after below pushed =
     let level : TaskLevel = slice_index_or tasks i d in
     let unrolled : drop i tasks ≡ level ∷ drop (i + 1) tasks = rw (add-one, drop-cons tasks i d) refl in
-    let differs : (level.region.identity == last) ≡ false = elim (eqb_tells level.region.identity last) [ inl equal ↦ absurd (other equal.1) | inr unequal ↦ unequal.0 ] in
-    rw (pushed, is, same, unrolled) (region-more W last level (drop (i + 1) tasks) levels differs)
-
--- the last one again
-region-same : (W : World) (last : ℕ) (level : TaskLevel) (rest : List TaskLevel) → (level.region.identity == last) ≡ true → regions_after W last rest ≡ regions_after W last (level ∷ rest)
-unfolding regions_after
-region-same W last level rest again = rw again refl
-
-pub region-again : (W : World) (tasks : List TaskLevel) (i last next : ℕ) (d : TaskLevel) (levels : List RegionLevel) → i < length tasks → (slice_index_or tasks i d).region.identity ≡ last → next ≡ last → levels ++ regions_after W next (drop (i + 1) tasks) ≡ levels ++ regions_after W last (drop i tasks)
-region-again W tasks i last next d levels below again same =
-    let level : TaskLevel = slice_index_or tasks i d in
-    let unrolled : drop i tasks ≡ level ∷ drop (i + 1) tasks = rw (add-one, drop-cons tasks i d) refl in
-    rw (same, unrolled) (ap (λ others. levels ++ others) (region-same W last level (drop (i + 1) tasks) (eq-eqb level.region.identity last again)))
+    rw (pushed, unrolled) (append_assoc levels (unless_again W last level.region) (regions_after W level.region.identity (drop (i + 1) tasks)) ∙ ap (λ more. levels ++ more) (region-more W last level (drop (i + 1) tasks)))
 
 -- no level is left
 pub regions-none : (W : World) (last : ℕ) (tasks : List TaskLevel) (i : ℕ) (levels : List RegionLevel) → length tasks ≤ i → levels ++ regions_after W last (drop i tasks) ≡ levels

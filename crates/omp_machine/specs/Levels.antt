@@ -15,3 +15,7 @@ outer_count W (lowest ∷ above) = if lowest == INITIAL_TASK then 0 else height_
 -- the level of the region with this word
 abbrev pub region_level : World → Word → RegionLevel
 region_level W word = record { word = word; team = (region_at W word.identity).size }
+
+-- the same, unless it is the last one again
+abbrev pub unless_again : World → ℕ → Word → List RegionLevel
+unless_again W last word = if word.identity == last then [] else region_level W word ∷ []

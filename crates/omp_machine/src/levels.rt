@@ -3,7 +3,7 @@
 ghost use Rattle.std.specs.Prelude.{◌≡◌, ◌≤◌, ◌<◌, ◌+◌, ◌++◌, length, vec_capacity, vec_len};
 ghost use Rattle.omp_model.specs.Snapshots.{is_outermost, lowest_levels, member_index, region_levels, task_flags, task_level, task_levels};
 ghost use Rattle.omp_model.specs.State.{thread_at};
-ghost use Rattle.omp_machine.specs.Levels.{outer_count, region_level};
+ghost use Rattle.omp_machine.specs.Levels.{outer_count, region_level, unless_again};
 
 use crate::board::Board;
 use crate::frames::frame_of;
@@ -168,6 +168,18 @@ fn region_level(board: &Board, word: Word) -> RegionLevel
     }
 }
 
+/// Adds the level of the region with this word, unless it is the last one again.
+fn push_region(levels: &mut Vec<RegionLevel>, board: &Board, last: u32, word: Word)
+    requires { vec_len levels.old < vec_capacity levels.old }
+    ensures items { levels.new.items ≡ levels.old.items ++ unless_again board.now.world last word }
+    ensures len { vec_len levels.new ≤ vec_len levels.old + 1 }
+    ensures capacity { vec_capacity levels.old ≤ vec_capacity levels.new }
+{
+    if word.identity != last {
+        levels.push(region_level(board, word)).unwrap();
+    }
+}
+
 /// Adds the levels of regions of these levels of tasks, each once where it repeats directly.
 fn push_regions(levels: &mut Vec<RegionLevel>, board: &Board, tasks: &[TaskLevel])
     requires { vec_len levels.old + length tasks.now ≤ vec_capacity levels.old }
@@ -175,9 +187,7 @@ fn push_regions(levels: &mut Vec<RegionLevel>, board: &Board, tasks: &[TaskLevel
 {
     let mut last = 0;
     for level in tasks {
-        if level.region.identity != last {
-            last = level.region.identity;
-            levels.push(region_level(board, level.region)).unwrap();
-        }
+        push_region(levels, board, last, level.region);
+        last = level.region.identity;
     }
 }

@@ -1,5 +1,5 @@
 use super::*;
-use omp_model::{Blocks, Cause, EventRecord};
+use omp_model::{Blocks, Cause};
 use ompt_calls::{Call, Frame, RegionLevel, Target, TaskLevel, Word};
 
 /// Each callback that a tool of the profile registers.
@@ -127,7 +127,7 @@ fn a_region_of_two_runs(rt: HostRuntime) -> Result<(), Memory> {
         };
         assert!(rt; thread < 2 && machine.enabled(thread));
         if let Went::Told(call, _) = machine.go(thread)? {
-            heard.push(record(seq, thread, call))?;
+            heard.push(told_at(seq, thread, call))?;
             machine.back(thread);
             seq += 1;
         }
@@ -237,8 +237,16 @@ fn told(went: Went) -> Option<Call> {
     }
 }
 
+/// A call that was told, with its thread and the position of its Go.
+#[derive(Clone, Copy, Debug, PartialEq, Eq)]
+struct Heard {
+    seq: u32,
+    thread: u8,
+    call: Call,
+}
+
 /// What is to be told of a region of two.
-fn region_of_two() -> [EventRecord; 20] {
+fn region_of_two() -> [Heard; 20] {
     let region_end = Call::ParallelEnd {
         region: TWO,
         task: ONE,
@@ -246,32 +254,32 @@ fn region_of_two() -> [EventRecord; 20] {
         codeptr: PLACE,
     };
     [
-        record(0, 0, thread_begin(1, ONE)),
-        record(2, 0, initial(1, ONE, 1)),
-        record(4, 0, region_begin()),
-        record(6, 1, thread_begin(2, TWO)),
-        record(8, 0, member(1, TWO, TWO, 2, 0)),
-        record(10, 1, member(1, TWO, THREE, 2, 1)),
-        record(12, 0, barrier(1, TWO, TWO)),
-        record(14, 1, barrier(1, TWO, THREE)),
-        record(16, 0, wait(1, TWO, TWO)),
-        record(18, 1, wait(1, TWO, THREE)),
-        record(20, 0, wait(2, NULL, TWO)),
-        record(22, 1, wait(2, NULL, THREE)),
-        record(24, 0, barrier(2, NULL, TWO)),
-        record(26, 1, barrier(2, NULL, THREE)),
-        record(28, 0, member(2, NULL, TWO, 0, 0)),
-        record(30, 1, member(2, NULL, THREE, 0, 1)),
-        record(32, 0, region_end),
-        record(35, 1, Call::ThreadEnd { thread: TWO }),
-        record(37, 0, initial(2, NULL, 0)),
-        record(39, 0, Call::ThreadEnd { thread: ONE }),
+        told_at(0, 0, thread_begin(1, ONE)),
+        told_at(2, 0, initial(1, ONE, 1)),
+        told_at(4, 0, region_begin()),
+        told_at(6, 1, thread_begin(2, TWO)),
+        told_at(8, 0, member(1, TWO, TWO, 2, 0)),
+        told_at(10, 1, member(1, TWO, THREE, 2, 1)),
+        told_at(12, 0, barrier(1, TWO, TWO)),
+        told_at(14, 1, barrier(1, TWO, THREE)),
+        told_at(16, 0, wait(1, TWO, TWO)),
+        told_at(18, 1, wait(1, TWO, THREE)),
+        told_at(20, 0, wait(2, NULL, TWO)),
+        told_at(22, 1, wait(2, NULL, THREE)),
+        told_at(24, 0, barrier(2, NULL, TWO)),
+        told_at(26, 1, barrier(2, NULL, THREE)),
+        told_at(28, 0, member(2, NULL, TWO, 0, 0)),
+        told_at(30, 1, member(2, NULL, THREE, 0, 1)),
+        told_at(32, 0, region_end),
+        told_at(35, 1, Call::ThreadEnd { thread: TWO }),
+        told_at(37, 0, initial(2, NULL, 0)),
+        told_at(39, 0, Call::ThreadEnd { thread: ONE }),
     ]
 }
 
 /// What is to be told of the event whose Go is the entry with this position.
-fn record(seq: u32, thread: u8, call: Call) -> EventRecord {
-    EventRecord { seq, thread, call }
+fn told_at(seq: u32, thread: u8, call: Call) -> Heard {
+    Heard { seq, thread, call }
 }
 
 /// The region of the construct in line 2 begins. It asks for two threads.
