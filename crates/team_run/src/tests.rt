@@ -81,6 +81,8 @@ impl ToolPart for Listening {
 
     ghost stands_for = { λ part h. ⊤ };
 
+    ghost kind = { λ part. 0 };
+
     fn initialize(&mut self, registrar: &mut Registrar) -> u32 {
         self.initialized = self.initialized.saturating_add(1);
         for number in 0..64_u32 {
