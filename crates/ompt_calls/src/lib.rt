@@ -15,10 +15,11 @@
 //! - [`Call::number`] is `number_of`, the value in `ompt_callbacks_t`;
 //! - the inquiries of a [`Snapshot`] answer what it has: [`Snapshot::get_task_info`] and
 //!   [`Snapshot::get_parallel_info`] the level that is asked for, and `None` exactly where there is none, as `task_info`
-//!   and `parallel_info` say; [`Snapshot::target`] the word at a place, as `target_of` says.
+//!   and `parallel_info` say; [`Snapshot::target`] the word at a place, as `target_of` says;
+//! - [`is_registered`] says whether a number is in a mask, for every number.
 //!
-//! A [`Reply`] has the stores of a tool. Which of them take effect, and in which words, is the definition `stores_of`;
-//! nothing stores yet.
+//! A [`Reply`] has the stores of a tool. Which of them take effect, and in which words, is the definition `stores_of`. What
+//! a tool hears of an event, with these stores, is the definition `Item`.
 //!
 //! A test compares a few lines with texts written out by hand, since a definition cannot check itself.
 #![tactic(auto)]

@@ -1,15 +1,13 @@
 //! The command from bytes to bytes.
 //!
-//! [`top`] does what the words say: it reads a program from a source, runs it, writes a line for each event to an
-//! output, and one line to standard error where the run isn't done. Its contract says, over any source and any sinks,
-//! when each end comes, that what ran is one serial run of the program, and what the outputs gain.
-//!
-//! [`run_serial`] is the run: it visits the threads round and round, and keeps the entries and the records. Its
-//! contract says that the history is serial, that the records are those of the history, and that the cause is its.
+//! [`top`] does what the words say: it reads a program from a source and runs it. `list` writes a line for each event to an
+//! output, and `run` calls guests, which are tools, at the events of their threads. Where the run isn't done, one line goes
+//! to standard error. Its contract says, over any source and any sinks, when each end comes, that what ran is one serial
+//! run of the program, what the outputs gain, and what the guests were called for.
 //!
 //! The definitions stand in `specs/`: the form of the words (`Words`), the texts that run, with their programs, and why
-//! others are refused (`Text`), the status and the line of each end (`Ends`), and what a command reports and writes
-//! (`Commands`).
+//! others are refused (`Text`), the status and the line of each end (`Ends`), what a command reports and writes
+//! (`Commands`), and what guests stand for after it (`Guests`).
 //!
 //! Want of memory is free: no clause says when it comes, only what stands after it. That the calls succeed with ample
 //! memory is shown by the tests in `ompt_tests`.

@@ -10,7 +10,7 @@ pub type Memory = std::alloc::AllocError;
 pub struct Ran<P> {
     /// Why it ended.
     pub cause: Cause,
-    /// The callbacks that were registered: bit n for number n.
+    /// The callbacks that were heard, bit n for number n: those that part 0 registered, and none where it is inactive.
     pub mask: u64,
     /// Its entries.
     pub history: History,

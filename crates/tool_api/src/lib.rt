@@ -8,7 +8,8 @@
 //! Every part promises, for every record that it stands for:
 //!
 //! - after `initialize`, `callback` and `finalize` it stands for the record with that call at its end;
-//! - after a `callback` that found no memory it stands for the same record.
+//! - after a `callback` that found no memory it stands for the same record;
+//! - no call changes its `kind`, a number by which a part that may be of several kinds is told again.
 //!
 //! In return it is promised that nothing is registered yet when `initialize` is called. What a part does with a call, and
 //! whether it finds memory, is left to its own contracts.

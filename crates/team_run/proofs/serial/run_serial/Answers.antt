@@ -59,13 +59,13 @@ returns-clause-kinds g c =
     let ended = c.finish-cause.new.self.parts in
     let after = c.finalize_first.new.parts in
     let started_is : c.in_ok-run.run'.parts.items ≡ started =
-        ap (λ parts. parts.items) c.in_ok-run.ensures.parts ∙ written-back started items c.args.parts.len (c.initialize_first-start.ensures.as_many ∙ ap length c.deref_mut.ensures.value) (sym c.args.parts.ok.0) in
+    ap (λ parts. parts.items) c.in_ok-run.ensures.parts ∙ written-back started items c.args.parts.len (c.initialize_first-start.ensures.as_many ∙ ap length c.deref_mut.ensures.value) (sym c.args.parts.ok.0) in
     let first : SameKinds kind items started = subst (λ parts. SameKinds kind parts started) c.deref_mut.ensures.value c.initialize_first-start.ensures.kinds in
     let second : SameKinds kind started ended.items = subst (λ started. SameKinds kind started ended.items) started_is c.finish-cause.ensures.kinds in
     let third : SameKinds kind ended.items after = subst (λ between. SameKinds kind between after) c.deref_mut-2.ensures.value c.finalize_first.ensures.kinds in
     let as_many : length started ≡ length items = c.initialize_first-start.ensures.as_many ∙ ap length c.deref_mut.ensures.value in
     let whole : SameKinds kind items after =
-        kinds-then kind items ended.items after (c.finish-cause.ensures.serves.as_many ∙ ap length started_is ∙ as_many) (kinds-then kind items started ended.items as_many first second) third in
+    kinds-then kind items ended.items after (c.finish-cause.ensures.serves.as_many ∙ ap length started_is ∙ as_many) (kinds-then kind items started ended.items as_many first second) third in
     subst (λ after. SameKinds kind items after) (sym (written-back after ended.items ended.len (c.finalize_first.ensures.as_many ∙ ap length c.deref_mut-2.ensures.value) (sym ended.ok.0))) whole
 
 pub returns-clause-own : goal.returns-clause-own
