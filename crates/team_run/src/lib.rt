@@ -25,6 +25,7 @@
 //!   once where it answered another number, and else not at all. No other part was started or finished. Each part was
 //!   called for what its thread hears of the history, in order, and for nothing else: the position of the event, its call,
 //!   its snapshot, and the stores that took effect;
+//! - `kinds`: each part is of the kind that it was;
 //! - `own`: nothing is heard on a thread that the run doesn't have. So nothing is heard for which no part was called;
 //! - `cause`: the cause is the one in which the history ends;
 //! - `whole`: where no store took effect, the history is `serial` of the run, the one list;
