@@ -179,7 +179,7 @@ fn a_handed_tool_is_called(rt: HostRuntime) -> Result<(), Memory> {
 #[test]
 fn a_quiet_part_registers_and_stores_nothing(rt: HostRuntime) -> Result<(), Memory> {
     let snapshot = at_a_begin(&rt);
-    let mut part = Handed::Quiet(Quiet);
+    let mut part: Handed = Handed::Quiet(Quiet);
     assert_eq!(rt; start(&mut part), (0, 0));
     for call in [REGION_BEGINS, THREAD_ENDS] {
         assert_eq!(rt; part.callback(0, 0, &call, &snapshot)?, NOTHING);

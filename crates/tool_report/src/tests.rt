@@ -51,12 +51,13 @@ const NOTHING: Reply = Reply {
     third: None,
 };
 
-/// What can be inquired on a thread outside all regions.
+/// What can be inquired on a thread outside all regions. The numbers of its state and of what it waits for are to be found
+/// again.
 fn outside(rt: &impl AllocGlobal) -> Snapshot {
     Snapshot {
         thread: INITIAL,
-        state: 0x000,
-        wait_id: 0,
+        state: 0x101,
+        wait_id: 3,
         tasks: TaskLevels(Vec::new(rt.alloc())),
         regions: RegionLevels(Vec::new(rt.alloc())),
         fresh: None,
@@ -94,11 +95,15 @@ fn a_lister_keeps_its_calls(rt: HostRuntime) -> Result<(), Memory> {
         EventRecord {
             seq: 4,
             thread: 1,
+            state: 0x101,
+            wait_id: 3,
             call: SECOND_BEGINS,
         },
         EventRecord {
             seq: 8,
             thread: 1,
+            state: 0x101,
+            wait_id: 3,
             call: SECOND_ENDS,
         },
     ];
