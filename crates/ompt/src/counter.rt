@@ -1,0 +1,55 @@
+//! A guest that counts its calls.
+
+ghost use Rattle.std.specs.Prelude.{◌≡◌};
+ghost use Rattle.tool_api.specs.Record.{Record, initialized, told, finalized};
+ghost use Rattle.ompt.specs.Counting.{CountsCalls};
+
+use ompt_calls::{Call, Reply, Snapshot};
+use tool_api::{GuestTool, Memory, Registrar};
+
+/// The callbacks of the profile, by number.
+const PROFILE: [u32; 16] = [1, 2, 3, 4, 5, 6, 7, 16, 17, 20, 21, 23, 24, 25, 26, 27];
+
+/// A tool that registers each callback of the profile, counts the calls that it gets, and stores nothing.
+#[derive(Drop)]
+pub(crate) struct Counter {
+    /// How many calls there were, at most 2^64 - 1.
+    calls: u64,
+}
+
+impl Counter {
+    /// A counter of no calls.
+    pub fn new() -> Counter
+        ensures { result.calls ≡ 0 }
+    {
+        Counter { calls: 0 }
+    }
+}
+
+impl GuestTool for Counter {
+    ghost stands_for = { λ tool h. CountsCalls tool.calls h };
+
+    fn initialize(&mut self, registrar: &mut Registrar) -> u32 {
+        for number in PROFILE {
+            registrar.set(number);
+        }
+        1
+    }
+
+    fn callback(
+        &mut self,
+        _seq: u32,
+        _thread: u8,
+        _call: &Call,
+        _snapshot: &Snapshot,
+    ) -> Result<Reply, Memory> {
+        self.calls = self.calls.saturating_add(1);
+        Ok(Reply {
+            first: None,
+            second: None,
+            third: None,
+        })
+    }
+
+    fn finalize(&mut self) {}
+}
