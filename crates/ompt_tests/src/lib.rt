@@ -1,4 +1,4 @@
-//! The tests that cross crates: worked rows, and failing sources and sinks, through `ompt_cli::top`.
+//! The tests that cross crates: worked rows, guests, and failing sources and sinks, through `ompt_cli::top`.
 #![tactic(auto)]
 
 #[cfg(test)]

@@ -1,8 +1,8 @@
 //! What no clause says: that each end of the command comes about, with the bytes that it writes.
 
 use crate::fixture::*;
-use omp_model::{Blocks, Cause, Entry, What};
-use ompt_cli::{End, Ran, Refusal, run_serial};
+use omp_model::{Cause, Entry, What};
+use ompt_cli::{End, Refusal};
 use run_edges::{MemSink, MemSource, PureSource, read_all};
 use std::process::Abort;
 use std::test::Fail;
@@ -64,7 +64,8 @@ const OTHER_WORDS: &[&[&str]] = &[
     &["list", "--serial", "--threads"],
     &["list", "--serial", "--threads", "1", "1"],
     &["show", "--serial", "--threads", "1"],
-    &["run", "--serial", "--threads", "1"],
+    &["ran", "--serial", "--threads", "1"],
+    &["run", "--serial", "--threads", "0"],
     &["list", "--threads", "1", "--serial"],
     &["--serial", "list", "--threads", "1"],
     &["list", "--serial", "--threads", "0"],
@@ -205,13 +206,6 @@ fn a_line_that_fails_is_a_write_fault(rt: HostRuntime) -> Result<(), Fail> {
 /// Words in the form that ask for two threads.
 const LIST_ON_TWO: &[&str] = &["list", "--serial", "--threads", "2"];
 
-const REGION_OF_TWO: &[u8] = b"int main(void) {
-#pragma omp parallel num_threads(2)
-{ }
-return 0;
-}
-";
-
 const TWO_REGIONS_OF_TWO: &[u8] = b"int main(void) {
 #pragma omp parallel num_threads(2)
 { }
@@ -219,28 +213,6 @@ const TWO_REGIONS_OF_TWO: &[u8] = b"int main(void) {
 { }
 return 0;
 }
-";
-
-const REGION_LISTING: &[u8] = b"0 0 thread_begin 1 1:0
-2 0 implicit_task 1 1:0 1:0 1 1 1
-4 0 parallel_begin 1:0 0/32769 2:0 2 2147483649 131073
-6 1 thread_begin 2 2:0
-8 0 implicit_task 1 2:0 2:0 2 0 2
-10 1 implicit_task 1 2:0 3:0 2 1 2
-12 0 sync_region 9 1 2:0 2:0 131073
-14 1 sync_region 9 1 2:0 3:0 131073
-16 0 sync_region_wait 9 1 2:0 2:0 131073
-18 1 sync_region_wait 9 1 2:0 3:0 131073
-20 0 sync_region_wait 9 2 0:0 2:0 131073
-22 1 sync_region_wait 9 2 0:0 3:0 131073
-24 0 sync_region 9 2 0:0 2:0 131073
-26 1 sync_region 9 2 0:0 3:0 131073
-28 0 implicit_task 2 0:0 2:0 0 0 2
-30 1 implicit_task 2 0:0 3:0 0 1 2
-32 0 parallel_end 2:0 1:0 2147483649 131073
-35 1 thread_end 2:0
-37 0 implicit_task 2 0:0 1:0 0 1 1
-39 0 thread_end 1:0
 ";
 
 #[test]
@@ -265,9 +237,8 @@ fn a_region_of_two_lists_twenty_lines(rt: HostRuntime) -> Result<(), Fail> {
 #[test]
 fn two_regions_of_two_keep_their_worker(rt: HostRuntime) -> Result<(), Fail> {
     let told = tell_amply(&rt, LIST_ON_TWO, &mut source_of(&rt, TWO_REGIONS_OF_TWO)?)?;
-    let text = told.out.bytes();
     assert_eq!(rt; told.top.status, 0);
-    assert_eq!(rt; text.iter().filter(|byte| **byte == b'\n').count(), 34);
+    assert_eq!(rt; lines(told.out.bytes()), 34);
     let report = told.top.ran.as_ref().ok_or("nothing ran")?;
     assert_eq!(rt; report.history.entries().len(), 69);
     Ok(())
@@ -275,13 +246,27 @@ fn two_regions_of_two_keep_their_worker(rt: HostRuntime) -> Result<(), Fail> {
 
 #[test]
 fn a_team_has_at_most_as_many_members_as_there_are_threads(rt: HostRuntime) -> Result<(), Fail> {
-    for (team, threads, records) in [(1, 1, 12), (16, 1, 12), (1, 2, 12), (2, 2, 20), (16, 2, 20)] {
-        let blocks = Blocks(vec![in rt.alloc(); team; 1]?);
-        let ran = run_serial(rt.alloc(), blocks, 0x0FB3_00FE, threads, 1_000_000)?;
-        assert_eq!(rt; ran.cause, Cause::Done, "at {team} of {threads}");
-        assert_eq!(rt; ran.records.len(), records, "at {team} of {threads}");
+    for (team, threads, records) in [
+        ("1", "1", 12),
+        ("16", "1", 12),
+        ("1", "2", 12),
+        ("2", "2", 20),
+        ("16", "2", 20),
+    ] {
+        let text = format!(in rt.alloc();
+            "int main(void) {{\n#pragma omp parallel num_threads({team})\n{{ }}\nreturn 0;\n}}\n"
+        )?;
+        let words = ["list", "--serial", "--threads", threads];
+        let told = tell_amply(&rt, &words, &mut source_of(&rt, text.as_bytes())?)?;
+        assert_eq!(rt; told.top.status, 0, "at {team} of {threads}");
+        assert_eq!(rt; lines(told.out.bytes()), records, "at {team} of {threads}");
     }
     Ok(())
+}
+
+/// How many lines there are.
+fn lines(text: &[u8]) -> usize {
+    text.iter().filter(|byte| **byte == b'\n').count()
 }
 
 #[test]
@@ -312,29 +297,5 @@ fn texts_near_the_second_form_are_refused(rt: HostRuntime) -> Result<(), Fail> {
     )?;
     assert_eq!(rt; told.top.status, 0);
     assert_eq!(rt; told.out.bytes(), LISTING);
-    Ok(())
-}
-
-/// What a serial run came to.
-fn came_to(rt: &impl Abort, ran: &Ran, cause: Cause, entries: usize, records: usize) {
-    assert_eq!(rt; ran.cause, cause);
-    assert_eq!(rt; ran.history.entries().len(), entries);
-    assert_eq!(rt; ran.records.len(), records);
-}
-
-#[test]
-fn one_call_of_each_that_takes_memory_succeeds(rt: HostRuntime) -> Result<(), Fail> {
-    let whole = run_serial(
-        rt.alloc(),
-        Blocks(Vec::new(rt.alloc())),
-        0x0FB3_00FE,
-        4,
-        1_000_000,
-    )?;
-    came_to(&rt, &whole, Cause::Done, 8, 4);
-    let short = run_serial(rt.alloc(), Blocks(Vec::new(rt.alloc())), 0x0FB3_00FE, 4, 1)?;
-    came_to(&rt, &short, Cause::Limit(1), 5, 2);
-    let unheard = run_serial(rt.alloc(), Blocks(Vec::new(rt.alloc())), 0, 4, 1_000_000)?;
-    came_to(&rt, &unheard, Cause::Done, 8, 0);
     Ok(())
 }
