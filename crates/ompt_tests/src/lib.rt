@@ -4,4 +4,8 @@
 #[cfg(test)]
 mod fixture;
 #[cfg(test)]
+mod listening;
+#[cfg(test)]
+mod runs;
+#[cfg(test)]
 mod tests;

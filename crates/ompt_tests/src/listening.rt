@@ -1,0 +1,279 @@
+//! A guest that keeps what it hears, and tells it when it is asked.
+//!
+//! A guest that comes back from a run is a `Box<dyn GuestTool>`, of which nothing but its calls is there. So it is asked by
+//! a call at a position that no run has here, and answers in the words of its stores.
+
+use ompt_calls::{
+    Call, Frame, RegionLevel, RegionLevels, Reply, Snapshot, Store, TaskLevel, TaskLevels, Word,
+    WordAt,
+};
+use std::alloc::AllocError;
+use tool_api::{GuestTool, Memory, Registrar};
+
+/// From this position on a call is a question.
+const QUESTIONS: u32 = 1_000_000;
+
+/// The question for the counts.
+const COUNTS: u32 = u32::MAX;
+
+/// A guest that keeps what it hears. It registers the callbacks of its mask, and answers its number to its start.
+#[derive(Drop)]
+pub(crate) struct Listening {
+    pub mask: u64,
+    pub answer: u32,
+    /// What it stores at the begin of a region, into the word of that region; 0 for nothing.
+    pub stores: u64,
+    /// The call that finds no memory, counted from 1; 0 for none.
+    pub fails: usize,
+    pub heard: Vec<Heard>,
+    pub initialized: u32,
+    pub finalized: u32,
+}
+
+/// What a guest heard at a call, and what it could inquire there.
+#[derive(Clone, Copy, PartialEq, Eq)]
+pub(crate) struct Heard {
+    seq: u32,
+    thread: u8,
+    call: Call,
+    inquired: Inquired,
+}
+
+/// What can be inquired.
+#[derive(Clone, Copy, PartialEq, Eq)]
+struct Inquired {
+    word: Word,
+    state: (u16, u32),
+    tasks: [Option<TaskLevel>; 3],
+    regions: [Option<RegionLevel>; 3],
+}
+
+impl Listening {
+    /// A guest that has heard nothing, with these callbacks and this answer. It stores nothing and finds memory.
+    pub fn new(rt: &impl AllocGlobal, mask: u64, answer: u32) -> Listening {
+        Listening {
+            mask,
+            answer,
+            stores: 0,
+            fails: 0,
+            heard: Vec::new(rt.alloc()),
+            initialized: 0,
+            finalized: 0,
+        }
+    }
+
+    /// At which of its calls, counted from 1, it heard this; 0 where it did at none. Then 1 where it could inquire this
+    /// there, and else 0.
+    fn told(&self, seq: u32, thread: u8, call: &Call, inquired: Inquired) -> [u64; 2] {
+        let mut number = 0_u64;
+        for heard in &self.heard {
+            number = number.saturating_add(1);
+            if heard.seq == seq && heard.thread == thread && heard.call == *call {
+                return [number, u64::from(heard.inquired == inquired)];
+            }
+        }
+        [0, 0]
+    }
+}
+
+impl GuestTool for Listening {
+    ghost use Rattle.std.specs.Prelude.{⊤};
+
+    ghost stands_for = { λ guest h. ⊤ };
+
+    fn initialize(&mut self, registrar: &mut Registrar) -> u32 {
+        self.initialized = self.initialized.saturating_add(1);
+        for number in 0..64_u32 {
+            if (self.mask >> number) & 1 == 1 {
+                registrar.set(number);
+            }
+        }
+        self.answer
+    }
+
+    fn callback(
+        &mut self,
+        seq: u32,
+        thread: u8,
+        call: &Call,
+        snapshot: &Snapshot,
+    ) -> Result<Reply, Memory> {
+        let inquired = inquired_of(snapshot);
+        if seq == COUNTS {
+            return Ok(reply_of([
+                self.heard.len() as u64,
+                self.initialized as u64,
+                self.finalized as u64,
+            ]));
+        }
+        if seq >= QUESTIONS {
+            let [number, same] = self.told(seq - QUESTIONS, thread, call, inquired);
+            return Ok(reply_of([number, same, 0]));
+        }
+        if self.heard.len().saturating_add(1) == self.fails {
+            return Err(AllocError);
+        }
+        self.heard.push(Heard {
+            seq,
+            thread,
+            call: *call,
+            inquired,
+        })?;
+        Ok(match call {
+            Call::ParallelBegin { .. } if self.stores != 0 => Reply {
+                first: Some(Store {
+                    place: WordAt::Fresh,
+                    word: self.stores,
+                }),
+                second: None,
+                third: None,
+            },
+            _ => Reply {
+                first: None,
+                second: None,
+                third: None,
+            },
+        })
+    }
+
+    fn finalize(&mut self) {
+        self.finalized = self.finalized.saturating_add(1);
+    }
+}
+
+/// What a guest answers.
+#[derive(Drop)]
+pub(crate) struct Answers {
+    /// How many calls it got, how often it was started, and how often it was finished.
+    pub counts: [u64; 3],
+    /// For each call that it is asked for, at which of its calls, counted from 1, it heard this; 0 where it did at none. And
+    /// whether it could inquire there what it can of the snapshot `inside`.
+    pub heard: Vec<(u64, bool)>,
+}
+
+/// Asks a guest for its counts, and for these calls of thread 0.
+pub(crate) fn answers_of<R: AllocGlobal>(
+    rt: &R,
+    guest: &mut Box<dyn GuestTool>,
+    asked: &[(u32, Call)],
+) -> Result<Answers, Memory> {
+    let snapshot = inside(rt)?;
+    let counts = words_of(guest.callback(COUNTS, 0, &QUESTION, &snapshot)?);
+    let mut heard = Vec::new(rt.alloc());
+    for (seq, call) in asked {
+        let reply = guest.callback(QUESTIONS.saturating_add(*seq), 0, call, &snapshot)?;
+        let [number, same, _] = words_of(reply);
+        heard.push((number, same == 1))?;
+    }
+    Ok(Answers { counts, heard })
+}
+
+/// The call by which a guest is asked for its counts, which tells nothing.
+const QUESTION: Call = Call::ThreadEnd {
+    thread: Word {
+        identity: 0,
+        value: 0,
+    },
+};
+
+pub(crate) const NULL: Word = Word {
+    identity: 0,
+    value: 0,
+};
+
+pub(crate) const ONE: Word = Word {
+    identity: 1,
+    value: 0,
+};
+
+pub(crate) const TWO: Word = Word {
+    identity: 2,
+    value: 0,
+};
+
+/// The word of region 2, into which 77 was stored.
+pub(crate) const STORED: Word = Word {
+    identity: 2,
+    value: 77,
+};
+
+/// What can be inquired on one thread at the begin of the member's task in a region of two. What the event makes is left out:
+/// no inquiry tells it.
+fn inside(rt: &impl AllocGlobal) -> Result<Snapshot, Memory> {
+    let member = TaskLevel {
+        flags: 2,
+        word: TWO,
+        frame: Frame { exit: 2, enter: 0 },
+        region: STORED,
+        index: 0,
+    };
+    let initial = TaskLevel {
+        flags: 1,
+        word: ONE,
+        frame: Frame {
+            exit: 0,
+            enter: 32_769,
+        },
+        region: ONE,
+        index: 0,
+    };
+    let regions = [STORED, ONE].map(|word| RegionLevel { word, team: 1 });
+    Ok(Snapshot {
+        thread: ONE,
+        state: 0x001,
+        wait_id: 0,
+        tasks: TaskLevels(Vec::from_array(rt.alloc(), [member, initial])?),
+        regions: RegionLevels(Vec::from_array(rt.alloc(), regions)?),
+        fresh: None,
+    })
+}
+
+/// What can be inquired of a snapshot.
+fn inquired_of(snapshot: &Snapshot) -> Inquired {
+    Inquired {
+        word: snapshot.get_thread_data(),
+        state: snapshot.get_state(),
+        tasks: [
+            snapshot.get_task_info(0),
+            snapshot.get_task_info(1),
+            snapshot.get_task_info(2),
+        ],
+        regions: [
+            snapshot.get_parallel_info(0),
+            snapshot.get_parallel_info(1),
+            snapshot.get_parallel_info(2),
+        ],
+    }
+}
+
+/// An answer of three words.
+fn reply_of(words: [u64; 3]) -> Reply {
+    let [first, second, third] = words.map(|word| {
+        Some(Store {
+            place: WordAt::Thread,
+            word,
+        })
+    });
+    Reply {
+        first,
+        second,
+        third,
+    }
+}
+
+/// The words of an answer; 0 for one that is not there.
+fn words_of(reply: Reply) -> [u64; 3] {
+    [
+        word_of(reply.first),
+        word_of(reply.second),
+        word_of(reply.third),
+    ]
+}
+
+/// The word of a store; 0 for none.
+fn word_of(store: Option<Store>) -> u64 {
+    match store {
+        Some(store) => store.word,
+        None => 0,
+    }
+}
