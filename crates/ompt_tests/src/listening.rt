@@ -217,13 +217,17 @@ fn inside(rt: &impl AllocGlobal) -> Result<Snapshot, Memory> {
         region: ONE,
         index: 0,
     };
-    let regions = [STORED, ONE].map(|word| RegionLevel { word, team: 1 });
+    let region = RegionLevel {
+        word: STORED,
+        team: 1,
+    };
+    let outer = RegionLevel { word: ONE, team: 1 };
     Ok(Snapshot {
         thread: ONE,
         state: 0x001,
         wait_id: 0,
         tasks: TaskLevels(Vec::from_array(rt.alloc(), [member, initial])?),
-        regions: RegionLevels(Vec::from_array(rt.alloc(), regions)?),
+        regions: RegionLevels(Vec::from_array(rt.alloc(), [region, outer])?),
         fresh: None,
     })
 }
@@ -247,18 +251,20 @@ fn inquired_of(snapshot: &Snapshot) -> Inquired {
 }
 
 /// An answer of three words.
-fn reply_of(words: [u64; 3]) -> Reply {
-    let [first, second, third] = words.map(|word| {
-        Some(Store {
-            place: WordAt::Thread,
-            word,
-        })
-    });
+fn reply_of([first, second, third]: [u64; 3]) -> Reply {
     Reply {
-        first,
-        second,
-        third,
+        first: answered(first),
+        second: answered(second),
+        third: answered(third),
     }
+}
+
+/// A word of an answer.
+fn answered(word: u64) -> Option<Store> {
+    Some(Store {
+        place: WordAt::Thread,
+        word,
+    })
 }
 
 /// The words of an answer; 0 for one that is not there.

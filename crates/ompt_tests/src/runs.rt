@@ -51,24 +51,28 @@ fn task(endpoint: u32, region: Word, task: Word, actual: u32, index: u32, flags:
     }
 }
 
+/// What a guest hears on one thread of a region of two, where it stores 77 in the word of the region that begins.
+fn heard_of_a_region() -> [(u32, Call); 5] {
+    [
+        (2, task(1, ONE, ONE, 1, 1, 1)),
+        (4, REGION_BEGINS),
+        (7, task(1, STORED, TWO, 1, 0, 2)),
+        (17, task(2, NULL, TWO, 0, 0, 2)),
+        (21, task(2, NULL, ONE, 0, 1, 1)),
+    ]
+}
+
 /// A guest that hears of regions and tasks stores 77 in the word of the region that begins, and finds it there at the next
 /// call.
 #[test]
 fn a_guest_stores(rt: HostRuntime) -> Result<(), Fail> {
     let mut guest = Listening::new(&rt, REGIONS_AND_TASKS, 1);
     guest.stores = 77;
-    let asked = [
-        (2, task(1, ONE, ONE, 1, 1, 1)),
-        (4, REGION_BEGINS),
-        (7, task(1, STORED, TWO, 1, 0, 2)),
-        (17, task(2, NULL, TWO, 0, 0, 2)),
-        (21, task(2, NULL, ONE, 0, 1, 1)),
-    ];
     let told = tell_guests(
         &rt,
         RUN_ON_ONE,
         Vec::from_array(rt.alloc(), [guest])?,
-        &asked,
+        &heard_of_a_region(),
     )?;
     ended(&rt, &told, End::Done, 0, b"", b"", 0);
     let ran = ran_in(&rt, &told);

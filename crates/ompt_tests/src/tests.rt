@@ -143,32 +143,37 @@ fn a_read_that_fails_is_a_read_fault(rt: HostRuntime) -> Result<(), Fail> {
 #[test]
 fn a_write_that_fails_is_a_write_fault(rt: HostRuntime) -> Result<(), Fail> {
     for count in 0..11 {
-        faults_at(&rt, failing(&rt, count, 10)?, 10 * count)?;
+        holds(&rt, failing(&rt, count, 10)?, 10 * count, FAULT)?;
     }
     for room in 0..110 {
-        faults_at(&rt, with_room(&rt, room)?, room)?;
+        holds(&rt, with_room(&rt, room)?, room, FAULT)?;
     }
 
     // The failing write, or the want of room, comes after the whole listing.
-    holds_all(&rt, failing(&rt, 11, 10)?)?;
-    holds_all(&rt, with_room(&rt, 110)?)?;
+    holds(&rt, failing(&rt, 11, 10)?, 110, DONE)?;
+    holds(&rt, with_room(&rt, 110)?, 110, DONE)?;
     Ok(())
 }
 
-/// Runs the program into a sink that fails once it holds so many bytes of the listing.
-fn faults_at<R: AllocGlobal + Abort>(rt: &R, out: MemSink, held: usize) -> Result<(), Fail> {
+/// An end, with its status and its line.
+type Ended = (End, u8, &'static [u8]);
+
+const FAULT: Ended = (End::WriteFault, 9, b"write fault\n");
+
+const DONE: Ended = (End::Done, 0, b"");
+
+/// Runs the program into a sink, which holds so many bytes of the listing afterwards.
+fn holds<R: AllocGlobal + Abort>(
+    rt: &R,
+    out: MemSink,
+    held: usize,
+    (end, status, line): Ended,
+) -> Result<(), Fail> {
     let told = tell(rt, LIST, &mut source_of(rt, PROGRAM)?, out, ample(rt)?)?;
     let front = LISTING.get(..held).unwrap_or_default();
     assert_eq!(rt; front.len(), held);
-    ended(rt, &told, End::WriteFault, 9, front, b"write fault\n", held);
+    ended(rt, &told, end, status, front, line, held);
     assert_eq!(rt; ran_in(rt, &told).cause, Cause::Done);
-    Ok(())
-}
-
-/// Runs the program into a sink that holds the whole listing.
-fn holds_all<R: AllocGlobal + Abort>(rt: &R, out: MemSink) -> Result<(), Fail> {
-    let told = tell(rt, LIST, &mut source_of(rt, PROGRAM)?, out, ample(rt)?)?;
-    ended(rt, &told, End::Done, 0, LISTING, b"", 0);
     Ok(())
 }
 
