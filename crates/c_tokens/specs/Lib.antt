@@ -1,0 +1,11 @@
+pub mod Bytes
+pub mod Classes
+pub mod Blanks
+pub mod Words
+pub mod Symbols
+pub mod Quoted
+pub mod Lines
+pub mod Tails
+pub mod Items
+pub mod Tokens
+pub mod Pieces
