@@ -1,0 +1,232 @@
+-- What words a program is: those that the grammar's steps read one after another, and the tree that the steps make on the way.
+use Rattle.std.specs.Prelude.{ℕ, ◌≡◌, ◌<◌, ◌+◌, ◌-◌, Bool, true, false, ◌||◌, if◌then◌else◌, IsTrue, List, [], ◌∷◌, ◌++◌, Option, Some, None}
+use Rattle.c_tokens.specs.declared.token.Spot.{Spot}
+use Rattle.c_syntax.specs.declared.node.NodeKind.{NodeKind}
+use Rattle.c_syntax.specs.declared.node.NodeKind.TheVariants as node
+use Rattle.c_syntax.specs.declared.node.Getter.{Getter}
+use Rattle.c_syntax.specs.declared.node.Getter.TheVariants as getter
+use Rattle.c_syntax.specs.declared.term.Term.{Term}
+use Rattle.c_syntax.specs.declared.term.Term.TheVariants as term
+use Rattle.c_syntax.specs.declared.grammar.Class.{Class}
+use Rattle.c_syntax.specs.declared.grammar.Class.TheVariants as class
+use Rattle.c_syntax.specs.declared.grammar.Sort.{Sort}
+use Rattle.c_syntax.specs.declared.grammar.Sort.TheVariants as sort
+use Rattle.c_syntax.specs.declared.grammar.Step.{Step}
+use Rattle.c_syntax.specs.declared.grammar.Step.TheVariants.{Expect, Deepen, Rise, Take, InHead, Read, Open, Make, Join, Wrap, Skip}
+use Rattle.c_syntax.specs.declared.fault.Head.{Head}
+use Rattle.c_syntax.specs.declared.fault.Head.TheVariants as head
+use Rattle.c_syntax.specs.Heads.{behind}
+use Rattle.c_syntax.specs.Words.{Word}
+use Rattle.c_syntax.specs.Tree.{Tree, children_from, spot_of}
+use Rattle.c_syntax.specs.Tree.Tree.{Node}
+use Rattle.c_syntax.specs.Tree.Children.{Over, Child}
+use Rattle.c_syntax.specs.Grammar.{choice}
+
+-- the words that are names in the code: all but those of the language and of C
+abbrev pub is_name : Term → Bool
+is_name term.Parallel = true
+is_name term.Sections = true
+is_name term.Single = true
+is_name term.Masked = true
+is_name term.Master = true
+is_name term.Critical = true
+is_name term.Task = true
+is_name term.Barrier = true
+is_name term.Taskwait = true
+is_name term.Section = true
+is_name term.NumThreads = true
+is_name term.Shared = true
+is_name term.Private = true
+is_name term.Firstprivate = true
+is_name term.Reduction = true
+is_name term.Schedule = true
+is_name term.Nowait = true
+is_name term.None = true
+is_name term.Max = true
+is_name term.Min = true
+is_name term.Dynamic = true
+is_name term.Guided = true
+is_name term.OddDirective = true
+is_name term.OddClause = true
+is_name term.Ordered = true
+is_name term.OddName = true
+is_name term.Name = true
+is_name other = false
+
+-- the routines that give a number
+abbrev pub is_routine : Term → Bool
+is_routine term.GetThreadNum = true
+is_routine term.GetNumThreads = true
+is_routine term.GetMaxThreads = true
+is_routine other = false
+
+-- the other words of the language and of C
+abbrev pub is_reserved : Term → Bool
+is_reserved term.Int = true
+is_reserved term.Void = true
+is_reserved term.If = true
+is_reserved term.Else = true
+is_reserved term.While = true
+is_reserved term.For = true
+is_reserved term.Return = true
+is_reserved term.Printf = true
+is_reserved term.LockType = true
+is_reserved term.InitLock = true
+is_reserved term.DestroyLock = true
+is_reserved term.SetLock = true
+is_reserved term.UnsetLock = true
+is_reserved term.TestLock = true
+is_reserved term.Default = true
+is_reserved term.Static = true
+is_reserved term.OddWord = true
+is_reserved other = false
+
+abbrev pub is_word : Term → Bool
+is_word word = is_name word || (is_reserved word || is_routine word)
+
+abbrev pub is_outside : Head → Bool
+is_outside head.Outside = true
+is_outside other = false
+
+-- in the head of a directive each word is a name
+abbrev pub is_name_at : Head → Term → Bool
+is_name_at at word = if is_outside at then is_name word else is_word word
+
+abbrev pub is_number : Term → Bool
+is_number term.Number = true
+is_number other = false
+
+abbrev pub is_text : Term → Bool
+is_text term.Text = true
+is_text other = false
+
+abbrev pub is_getter : Getter → Term → Bool
+is_getter getter.ThreadNum term.GetThreadNum = true
+is_getter getter.NumThreads term.GetNumThreads = true
+is_getter getter.MaxThreads term.GetMaxThreads = true
+is_getter which other = false
+
+-- the words of a class
+abbrev pub fits : Head → Class → Term → Bool
+fits at class.Name word = is_name_at at word
+fits at (class.Routine which) word = is_getter which word
+fits at class.Number word = is_number word
+fits at class.Text word = is_text word
+
+-- A node that has begun: the place of its first word, what it keeps, and its children so far, the last one first
+pub record Opened : Type 0 where
+  pub spot : Spot
+  pub name : ℕ
+  pub number : ℕ
+  pub text : List ℕ
+  pub children : List (Option Tree)
+
+abbrev pub opened_at : Spot → Opened
+opened_at spot = record { spot = spot; name = 0; number = 0; text = []; children = [] }
+
+-- the innermost open node keeps what a word of a class has
+abbrev pub keep : Class → Word → Opened → Opened
+keep class.Number word node = record node { number = word.value }
+keep class.Text word node = record node { text = word.text }
+keep _ word node = record node { name = word.value }
+
+abbrev pub kept : Class → Word → List Opened → List Opened
+kept which word [] = []
+kept which word (node ∷ outer) = keep which word node ∷ outer
+
+-- a routine that gives a number has no name
+abbrev pub name_in : NodeKind → ℕ → ℕ
+name_in (node.Getter which) name = 0
+name_in other name = name
+
+abbrev pub with_child : Option Tree → Opened → Opened
+with_child child node = record node { children = child ∷ node.children }
+
+abbrev pub closed : NodeKind → Opened → Tree
+closed kind node = Node kind node.spot (name_in kind node.name) node.number node.text (children_from node.children)
+
+-- the innermost open node is over, and becomes a child of the next
+abbrev pub made : NodeKind → List Opened → List Opened
+made kind [] = []
+made kind (node ∷ []) = node ∷ []
+made kind (node ∷ parent ∷ outer) = with_child (Some (closed kind node)) parent ∷ outer
+
+-- a node over two, and over one: it begins where the first of them does
+abbrev pub over_two : NodeKind → Tree → Tree → Tree
+over_two kind left right = Node kind (spot_of left) 0 0 [] (Child left (Child right Over))
+
+abbrev pub over_one : NodeKind → Tree → Tree
+over_one kind inner = Node kind (spot_of inner) 0 0 [] (Child inner Over)
+
+abbrev pub join_children : NodeKind → List (Option Tree) → List (Option Tree)
+join_children kind (Some right ∷ Some left ∷ older) = Some (over_two kind left right) ∷ older
+join_children kind other = other
+
+abbrev pub wrap_children : NodeKind → List (Option Tree) → List (Option Tree)
+wrap_children kind (Some inner ∷ older) = Some (over_one kind inner) ∷ older
+wrap_children kind other = other
+
+abbrev pub joined : NodeKind → List Opened → List Opened
+joined kind [] = []
+joined kind (node ∷ outer) = record node { children = join_children kind node.children } ∷ outer
+
+abbrev pub wrapped : NodeKind → List Opened → List Opened
+wrapped kind [] = []
+wrapped kind (node ∷ outer) = record node { children = wrap_children kind node.children } ∷ outer
+
+abbrev pub skipped : List Opened → List Opened
+skipped [] = []
+skipped (node ∷ outer) = with_child None node ∷ outer
+
+abbrev pub nowhere : Spot
+nowhere = record { line = 0; column = 0 }
+
+-- the tree that was made last in the innermost open node, which for a program is the one that takes its tree; a program without
+-- anything where none was made
+abbrev pub nothing : Tree
+nothing = Node node.Program nowhere 0 0 [] Over
+
+abbrev pub newest : List (Option Tree) → Tree
+newest (Some tree ∷ older) = tree
+newest other = nothing
+
+abbrev pub result_of : List Opened → Tree
+result_of [] = nothing
+result_of (node ∷ outer) = newest node.children
+
+-- These steps, at this depth, behind words that left off so, and with these open nodes, read these words, all of them, and make this
+-- tree. Nothing is deeper than the limit.
+pub data Derives : ℕ → List Step → ℕ → Head → List Word → List Opened → Tree → Type 0 where
+  over : {limit depth : ℕ} {at : Head} {nodes : List Opened} {tree : Tree} → result_of nodes ≡ tree → Derives limit [] depth at [] nodes tree
+  expect : {limit depth : ℕ} {at : Head} {steps : List Step} {word : Word} {words : List Word} {nodes : List Opened} {tree : Tree} {term : Term} → word.term ≡ term → Derives limit steps depth (behind at word.term) words nodes tree → Derives limit (Expect term ∷ steps) depth at (word ∷ words) nodes tree
+  deepen : {limit depth : ℕ} {at : Head} {steps : List Step} {word : Word} {words : List Word} {nodes : List Opened} {tree : Tree} {term : Term} → word.term ≡ term → depth < limit → Derives limit steps (depth + 1) (behind at word.term) words nodes tree → Derives limit (Deepen term ∷ steps) depth at (word ∷ words) nodes tree
+  rise : {limit depth : ℕ} {at : Head} {steps : List Step} {words : List Word} {nodes : List Opened} {tree : Tree} → Derives limit steps (depth - 1) at words nodes tree → Derives limit (Rise ∷ steps) depth at words nodes tree
+  take : {limit depth : ℕ} {at : Head} {steps : List Step} {word : Word} {words : List Word} {nodes : List Opened} {tree : Tree} {which : Class} → IsTrue (fits at which word.term) → Derives limit steps depth (behind at word.term) words (kept which word nodes) tree → Derives limit (Take which ∷ steps) depth at (word ∷ words) nodes tree
+  in_head : {limit depth : ℕ} {at : Head} {steps : List Step} {words : List Word} {nodes : List Opened} {tree : Tree} → is_outside at ≡ false → Derives limit steps depth at words nodes tree → Derives limit (InHead ∷ steps) depth at words nodes tree
+  read : {limit depth : ℕ} {at : Head} {steps : List Step} {chosen : List Step} {word : Word} {words : List Word} {nodes : List Opened} {tree : Tree} {what : Sort} → choice what word.term ≡ Some chosen → Derives limit (chosen ++ steps) depth at (word ∷ words) nodes tree → Derives limit (Read what ∷ steps) depth at (word ∷ words) nodes tree
+  open_node : {limit depth : ℕ} {at : Head} {steps : List Step} {word : Word} {words : List Word} {nodes : List Opened} {tree : Tree} → Derives limit steps depth at (word ∷ words) (opened_at word.spot ∷ nodes) tree → Derives limit (Open ∷ steps) depth at (word ∷ words) nodes tree
+  make : {limit depth : ℕ} {at : Head} {steps : List Step} {words : List Word} {nodes : List Opened} {tree : Tree} {kind : NodeKind} → Derives limit steps depth at words (made kind nodes) tree → Derives limit (Make kind ∷ steps) depth at words nodes tree
+  join : {limit depth : ℕ} {at : Head} {steps : List Step} {words : List Word} {nodes : List Opened} {tree : Tree} {kind : NodeKind} → Derives limit steps depth at words (joined kind nodes) tree → Derives limit (Join kind ∷ steps) depth at words nodes tree
+  wrap : {limit depth : ℕ} {at : Head} {steps : List Step} {words : List Word} {nodes : List Opened} {tree : Tree} {kind : NodeKind} → Derives limit steps depth at words (wrapped kind nodes) tree → Derives limit (Wrap kind ∷ steps) depth at words nodes tree
+  skip : {limit depth : ℕ} {at : Head} {steps : List Step} {words : List Word} {nodes : List Opened} {tree : Tree} → Derives limit steps depth at words (skipped nodes) tree → Derives limit (Skip ∷ steps) depth at words nodes tree
+
+-- the steps of a whole program, and the node that takes its tree
+abbrev pub program_steps : List Step
+program_steps = Read sort.Program ∷ []
+
+abbrev pub outermost : List Opened
+outermost = opened_at nowhere ∷ []
+
+-- the words are a program with this tree, and no node of it is deeper than the limit
+abbrev pub SpellsWithin : ℕ → List Word → Tree → Type 0
+SpellsWithin limit words tree = Derives limit program_steps 0 head.Outside words outermost tree
+
+abbrev pub depth_limit : ℕ
+depth_limit = 64
+
+abbrev pub Spells : List Word → Tree → Type 0
+Spells words tree = SpellsWithin depth_limit words tree
+
+-- some words more make the words a program
+abbrev pub CanGoOn : ℕ → List Word → Type 0
+CanGoOn limit words = (more : List Word) × (tree : Tree) × SpellsWithin limit (words ++ more) tree

@@ -1,0 +1,7 @@
+pub mod Words
+pub mod Tree
+pub mod Grammar
+pub mod Heads
+pub mod Derivation
+pub mod Faults
+pub mod Reading

@@ -1,0 +1,10 @@
+//! The grammar.
+#![tactic(auto)]
+
+pub mod fault;
+pub mod grammar;
+pub mod node;
+pub mod rules;
+pub mod term;
+
+pub use node::NodeKind;

@@ -1,0 +1,343 @@
+//! The rules of blocks and statements.
+
+ghost use Rattle.std.specs.Prelude.{◌≡◌};
+ghost use Rattle.std.specs.Option.{option_copied};
+ghost use Rattle.c_syntax.specs.Grammar.{block, cond_part, else_part, init_part, items, local_rest, locals, more_locals, plain_statement, return_part, statement, step_part};
+
+use super::Rule;
+use crate::grammar::{Class, Sort, Step};
+use crate::node::{Bump, LockCall, NodeKind, Side};
+use crate::term::Term;
+
+/// `block = { { item } }`.
+pub(super) fn block(_next: Term) -> Rule
+    ensures { option_copied result ≡ block _next }
+{
+    Some(&[
+        Step::Open,
+        Step::Deepen(Term::OpenBrace),
+        Step::Read(Sort::Items),
+        Step::Expect(Term::CloseBrace),
+        Step::Make(NodeKind::Block),
+        Step::Rise,
+    ])
+}
+
+/// `item = variables | locks | statement | directive without statement`.
+pub(super) fn items(next: Term) -> Rule
+    ensures { option_copied result ≡ items next }
+{
+    match next {
+        Term::CloseBrace => Some(&[]),
+        Term::Int => Some(&[Step::Read(Sort::Locals), Step::Read(Sort::Items)]),
+        Term::LockType => Some(&[Step::Read(Sort::Locks), Step::Read(Sort::Items)]),
+        Term::Pragma => Some(&[
+            Step::Open,
+            Step::Expect(Term::Pragma),
+            Step::Read(Sort::ItemDirective),
+            Step::Read(Sort::Items),
+        ]),
+        _ => Some(&[Step::Read(Sort::PlainStatement), Step::Read(Sort::Items)]),
+    }
+}
+
+/// Int variable { , variable } ;.
+pub(super) fn locals(_next: Term) -> Rule
+    ensures { option_copied result ≡ locals _next }
+{
+    Some(&[
+        Step::Open,
+        Step::Expect(Term::Int),
+        Step::Open,
+        Step::Take(Class::Name),
+        Step::Read(Sort::LocalRest),
+        Step::Read(Sort::MoreLocals),
+        Step::Expect(Term::Semicolon),
+        Step::Make(NodeKind::Locals),
+    ])
+}
+
+/// `variable = name [ [ number ] | = right ]`.
+pub(super) fn local_rest(next: Term) -> Rule
+    ensures { option_copied result ≡ local_rest next }
+{
+    match next {
+        Term::OpenBracket => Some(&[
+            Step::Expect(Term::OpenBracket),
+            Step::Take(Class::Number),
+            Step::Expect(Term::CloseBracket),
+            Step::Make(NodeKind::LocalArray),
+        ]),
+        Term::Set => Some(&[
+            Step::Expect(Term::Set),
+            Step::Read(Sort::Right),
+            Step::Make(NodeKind::LocalSet),
+        ]),
+        _ => Some(&[Step::Make(NodeKind::LocalVar)]),
+    }
+}
+
+/// `.. { , variable }`.
+pub(super) fn more_locals(next: Term) -> Rule
+    ensures { option_copied result ≡ more_locals next }
+{
+    match next {
+        Term::Comma => Some(&[
+            Step::Expect(Term::Comma),
+            Step::Open,
+            Step::Take(Class::Name),
+            Step::Read(Sort::LocalRest),
+            Step::Read(Sort::MoreLocals),
+        ]),
+        _ => Some(&[]),
+    }
+}
+
+/// `statement = plain statement | construct`.
+pub(super) fn statement(next: Term) -> Rule
+    ensures { option_copied result ≡ statement next }
+{
+    match next {
+        Term::Pragma => Some(&[
+            Step::Open,
+            Step::Deepen(Term::Pragma),
+            Step::Read(Sort::Construct),
+        ]),
+        _ => Some(&[Step::Read(Sort::PlainStatement)]),
+    }
+}
+
+/// The statements that are no constructs.
+pub(super) fn plain_statement(next: Term) -> Rule
+    ensures { option_copied result ≡ plain_statement next }
+{
+    match next {
+        Term::Semicolon => Some(&[
+            Step::Open,
+            Step::Expect(Term::Semicolon),
+            Step::Make(NodeKind::Empty),
+        ]),
+        Term::OpenBrace => Some(&[Step::Read(Sort::Block)]),
+        Term::If => Some(&[
+            Step::Open,
+            Step::Deepen(Term::If),
+            Step::Expect(Term::OpenParen),
+            Step::Read(Sort::Expr),
+            Step::Expect(Term::CloseParen),
+            Step::Read(Sort::Statement),
+            Step::Read(Sort::ElsePart),
+            Step::Make(NodeKind::If),
+            Step::Rise,
+        ]),
+        Term::While => Some(&[
+            Step::Open,
+            Step::Deepen(Term::While),
+            Step::Expect(Term::OpenParen),
+            Step::Read(Sort::Expr),
+            Step::Expect(Term::CloseParen),
+            Step::Read(Sort::Statement),
+            Step::Make(NodeKind::While),
+            Step::Rise,
+        ]),
+        Term::For => Some(&[
+            Step::Open,
+            Step::Deepen(Term::For),
+            Step::Expect(Term::OpenParen),
+            Step::Read(Sort::InitPart),
+            Step::Expect(Term::Semicolon),
+            Step::Read(Sort::CondPart),
+            Step::Expect(Term::Semicolon),
+            Step::Read(Sort::StepPart),
+            Step::Expect(Term::CloseParen),
+            Step::Read(Sort::Statement),
+            Step::Make(NodeKind::For),
+            Step::Rise,
+        ]),
+        Term::Return => Some(&[
+            Step::Open,
+            Step::Expect(Term::Return),
+            Step::Read(Sort::ReturnPart),
+            Step::Expect(Term::Semicolon),
+            Step::Make(NodeKind::Return),
+        ]),
+        Term::Printf => Some(&[
+            Step::Open,
+            Step::Expect(Term::Printf),
+            Step::Expect(Term::OpenParen),
+            Step::Take(Class::Text),
+            Step::Read(Sort::MoreArgs),
+            Step::Expect(Term::CloseParen),
+            Step::Expect(Term::Semicolon),
+            Step::Make(NodeKind::Print),
+        ]),
+        Term::InitLock => Some(&[
+            Step::Open,
+            Step::Expect(Term::InitLock),
+            Step::Expect(Term::OpenParen),
+            Step::Expect(Term::Ampersand),
+            Step::Open,
+            Step::Take(Class::Name),
+            Step::Make(NodeKind::Name),
+            Step::Expect(Term::CloseParen),
+            Step::Expect(Term::Semicolon),
+            Step::Make(NodeKind::LockCall(LockCall::Init)),
+        ]),
+        Term::DestroyLock => Some(&[
+            Step::Open,
+            Step::Expect(Term::DestroyLock),
+            Step::Expect(Term::OpenParen),
+            Step::Expect(Term::Ampersand),
+            Step::Open,
+            Step::Take(Class::Name),
+            Step::Make(NodeKind::Name),
+            Step::Expect(Term::CloseParen),
+            Step::Expect(Term::Semicolon),
+            Step::Make(NodeKind::LockCall(LockCall::Destroy)),
+        ]),
+        Term::SetLock => Some(&[
+            Step::Open,
+            Step::Expect(Term::SetLock),
+            Step::Expect(Term::OpenParen),
+            Step::Expect(Term::Ampersand),
+            Step::Open,
+            Step::Take(Class::Name),
+            Step::Make(NodeKind::Name),
+            Step::Expect(Term::CloseParen),
+            Step::Expect(Term::Semicolon),
+            Step::Make(NodeKind::LockCall(LockCall::Set)),
+        ]),
+        Term::UnsetLock => Some(&[
+            Step::Open,
+            Step::Expect(Term::UnsetLock),
+            Step::Expect(Term::OpenParen),
+            Step::Expect(Term::Ampersand),
+            Step::Open,
+            Step::Take(Class::Name),
+            Step::Make(NodeKind::Name),
+            Step::Expect(Term::CloseParen),
+            Step::Expect(Term::Semicolon),
+            Step::Make(NodeKind::LockCall(LockCall::Unset)),
+        ]),
+        Term::TestLock => Some(&[
+            Step::Open,
+            Step::Open,
+            Step::Expect(Term::TestLock),
+            Step::Expect(Term::OpenParen),
+            Step::Expect(Term::Ampersand),
+            Step::Open,
+            Step::Take(Class::Name),
+            Step::Make(NodeKind::Name),
+            Step::Expect(Term::CloseParen),
+            Step::Make(NodeKind::TestLock),
+            Step::Expect(Term::Semicolon),
+            Step::Make(NodeKind::Called),
+        ]),
+        Term::PlusPlus => Some(&[
+            Step::Open,
+            Step::Open,
+            Step::Expect(Term::PlusPlus),
+            Step::Read(Sort::Place),
+            Step::Make(NodeKind::Bump(Bump::Increment, Side::Before)),
+            Step::Expect(Term::Semicolon),
+            Step::Make(NodeKind::Step),
+        ]),
+        Term::MinusMinus => Some(&[
+            Step::Open,
+            Step::Open,
+            Step::Expect(Term::MinusMinus),
+            Step::Read(Sort::Place),
+            Step::Make(NodeKind::Bump(Bump::Decrement, Side::Before)),
+            Step::Expect(Term::Semicolon),
+            Step::Make(NodeKind::Step),
+        ]),
+        _ => Some(&[
+            Step::Open,
+            Step::Take(Class::Name),
+            Step::Read(Sort::AfterStatementName),
+        ]),
+    }
+}
+
+/// `[ else statement ]. It belongs to the nearest `if`, since it is absent only where no `else` stands`.
+pub(super) fn else_part(next: Term) -> Rule
+    ensures { option_copied result ≡ else_part next }
+{
+    match next {
+        Term::Else => Some(&[Step::Expect(Term::Else), Step::Read(Sort::Statement)]),
+        _ => Some(&[Step::Skip]),
+    }
+}
+
+/// `[ int name = expression | step ]`.
+pub(super) fn init_part(next: Term) -> Rule
+    ensures { option_copied result ≡ init_part next }
+{
+    match next {
+        Term::Semicolon => Some(&[Step::Skip]),
+        Term::Int => Some(&[
+            Step::Open,
+            Step::Expect(Term::Int),
+            Step::Open,
+            Step::Take(Class::Name),
+            Step::Make(NodeKind::Name),
+            Step::Expect(Term::Set),
+            Step::Read(Sort::Expr),
+            Step::Make(NodeKind::Init),
+        ]),
+        Term::PlusPlus => Some(&[
+            Step::Open,
+            Step::Expect(Term::PlusPlus),
+            Step::Read(Sort::Place),
+            Step::Make(NodeKind::Bump(Bump::Increment, Side::Before)),
+        ]),
+        Term::MinusMinus => Some(&[
+            Step::Open,
+            Step::Expect(Term::MinusMinus),
+            Step::Read(Sort::Place),
+            Step::Make(NodeKind::Bump(Bump::Decrement, Side::Before)),
+        ]),
+        _ => Some(&[Step::Read(Sort::Place), Step::Read(Sort::StepRest)]),
+    }
+}
+
+/// `[ expression ]`.
+pub(super) fn cond_part(next: Term) -> Rule
+    ensures { option_copied result ≡ cond_part next }
+{
+    match next {
+        Term::Semicolon => Some(&[Step::Skip]),
+        _ => Some(&[Step::Read(Sort::Expr)]),
+    }
+}
+
+/// `[ step ]`.
+pub(super) fn step_part(next: Term) -> Rule
+    ensures { option_copied result ≡ step_part next }
+{
+    match next {
+        Term::CloseParen => Some(&[Step::Skip]),
+        Term::PlusPlus => Some(&[
+            Step::Open,
+            Step::Expect(Term::PlusPlus),
+            Step::Read(Sort::Place),
+            Step::Make(NodeKind::Bump(Bump::Increment, Side::Before)),
+        ]),
+        Term::MinusMinus => Some(&[
+            Step::Open,
+            Step::Expect(Term::MinusMinus),
+            Step::Read(Sort::Place),
+            Step::Make(NodeKind::Bump(Bump::Decrement, Side::Before)),
+        ]),
+        _ => Some(&[Step::Read(Sort::Place), Step::Read(Sort::StepRest)]),
+    }
+}
+
+/// `[ right ]`.
+pub(super) fn return_part(next: Term) -> Rule
+    ensures { option_copied result ≡ return_part next }
+{
+    match next {
+        Term::Semicolon => Some(&[]),
+        _ => Some(&[Step::Read(Sort::Right)]),
+    }
+}
