@@ -5,6 +5,7 @@ mod blanks;
 mod bytes;
 mod hash_line;
 mod item;
+mod laws;
 mod place;
 mod quoted;
 mod scan;
@@ -13,5 +14,6 @@ mod tail;
 mod token;
 mod word;
 
+pub use laws::tokens_are_read;
 pub use scan::tokens;
 pub use token::{Spot, Token, TokenFault, TokenKind};
