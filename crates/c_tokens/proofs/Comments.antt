@@ -16,8 +16,8 @@ lone_star true = refl
 lone_star false = refl
 
 IsClosing-more : (starred : Bool) (byte : ℕ) (closing : List ℕ) → (starred && byte == slash) ≡ false → IsClosing (byte == star) closing → IsClosing starred (byte ∷ closing)
-IsClosing-more starred byte closing goes (inl (starry, only)) =
-    let is_star : byte ≡ star = eqb-true byte star starry in
+IsClosing-more starred byte closing goes (inl (at_star, only)) =
+    let is_star : byte ≡ star = eqb-true byte star at_star in
     inr ([], cc, lone_star starred)
 IsClosing-more starred byte closing goes (inr (inside, whole, none)) =
     inr (byte ∷ inside, ap (λ (end : List ℕ). byte ∷ end) whole, cond-false (starred && byte == slash) (Some 1) (one_more (comment_rest (byte == star) (inside ++ star ∷ []))) goes ∙ ap one_more none)
@@ -48,13 +48,13 @@ comment_ends starred (byte ∷ front) back none =
     none
 
 pub IsComment-closing : (closing : List ℕ) → IsClosing false closing → IsComment (slash ∷ star ∷ closing)
-IsComment-closing closing (inl (starry, only)) = absurd (false≢true starry)
+IsComment-closing closing (inl (at_star, only)) = absurd (false≢true at_star)
 IsComment-closing closing (inr (inside, whole, none)) =
     (inside, ap (λ (end : List ℕ). slash ∷ star ∷ end) whole, λ front back same. comment_ends false front back (ap (comment_rest false) (sym same) ∙ none))
 
 -- with no star and slash there is no end
 no_closing : (bytes closing rest : List ℕ) → ((front back : List ℕ) → bytes ≢ front ++ star ∷ slash ∷ back) → bytes ≡ closing ++ rest → IsClosing false closing → ⊥
-no_closing bytes closing rest other whole (inl (starry, only)) = false≢true starry
+no_closing bytes closing rest other whole (inl (at_star, only)) = false≢true at_star
 no_closing bytes closing rest other whole (inr (inside, parts, none)) =
     other inside rest (whole ∙ ap (λ (front : List ℕ). front ++ rest) parts ∙ append_assoc inside (star ∷ slash ∷ []) rest)
 

@@ -13,10 +13,11 @@ use Rattle.c_tokens.specs.declared.item.Flaw.{Flaw}
 use Rattle.c_tokens.specs.declared.item.Item.{Item}
 use Rattle.c_tokens.specs.declared.item.Item.TheVariants as item
 use Rattle.c_tokens.specs.Bytes.{begins, is_digit, is_letter, newline}
-use Rattle.c_tokens.specs.Items.{item_of}
+use Rattle.c_tokens.specs.Items.{item_of, newline_item}
 use Rattle.c_tokens.specs.Tokens.{Fits, beginning, closing, fault_at, found, item_len, line_with, place_after, place_in, places_after, scan, token_at, tokens_of, with_front}
 use Rattle.c_tokens.specs.Pieces.{IsPassed, IsToken, Reads}
 use Rattle.c_tokens.specs.Pieces.Reads.{over, passed, token, directive_end}
+use Rattle.c_tokens.proofs.Fronts.{passed_front, token_front}
 use Rattle.c_tokens.proofs.Pieces.{IsPiece, item_piece}
 use Rattle.c_tokens.proofs.Scanning.{scan-item}
 
@@ -50,15 +51,14 @@ token-some kind.PragmaEnd in_line bytes rest never = absurd never
 token-some kind.End in_line bytes rest never = absurd never
 
 -- the item at the front, by its bytes and the rest
-module _ (front rest : List ℕ) (place : Place) (it : Item) (same : item_of place.line (front ++ rest) ≡ it) (some : 1 ≤ length front) (counted : length front ≡ item_len it) where
-  scan-front : Fits it (length (front ++ rest)) → scan (front ++ rest) 0 place ≡ found it place (scan rest 0 (places_after front (place_in it place)))
-  scan-front fits =
-      let text = front ++ rest in
-      let whole : 0 < length text = omega (arith, length-append front rest) in
-      let step : Item → Type 0 = λ i. Fits i (length text) → scan text 0 place ≡ found i place (scan (drop (item_len i) text) 0 (places_after (take (item_len i) text) (place_in i place))) in
-      subst step same (scan-item text place whole) fits
-      ∙ ap (λ (end : List ℕ). found it place (scan end 0 (places_after (take (item_len it) text) (place_in it place)))) (drop_at front rest (item_len it) counted)
-      ∙ ap (λ (begin : List ℕ). found it place (scan rest 0 (places_after begin (place_in it place)))) (take_at front rest (item_len it) counted)
+scan-front : (front rest : List ℕ) (place : Place) (it : Item) → item_of place.line (front ++ rest) ≡ it → 1 ≤ length front → length front ≡ item_len it → Fits it (length (front ++ rest)) → scan (front ++ rest) 0 place ≡ found it place (scan rest 0 (places_after front (place_in it place)))
+scan-front front rest place it same some counted fits =
+    let text = front ++ rest in
+    let whole : 0 < length text = omega (arith, length-append front rest) in
+    let step : Item → Type 0 = λ i. Fits i (length text) → scan text 0 place ≡ found i place (scan (drop (item_len i) text) 0 (places_after (take (item_len i) text) (place_in i place))) in
+    subst step same (scan-item text place whole) fits
+    ∙ ap (λ (end : List ℕ). found it place (scan end 0 (places_after (take (item_len it) text) (place_in it place)))) (drop_at front rest (item_len it) counted)
+    ∙ ap (λ (begin : List ℕ). found it place (scan rest 0 (places_after begin (place_in it place)))) (take_at front rest (item_len it) counted)
 
 scan-passed : (front rest : List ℕ) (place : Place) → item_of place.line (front ++ rest) ≡ item.Blank (length front) → 1 ≤ length front → scan (front ++ rest) 0 place ≡ with_front [] (scan rest 0 (places_after front place))
 scan-passed front rest place same some = scan-front front rest place (item.Blank (length front)) same some refl (some, omega (arith, length-append front rest))
@@ -81,7 +81,7 @@ scan-fault : (byte : ℕ) (bytes : List ℕ) (place : Place) (flaw : Flaw) (offs
 unfolding scan
 scan-fault byte bytes place flaw offset same = ap (λ (i : Item). found i place (scan bytes (item_len i - 1) (place_after byte (place_in i place)))) same
 
--- what is shorter than a text is read
+-- what is shorter than a text is read as its tokens
 abbrev Shorter : List ℕ → Type 0
 Shorter text = (rest : List ℕ) (place : Place) (tokens : List Token) → length rest < length text → scan rest 0 place ≡ Ok tokens → Reads place rest tokens
 
@@ -124,7 +124,7 @@ read-item byte bytes place tokens item.DirectiveEnd (rest, parts, in_directive) 
     subst P (sym parts) (λ same. read-end rest place tokens in_directive same)
 read-item byte bytes place tokens (item.Fault flaw offset) piece = λ same whole shorter. let fault = scan-fault byte bytes place flaw offset same in absurd (cc)
 
--- `fuel` bounds the bytes
+-- An item may have more than one byte, so the steps are counted: `fuel` is no less than the bytes.
 read-within : (fuel : ℕ) (text : List ℕ) (place : Place) (tokens : List Token) → length text ≤ fuel → scan text 0 place ≡ Ok tokens → Reads place text tokens
 unfolding scan Reading
 read-within fuel [] place tokens within whole = let same : tokens ≡ closing place.line place = cc in Reads-as place [] tokens (closing place.line place) same over
@@ -135,3 +135,20 @@ read-within (suc fuel) (byte ∷ bytes) place tokens within whole =
 
 pub scan-reads : (text : List ℕ) (tokens : List Token) → tokens_of text ≡ Ok tokens → Reads beginning text tokens
 scan-reads text tokens whole = read-within (length text) text beginning tokens (omega arith) whole
+
+-- each piece is the item at the front
+reads-scan : {place : Place} {text : List ℕ} {tokens : List Token} → Reads place text tokens → scan text 0 place ≡ Ok tokens
+unfolding scan
+reads-scan (over {place}) = refl
+reads-scan (passed {place} {rest} {tokens} bytes is_passed more) =
+    scan-passed bytes rest place (passed_front place.line bytes rest is_passed) (passed-some place.line bytes rest is_passed) ∙ ap (with_front []) (reads-scan more)
+reads-scan (token {place} {rest} {tokens} kind bytes is_token more) =
+    scan-token kind bytes rest place (token_front kind place.line bytes rest is_token) (token-some kind place.line bytes rest is_token) ∙ ap (with_front (token_at kind place (length bytes) ∷ [])) (reads-scan more)
+reads-scan (directive_end {place} {rest} {tokens} in_directive more) =
+    scan-end rest place (ap newline_item in_directive) ∙ ap (with_front (token_at kind.PragmaEnd place 0 ∷ [])) (reads-scan more)
+
+pub reads-tokens : (text : List ℕ) (tokens : List Token) → Reads beginning text tokens → tokens_of text ≡ Ok tokens
+reads-tokens text tokens reads = reads-scan reads
+
+pub reads-one : (text : List ℕ) (first second : List Token) → Reads beginning text first → Reads beginning text second → first ≡ second
+reads-one text first second one other = let tokens = reads-tokens text first one in let same = reads-tokens text second other in cc

@@ -7,4 +7,5 @@ pub mod LineTails
 pub mod Hashes
 pub mod Texts
 pub mod Pieces
+pub mod Fronts
 pub mod Law

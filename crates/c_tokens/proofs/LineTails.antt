@@ -11,7 +11,7 @@ use Rattle.c_tokens.specs.Pieces.IsTail.{nothing, gap, comment, last}
 use Rattle.c_tokens.proofs.Comments.{IsComment-closing, comment_found, comment_read}
 use Rattle.c_tokens.proofs.Cuts.{Cut, length-run, one_more-some, run}
 
--- inside a comment, whose last byte may be a star
+-- inside a comment, whether a star was read last or not
 inside : Bool → Tail
 inside true = Starred
 inside false = Inside
@@ -33,11 +33,10 @@ one_more-behind : (byte : ℕ) (bytes : List ℕ) (count : Option ℕ) → one_m
 unfolding behind
 one_more-behind byte bytes None = refl
 one_more-behind byte bytes (Some n) =
-    let P : ℕ → Type 0 = λ m. one_more (behind (Some n) bytes) ≡ behind (Some m) (byte ∷ bytes) in
     let same : n + 1 ≡ suc n = omega arith in
     rw same (one_more-further n (tail_len Gaps (drop n bytes)))
 
-either_inside : (starry : Bool) (bytes : List ℕ) → cond starry (one_more (tail_len Starred bytes)) (one_more (tail_len Inside bytes)) ≡ one_more (tail_len (inside starry) bytes)
+either_inside : (starred : Bool) (bytes : List ℕ) → cond starred (one_more (tail_len Starred bytes)) (one_more (tail_len Inside bytes)) ≡ one_more (tail_len (inside starred) bytes)
 unfolding inside
 either_inside true bytes = refl
 either_inside false bytes = refl
@@ -48,7 +47,7 @@ starred_tail true byte bytes goes more same = further-one (tail_len Gaps bytes)
 starred_tail false byte bytes goes more same = same
 
 -- a tail from the inside of a comment is the comment's rest, and the tail behind it
-tail-inside : (starry : Bool) (bytes : List ℕ) → tail_len (inside starry) bytes ≡ behind (comment_rest starry bytes) bytes
+tail-inside : (starred : Bool) (bytes : List ℕ) → tail_len (inside starred) bytes ≡ behind (comment_rest starred bytes) bytes
 unfolding inside behind
 tail-inside true [] = refl
 tail-inside false [] = refl
@@ -57,11 +56,11 @@ tail-inside true (byte ∷ bytes) =
     (either_inside (byte == star) bytes ∙ ap one_more (tail-inside (byte == star) bytes) ∙ one_more-behind byte bytes (comment_rest (byte == star) bytes))
 tail-inside false (byte ∷ bytes) = either_inside (byte == star) bytes ∙ ap one_more (tail-inside (byte == star) bytes) ∙ one_more-behind byte bytes (comment_rest (byte == star) bytes)
 
--- a tail from the inside of a comment to the line's end is the rest of its line
 ended_line : (ends : Bool) (count : ℕ) → cond ends (Some 0) (one_more (Some count)) ≡ Some (cond (cond ends false true) (1 + count) 0)
 ended_line true count = refl
 ended_line false count = ap Some (omega arith)
 
+-- a tail from the inside of a comment to the line's end is the rest of its line
 tail-line : (bytes : List ℕ) → tail_len Line bytes ≡ Some (line_rest bytes)
 tail-line [] = refl
 tail-line (byte ∷ bytes) = ap (λ (rest : Option ℕ). cond (byte == newline) (Some 0) (one_more rest)) (tail-line bytes) ∙ ended_line (byte == newline) (line_rest bytes)
@@ -116,18 +115,18 @@ comment_before closing rest n m count is_comment len tail sum = record {
   holds = comment {first = slash ∷ star ∷ closing} is_comment tail.holds;
 }
 
-module _ (bytes : List ℕ) (count : ℕ) (smaller : (rest : List ℕ) (n : ℕ) → length rest ≤ length bytes → tail_len Gaps rest ≡ Some n → Cut rest n IsTail) where
-  comment_tail : one_more (one_more (tail_len Inside bytes)) ≡ Some count → Cut (slash ∷ star ∷ bytes) count IsTail
-  unfolding inside
-  comment_tail found =
-      let outer = one_more-some (one_more (tail_len Inside bytes)) count found in
-      let inner = one_more-some (tail_len Inside bytes) outer.0 outer.1 in
-      let parts = behind-some bytes (comment_rest false bytes) inner.0 (sym (tail-inside false bytes) ∙ inner.1) in
-      let cut = comment_found false bytes parts.n parts.closed in
-      let left : drop parts.n bytes ≡ cut.rest = ap (drop parts.n) cut.whole ∙ drop_at cut.front cut.rest parts.n cut.counted in
-      let tail = smaller cut.rest parts.m (omega (arith, ap length cut.whole, length-append cut.front cut.rest)) (ap (tail_len Gaps) (sym left) ∙ parts.tail) in
-      let P : List ℕ → Type 0 = λ end. Cut (slash ∷ star ∷ end) count IsTail in
-      subst P (sym cut.whole) (comment_before cut.front cut.rest parts.n parts.m count (IsComment-closing cut.front cut.holds) cut.counted tail (omega (arith, parts.counted, inner.2, outer.2)))
+-- a comment that begins a tail; what is no longer than the bytes behind its opening is cut already
+comment_tail : (bytes : List ℕ) (count : ℕ) → ((rest : List ℕ) (n : ℕ) → length rest ≤ length bytes → tail_len Gaps rest ≡ Some n → Cut rest n IsTail) → one_more (one_more (tail_len Inside bytes)) ≡ Some count → Cut (slash ∷ star ∷ bytes) count IsTail
+unfolding inside
+comment_tail bytes count smaller found =
+    let outer = one_more-some (one_more (tail_len Inside bytes)) count found in
+    let inner = one_more-some (tail_len Inside bytes) outer.0 outer.1 in
+    let parts = behind-some bytes (comment_rest false bytes) inner.0 (sym (tail-inside false bytes) ∙ inner.1) in
+    let cut = comment_found false bytes parts.n parts.closed in
+    let left : drop parts.n bytes ≡ cut.rest = ap (drop parts.n) cut.whole ∙ drop_at cut.front cut.rest parts.n cut.counted in
+    let tail = smaller cut.rest parts.m (omega (arith, ap length cut.whole, length-append cut.front cut.rest)) (ap (tail_len Gaps) (sym left) ∙ parts.tail) in
+    let P : List ℕ → Type 0 = λ end. Cut (slash ∷ star ∷ end) count IsTail in
+    subst P (sym cut.whole) (comment_before cut.front cut.rest parts.n parts.m count (IsComment-closing cut.front cut.holds) cut.counted tail (omega (arith, parts.counted, inner.2, outer.2)))
 
 slash_tail : (bytes : List ℕ) (count : ℕ) → ((rest : List ℕ) (n : ℕ) → length rest ≤ length bytes → tail_len Gaps rest ≡ Some n → Cut rest n IsTail) → one_more (tail_len Slash bytes) ≡ Some count → Cut (slash ∷ bytes) count IsTail
 slash_tail [] count smaller found = absurd (cc)
@@ -136,14 +135,14 @@ slash_tail (second ∷ bytes) count smaller found =
     cond_both (second == slash) (one_more (tail_len Line bytes)) (cond (second == star) (one_more (tail_len Inside bytes)) None) (λ r. one_more r ≡ Some count → Cut (slash ∷ second ∷ bytes) count IsTail)
     (λ slashed here. subst P (sym (eqb-true second slash slashed)) (line_found bytes count here))
     (λ other. cond_both (second == star) (one_more (tail_len Inside bytes)) None (λ r. one_more r ≡ Some count → Cut (slash ∷ second ∷ bytes) count IsTail)
-    (λ starry here. subst P (sym (eqb-true second star starry)) (comment_tail bytes count (λ rest n below. smaller rest n (omega arith)) here))
+    (λ is_star here. subst P (sym (eqb-true second star is_star)) (comment_tail bytes count (λ rest n below. smaller rest n (omega arith)) here))
     (λ neither here. absurd (cc)))
     found
 
 gap_before : (byte : ℕ) (bytes : List ℕ) (m count : ℕ) → is_gap byte ≡ true → Cut bytes m IsTail → m + 1 ≡ count → Cut (byte ∷ bytes) count IsTail
 gap_before byte bytes m count is_one tail sum = record { front = byte ∷ tail.front; rest = tail.rest; whole = ap (λ (end : List ℕ). byte ∷ end) tail.whole; counted = omega (arith, tail.counted); holds = gap is_one tail.holds }
 
--- the tail at the front; `fuel` bounds the bytes
+-- The tail at the front. A comment skips bytes, so the steps are counted: `fuel` is no less than the bytes.
 tail_within : (fuel : ℕ) (bytes : List ℕ) (count : ℕ) → length bytes ≤ fuel → tail_len Gaps bytes ≡ Some count → Cut bytes count IsTail
 tail_within fuel [] count within found = none_left [] count (inl refl) found
 tail_within zero (byte ∷ bytes) count within found = absurd (omega arith)
@@ -166,13 +165,13 @@ tail_within (suc fuel) (byte ∷ bytes) count within found =
 pub tail_found : (bytes : List ℕ) (count : ℕ) → tail_len Gaps bytes ≡ Some count → Cut bytes count IsTail
 tail_found bytes count = tail_within (length bytes) bytes count (omega arith)
 
--- what a tail is read as, before an end of its line
 newline-at : (byte : ℕ) → is_inline byte ≡ false → byte ≡ newline
 newline-at byte ends = elim (cases_eq byte newline) [
   | inl same ↦ same
   | inr other ↦ absurd (true≢false (sym (cond-false (byte == newline) false true (ne_eqb byte newline other)) ∙ ends))
 ]
 
+-- what ends the line is no part of a tail
 no_tail : (rest : List ℕ) → EndsLine rest → tail_len Gaps rest ≡ Some 0
 no_tail [] ends = refl
 no_tail (byte ∷ rest) (inl ends) = ap (λ (b : ℕ). tail_len Gaps (b ∷ rest)) (newline-at byte ends)
@@ -198,6 +197,7 @@ line_passed bytes rest (within, same, inline, ends) =
     let counted : line_rest (within ++ rest) + 1 + 1 ≡ length bytes = omega (arith, ap length same, length-run is_inline within rest inline ends) in
     ap (λ (front : List ℕ). tail_len Gaps (front ++ rest)) same ∙ ap (λ (r : Option ℕ). one_more (one_more r)) (tail-line (within ++ rest)) ∙ ap Some counted
 
+-- a tail is read up to the end of its line
 pub tail_read : {bytes rest : List ℕ} → IsTail bytes rest → tail_len Gaps (bytes ++ rest) ≡ Some (length bytes)
 tail_read {bytes} {rest} (nothing ends) = no_tail rest ends
 tail_read {bytes} {rest} (gap {byte} {bytes = more} is_one tail) = rw is_one (ap one_more (tail_read tail) ∙ ap Some (omega arith))

@@ -110,7 +110,7 @@ name_piece in_line byte bytes letter =
     record { front = cut.front; rest = cut.rest; whole = cut.whole; counted = cut.counted; holds = (run_begins is_word is_letter cut.front cut.rest byte bytes cut.whole cut.holds.1 (or_left (is_letter byte) (is_digit byte) letter) letter, cut.holds.0, cut.holds.1) }
 
 -- what a test that excludes another says
-excluded : (other rest : Bool) → cond other false rest ≡ true → (other ≡ false) × (rest ≡ true)
+pub excluded : (other rest : Bool) → cond other false rest ≡ true → (other ≡ false) × (rest ≡ true)
 excluded true rest passed = absurd (true≢false (sym passed))
 excluded false rest passed = (refl, passed)
 

@@ -14,6 +14,6 @@ mod tail;
 mod token;
 mod word;
 
-pub use laws::tokens_are_read;
+pub use laws::{one_list_of_tokens, reading_is_tokens, tokens_are_read};
 pub use scan::tokens;
 pub use token::{Spot, Token, TokenFault, TokenKind};
