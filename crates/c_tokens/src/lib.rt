@@ -11,6 +11,8 @@ mod quoted;
 mod scan;
 mod symbol;
 mod tail;
+#[cfg(test)]
+mod tests;
 mod token;
 mod word;
 
