@@ -1,5 +1,5 @@
 -- What stands at the front of the rest of a text: a blank, a token, or a fault.
-use Rattle.std.specs.Prelude.{ℕ, Bool, true, false, ◌+◌, ◌==◌, if◌then◌else◌, List, [], ◌∷◌, Option, Some, None, Result, Ok, Err, drop}
+use Rattle.std.specs.Prelude.{ℕ, false, ◌+◌, ◌==◌, if◌then◌else◌, List, [], ◌∷◌, Option, Some, None, Result, Ok, Err}
 use Rattle.std.specs.List.{prefix_len}
 use Rattle.c_tokens.specs.declared.token.TokenKind.TheVariants as kind
 use Rattle.c_tokens.specs.declared.place.Line.{Line}
@@ -7,7 +7,7 @@ use Rattle.c_tokens.specs.declared.place.Line.TheVariants as line
 use Rattle.c_tokens.specs.declared.item.Flaw.TheVariants as flaw
 use Rattle.c_tokens.specs.declared.item.Item.{Item}
 use Rattle.c_tokens.specs.declared.item.Item.TheVariants as item
-use Rattle.c_tokens.specs.Bytes.{begins, is_blank, is_digit, is_inline, is_letter, newline}
+use Rattle.c_tokens.specs.Bytes.{is_blank, is_digit, is_inline, is_letter, newline}
 use Rattle.c_tokens.specs.Blanks.{comment_rest, line_end_len, line_rest, slash, star}
 use Rattle.c_tokens.specs.Words.{digits_len, has_number, name_len}
 use Rattle.c_tokens.specs.Symbols.{symbol_len}

@@ -1,7 +1,6 @@
 -- Lines that begin with `#`.
-use Rattle.std.specs.Prelude.{ℕ, ◌+◌, ◌-◌, ◌==◌, if◌then◌else◌, List, [], ◌∷◌, ◌++◌, Option, Some, None, length, codes}
-use Rattle.std.specs.List.{prefix_len}
-use Rattle.c_tokens.specs.Bytes.{after, begins, is_gap, is_inline, is_word, newline, past}
+use Rattle.std.specs.Prelude.{ℕ, ◌+◌, ◌-◌, ◌==◌, if◌then◌else◌, List, [], ◌∷◌, Option, Some, None, length, codes}
+use Rattle.c_tokens.specs.Bytes.{after, begins, is_gap, is_word, newline, past}
 use Rattle.c_tokens.specs.Blanks.{further, one_more, return, slash, star}
 
 -- What is read of a line's tail: blanks; a slash that begins a comment; a comment to the line's end; a comment of its own, and

@@ -1,6 +1,6 @@
 -- The tails of a text, by length.
-use Rattle.std.specs.Prelude.{ℕ, ◌≡◌, ◌<◌, ◌++◌, List, Option, Some, None, length, slice_get, IfSome}
-use Rattle.c_tokens.specs.Lines.{Tail, tail_len}
+use Rattle.std.specs.Prelude.{ℕ, ◌≡◌, ◌<◌, ◌++◌, List, Option, Some, length, slice_get, IfSome}
+use Rattle.c_tokens.specs.Lines.{tail_len}
 use Rattle.c_tokens.specs.Lines.Tail.{Gaps, Slash, Line, Inside, Starred, Return}
 use Rattle.c_tokens.specs.declared.tail.Row.{Row}
 

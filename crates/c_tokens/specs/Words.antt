@@ -1,5 +1,5 @@
 -- Names and numbers.
-use Rattle.std.specs.Prelude.{ℕ, Bool, true, false, ◌+◌, ◌-◌, ◌*◌, ◌==◌, ◌&&◌, ◌||◌, nat_le, if◌then◌else◌, List, [], ◌∷◌, take, drop, fold}
+use Rattle.std.specs.Prelude.{ℕ, Bool, false, ◌+◌, ◌-◌, ◌*◌, ◌==◌, ◌||◌, nat_le, if◌then◌else◌, List, [], ◌∷◌, take, drop, fold}
 use Rattle.std.specs.List.{prefix_len}
 use Rattle.c_tokens.specs.Bytes.{begins, is_digit, is_letter, is_word}
 

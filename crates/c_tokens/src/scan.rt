@@ -1,7 +1,8 @@
 //! The tokens of a text.
 
 ghost use Rattle.std.specs.Prelude.{◌≡◌, ◌≢◌, ◌≤◌, ◌+◌, ◌++◌, ◌∷◌, [], Ok, Err, IfOk, IfErr, OnOk, length, vec_len};
-ghost use Rattle.c_tokens.specs.Tokens.{Bounded, closing, fault_at, front_of, item_len, token_at, tokens_of};
+ghost use Rattle.c_tokens.specs.Pieces.{Reads};
+ghost use Rattle.c_tokens.specs.Tokens.{Bounded, beginning, closing, fault_at, front_of, item_len, token_at, tokens_of};
 
 use crate::item::{Flaw, Item, item_at};
 use crate::place::{Line, Place};
@@ -13,6 +14,7 @@ use std::alloc::{AllocError, Global};
 pub fn tokens(alloc: Global, text: &[u8]) -> Result<Vec<Token>, TokenFault>
     requires { length text.now ≤ 65536 }
     ensures tokens { IfOk result (λ found. tokens_of text.now ≡ Ok found.items) }
+    ensures read { IfOk result (λ found. Reads beginning text.now found.items) }
     ensures fault { IfErr result (λ fault. fault ≢ TokenFault.Memory → tokens_of text.now ≡ Err fault) }
 {
     let tails = tails_of(alloc, text).map_err(|_| TokenFault::Memory)?;

@@ -1,4 +1,4 @@
-use Rattle.std.proofs.Common.{List, ℕ, drop, subst, sym}
+use Rattle.std.proofs.Common.{List, ℕ, subst, sym}
 use Rattle.std.specs.List.{prefix_len}
 use Rattle.c_tokens.specs.Bytes.{is_gap}
 use Rattle.c_tokens.specs.Tails.{IsEndOf}

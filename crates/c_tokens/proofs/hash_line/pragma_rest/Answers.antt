@@ -1,4 +1,4 @@
-use Rattle.c_tokens.proofs.Ends.{IfSome-end, IsEndOf-through}
+use Rattle.c_tokens.proofs.Ends.{IsEndOf-through}
 use Rattle.c_tokens.proofs.hash_line.pragma_rest.Goals as goal
 
 pub returns-clause-end : goal.returns-clause-end

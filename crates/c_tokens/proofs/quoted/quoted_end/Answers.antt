@@ -1,4 +1,4 @@
-use Rattle.std.proofs.Common.{◌≡◌, length, sym, ◌∙◌, ap, arith, Err}
+use Rattle.std.proofs.Common.{sym, arith}
 use Rattle.c_tokens.proofs.Reading.{open-text, open-text-escaped}
 use Rattle.c_tokens.proofs.quoted.quoted_end.Goals as goal
 

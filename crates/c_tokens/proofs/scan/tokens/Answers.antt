@@ -1,8 +1,9 @@
-use Rattle.std.proofs.Common.{ℕ, ◌<◌, length, take, drop, arith, ap, sym, ◌∙◌}
+use Rattle.std.proofs.Common.{ℕ, ◌<◌, length, take, drop, arith, ap, ◌∙◌}
 use Rattle.c_tokens.specs.Tokens.{places_after}
 use Rattle.c_tokens.specs.declared.place.Place.{Place}
 use Rattle.std.proofs.lemmas.Grind.{common_steps}
 use Rattle.c_tokens.proofs.Ends.{AreTails-end}
+use Rattle.c_tokens.proofs.Law.{scan-reads}
 use Rattle.c_tokens.proofs.Scanning.{end-read, fault-read, item-read}
 use Rattle.c_tokens.proofs.scan.tokens.Goals as goal
 
@@ -24,3 +25,6 @@ loop-rest-preserved c =
 
 pub returns-clause-tokens : goal.returns-clause-tokens
 returns-clause-tokens c = end-read _ c.loop-rest.found.items c.close.new.found.items c.loop-rest.rest.now c.loop-rest.place c.loop-rest.invariant.tokens (grind arith) (grind (arith, common_steps))
+
+pub returns-clause-read : goal.returns-clause-read
+returns-clause-read c = scan-reads c.args.text.now c.close.new.found.items (returns-clause-tokens c)

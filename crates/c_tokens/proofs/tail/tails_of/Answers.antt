@@ -1,11 +1,7 @@
-use Rattle.std.proofs.Common.{◌≡◌, ◌<◌, ◌∷◌, [], ◌++◌, List, ℕ, length, drop, sym, ap, subst, ◌∙◌, arith, length-append, append_assoc, append-nil}
+use Rattle.std.proofs.Common.{◌<◌, ◌∷◌, [], ◌++◌, List, length, drop, sym, ap, ◌∙◌, arith, length-append, append-nil}
 use Rattle.std.proofs.Math.Seq.{drop-length}
 use Rattle.std.proofs.lemmas.List.{length-drop}
-use Rattle.c_tokens.specs.Lines.{tail_len}
-use Rattle.c_tokens.specs.Lines.Tail.{Gaps}
-use Rattle.c_tokens.specs.Tails.{AreTails, row_of}
-use Rattle.c_tokens.specs.declared.tail.Row.{Row}
-use Rattle.c_tokens.proofs.Ends.{AreTails-begun, AreTails-grown, AreTails-none, IsSmallRow-row_of, last-over, whole-over}
+use Rattle.c_tokens.proofs.Ends.{AreTails-begun, AreTails-grown, IsSmallRow-row_of, last-over, whole-over}
 use Rattle.c_tokens.proofs.tail.tails_of.Goals as goal
 
 pub loop-byte-init : goal.loop-byte-init
