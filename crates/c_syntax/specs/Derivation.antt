@@ -13,8 +13,8 @@ use Rattle.c_syntax.specs.declared.grammar.Sort.{Sort}
 use Rattle.c_syntax.specs.declared.grammar.Sort.TheVariants as sort
 use Rattle.c_syntax.specs.declared.grammar.Step.{Step}
 use Rattle.c_syntax.specs.declared.grammar.Step.TheVariants.{Expect, Deepen, Rise, Take, InHead, Read, Open, Make, Join, Wrap, Skip}
-use Rattle.c_syntax.specs.declared.fault.Head.{Head}
-use Rattle.c_syntax.specs.declared.fault.Head.TheVariants as head
+use Rattle.c_syntax.specs.declared.head.Head.{Head}
+use Rattle.c_syntax.specs.declared.head.Head.TheVariants as head
 use Rattle.c_syntax.specs.Heads.{behind}
 use Rattle.c_syntax.specs.Words.{Word}
 use Rattle.c_syntax.specs.Tree.{Tree, children_from, spot_of}

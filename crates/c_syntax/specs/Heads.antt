@@ -1,7 +1,7 @@
 -- Where words leave off: in the head of a directive, from its `#` to the end of its line, or outside.
 use Rattle.std.specs.Prelude.{ℕ, ◌+◌, ◌-◌, ◌==◌, if◌then◌else◌}
-use Rattle.c_syntax.specs.declared.fault.Head.{Head}
-use Rattle.c_syntax.specs.declared.fault.Head.TheVariants as head
+use Rattle.c_syntax.specs.declared.head.Head.{Head}
+use Rattle.c_syntax.specs.declared.head.Head.TheVariants as head
 use Rattle.c_syntax.specs.declared.term.Term.{Term}
 use Rattle.c_syntax.specs.declared.term.Term.TheVariants as term
 
@@ -56,3 +56,8 @@ behind head.Word word = behind_word word
 behind head.Schedule word = behind_schedule word
 behind head.Kind word = head.Inside 1
 behind (head.Inside count) word = behind_inside count word
+
+-- in how many parentheses words leave off
+abbrev pub parentheses_of : Head → ℕ
+parentheses_of (head.Inside count) = count
+parentheses_of other = 0

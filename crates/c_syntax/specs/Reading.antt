@@ -1,7 +1,7 @@
 -- What a reading has come to: a state, and what it says of the words that were read.
 use Rattle.std.specs.Prelude.{ℕ, ◌≡◌, ◌≤◌, List, [], ◌∷◌, ◌++◌}
-use Rattle.c_syntax.specs.declared.fault.Head.{Head}
-use Rattle.c_syntax.specs.declared.fault.Head.TheVariants as head
+use Rattle.c_syntax.specs.declared.head.Head.{Head}
+use Rattle.c_syntax.specs.declared.head.Head.TheVariants as head
 use Rattle.c_syntax.specs.declared.grammar.Step.{Step}
 use Rattle.c_syntax.specs.Words.{Word}
 use Rattle.c_syntax.specs.Tree.{Tree}

@@ -1,5 +1,11 @@
 //! Why words are no program.
 
+ghost use Rattle.std.specs.Prelude.{◌≡◌, ◌≢◌};
+ghost use Rattle.c_syntax.specs.Words.{Word};
+ghost use Rattle.c_syntax.specs.Faults.{fault_of, is_construct, is_odd_at, is_unknown_at};
+
+use crate::head::Head;
+use crate::term::Term;
 use c_tokens::Spot;
 use thiserror::Error;
 
@@ -23,23 +29,68 @@ pub enum SyntaxFault {
     Memory,
 }
 
-/// Where the words so far leave off, in the head of a directive or outside.
-#[derive(Clone, Copy, Debug, PartialEq, Eq)]
-pub enum Head {
-    /// Outside a head.
-    Outside,
-    /// Where a directive should stand.
-    Directive,
-    /// Behind a directive that has no clauses, which isn't followed by a statement either, or by that of a section.
-    Bare,
-    /// Where a clause should stand.
-    Clause,
-    /// Behind the word of a clause.
-    Word,
-    /// Behind `schedule`.
-    Schedule,
-    /// Where the kind of a schedule should stand.
-    Kind,
-    /// Inside so many parentheses.
-    Inside(u32),
+impl SyntaxFault {
+    /// The fault of a word that may not follow, where the words before it leave off so.
+    pub(crate) fn of(at: Head, word: Term, spot: Spot) -> SyntaxFault
+        ensures fault { (next : Word) → next.term ≡ word → next.spot ≡ spot → result ≡ fault_of at next }
+        ensures named { result ≢ SyntaxFault.Memory }
+    {
+        if is_odd_at(at, word) {
+            SyntaxFault::OutOfProfile(spot)
+        } else if is_unknown_at(at, word) {
+            SyntaxFault::UnknownDirective(spot)
+        } else {
+            SyntaxFault::Unexpected(spot)
+        }
+    }
+}
+
+/// Whether a word is out of the language here.
+fn is_odd_at(at: Head, word: Term) -> bool
+    ensures { result ≡ is_odd_at at word }
+{
+    let odd = matches!(
+        word,
+        Term::OddLine
+            | Term::OddSymbol
+            | Term::Ampersand
+            | Term::OddName
+            | Term::OddWord
+            | Term::Default
+            | Term::Static
+    );
+    match at {
+        Head::Directive => odd || matches!(word, Term::OddDirective | Term::Ordered),
+        Head::Clause | Head::Kind => {
+            odd || matches!(word, Term::OddClause | Term::Ordered | Term::If)
+        }
+        _ => odd,
+    }
+}
+
+/// Whether a word should be a directive, and is none.
+fn is_unknown_at(at: Head, word: Term) -> bool
+    ensures { result ≡ is_unknown_at at word }
+{
+    match at {
+        Head::Directive => word.is_word() && !is_construct(word),
+        _ => false,
+    }
+}
+
+/// Whether a word is a directive that has a statement.
+fn is_construct(word: Term) -> bool
+    ensures { result ≡ is_construct word }
+{
+    matches!(
+        word,
+        Term::Parallel
+            | Term::For
+            | Term::Sections
+            | Term::Single
+            | Term::Masked
+            | Term::Master
+            | Term::Critical
+            | Term::Task
+    )
 }
