@@ -5,6 +5,7 @@ pub mod fault;
 pub mod grammar;
 pub mod head;
 pub mod node;
+pub mod plan;
 pub mod rules;
 pub mod term;
 
