@@ -1,0 +1,7 @@
+mod Steps
+mod Limits
+mod Leaving
+mod Terms
+mod Completing
+mod Readying
+pub mod Facing

@@ -3,5 +3,6 @@ pub mod Tree
 pub mod Grammar
 pub mod Heads
 pub mod Derivation
+pub mod Closing
 pub mod Faults
 pub mod Reading
