@@ -3,6 +3,7 @@
 
 pub mod fault;
 pub mod grammar;
+pub mod laws;
 pub mod node;
 pub mod rules;
 pub mod term;
