@@ -71,13 +71,21 @@ ready-left IsLeft.finished = IsReady.plain refl IsReady.over
 pub faces-next : {before : List Word} {state : State} → Reaches before state → (word : Word) → Faces before word state
 faces-next reaches word = record { leaves = leaves-see word reaches.leaves; goes_on = goes-on reaches; steps = ready-left reaches.steps }
 
+-- states with the same fields are the same
+same-state : {state after : State} → after.steps ≡ state.steps → after.depth ≡ state.depth → after.at ≡ state.at → after.nodes ≡ state.nodes → state ≡ after
+same-state steps depth at nodes i = record { steps = sym steps i; depth = sym depth i; at = sym at i; nodes = sym nodes i }
+
+pub faces-same : {before : List Word} {word : Word} {state after : State} → Faces before word state → after.steps ≡ state.steps → after.depth ≡ state.depth → after.at ≡ state.at → after.nodes ≡ state.nodes → Faces before word after
+faces-same {before} {word} faces steps depth at nodes = subst (Faces before word) (same-state steps depth at nodes) faces
+
+pub reaches-same : {before : List Word} {state after : State} → Reaches before state → after.steps ≡ state.steps → after.depth ≡ state.depth → after.at ≡ state.at → after.nodes ≡ state.nodes → Reaches before after
+reaches-same {before} reaches steps depth at nodes = subst (Reaches before) (same-state steps depth at nodes) reaches
+
 -- the steps that read no word
 
 -- a state under the steps that it is known to have
 faces-as : {before : List Word} {word : Word} {state : State} {steps : List Step} → Faces before word state → state.steps ≡ steps → Faces before word (record state { steps = steps })
-faces-as {before} {word} {state} {steps} faces same =
-    let path : state ≡ record state { steps = steps } = λ i. record state { steps = same i } in
-    subst (Faces before word) path faces
+faces-as faces same = faces-same faces (sym same) refl refl refl
 
 faces-go : {before : List Word} {word : Word} {state after : State} → ((limit : ℕ) (more : List Word) (tree : Tree) → depth_limit ≤ limit → From limit state (word ∷ more) tree → From limit after (word ∷ more) tree) → ((limit : ℕ) (more : List Word) (tree : Tree) → depth_limit ≤ limit → From limit after (word ∷ more) tree → From limit state (word ∷ more) tree) → after.at ≡ state.at → (IsReady state.steps → IsReady after.steps) → Faces before word state → Faces before word after
 faces-go there back at ready faces = record { leaves = leaves-as there back at faces.leaves; goes_on = faces.goes_on; steps = ready faces.steps }

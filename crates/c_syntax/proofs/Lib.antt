@@ -5,3 +5,5 @@ mod Terms
 mod Completing
 mod Readying
 pub mod Facing
+pub mod Weights
+pub mod Unique

@@ -11,6 +11,7 @@ use Rattle.c_syntax.specs.declared.grammar.Step.{Step}
 use Rattle.c_syntax.specs.declared.grammar.Step.TheVariants.{Expect, Deepen, Rise, Take, InHead, Read, Open, Make, Join, Wrap, Skip}
 use Rattle.c_syntax.specs.Grammar.{choice}
 use Rattle.c_syntax.specs.Closing.{opener, opens, followers, IsAmong, is_shallow, is_end, last_steps, IsHeld, IsReady}
+use Rattle.c_syntax.proofs.Steps.{some-one}
 use Rattle.c_syntax.proofs.Terms.{all_terms, among-all, is_among, among-true, every, every-among, both-left, both-right}
 
 abbrev negated : Bool → Bool
@@ -116,13 +117,10 @@ ready-choice what word follower among =
     let each : IsTrue (ready_sort what follower) = every-among (ready_sort what) (followers what) follower (ready-each what) among in
     every-among (λ next. ready_chosen follower (choice what next)) all_terms word each (among-all word)
 
-last-one : {first second : List Step} → Some first ≡ Some second → first ≡ second
-last-one same = cc
-
 -- the steps stay ready where a sort is read
 pub ready-read : (what : Sort) (word : Term) (chosen : List Step) {steps : List Step} → choice what word ≡ Some chosen → IsReady (Read what ∷ steps) → IsReady (chosen ++ steps)
 ready-read what word chosen at (IsReady.reads {steps = steps} among held) = ready-front chosen steps (subst (λ found. IsTrue (ready_chosen (opens term.End steps) found)) at (ready-choice what word (opens term.End steps) among)) held
 ready-read what word chosen at IsReady.beginning =
-    let same : Open ∷ Read sort.Globals ∷ last_steps ≡ chosen = last-one at in
+    let same : Open ∷ Read sort.Globals ∷ last_steps ≡ chosen = some-one at in
     subst (λ first. IsReady (first ++ [])) same (IsReady.plain refl (IsReady.reads (inl refl) IsHeld.ending))
 ready-read what word chosen at (IsReady.plain fails ready) = absurd (false≢true fails)

@@ -53,7 +53,7 @@ wrap-back (Derives.wrap rest) = rest
 pub skip-back : {limit depth : ℕ} {at : Head} {steps : List Step} {words : List Word} {nodes : List Opened} {tree : Tree} → Derives limit (Skip ∷ steps) depth at words nodes tree → Derives limit steps depth at words (skipped nodes) tree
 skip-back (Derives.skip rest) = rest
 
-some-one : {first second : List Step} → Some first ≡ Some second → first ≡ second
+pub some-one : {first second : List Step} → Some first ≡ Some second → first ≡ second
 some-one same = cc
 
 -- a sort is read by the one choice that there is

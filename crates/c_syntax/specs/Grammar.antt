@@ -31,7 +31,7 @@ use Rattle.c_syntax.specs.declared.grammar.Step.TheVariants.{Expect, Deepen, Ris
 
 -- program = { include | global } end
 abbrev pub program : Term → Option (List Step)
-program next = Some (Open ∷ Read sort.Globals ∷ Expect term.End ∷ Make node.Program ∷ [])
+program ahead = Some (Open ∷ Read sort.Globals ∷ Expect term.End ∷ Make node.Program ∷ [])
 
 -- the includes, functions, variables and locks of a file. What follows the word `void` counts as its block for the depth
 abbrev pub globals : Term → Option (List Step)
@@ -39,56 +39,56 @@ globals term.Include = Some (Open ∷ Expect term.Include ∷ Make node.Include 
 globals term.Int = Some (Open ∷ Expect term.Int ∷ Open ∷ Take class.Name ∷ Read sort.AfterIntName ∷ Read sort.Globals ∷ [])
 globals term.Void = Some (Open ∷ Deepen term.Void ∷ Open ∷ Take class.Name ∷ Make node.Name ∷ Expect term.OpenParen ∷ Read sort.Body ∷ Make (node.Function returns.Void) ∷ Rise ∷ Read sort.Globals ∷ [])
 globals term.LockType = Some (Read sort.Locks ∷ Read sort.Globals ∷ [])
-globals next = Some []
+globals ahead = Some []
 
 -- `int` and a name begin a function, or variables. What follows the parenthesis counts as its block for the depth
 abbrev pub after_int_name : Term → Option (List Step)
 after_int_name term.OpenParen = Some (Make node.Name ∷ Deepen term.OpenParen ∷ Read sort.Body ∷ Make (node.Function returns.Int) ∷ Rise ∷ [])
-after_int_name next = Some (Read sort.GlobalRest ∷ Read sort.MoreGlobals ∷ Expect term.Semicolon ∷ Make node.Globals ∷ [])
+after_int_name ahead = Some (Read sort.GlobalRest ∷ Read sort.MoreGlobals ∷ Expect term.Semicolon ∷ Make node.Globals ∷ [])
 
 -- function = .. name ( params ) block
 abbrev pub body : Term → Option (List Step)
-body next = Some (Read sort.Params ∷ Expect term.CloseParen ∷ Open ∷ Expect term.OpenBrace ∷ Read sort.Items ∷ Expect term.CloseBrace ∷ Make node.Block ∷ [])
+body ahead = Some (Read sort.Params ∷ Expect term.CloseParen ∷ Open ∷ Expect term.OpenBrace ∷ Read sort.Items ∷ Expect term.CloseBrace ∷ Make node.Block ∷ [])
 
 -- params = [ void | int name { , int name } ]
 abbrev pub parameters : Term → Option (List Step)
 parameters term.Void = Some (Open ∷ Expect term.Void ∷ Make (node.Params params.Void) ∷ [])
 parameters term.Int = Some (Open ∷ Expect term.Int ∷ Open ∷ Take class.Name ∷ Make node.Name ∷ Read sort.MoreParams ∷ Make (node.Params params.Listed) ∷ [])
-parameters next = Some (Open ∷ Make (node.Params params.Empty) ∷ [])
+parameters ahead = Some (Open ∷ Make (node.Params params.Empty) ∷ [])
 
 -- .. { , int name }
 abbrev pub more_params : Term → Option (List Step)
 more_params term.Comma = Some (Expect term.Comma ∷ Expect term.Int ∷ Open ∷ Take class.Name ∷ Make node.Name ∷ Read sort.MoreParams ∷ [])
-more_params next = Some []
+more_params ahead = Some []
 
 -- global variable = name [ [ number ] | = [ - ] number ]
 abbrev pub global_rest : Term → Option (List Step)
 global_rest term.OpenBracket = Some (Expect term.OpenBracket ∷ Take class.Number ∷ Expect term.CloseBracket ∷ Make node.GlobalArray ∷ [])
 global_rest term.Set = Some (Expect term.Set ∷ Read sort.Initial ∷ [])
-global_rest next = Some (Make node.GlobalVar ∷ [])
+global_rest ahead = Some (Make node.GlobalVar ∷ [])
 
 -- [ - ] number
 abbrev pub initial : Term → Option (List Step)
 initial term.Minus = Some (Expect term.Minus ∷ Take class.Number ∷ Make (node.GlobalSet sign.Minus) ∷ [])
-initial next = Some (Take class.Number ∷ Make (node.GlobalSet sign.Plus) ∷ [])
+initial ahead = Some (Take class.Number ∷ Make (node.GlobalSet sign.Plus) ∷ [])
 
 -- .. { , global variable }
 abbrev pub more_globals : Term → Option (List Step)
 more_globals term.Comma = Some (Expect term.Comma ∷ Open ∷ Take class.Name ∷ Read sort.GlobalRest ∷ Read sort.MoreGlobals ∷ [])
-more_globals next = Some []
+more_globals ahead = Some []
 
 -- locks = omp_lock_t name { , name } ;
 abbrev pub locks : Term → Option (List Step)
-locks next = Some (Open ∷ Expect term.LockType ∷ Open ∷ Take class.Name ∷ Make node.Name ∷ Read sort.MoreLocks ∷ Expect term.Semicolon ∷ Make node.Locks ∷ [])
+locks ahead = Some (Open ∷ Expect term.LockType ∷ Open ∷ Take class.Name ∷ Make node.Name ∷ Read sort.MoreLocks ∷ Expect term.Semicolon ∷ Make node.Locks ∷ [])
 
 -- .. { , name }
 abbrev pub more_locks : Term → Option (List Step)
 more_locks term.Comma = Some (Expect term.Comma ∷ Open ∷ Take class.Name ∷ Make node.Name ∷ Read sort.MoreLocks ∷ [])
-more_locks next = Some []
+more_locks ahead = Some []
 
 -- block = { { item } }
 abbrev pub block : Term → Option (List Step)
-block next = Some (Open ∷ Deepen term.OpenBrace ∷ Read sort.Items ∷ Expect term.CloseBrace ∷ Make node.Block ∷ Rise ∷ [])
+block ahead = Some (Open ∷ Deepen term.OpenBrace ∷ Read sort.Items ∷ Expect term.CloseBrace ∷ Make node.Block ∷ Rise ∷ [])
 
 -- item = variables | locks | statement | directive without statement
 abbrev pub items : Term → Option (List Step)
@@ -96,22 +96,22 @@ items term.CloseBrace = Some []
 items term.Int = Some (Read sort.Locals ∷ Read sort.Items ∷ [])
 items term.LockType = Some (Read sort.Locks ∷ Read sort.Items ∷ [])
 items term.Pragma = Some (Open ∷ Expect term.Pragma ∷ Read sort.ItemDirective ∷ Read sort.Items ∷ [])
-items next = Some (Read sort.PlainStatement ∷ Read sort.Items ∷ [])
+items ahead = Some (Read sort.PlainStatement ∷ Read sort.Items ∷ [])
 
 -- int variable { , variable } ;
 abbrev pub locals : Term → Option (List Step)
-locals next = Some (Open ∷ Expect term.Int ∷ Open ∷ Take class.Name ∷ Read sort.LocalRest ∷ Read sort.MoreLocals ∷ Expect term.Semicolon ∷ Make node.Locals ∷ [])
+locals ahead = Some (Open ∷ Expect term.Int ∷ Open ∷ Take class.Name ∷ Read sort.LocalRest ∷ Read sort.MoreLocals ∷ Expect term.Semicolon ∷ Make node.Locals ∷ [])
 
 -- variable = name [ [ number ] | = right ]
 abbrev pub local_rest : Term → Option (List Step)
 local_rest term.OpenBracket = Some (Expect term.OpenBracket ∷ Take class.Number ∷ Expect term.CloseBracket ∷ Make node.LocalArray ∷ [])
 local_rest term.Set = Some (Expect term.Set ∷ Read sort.Right ∷ Make node.LocalSet ∷ [])
-local_rest next = Some (Make node.LocalVar ∷ [])
+local_rest ahead = Some (Make node.LocalVar ∷ [])
 
 -- .. { , variable }
 abbrev pub more_locals : Term → Option (List Step)
 more_locals term.Comma = Some (Expect term.Comma ∷ Open ∷ Take class.Name ∷ Read sort.LocalRest ∷ Read sort.MoreLocals ∷ [])
-more_locals next = Some []
+more_locals ahead = Some []
 
 -- right = expression | call. A name may begin either
 abbrev pub right : Term → Option (List Step)
@@ -123,17 +123,17 @@ right term.Not = Some (Read sort.Unary ∷ Read sort.ProdTail ∷ Read sort.SumT
 right term.GetThreadNum = Some (Read sort.Unary ∷ Read sort.ProdTail ∷ Read sort.SumTail ∷ Read sort.RelTail ∷ Read sort.EqualTail ∷ Read sort.AndTail ∷ Read sort.OrTail ∷ [])
 right term.GetNumThreads = Some (Read sort.Unary ∷ Read sort.ProdTail ∷ Read sort.SumTail ∷ Read sort.RelTail ∷ Read sort.EqualTail ∷ Read sort.AndTail ∷ Read sort.OrTail ∷ [])
 right term.GetMaxThreads = Some (Read sort.Unary ∷ Read sort.ProdTail ∷ Read sort.SumTail ∷ Read sort.RelTail ∷ Read sort.EqualTail ∷ Read sort.AndTail ∷ Read sort.OrTail ∷ [])
-right next = Some (Open ∷ Take class.Name ∷ Read sort.AfterRightName ∷ [])
+right ahead = Some (Open ∷ Take class.Name ∷ Read sort.AfterRightName ∷ [])
 
 -- .. as a call, or as a place in an expression
 abbrev pub after_right_name : Term → Option (List Step)
 after_right_name term.OpenParen = Some (Expect term.OpenParen ∷ Read sort.Args ∷ Expect term.CloseParen ∷ Make node.Call ∷ [])
-after_right_name next = Some (Read sort.IndexPart ∷ Make node.Place ∷ Read sort.ProdTail ∷ Read sort.SumTail ∷ Read sort.RelTail ∷ Read sort.EqualTail ∷ Read sort.AndTail ∷ Read sort.OrTail ∷ [])
+after_right_name ahead = Some (Read sort.IndexPart ∷ Make node.Place ∷ Read sort.ProdTail ∷ Read sort.SumTail ∷ Read sort.RelTail ∷ Read sort.EqualTail ∷ Read sort.AndTail ∷ Read sort.OrTail ∷ [])
 
 -- statement = plain statement | construct
 abbrev pub statement : Term → Option (List Step)
 statement term.Pragma = Some (Open ∷ Deepen term.Pragma ∷ Read sort.Construct ∷ [])
-statement next = Some (Read sort.PlainStatement ∷ [])
+statement ahead = Some (Read sort.PlainStatement ∷ [])
 
 -- the statements that are no constructs
 abbrev pub plain_statement : Term → Option (List Step)
@@ -151,12 +151,12 @@ plain_statement term.UnsetLock = Some (Open ∷ Expect term.UnsetLock ∷ Expect
 plain_statement term.TestLock = Some (Open ∷ Open ∷ Expect term.TestLock ∷ Expect term.OpenParen ∷ Expect term.Ampersand ∷ Open ∷ Take class.Name ∷ Make node.Name ∷ Expect term.CloseParen ∷ Make node.TestLock ∷ Expect term.Semicolon ∷ Make node.Called ∷ [])
 plain_statement term.PlusPlus = Some (Open ∷ Open ∷ Expect term.PlusPlus ∷ Read sort.Place ∷ Make (node.Bump bump.Increment side.Before) ∷ Expect term.Semicolon ∷ Make node.Step ∷ [])
 plain_statement term.MinusMinus = Some (Open ∷ Open ∷ Expect term.MinusMinus ∷ Read sort.Place ∷ Make (node.Bump bump.Decrement side.Before) ∷ Expect term.Semicolon ∷ Make node.Step ∷ [])
-plain_statement next = Some (Open ∷ Take class.Name ∷ Read sort.AfterStatementName ∷ [])
+plain_statement ahead = Some (Open ∷ Take class.Name ∷ Read sort.AfterStatementName ∷ [])
 
 -- a call ; or what is done with a place
 abbrev pub after_statement_name : Term → Option (List Step)
 after_statement_name term.OpenParen = Some (Expect term.OpenParen ∷ Read sort.Args ∷ Expect term.CloseParen ∷ Make node.Call ∷ Wrap node.Called ∷ Expect term.Semicolon ∷ [])
-after_statement_name next = Some (Read sort.IndexPart ∷ Make node.Place ∷ Read sort.AfterPlace ∷ [])
+after_statement_name ahead = Some (Read sort.IndexPart ∷ Make node.Place ∷ Read sort.AfterPlace ∷ [])
 
 -- place = right ; | step ;
 abbrev pub after_place : Term → Option (List Step)
@@ -168,7 +168,7 @@ after_place term.SlashSet = Some (Expect term.SlashSet ∷ Read sort.Expr ∷ Jo
 after_place term.PercentSet = Some (Expect term.PercentSet ∷ Read sort.Expr ∷ Join (node.Assign setting.Remainder) ∷ Wrap node.Step ∷ Expect term.Semicolon ∷ [])
 after_place term.PlusPlus = Some (Expect term.PlusPlus ∷ Wrap (node.Bump bump.Increment side.Behind) ∷ Wrap node.Step ∷ Expect term.Semicolon ∷ [])
 after_place term.MinusMinus = Some (Expect term.MinusMinus ∷ Wrap (node.Bump bump.Decrement side.Behind) ∷ Wrap node.Step ∷ Expect term.Semicolon ∷ [])
-after_place next = None
+after_place ahead = None
 
 -- an assignment of an expression is a step, one of a call is not
 abbrev pub assign_right : Term → Option (List Step)
@@ -180,31 +180,31 @@ assign_right term.Not = Some (Read sort.Unary ∷ Read sort.ProdTail ∷ Read so
 assign_right term.GetThreadNum = Some (Read sort.Unary ∷ Read sort.ProdTail ∷ Read sort.SumTail ∷ Read sort.RelTail ∷ Read sort.EqualTail ∷ Read sort.AndTail ∷ Read sort.OrTail ∷ Join (node.Assign setting.Plain) ∷ Wrap node.Step ∷ [])
 assign_right term.GetNumThreads = Some (Read sort.Unary ∷ Read sort.ProdTail ∷ Read sort.SumTail ∷ Read sort.RelTail ∷ Read sort.EqualTail ∷ Read sort.AndTail ∷ Read sort.OrTail ∷ Join (node.Assign setting.Plain) ∷ Wrap node.Step ∷ [])
 assign_right term.GetMaxThreads = Some (Read sort.Unary ∷ Read sort.ProdTail ∷ Read sort.SumTail ∷ Read sort.RelTail ∷ Read sort.EqualTail ∷ Read sort.AndTail ∷ Read sort.OrTail ∷ Join (node.Assign setting.Plain) ∷ Wrap node.Step ∷ [])
-assign_right next = Some (Open ∷ Take class.Name ∷ Read sort.AfterAssignName ∷ [])
+assign_right ahead = Some (Open ∷ Take class.Name ∷ Read sort.AfterAssignName ∷ [])
 
 -- .. a name there
 abbrev pub after_assign_name : Term → Option (List Step)
 after_assign_name term.OpenParen = Some (Expect term.OpenParen ∷ Read sort.Args ∷ Expect term.CloseParen ∷ Make node.Call ∷ Join node.SetCall ∷ [])
-after_assign_name next = Some (Read sort.IndexPart ∷ Make node.Place ∷ Read sort.ProdTail ∷ Read sort.SumTail ∷ Read sort.RelTail ∷ Read sort.EqualTail ∷ Read sort.AndTail ∷ Read sort.OrTail ∷ Join (node.Assign setting.Plain) ∷ Wrap node.Step ∷ [])
+after_assign_name ahead = Some (Read sort.IndexPart ∷ Make node.Place ∷ Read sort.ProdTail ∷ Read sort.SumTail ∷ Read sort.RelTail ∷ Read sort.EqualTail ∷ Read sort.AndTail ∷ Read sort.OrTail ∷ Join (node.Assign setting.Plain) ∷ Wrap node.Step ∷ [])
 
 -- place = name [ [ expression ] ]
 abbrev pub place : Term → Option (List Step)
-place next = Some (Open ∷ Take class.Name ∷ Read sort.IndexPart ∷ Make node.Place ∷ [])
+place ahead = Some (Open ∷ Take class.Name ∷ Read sort.IndexPart ∷ Make node.Place ∷ [])
 
 -- [ expression { , expression } ]
 abbrev pub args : Term → Option (List Step)
 args term.CloseParen = Some []
-args next = Some (Read sort.Expr ∷ Read sort.MoreArgs ∷ [])
+args ahead = Some (Read sort.Expr ∷ Read sort.MoreArgs ∷ [])
 
 -- .. { , expression }
 abbrev pub more_args : Term → Option (List Step)
 more_args term.Comma = Some (Expect term.Comma ∷ Read sort.Expr ∷ Read sort.MoreArgs ∷ [])
-more_args next = Some []
+more_args ahead = Some []
 
 -- [ else statement ]. It belongs to the nearest `if`, since it is absent only where no `else` stands
 abbrev pub else_part : Term → Option (List Step)
 else_part term.Else = Some (Expect term.Else ∷ Read sort.Statement ∷ [])
-else_part next = Some (Skip ∷ [])
+else_part ahead = Some (Skip ∷ [])
 
 -- [ int name = expression | step ]
 abbrev pub init_part : Term → Option (List Step)
@@ -212,19 +212,19 @@ init_part term.Semicolon = Some (Skip ∷ [])
 init_part term.Int = Some (Open ∷ Expect term.Int ∷ Open ∷ Take class.Name ∷ Make node.Name ∷ Expect term.Set ∷ Read sort.Expr ∷ Make node.Init ∷ [])
 init_part term.PlusPlus = Some (Open ∷ Expect term.PlusPlus ∷ Read sort.Place ∷ Make (node.Bump bump.Increment side.Before) ∷ [])
 init_part term.MinusMinus = Some (Open ∷ Expect term.MinusMinus ∷ Read sort.Place ∷ Make (node.Bump bump.Decrement side.Before) ∷ [])
-init_part next = Some (Read sort.Place ∷ Read sort.StepRest ∷ [])
+init_part ahead = Some (Read sort.Place ∷ Read sort.StepRest ∷ [])
 
 -- [ expression ]
 abbrev pub cond_part : Term → Option (List Step)
 cond_part term.Semicolon = Some (Skip ∷ [])
-cond_part next = Some (Read sort.Expr ∷ [])
+cond_part ahead = Some (Read sort.Expr ∷ [])
 
 -- [ step ]
 abbrev pub step_part : Term → Option (List Step)
 step_part term.CloseParen = Some (Skip ∷ [])
 step_part term.PlusPlus = Some (Open ∷ Expect term.PlusPlus ∷ Read sort.Place ∷ Make (node.Bump bump.Increment side.Before) ∷ [])
 step_part term.MinusMinus = Some (Open ∷ Expect term.MinusMinus ∷ Read sort.Place ∷ Make (node.Bump bump.Decrement side.Before) ∷ [])
-step_part next = Some (Read sort.Place ∷ Read sort.StepRest ∷ [])
+step_part ahead = Some (Read sort.Place ∷ Read sort.StepRest ∷ [])
 
 -- step = place ( = | += | -= | *= | /= | %= ) expression | place ++ | place -- | ++ place | -- place
 abbrev pub step_rest : Term → Option (List Step)
@@ -236,44 +236,44 @@ step_rest term.SlashSet = Some (Expect term.SlashSet ∷ Read sort.Expr ∷ Join
 step_rest term.PercentSet = Some (Expect term.PercentSet ∷ Read sort.Expr ∷ Join (node.Assign setting.Remainder) ∷ [])
 step_rest term.PlusPlus = Some (Expect term.PlusPlus ∷ Wrap (node.Bump bump.Increment side.Behind) ∷ [])
 step_rest term.MinusMinus = Some (Expect term.MinusMinus ∷ Wrap (node.Bump bump.Decrement side.Behind) ∷ [])
-step_rest next = None
+step_rest ahead = None
 
 -- [ right ]
 abbrev pub return_part : Term → Option (List Step)
 return_part term.Semicolon = Some []
-return_part next = Some (Read sort.Right ∷ [])
+return_part ahead = Some (Read sort.Right ∷ [])
 
 -- expression = and { || and }
 abbrev pub expr : Term → Option (List Step)
-expr next = Some (Read sort.AndChain ∷ Read sort.OrTail ∷ [])
+expr ahead = Some (Read sort.AndChain ∷ Read sort.OrTail ∷ [])
 
 -- .. { || and }
 abbrev pub or_tail : Term → Option (List Step)
 or_tail term.OrOr = Some (Expect term.OrOr ∷ Read sort.AndChain ∷ Join (node.Binary binary.Or) ∷ Read sort.OrTail ∷ [])
-or_tail next = Some []
+or_tail ahead = Some []
 
 -- and = equal { && equal }
 abbrev pub and_chain : Term → Option (List Step)
-and_chain next = Some (Read sort.EqualChain ∷ Read sort.AndTail ∷ [])
+and_chain ahead = Some (Read sort.EqualChain ∷ Read sort.AndTail ∷ [])
 
 -- .. { && equal }
 abbrev pub and_tail : Term → Option (List Step)
 and_tail term.AndAnd = Some (Expect term.AndAnd ∷ Read sort.EqualChain ∷ Join (node.Binary binary.And) ∷ Read sort.AndTail ∷ [])
-and_tail next = Some []
+and_tail ahead = Some []
 
 -- equal = rel { ( == | != ) rel }
 abbrev pub equal_chain : Term → Option (List Step)
-equal_chain next = Some (Read sort.RelChain ∷ Read sort.EqualTail ∷ [])
+equal_chain ahead = Some (Read sort.RelChain ∷ Read sort.EqualTail ∷ [])
 
 -- .. { ( == | != ) rel }
 abbrev pub equal_tail : Term → Option (List Step)
 equal_tail term.EqualEqual = Some (Expect term.EqualEqual ∷ Read sort.RelChain ∷ Join (node.Binary binary.Equal) ∷ Read sort.EqualTail ∷ [])
 equal_tail term.NotEqual = Some (Expect term.NotEqual ∷ Read sort.RelChain ∷ Join (node.Binary binary.NotEqual) ∷ Read sort.EqualTail ∷ [])
-equal_tail next = Some []
+equal_tail ahead = Some []
 
 -- rel = sum { ( < | <= | > | >= ) sum }
 abbrev pub rel_chain : Term → Option (List Step)
-rel_chain next = Some (Read sort.SumChain ∷ Read sort.RelTail ∷ [])
+rel_chain ahead = Some (Read sort.SumChain ∷ Read sort.RelTail ∷ [])
 
 -- .. { ( < | <= | > | >= ) sum }
 abbrev pub rel_tail : Term → Option (List Step)
@@ -281,28 +281,28 @@ rel_tail term.Less = Some (Expect term.Less ∷ Read sort.SumChain ∷ Join (nod
 rel_tail term.LessEqual = Some (Expect term.LessEqual ∷ Read sort.SumChain ∷ Join (node.Binary binary.LessEqual) ∷ Read sort.RelTail ∷ [])
 rel_tail term.Greater = Some (Expect term.Greater ∷ Read sort.SumChain ∷ Join (node.Binary binary.Greater) ∷ Read sort.RelTail ∷ [])
 rel_tail term.GreaterEqual = Some (Expect term.GreaterEqual ∷ Read sort.SumChain ∷ Join (node.Binary binary.GreaterEqual) ∷ Read sort.RelTail ∷ [])
-rel_tail next = Some []
+rel_tail ahead = Some []
 
 -- sum = prod { ( + | - ) prod }
 abbrev pub sum_chain : Term → Option (List Step)
-sum_chain next = Some (Read sort.ProdChain ∷ Read sort.SumTail ∷ [])
+sum_chain ahead = Some (Read sort.ProdChain ∷ Read sort.SumTail ∷ [])
 
 -- .. { ( + | - ) prod }
 abbrev pub sum_tail : Term → Option (List Step)
 sum_tail term.Plus = Some (Expect term.Plus ∷ Read sort.ProdChain ∷ Join (node.Binary binary.Add) ∷ Read sort.SumTail ∷ [])
 sum_tail term.Minus = Some (Expect term.Minus ∷ Read sort.ProdChain ∷ Join (node.Binary binary.Subtract) ∷ Read sort.SumTail ∷ [])
-sum_tail next = Some []
+sum_tail ahead = Some []
 
 -- prod = unary { ( * | / | % ) unary }
 abbrev pub prod_chain : Term → Option (List Step)
-prod_chain next = Some (Read sort.Unary ∷ Read sort.ProdTail ∷ [])
+prod_chain ahead = Some (Read sort.Unary ∷ Read sort.ProdTail ∷ [])
 
 -- .. { ( * | / | % ) unary }
 abbrev pub prod_tail : Term → Option (List Step)
 prod_tail term.Star = Some (Expect term.Star ∷ Read sort.Unary ∷ Join (node.Binary binary.Multiply) ∷ Read sort.ProdTail ∷ [])
 prod_tail term.Slash = Some (Expect term.Slash ∷ Read sort.Unary ∷ Join (node.Binary binary.Divide) ∷ Read sort.ProdTail ∷ [])
 prod_tail term.Percent = Some (Expect term.Percent ∷ Read sort.Unary ∷ Join (node.Binary binary.Remainder) ∷ Read sort.ProdTail ∷ [])
-prod_tail next = Some []
+prod_tail ahead = Some []
 
 -- unary = ( - | ! ) unary | number | ( expression ) | getter ( ) | place
 abbrev pub unary : Term → Option (List Step)
@@ -313,17 +313,17 @@ unary term.OpenParen = Some (Open ∷ Deepen term.OpenParen ∷ Read sort.Expr �
 unary term.GetThreadNum = Some (Open ∷ Take (class.Routine getter.ThreadNum) ∷ Read (sort.AfterGetter getter.ThreadNum) ∷ [])
 unary term.GetNumThreads = Some (Open ∷ Take (class.Routine getter.NumThreads) ∷ Read (sort.AfterGetter getter.NumThreads) ∷ [])
 unary term.GetMaxThreads = Some (Open ∷ Take (class.Routine getter.MaxThreads) ∷ Read (sort.AfterGetter getter.MaxThreads) ∷ [])
-unary next = Some (Open ∷ Take class.Name ∷ Read sort.IndexPart ∷ Make node.Place ∷ [])
+unary ahead = Some (Open ∷ Take class.Name ∷ Read sort.IndexPart ∷ Make node.Place ∷ [])
 
 -- [ [ expression ] ]
 abbrev pub index_part : Term → Option (List Step)
 index_part term.OpenBracket = Some (Deepen term.OpenBracket ∷ Read sort.Expr ∷ Expect term.CloseBracket ∷ Rise ∷ [])
-index_part next = Some []
+index_part ahead = Some []
 
 -- .. ( ), or in the head of a directive the routine's name as a place
 abbrev pub after_getter : Getter → Term → Option (List Step)
 after_getter which term.OpenParen = Some (Expect term.OpenParen ∷ Expect term.CloseParen ∷ Make (node.Getter which) ∷ [])
-after_getter which next = Some (InHead ∷ Read sort.IndexPart ∷ Make node.Place ∷ [])
+after_getter which ahead = Some (InHead ∷ Read sort.IndexPart ∷ Make node.Place ∷ [])
 
 -- a directive without statement, or a construct, which counts for the depth only now
 abbrev pub item_directive : Term → Option (List Step)
@@ -337,7 +337,7 @@ item_directive term.Masked = Some (Deepen term.Masked ∷ Read (sort.Behind dire
 item_directive term.Master = Some (Deepen term.Master ∷ Read (sort.Behind directive.Master) ∷ Rise ∷ [])
 item_directive term.Critical = Some (Deepen term.Critical ∷ Read (sort.Behind directive.Critical) ∷ Rise ∷ [])
 item_directive term.Task = Some (Deepen term.Task ∷ Read (sort.Behind directive.Task) ∷ Rise ∷ [])
-item_directive next = None
+item_directive ahead = None
 
 -- construct = # directive { [ , ] clause } statement, from the directive on
 abbrev pub construct : Term → Option (List Step)
@@ -349,50 +349,50 @@ construct term.Masked = Some (Expect term.Masked ∷ Read (sort.Behind directive
 construct term.Master = Some (Expect term.Master ∷ Read (sort.Behind directive.Master) ∷ Rise ∷ [])
 construct term.Critical = Some (Expect term.Critical ∷ Read (sort.Behind directive.Critical) ∷ Rise ∷ [])
 construct term.Task = Some (Expect term.Task ∷ Read (sort.Behind directive.Task) ∷ Rise ∷ [])
-construct next = None
+construct ahead = None
 
 -- what follows the first word of a directive
 abbrev pub behind_directive : Directive → Term → Option (List Step)
-behind_directive directive.Parallel next = Some (Read sort.AfterParallel ∷ [])
-behind_directive directive.For next = Some (Read (sort.Clauses directive.For) ∷ Expect term.PragmaEnd ∷ Read sort.Statement ∷ Make (node.Construct directive.For) ∷ [])
-behind_directive directive.Sections next = Some (Read (sort.Clauses directive.Sections) ∷ Expect term.PragmaEnd ∷ Read sort.SectionsBody ∷ Make (node.Construct directive.Sections) ∷ [])
-behind_directive directive.Single next = Some (Read (sort.Clauses directive.Single) ∷ Expect term.PragmaEnd ∷ Read sort.Statement ∷ Make (node.Construct directive.Single) ∷ [])
-behind_directive directive.ParallelFor next = Some (Read (sort.Clauses directive.ParallelFor) ∷ Expect term.PragmaEnd ∷ Read sort.Statement ∷ Make (node.Construct directive.ParallelFor) ∷ [])
-behind_directive directive.ParallelSections next = Some (Read (sort.Clauses directive.ParallelSections) ∷ Expect term.PragmaEnd ∷ Read sort.SectionsBody ∷ Make (node.Construct directive.ParallelSections) ∷ [])
-behind_directive directive.Masked next = Some (Expect term.PragmaEnd ∷ Read sort.Statement ∷ Make (node.Construct directive.Masked) ∷ [])
-behind_directive directive.Master next = Some (Expect term.PragmaEnd ∷ Read sort.Statement ∷ Make (node.Construct directive.Master) ∷ [])
-behind_directive directive.Critical next = Some (Read sort.CriticalName ∷ Expect term.PragmaEnd ∷ Read sort.Statement ∷ Make (node.Construct directive.Critical) ∷ [])
-behind_directive directive.Task next = Some (Read (sort.Clauses directive.Task) ∷ Expect term.PragmaEnd ∷ Read sort.Statement ∷ Make (node.Construct directive.Task) ∷ [])
+behind_directive directive.Parallel ahead = Some (Read sort.AfterParallel ∷ [])
+behind_directive directive.For ahead = Some (Read (sort.Clauses directive.For) ∷ Expect term.PragmaEnd ∷ Read sort.Statement ∷ Make (node.Construct directive.For) ∷ [])
+behind_directive directive.Sections ahead = Some (Read (sort.Clauses directive.Sections) ∷ Expect term.PragmaEnd ∷ Read sort.SectionsBody ∷ Make (node.Construct directive.Sections) ∷ [])
+behind_directive directive.Single ahead = Some (Read (sort.Clauses directive.Single) ∷ Expect term.PragmaEnd ∷ Read sort.Statement ∷ Make (node.Construct directive.Single) ∷ [])
+behind_directive directive.ParallelFor ahead = Some (Read (sort.Clauses directive.ParallelFor) ∷ Expect term.PragmaEnd ∷ Read sort.Statement ∷ Make (node.Construct directive.ParallelFor) ∷ [])
+behind_directive directive.ParallelSections ahead = Some (Read (sort.Clauses directive.ParallelSections) ∷ Expect term.PragmaEnd ∷ Read sort.SectionsBody ∷ Make (node.Construct directive.ParallelSections) ∷ [])
+behind_directive directive.Masked ahead = Some (Expect term.PragmaEnd ∷ Read sort.Statement ∷ Make (node.Construct directive.Masked) ∷ [])
+behind_directive directive.Master ahead = Some (Expect term.PragmaEnd ∷ Read sort.Statement ∷ Make (node.Construct directive.Master) ∷ [])
+behind_directive directive.Critical ahead = Some (Read sort.CriticalName ∷ Expect term.PragmaEnd ∷ Read sort.Statement ∷ Make (node.Construct directive.Critical) ∷ [])
+behind_directive directive.Task ahead = Some (Read (sort.Clauses directive.Task) ∷ Expect term.PragmaEnd ∷ Read sort.Statement ∷ Make (node.Construct directive.Task) ∷ [])
 
 -- parallel, parallel for, parallel sections
 abbrev pub after_parallel : Term → Option (List Step)
 after_parallel term.For = Some (Expect term.For ∷ Read (sort.Behind directive.ParallelFor) ∷ [])
 after_parallel term.Sections = Some (Expect term.Sections ∷ Read (sort.Behind directive.ParallelSections) ∷ [])
-after_parallel next = Some (Read (sort.Clauses directive.Parallel) ∷ Expect term.PragmaEnd ∷ Read sort.Statement ∷ Make (node.Construct directive.Parallel) ∷ [])
+after_parallel ahead = Some (Read (sort.Clauses directive.Parallel) ∷ Expect term.PragmaEnd ∷ Read sort.Statement ∷ Make (node.Construct directive.Parallel) ∷ [])
 
 -- [ ( name ) ]
 abbrev pub critical_name : Term → Option (List Step)
 critical_name term.OpenParen = Some (Expect term.OpenParen ∷ Open ∷ Take class.Name ∷ Make node.Name ∷ Expect term.CloseParen ∷ [])
-critical_name next = Some []
+critical_name ahead = Some []
 
 -- { ( statement | section ) { section } }
 abbrev pub sections_body : Term → Option (List Step)
-sections_body next = Some (Expect term.OpenBrace ∷ Read sort.FirstSection ∷ Read sort.MoreSections ∷ Expect term.CloseBrace ∷ [])
+sections_body ahead = Some (Expect term.OpenBrace ∷ Read sort.FirstSection ∷ Read sort.MoreSections ∷ Expect term.CloseBrace ∷ [])
 
 -- statement | section
 abbrev pub first_section : Term → Option (List Step)
 first_section term.Pragma = Some (Open ∷ Deepen term.Pragma ∷ Read sort.SectionOrConstruct ∷ [])
-first_section next = Some (Read sort.PlainStatement ∷ [])
+first_section ahead = Some (Read sort.PlainStatement ∷ [])
 
 -- .. behind the head of its directive
 abbrev pub section_or_construct : Term → Option (List Step)
 section_or_construct term.Section = Some (Expect term.Section ∷ Expect term.PragmaEnd ∷ Read sort.Statement ∷ Make node.Section ∷ Rise ∷ [])
-section_or_construct next = Some (Read sort.Construct ∷ [])
+section_or_construct ahead = Some (Read sort.Construct ∷ [])
 
 -- { section }
 abbrev pub more_sections : Term → Option (List Step)
 more_sections term.Pragma = Some (Open ∷ Deepen term.Pragma ∷ Expect term.Section ∷ Expect term.PragmaEnd ∷ Read sort.Statement ∷ Make node.Section ∷ Rise ∷ Read sort.MoreSections ∷ [])
-more_sections next = Some []
+more_sections ahead = Some []
 
 -- which directives have which clauses
 abbrev pub forks : Directive → Bool
@@ -456,19 +456,19 @@ clause directive term.Reduction = given (reduces directive) (Open ∷ Expect ter
 clause directive term.Schedule = given (schedules directive) (Open ∷ Expect term.Schedule ∷ Expect term.OpenParen ∷ Read sort.Kind ∷ [])
 clause directive term.Nowait = given (waits directive) (Open ∷ Expect term.Nowait ∷ Make node.Nowait ∷ [])
 clause directive term.If = given (defers directive) (Open ∷ Expect term.If ∷ Expect term.OpenParen ∷ Read sort.Expr ∷ Expect term.CloseParen ∷ Make node.IfClause ∷ [])
-clause directive next = None
+clause directive ahead = None
 
 -- { [ , ] clause }
 abbrev pub clauses : Directive → Term → Option (List Step)
 clauses directive term.PragmaEnd = Some []
 clauses directive term.Comma = Some (Expect term.Comma ∷ Read (sort.Clause directive) ∷ Wrap (node.Clause lead.Comma) ∷ Read (sort.Clauses directive) ∷ [])
-clauses directive next = Some (Read (sort.Clause directive) ∷ Wrap (node.Clause lead.Blank) ∷ Read (sort.Clauses directive) ∷ [])
+clauses directive ahead = Some (Read (sort.Clause directive) ∷ Wrap (node.Clause lead.Blank) ∷ Read (sort.Clauses directive) ∷ [])
 
 -- shared | none
 abbrev pub default_word : Term → Option (List Step)
 default_word term.Shared = Some (Expect term.Shared ∷ Expect term.CloseParen ∷ Make (node.Default default.Shared) ∷ [])
 default_word term.None = Some (Expect term.None ∷ Expect term.CloseParen ∷ Make (node.Default default.None) ∷ [])
-default_word next = None
+default_word ahead = None
 
 -- ( + | * | max | min ) : names
 abbrev pub operator : Term → Option (List Step)
@@ -476,93 +476,93 @@ operator term.Plus = Some (Expect term.Plus ∷ Expect term.Colon ∷ Read sort.
 operator term.Star = Some (Expect term.Star ∷ Expect term.Colon ∷ Read sort.Names ∷ Expect term.CloseParen ∷ Make (node.Reduction reduction.Multiply) ∷ [])
 operator term.Max = Some (Expect term.Max ∷ Expect term.Colon ∷ Read sort.Names ∷ Expect term.CloseParen ∷ Make (node.Reduction reduction.Max) ∷ [])
 operator term.Min = Some (Expect term.Min ∷ Expect term.Colon ∷ Read sort.Names ∷ Expect term.CloseParen ∷ Make (node.Reduction reduction.Min) ∷ [])
-operator next = None
+operator ahead = None
 
 -- ( static | dynamic | guided ) [ , number ]
 abbrev pub kind_word : Term → Option (List Step)
 kind_word term.Static = Some (Expect term.Static ∷ Read sort.ChunkPart ∷ Expect term.CloseParen ∷ Make (node.Schedule kind.Static) ∷ [])
 kind_word term.Dynamic = Some (Expect term.Dynamic ∷ Read sort.ChunkPart ∷ Expect term.CloseParen ∷ Make (node.Schedule kind.Dynamic) ∷ [])
 kind_word term.Guided = Some (Expect term.Guided ∷ Read sort.ChunkPart ∷ Expect term.CloseParen ∷ Make (node.Schedule kind.Guided) ∷ [])
-kind_word next = None
+kind_word ahead = None
 
 -- [ , number ]
 abbrev pub chunk_part : Term → Option (List Step)
 chunk_part term.Comma = Some (Expect term.Comma ∷ Open ∷ Take class.Number ∷ Make node.Number ∷ [])
-chunk_part next = Some []
+chunk_part ahead = Some []
 
 -- name { , name }
 abbrev pub names : Term → Option (List Step)
-names next = Some (Open ∷ Take class.Name ∷ Make node.Name ∷ Read sort.MoreNames ∷ [])
+names ahead = Some (Open ∷ Take class.Name ∷ Make node.Name ∷ Read sort.MoreNames ∷ [])
 
 -- .. { , name }
 abbrev pub more_names : Term → Option (List Step)
 more_names term.Comma = Some (Expect term.Comma ∷ Open ∷ Take class.Name ∷ Make node.Name ∷ Read sort.MoreNames ∷ [])
-more_names next = Some []
+more_names ahead = Some []
 
 -- what a sort of text is read by, where this word is next; none where no text of the sort begins so
 abbrev pub choice : Sort → Term → Option (List Step)
-choice sort.Program next = program next
-choice sort.Globals next = globals next
-choice sort.AfterIntName next = after_int_name next
-choice sort.Body next = body next
-choice sort.Params next = parameters next
-choice sort.MoreParams next = more_params next
-choice sort.GlobalRest next = global_rest next
-choice sort.Initial next = initial next
-choice sort.MoreGlobals next = more_globals next
-choice sort.Locks next = locks next
-choice sort.MoreLocks next = more_locks next
-choice sort.Block next = block next
-choice sort.Items next = items next
-choice sort.Locals next = locals next
-choice sort.LocalRest next = local_rest next
-choice sort.MoreLocals next = more_locals next
-choice sort.Right next = right next
-choice sort.AfterRightName next = after_right_name next
-choice sort.Statement next = statement next
-choice sort.PlainStatement next = plain_statement next
-choice sort.AfterStatementName next = after_statement_name next
-choice sort.AfterPlace next = after_place next
-choice sort.AssignRight next = assign_right next
-choice sort.AfterAssignName next = after_assign_name next
-choice sort.Place next = place next
-choice sort.Args next = args next
-choice sort.MoreArgs next = more_args next
-choice sort.ElsePart next = else_part next
-choice sort.InitPart next = init_part next
-choice sort.CondPart next = cond_part next
-choice sort.StepPart next = step_part next
-choice sort.StepRest next = step_rest next
-choice sort.ReturnPart next = return_part next
-choice sort.Expr next = expr next
-choice sort.OrTail next = or_tail next
-choice sort.AndChain next = and_chain next
-choice sort.AndTail next = and_tail next
-choice sort.EqualChain next = equal_chain next
-choice sort.EqualTail next = equal_tail next
-choice sort.RelChain next = rel_chain next
-choice sort.RelTail next = rel_tail next
-choice sort.SumChain next = sum_chain next
-choice sort.SumTail next = sum_tail next
-choice sort.ProdChain next = prod_chain next
-choice sort.ProdTail next = prod_tail next
-choice sort.Unary next = unary next
-choice sort.IndexPart next = index_part next
-choice (sort.AfterGetter which) next = after_getter which next
-choice sort.ItemDirective next = item_directive next
-choice sort.Construct next = construct next
-choice (sort.Behind directive) next = behind_directive directive next
-choice sort.AfterParallel next = after_parallel next
-choice sort.CriticalName next = critical_name next
-choice sort.SectionsBody next = sections_body next
-choice sort.FirstSection next = first_section next
-choice sort.SectionOrConstruct next = section_or_construct next
-choice sort.MoreSections next = more_sections next
-choice (sort.Clauses directive) next = clauses directive next
-choice sort.DefaultWord next = default_word next
-choice sort.Operator next = operator next
-choice sort.Kind next = kind_word next
-choice sort.ChunkPart next = chunk_part next
-choice sort.Names next = names next
-choice sort.MoreNames next = more_names next
-choice (sort.Clause directive) next = clause directive next
+choice sort.Program ahead = program ahead
+choice sort.Globals ahead = globals ahead
+choice sort.AfterIntName ahead = after_int_name ahead
+choice sort.Body ahead = body ahead
+choice sort.Params ahead = parameters ahead
+choice sort.MoreParams ahead = more_params ahead
+choice sort.GlobalRest ahead = global_rest ahead
+choice sort.Initial ahead = initial ahead
+choice sort.MoreGlobals ahead = more_globals ahead
+choice sort.Locks ahead = locks ahead
+choice sort.MoreLocks ahead = more_locks ahead
+choice sort.Block ahead = block ahead
+choice sort.Items ahead = items ahead
+choice sort.Locals ahead = locals ahead
+choice sort.LocalRest ahead = local_rest ahead
+choice sort.MoreLocals ahead = more_locals ahead
+choice sort.Right ahead = right ahead
+choice sort.AfterRightName ahead = after_right_name ahead
+choice sort.Statement ahead = statement ahead
+choice sort.PlainStatement ahead = plain_statement ahead
+choice sort.AfterStatementName ahead = after_statement_name ahead
+choice sort.AfterPlace ahead = after_place ahead
+choice sort.AssignRight ahead = assign_right ahead
+choice sort.AfterAssignName ahead = after_assign_name ahead
+choice sort.Place ahead = place ahead
+choice sort.Args ahead = args ahead
+choice sort.MoreArgs ahead = more_args ahead
+choice sort.ElsePart ahead = else_part ahead
+choice sort.InitPart ahead = init_part ahead
+choice sort.CondPart ahead = cond_part ahead
+choice sort.StepPart ahead = step_part ahead
+choice sort.StepRest ahead = step_rest ahead
+choice sort.ReturnPart ahead = return_part ahead
+choice sort.Expr ahead = expr ahead
+choice sort.OrTail ahead = or_tail ahead
+choice sort.AndChain ahead = and_chain ahead
+choice sort.AndTail ahead = and_tail ahead
+choice sort.EqualChain ahead = equal_chain ahead
+choice sort.EqualTail ahead = equal_tail ahead
+choice sort.RelChain ahead = rel_chain ahead
+choice sort.RelTail ahead = rel_tail ahead
+choice sort.SumChain ahead = sum_chain ahead
+choice sort.SumTail ahead = sum_tail ahead
+choice sort.ProdChain ahead = prod_chain ahead
+choice sort.ProdTail ahead = prod_tail ahead
+choice sort.Unary ahead = unary ahead
+choice sort.IndexPart ahead = index_part ahead
+choice (sort.AfterGetter which) ahead = after_getter which ahead
+choice sort.ItemDirective ahead = item_directive ahead
+choice sort.Construct ahead = construct ahead
+choice (sort.Behind directive) ahead = behind_directive directive ahead
+choice sort.AfterParallel ahead = after_parallel ahead
+choice sort.CriticalName ahead = critical_name ahead
+choice sort.SectionsBody ahead = sections_body ahead
+choice sort.FirstSection ahead = first_section ahead
+choice sort.SectionOrConstruct ahead = section_or_construct ahead
+choice sort.MoreSections ahead = more_sections ahead
+choice (sort.Clauses directive) ahead = clauses directive ahead
+choice sort.DefaultWord ahead = default_word ahead
+choice sort.Operator ahead = operator ahead
+choice sort.Kind ahead = kind_word ahead
+choice sort.ChunkPart ahead = chunk_part ahead
+choice sort.Names ahead = names ahead
+choice sort.MoreNames ahead = more_names ahead
+choice (sort.Clause directive) ahead = clause directive ahead

@@ -4,6 +4,7 @@
 pub mod fault;
 pub mod grammar;
 pub mod head;
+pub mod laws;
 pub mod node;
 pub mod plan;
 pub mod rules;

@@ -1,0 +1,23 @@
+//! What follows from the definitions alone: each law is the contract of a function with an empty body.
+
+ghost use Rattle.std.specs.Prelude.{◌≡◌, List};
+ghost use Rattle.c_syntax.specs.declared.fault.SyntaxFault.{SyntaxFault};
+ghost use Rattle.c_syntax.specs.Words.{Word};
+ghost use Rattle.c_syntax.specs.Tree.{Tree};
+ghost use Rattle.c_syntax.specs.Derivation.{Spells};
+ghost use Rattle.c_syntax.specs.Faults.{IsFault};
+
+/// A program has one tree.
+pub fn one_tree()
+    ensures { (words : List Word) (first second : Tree) → Spells words first → Spells words second → first ≡ second }
+{}
+
+/// Words have at most one first fault.
+pub fn one_fault()
+    ensures { (words : List Word) (first second : SyntaxFault) → IsFault words first → IsFault words second → first ≡ second }
+{}
+
+/// No words are a program and have a fault.
+pub fn tree_or_fault()
+    ensures { (words : List Word) (tree : Tree) (found : SyntaxFault) → Spells words tree → IsFault words found → ⊥ }
+{}
