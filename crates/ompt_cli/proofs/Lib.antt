@@ -3,3 +3,4 @@ pub mod BlockText
 pub mod Handing
 pub mod Listing
 pub mod Ending
+pub mod FormTokens

@@ -3,7 +3,11 @@ use Rattle.std.specs.Prelude.{ℕ, if◌then◌else◌, ◌==◌, ◌≡◌, Lis
 use Rattle.std.specs.Io.KnownBytes.{Appends}
 use Rattle.run_edges.specs.Edges.{Rose, AppendsFront}
 use Rattle.ompt_cli.specs.declared.end.Refusal.{Refusal}
-use Rattle.ompt_cli.specs.declared.end.Refusal.TheVariants.{TooLong, OtherForm}
+use Rattle.ompt_cli.specs.declared.end.Refusal.TheVariants.{BadByte, OpenComment, BadNumber, TooLong, OtherForm}
+use Rattle.c_tokens.specs.declared.token.Spot.{Spot}
+use Rattle.c_tokens.specs.declared.token.TokenFault.{TokenFault}
+use Rattle.c_tokens.specs.declared.token.TokenFault.TheVariants as fault
+use Rattle.std.specs.Fmt.{decimal}
 use Rattle.ompt_cli.specs.declared.end.End.{End}
 use Rattle.ompt_cli.specs.declared.end.End.TheVariants.{Done, Usage, Refused, Deadlock, Limit, ReadFault, WriteFault, Memory}
 
@@ -17,10 +21,37 @@ status_of ReadFault = 8
 status_of WriteFault = 9
 status_of Memory = 10
 
--- the text of the line on standard error, without its newline
+-- the number of a refusal, and its place, which is 0:0 where it is of the whole text
+abbrev pub refusal_number : Refusal → ℕ
+refusal_number (BadByte spot) = 1
+refusal_number (OpenComment spot) = 2
+refusal_number (BadNumber spot) = 3
+refusal_number TooLong = 15
+refusal_number OtherForm = 16
+
+abbrev pub nowhere : Spot
+nowhere = record { line = 0; column = 0 }
+
+abbrev pub refusal_spot : Refusal → Spot
+refusal_spot (BadByte spot) = spot
+refusal_spot (OpenComment spot) = spot
+refusal_spot (BadNumber spot) = spot
+refusal_spot TooLong = nowhere
+refusal_spot OtherForm = nowhere
+
+-- the end of a command whose text has this fault
+abbrev pub end_of_fault : TokenFault → End
+end_of_fault (fault.BadByte spot) = Refused (BadByte spot)
+end_of_fault (fault.OpenComment spot) = Refused (OpenComment spot)
+end_of_fault (fault.BadNumber spot) = Refused (BadNumber spot)
+end_of_fault fault.Memory = Memory
+
+-- the line on standard error that tells a refusal, without its newline
+abbrev pub refusal_at : ℕ → Spot → List ℕ
+refusal_at number spot = codes "refused " ++ decimal number ++ codes " at " ++ decimal spot.line ++ codes ":" ++ decimal spot.column
+
 abbrev pub refusal_text : Refusal → List ℕ
-refusal_text TooLong = codes "refused 15 at 0:0"
-refusal_text OtherForm = codes "refused 16 at 0:0"
+refusal_text why = refusal_at (refusal_number why) (refusal_spot why)
 
 -- the names of the limits, which have the numbers 1 to 7
 abbrev pub limit_text : ℕ → List ℕ

@@ -1,8 +1,12 @@
 -- The texts that run, with their programs, and the refusals of all others.
-use Rattle.std.specs.Prelude.{ℕ, ◌≡◌, ◌<◌, ◌≤◌, ◌⊎◌, List, [], ◌∷◌, ◌++◌, length, flat_map, All, codes}
+use Rattle.std.specs.Prelude.{ℕ, ◌≡◌, ◌<◌, ◌≤◌, ◌⊎◌, List, [], ◌∷◌, ◌++◌, length, flat_map, All, codes, Ok, Err}
 use Rattle.std.specs.Fmt.{decimal}
 use Rattle.ompt_cli.specs.declared.end.Refusal.{Refusal}
-use Rattle.ompt_cli.specs.declared.end.Refusal.TheVariants.{TooLong, OtherForm}
+use Rattle.ompt_cli.specs.declared.end.Refusal.TheVariants.{BadByte, OpenComment, BadNumber, TooLong, OtherForm}
+use Rattle.c_tokens.specs.declared.token.Token.{Token}
+use Rattle.c_tokens.specs.declared.token.TokenFault.{TokenFault}
+use Rattle.c_tokens.specs.declared.token.TokenFault.TheVariants as fault
+use Rattle.c_tokens.specs.Tokens.{tokens_of}
 
 -- the text of the first form
 abbrev pub program_text : List ℕ
@@ -40,10 +44,21 @@ AreTeams ks = All IsTeam ks
 abbrev pub Spells : List ℕ → List ℕ → Type 0
 Spells text ks = ((text ≡ program_text) × (ks ≡ [])) ⊎ (AreTeams ks × (text ≡ blocks_text ks))
 
--- the text is refused for this
+-- the text has tokens
+abbrev pub HasTokens : List ℕ → Type 0
+HasTokens text = (tokens : List Token) × (tokens_of text ≡ Ok tokens)
+
+-- the text isn't too long, and its first fault is this one
+abbrev pub HasFault : TokenFault → List ℕ → Type 0
+HasFault fault text = (length text ≤ 65536) × (tokens_of text ≡ Err fault)
+
+-- the text is refused for this: it is too long, or else its tokens have a fault, or else it is of neither form
 abbrev pub IsRefused : Refusal → List ℕ → Type 0
+IsRefused (BadByte spot) text = HasFault (fault.BadByte spot) text
+IsRefused (OpenComment spot) text = HasFault (fault.OpenComment spot) text
+IsRefused (BadNumber spot) text = HasFault (fault.BadNumber spot) text
 IsRefused TooLong text = 65536 < length text
-IsRefused OtherForm text = (length text ≤ 65536) × ((ks : List ℕ) → ¬ Spells text ks)
+IsRefused OtherForm text = (length text ≤ 65536) × HasTokens text × ((ks : List ℕ) → ¬ Spells text ks)
 
 -- the text runs: it isn't too long, and spells a program
 abbrev pub IsProgram : List ℕ → Type 0

@@ -1,11 +1,23 @@
 //! How a command ended: its status and its line on standard error.
 
-ghost use Rattle.std.specs.Prelude.{◌≡◌};
-ghost use Rattle.ompt_cli.specs.Ends.{line_of_end, status_of};
+ghost use Rattle.std.specs.Prelude.{◌≡◌, ◌≤◌, ◌+◌, ◌∷◌, ◌++◌, [], length};
+ghost use Rattle.std.specs.Fmt.{decimal};
+ghost use Rattle.arrayvec.specs.ArrayString.{array_string_len};
+ghost use Rattle.ompt_cli.specs.Ends.{end_of_fault, line_of_end, refusal_number, refusal_spot, refusal_text, status_of};
+
+use arrayvec::ArrayString;
+use c_tokens::{Spot, TokenFault};
+use itoa::Buffer;
 
 /// Why a text is refused.
 #[derive(Clone, Copy, Debug, PartialEq, Eq)]
 pub enum Refusal {
+    /// Number 1: a byte that begins no token, or may not stand where it stands.
+    BadByte(Spot),
+    /// Number 2: a comment without end.
+    OpenComment(Spot),
+    /// Number 3: digits that are no number.
+    BadNumber(Spot),
     /// Number 15: the text is longer than 65,536 bytes.
     TooLong,
     /// Number 16: the text is of neither form that runs.
@@ -52,25 +64,99 @@ impl End {
     }
 
     /// The line on standard error with its newline, which is empty where the run is whole.
-    pub fn line(self) -> &'static [u8]
-        ensures { result.now ≡ line_of_end self }
+    pub fn line(self) -> ArrayString<160>
+        ensures { result.bytes ≡ line_of_end self }
     {
         match self {
-            End::Done => b"",
-            End::Usage => b"usage: ompt run, list, record, profile, timeline, show, check or gen\n",
-            End::Refused(Refusal::TooLong) => b"refused 15 at 0:0\n",
-            End::Refused(Refusal::OtherForm) => b"refused 16 at 0:0\n",
-            End::Deadlock => b"deadlock\n",
-            End::Limit(1) => b"limit steps\n",
-            End::Limit(2) => b"limit turns\n",
-            End::Limit(3) => b"limit cells\n",
-            End::Limit(4) => b"limit tasks\n",
-            End::Limit(5) => b"limit stack\n",
-            End::Limit(6) => b"limit depth\n",
-            End::Limit(_) => b"limit text\n",
-            End::ReadFault => b"read fault\n",
-            End::WriteFault => b"write fault\n",
-            End::Memory => b"memory\n",
+            End::Done => line_of(""),
+            End::Usage => line_of(
+                "usage: ompt run, list, record, profile, timeline, show, check or gen\n",
+            ),
+            End::Refused(why) => why.line(),
+            End::Deadlock => line_of("deadlock\n"),
+            End::Limit(1) => line_of("limit steps\n"),
+            End::Limit(2) => line_of("limit turns\n"),
+            End::Limit(3) => line_of("limit cells\n"),
+            End::Limit(4) => line_of("limit tasks\n"),
+            End::Limit(5) => line_of("limit stack\n"),
+            End::Limit(6) => line_of("limit depth\n"),
+            End::Limit(_) => line_of("limit text\n"),
+            End::ReadFault => line_of("read fault\n"),
+            End::WriteFault => line_of("write fault\n"),
+            End::Memory => line_of("memory\n"),
         }
     }
+}
+
+impl Refusal {
+    /// The number by which it is told.
+    fn number(self) -> u8
+        ensures { result ≡ refusal_number self }
+    {
+        match self {
+            Refusal::BadByte(_) => 1,
+            Refusal::OpenComment(_) => 2,
+            Refusal::BadNumber(_) => 3,
+            Refusal::TooLong => 15,
+            Refusal::OtherForm => 16,
+        }
+    }
+
+    /// The place at which it is told: 0:0 where it is of the whole text.
+    fn spot(self) -> Spot
+        ensures { result ≡ refusal_spot self }
+    {
+        match self {
+            Refusal::BadByte(spot) | Refusal::OpenComment(spot) | Refusal::BadNumber(spot) => spot,
+            Refusal::TooLong | Refusal::OtherForm => Spot { line: 0, column: 0 },
+        }
+    }
+
+    /// The line that tells it, with its newline.
+    fn line(self) -> ArrayString<160>
+        ensures { result.bytes ≡ refusal_text self ++ 10 ∷ [] }
+    {
+        let spot = self.spot();
+        let mut line = ArrayString::new();
+        line.push_str("refused ");
+        push_number(&mut line, u32::from(self.number()));
+        line.push_str(" at ");
+        push_number(&mut line, spot.line);
+        line.push_str(":");
+        push_number(&mut line, spot.column);
+        line.push_str("\n");
+        line
+    }
+}
+
+/// The end of a command whose text has this fault.
+pub(crate) fn end_of_fault(fault: TokenFault) -> End
+    ensures { result ≡ end_of_fault fault }
+{
+    match fault {
+        TokenFault::BadByte(spot) => End::Refused(Refusal::BadByte(spot)),
+        TokenFault::OpenComment(spot) => End::Refused(Refusal::OpenComment(spot)),
+        TokenFault::BadNumber(spot) => End::Refused(Refusal::BadNumber(spot)),
+        TokenFault::Memory => End::Memory,
+    }
+}
+
+/// A line of this text.
+fn line_of(text: &str) -> ArrayString<160>
+    requires { length text.now ≤ 160 }
+    ensures { result.bytes ≡ text.now }
+{
+    let mut line = ArrayString::new();
+    line.push_str(text);
+    line
+}
+
+/// Adds a number in decimal.
+fn push_number(line: &mut ArrayString<160>, number: u32)
+    requires { array_string_len line.old + 40 ≤ 160 }
+    ensures bytes { line.new.bytes ≡ line.old.bytes ++ decimal number }
+    ensures few { array_string_len line.new ≤ array_string_len line.old + 40 }
+{
+    let mut digits = Buffer::new();
+    line.push_str(digits.format(number));
 }

@@ -6,7 +6,8 @@ ghost use Rattle.ompt_cli.specs.Text.{IsProgram, IsRefused, Spells, program_text
 ghost use Rattle.ompt_cli.specs.Commands.{IsBeforeRun, MayRefuse, MayRun};
 
 use crate::blocks::blocks_of;
-use crate::end::{End, Refusal};
+use crate::end::{End, Refusal, end_of_fault};
+use c_tokens::tokens;
 use omp_model::Blocks;
 use run_edges::{ReadAllFault, Source, read_all};
 use std::alloc::Global;
@@ -34,7 +35,7 @@ pub(crate) fn read_program<S: Source>(alloc: Global, source: &mut S) -> Result<B
     }
 }
 
-/// The program that the text spells.
+/// The program that the text spells. All its tokens are tried first.
 fn program_of(alloc: Global, text: &[u8]) -> Result<Blocks, End>
     requires { length text.now ≤ 65536 }
     ensures program { IfOk result (λ blocks. Spells text.now blocks) }
@@ -45,6 +46,9 @@ fn program_of(alloc: Global, text: &[u8]) -> Result<Blocks, End>
     ensures runs { IsProgram text.now → IfErr result MayRun }
     ensures read { result ≢ Err End.ReadFault }
 {
+    if let Err(fault) = tokens(alloc, text) {
+        return Err(end_of_fault(fault));
+    }
     match blocks_of(alloc, text) {
         Ok(Some(blocks)) => Ok(blocks),
         Ok(None) => Err(End::Refused(Refusal::OtherForm)),

@@ -123,7 +123,8 @@ fn tell<E: Sink>(ended: Ended, err: &mut E) -> Top
     ensures silent { ended.end ≡ End.Done → err.new ≡ err.old }
 {
     let Ended { end, ran } = ended;
-    let status = match write_all(err, end.line()) {
+    let line = end.line();
+    let status = match write_all(err, line.as_str().as_bytes()) {
         Ok(()) => end.status(),
         Err(_) if end == End::Memory => end.status(),
         Err(_) => End::WriteFault.status(),

@@ -1,6 +1,7 @@
 //! What no clause says: that each end of the command comes about, with the bytes that it writes.
 
 use crate::fixture::*;
+use c_tokens::Spot;
 use omp_model::{Cause, Entry, What};
 use ompt_cli::{Command, End, Refusal};
 use run_edges::{MemSink, read_all};
@@ -85,7 +86,7 @@ fn other_words_are_a_faulty_command_line(rt: HostRuntime) -> Result<(), Fail> {
     Ok(())
 }
 
-/// Texts of neither form.
+/// Texts of neither form, which have tokens.
 const OTHER_TEXTS: &[&str] = &[
     "",
     "int main(void) { return 0; }",
@@ -95,7 +96,6 @@ const OTHER_TEXTS: &[&str] = &[
     "int main(void) {\nreturn 0; \n}\n",
     "int main(void) {\n#pragma omp parallel num_threads(0)\n{ }\nreturn 0;\n}\n",
     "int main(void) {\n#pragma omp parallel num_threads(17)\n{ }\nreturn 0;\n}\n",
-    "int main(void) {\n#pragma omp parallel num_threads(02)\n{ }\nreturn 0;\n}\n",
     "int main(void) {\n#pragma omp parallel num_threads()\n{ }\nreturn 0;\n}\n",
     "int main(void) {\n#pragma omp parallel num_threads(2)\nreturn 0;\n}\n",
     "int main(void) {\n#pragma omp parallel num_threads(2)\n{}\nreturn 0;\n}\n",
@@ -112,15 +112,88 @@ fn other_texts_are_refused(rt: HostRuntime) -> Result<(), Fail> {
     Ok(())
 }
 
+/// A text with a fault, what it is refused for, and its line.
+type Faulty = (&'static str, Refusal, &'static [u8]);
+
+/// Texts with a fault in their tokens. The first fault counts, whatever the form of the text.
+const FAULTY_TEXTS: &[Faulty] = &[
+    (
+        "int main(void) { return 2147483648; }",
+        Refusal::BadNumber(Spot {
+            line: 1,
+            column: 25,
+        }),
+        b"refused 3 at 1:25\n",
+    ),
+    (
+        "int main(void) { /*",
+        Refusal::OpenComment(Spot {
+            line: 1,
+            column: 18,
+        }),
+        b"refused 2 at 1:18\n",
+    ),
+    (
+        "int main(void) { @ }",
+        Refusal::BadByte(Spot {
+            line: 1,
+            column: 18,
+        }),
+        b"refused 1 at 1:18\n",
+    ),
+    (
+        "int main(void) {\n\n  return 08; @\n}\n",
+        Refusal::BadNumber(Spot {
+            line: 3,
+            column: 10,
+        }),
+        b"refused 3 at 3:10\n",
+    ),
+    (
+        "int main(void) {\n#pragma omp parallel num_threads(02)\n{ }\nreturn 0;\n}\n",
+        Refusal::BadNumber(Spot {
+            line: 2,
+            column: 34,
+        }),
+        b"refused 3 at 2:34\n",
+    ),
+];
+
 #[test]
-fn a_long_text_is_refused(rt: HostRuntime) -> Result<(), Fail> {
-    for (length, why, line) in [
-        (65_536, Refusal::OtherForm, b"refused 16 at 0:0\n"),
-        (65_537, Refusal::TooLong, b"refused 15 at 0:0\n"),
-    ] {
-        let text = vec![in rt.alloc(); b' '; length]?;
+fn faulty_texts_are_refused_at_their_first_fault(rt: HostRuntime) -> Result<(), Fail> {
+    let mut case = 0_usize;
+    for (text, why, line) in FAULTY_TEXTS {
+        case = case.saturating_add(1);
+        let told = tell_text(&rt, LIST, text.as_bytes())?;
+        refused(&rt, &told, *why, line, case);
+    }
+    Ok(())
+}
+
+/// How many bytes a text of blanks has, its first byte, what it is refused for, and its line.
+type Long = (usize, u8, Refusal, &'static [u8]);
+
+const LONG_TEXTS: &[Long] = &[
+    (65_536, b' ', Refusal::OtherForm, b"refused 16 at 0:0\n"),
+    (65_537, b' ', Refusal::TooLong, b"refused 15 at 0:0\n"),
+    (
+        65_536,
+        b'@',
+        Refusal::BadByte(Spot { line: 1, column: 1 }),
+        b"refused 1 at 1:1\n",
+    ),
+    (65_537, b'@', Refusal::TooLong, b"refused 15 at 0:0\n"),
+];
+
+#[test]
+fn a_long_text_is_refused_for_its_length_first(rt: HostRuntime) -> Result<(), Fail> {
+    for (length, first, why, line) in LONG_TEXTS {
+        let mut text = vec![in rt.alloc(); b' '; *length]?;
+        if let Some(byte) = text.first_mut() {
+            *byte = *first;
+        }
         let told = tell_text(&rt, LIST, &text)?;
-        refused(&rt, &told, why, line, length);
+        refused(&rt, &told, *why, line, *length);
     }
     Ok(())
 }
