@@ -1,3 +1,11 @@
 pub mod Reading
 pub mod Ends
 pub mod Scanning
+pub mod Cuts
+pub mod Comments
+pub mod LineTails
+pub mod Hashes
+pub mod Texts
+pub mod Pieces
+pub mod Fronts
+pub mod Law

@@ -5,6 +5,7 @@ mod blanks;
 mod bytes;
 mod hash_line;
 mod item;
+mod laws;
 mod place;
 mod quoted;
 mod scan;
@@ -13,5 +14,6 @@ mod tail;
 mod token;
 mod word;
 
+pub use laws::{one_list_of_tokens, reading_is_tokens, tokens_are_read};
 pub use scan::tokens;
 pub use token::{Spot, Token, TokenFault, TokenKind};
