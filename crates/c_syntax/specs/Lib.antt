@@ -1,4 +1,5 @@
 pub mod Words
+pub mod WordViews
 pub mod Tree
 pub mod Grammar
 pub mod Heads

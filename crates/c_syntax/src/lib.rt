@@ -3,8 +3,10 @@
 
 pub mod fault;
 pub mod grammar;
+pub mod lexeme;
 pub mod node;
 pub mod rules;
 pub mod term;
+pub mod words;
 
 pub use node::NodeKind;
