@@ -3,7 +3,7 @@ use Rattle.std.specs.Prelude.{ℕ, ◌≡◌, ◌+◌, ◌-◌, ◌≤◌, List,
 use Rattle.c_tokens.specs.declared.token.Token.{Token}
 use Rattle.c_tokens.specs.declared.token.TokenKind.TheVariants as token
 use Rattle.c_tokens.specs.Words.{decimal_value, greatest}
-use Rattle.c_syntax.specs.declared.words.Word as code
+use Rattle.c_syntax.specs.declared.word.Word as code
 use Rattle.c_syntax.specs.Words.{Word, bytes_of, number_of}
 
 -- the bytes of a text from a start up to an end

@@ -7,6 +7,7 @@ pub mod lexeme;
 pub mod node;
 pub mod rules;
 pub mod term;
+pub mod word;
 pub mod words;
 
 pub use node::NodeKind;

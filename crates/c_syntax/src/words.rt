@@ -5,24 +5,9 @@ ghost use Rattle.c_tokens.specs.Tokens.{tokens_of};
 ghost use Rattle.c_syntax.specs.Words.{main_of, words_of};
 ghost use Rattle.c_syntax.specs.WordViews.{IsWithin, word_view};
 
-use crate::term::Term;
-use c_tokens::{Spot, Token};
+use crate::word::Word;
+use c_tokens::Token;
 use std::alloc::{AllocError, Global};
-
-/// A word of a text.
-#[derive(Clone, Copy)]
-pub struct Word {
-    /// What it is to the grammar.
-    pub term: Term,
-    /// The number of a name, from 1 in the order in which they first appear, or the number that digits write. Else 0.
-    pub value: u32,
-    /// Where the bytes between the quotes of a text lie in the source. Of any other word they are none.
-    pub start: u32,
-    pub end: u32,
-    /// The place of its first byte.
-    pub spot: Spot,
-    ghost small: { value ≤ 2147483647 },
-}
 
 /// The words of a text, in order, with the end of the text as the last.
 #[derive(Drop)]
