@@ -1,13 +1,32 @@
-//! What the bytes of a symbol or a name are to the grammar.
+//! What the bytes of a token are to the grammar.
 
-ghost use Rattle.std.specs.Prelude.{◌≡◌, unwrap_or};
-ghost use Rattle.c_syntax.specs.declared.term.Term.{Term};
-ghost use Rattle.c_syntax.specs.Words.{code_words, directive_words, look_up, name_term, odd_clauses, odd_directives, odd_words, other_name, symbol_term};
+ghost use Rattle.std.specs.Prelude.{◌≡◌, ◌≤◌, map};
+ghost use Rattle.c_tokens.specs.Words.{decimal_value, greatest};
+ghost use Rattle.c_syntax.specs.Lexemes.{row_view, rows_of_len};
+ghost use Rattle.c_syntax.specs.Words.{name_term, other_name, symbol_term, term_of};
 
 use crate::term::Term;
+use c_tokens::TokenKind;
+
+/// What a token of some bytes is to the grammar.
+pub fn term_of(kind: TokenKind, bytes: &[u8]) -> Term
+    ensures { result ≡ term_of kind bytes.now }
+{
+    match kind {
+        TokenKind::Name => name_term(bytes),
+        TokenKind::Number => Term::Number,
+        TokenKind::Text => Term::Text,
+        TokenKind::Symbol => symbol_term(bytes),
+        TokenKind::Include => Term::Include,
+        TokenKind::Pragma => Term::Pragma,
+        TokenKind::OtherHash => Term::OddLine,
+        TokenKind::PragmaEnd => Term::PragmaEnd,
+        TokenKind::End => Term::End,
+    }
+}
 
 /// What a symbol is to the grammar.
-pub fn symbol_term(bytes: &[u8]) -> Term
+fn symbol_term(bytes: &[u8]) -> Term
     ensures { result ≡ symbol_term bytes.now }
 {
     match bytes {
@@ -48,113 +67,148 @@ pub fn symbol_term(bytes: &[u8]) -> Term
 }
 
 /// What a name is to the grammar.
-pub fn name_term(bytes: &[u8]) -> Term
+fn name_term(bytes: &[u8]) -> Term
     ensures { result ≡ name_term bytes.now }
 {
-    code_word(bytes)
-        .or_else(|| odd_word(bytes))
-        .or_else(|| directive_word(bytes))
-        .or_else(|| odd_directive(bytes))
-        .or_else(|| odd_clause(bytes))
-        .unwrap_or_else(|| other_name(bytes))
-}
-
-/// A word of the language.
-fn code_word(bytes: &[u8]) -> Option<Term>
-    ensures { (other : Term) → look_up code_words bytes.now other ≡ unwrap_or result other }
-{
-    match bytes {
-        b"int" => Some(Term::Int),
-        b"void" => Some(Term::Void),
-        b"if" => Some(Term::If),
-        b"else" => Some(Term::Else),
-        b"while" => Some(Term::While),
-        b"for" => Some(Term::For),
-        b"return" => Some(Term::Return),
-        b"printf" => Some(Term::Printf),
-        b"omp_lock_t" => Some(Term::LockType),
-        b"omp_init_lock" => Some(Term::InitLock),
-        b"omp_destroy_lock" => Some(Term::DestroyLock),
-        b"omp_set_lock" => Some(Term::SetLock),
-        b"omp_unset_lock" => Some(Term::UnsetLock),
-        b"omp_test_lock" => Some(Term::TestLock),
-        b"omp_get_thread_num" => Some(Term::GetThreadNum),
-        b"omp_get_num_threads" => Some(Term::GetNumThreads),
-        b"omp_get_max_threads" => Some(Term::GetMaxThreads),
-        _ => None,
-    }
-}
-
-/// A word of C that is out of the language.
-fn odd_word(bytes: &[u8]) -> Option<Term>
-    ensures { (other : Term) → look_up odd_words bytes.now other ≡ unwrap_or result other }
-{
-    match bytes {
-        b"static" => Some(Term::Static),
-        b"default" => Some(Term::Default),
-        b"char" | b"float" | b"double" | b"long" | b"short" | b"unsigned" | b"signed" | b"struct"
-        | b"union" | b"enum" | b"typedef" | b"const" | b"volatile" | b"extern" | b"register"
-        | b"auto" | b"goto" | b"switch" | b"case" | b"break" | b"continue" | b"do" | b"sizeof"
-        | b"inline" => Some(Term::OddWord),
-        _ => None,
-    }
-}
-
-/// A word of directives and clauses.
-fn directive_word(bytes: &[u8]) -> Option<Term>
-    ensures { (other : Term) → look_up directive_words bytes.now other ≡ unwrap_or result other }
-{
-    match bytes {
-        b"parallel" => Some(Term::Parallel),
-        b"sections" => Some(Term::Sections),
-        b"single" => Some(Term::Single),
-        b"masked" => Some(Term::Masked),
-        b"master" => Some(Term::Master),
-        b"critical" => Some(Term::Critical),
-        b"task" => Some(Term::Task),
-        b"barrier" => Some(Term::Barrier),
-        b"taskwait" => Some(Term::Taskwait),
-        b"section" => Some(Term::Section),
-        b"num_threads" => Some(Term::NumThreads),
-        b"shared" => Some(Term::Shared),
-        b"private" => Some(Term::Private),
-        b"firstprivate" => Some(Term::Firstprivate),
-        b"reduction" => Some(Term::Reduction),
-        b"schedule" => Some(Term::Schedule),
-        b"nowait" => Some(Term::Nowait),
-        b"none" => Some(Term::None),
-        b"max" => Some(Term::Max),
-        b"min" => Some(Term::Min),
-        b"dynamic" => Some(Term::Dynamic),
-        b"guided" => Some(Term::Guided),
-        _ => None,
-    }
-}
-
-/// A word of directives that is out of the language.
-fn odd_directive(bytes: &[u8]) -> Option<Term>
-    ensures { (other : Term) → look_up odd_directives bytes.now other ≡ unwrap_or result other }
-{
-    match bytes {
-        b"ordered" => Some(Term::Ordered),
-        b"target" | b"teams" | b"distribute" | b"simd" | b"taskloop" | b"taskgroup"
-        | b"taskyield" | b"atomic" | b"flush" | b"scan" | b"scope" | b"loop" | b"cancel"
-        | b"cancellation" | b"error" | b"declare" | b"threadprivate" => Some(Term::OddDirective),
-        _ => None,
-    }
-}
-
-/// A word of clauses that is out of the language.
-fn odd_clause(bytes: &[u8]) -> Option<Term>
-    ensures { (other : Term) → look_up odd_clauses bytes.now other ≡ unwrap_or result other }
-{
-    match bytes {
-        b"lastprivate" | b"linear" | b"collapse" | b"copyin" | b"copyprivate" | b"proc_bind"
-        | b"allocate" | b"order" | b"hint" | b"filter" | b"untied" | b"final" | b"mergeable"
-        | b"depend" | b"priority" | b"affinity" | b"in_reduction" | b"detach" | b"runtime" => {
-            Some(Term::OddClause)
+    for (name, term) in names_of_len(bytes.len()) {
+        if name.as_bytes() == bytes {
+            return *term;
         }
-        _ => None,
+    }
+    other_name(bytes)
+}
+
+/// The names of this length that the grammar has a use for.
+fn names_of_len(len: usize) -> &'static [(&'static str, Term)]
+    ensures { map row_view result.now ≡ rows_of_len len }
+{
+    match len {
+        2 => &[("if", Term::If), ("do", Term::OddWord)],
+        3 => &[
+            ("int", Term::Int),
+            ("for", Term::For),
+            ("max", Term::Max),
+            ("min", Term::Min),
+        ],
+        4 => &[
+            ("void", Term::Void),
+            ("else", Term::Else),
+            ("char", Term::OddWord),
+            ("long", Term::OddWord),
+            ("enum", Term::OddWord),
+            ("auto", Term::OddWord),
+            ("goto", Term::OddWord),
+            ("case", Term::OddWord),
+            ("task", Term::Task),
+            ("none", Term::None),
+            ("simd", Term::OddDirective),
+            ("scan", Term::OddDirective),
+            ("loop", Term::OddDirective),
+            ("hint", Term::OddClause),
+        ],
+        5 => &[
+            ("while", Term::While),
+            ("float", Term::OddWord),
+            ("short", Term::OddWord),
+            ("union", Term::OddWord),
+            ("const", Term::OddWord),
+            ("break", Term::OddWord),
+            ("teams", Term::OddDirective),
+            ("flush", Term::OddDirective),
+            ("scope", Term::OddDirective),
+            ("error", Term::OddDirective),
+            ("order", Term::OddClause),
+            ("final", Term::OddClause),
+        ],
+        6 => &[
+            ("return", Term::Return),
+            ("printf", Term::Printf),
+            ("double", Term::OddWord),
+            ("signed", Term::OddWord),
+            ("struct", Term::OddWord),
+            ("static", Term::Static),
+            ("extern", Term::OddWord),
+            ("switch", Term::OddWord),
+            ("sizeof", Term::OddWord),
+            ("inline", Term::OddWord),
+            ("single", Term::Single),
+            ("masked", Term::Masked),
+            ("master", Term::Master),
+            ("shared", Term::Shared),
+            ("nowait", Term::Nowait),
+            ("guided", Term::Guided),
+            ("target", Term::OddDirective),
+            ("atomic", Term::OddDirective),
+            ("cancel", Term::OddDirective),
+            ("linear", Term::OddClause),
+            ("copyin", Term::OddClause),
+            ("filter", Term::OddClause),
+            ("untied", Term::OddClause),
+            ("depend", Term::OddClause),
+            ("detach", Term::OddClause),
+        ],
+        7 => &[
+            ("typedef", Term::OddWord),
+            ("default", Term::Default),
+            ("barrier", Term::Barrier),
+            ("section", Term::Section),
+            ("private", Term::Private),
+            ("dynamic", Term::Dynamic),
+            ("ordered", Term::Ordered),
+            ("declare", Term::OddDirective),
+            ("runtime", Term::OddClause),
+        ],
+        8 => &[
+            ("unsigned", Term::OddWord),
+            ("volatile", Term::OddWord),
+            ("register", Term::OddWord),
+            ("continue", Term::OddWord),
+            ("parallel", Term::Parallel),
+            ("sections", Term::Sections),
+            ("critical", Term::Critical),
+            ("taskwait", Term::Taskwait),
+            ("schedule", Term::Schedule),
+            ("taskloop", Term::OddDirective),
+            ("collapse", Term::OddClause),
+            ("allocate", Term::OddClause),
+            ("priority", Term::OddClause),
+            ("affinity", Term::OddClause),
+        ],
+        9 => &[
+            ("reduction", Term::Reduction),
+            ("taskgroup", Term::OddDirective),
+            ("taskyield", Term::OddDirective),
+            ("proc_bind", Term::OddClause),
+            ("mergeable", Term::OddClause),
+        ],
+        10 => &[
+            ("omp_lock_t", Term::LockType),
+            ("distribute", Term::OddDirective),
+        ],
+        11 => &[
+            ("num_threads", Term::NumThreads),
+            ("lastprivate", Term::OddClause),
+            ("copyprivate", Term::OddClause),
+        ],
+        12 => &[
+            ("omp_set_lock", Term::SetLock),
+            ("firstprivate", Term::Firstprivate),
+            ("cancellation", Term::OddDirective),
+            ("in_reduction", Term::OddClause),
+        ],
+        13 => &[
+            ("omp_init_lock", Term::InitLock),
+            ("omp_test_lock", Term::TestLock),
+            ("threadprivate", Term::OddDirective),
+        ],
+        14 => &[("omp_unset_lock", Term::UnsetLock)],
+        16 => &[("omp_destroy_lock", Term::DestroyLock)],
+        18 => &[("omp_get_thread_num", Term::GetThreadNum)],
+        19 => &[
+            ("omp_get_num_threads", Term::GetNumThreads),
+            ("omp_get_max_threads", Term::GetMaxThreads),
+        ],
+        _ => &[],
     }
 }
 
@@ -167,4 +221,16 @@ fn other_name(bytes: &[u8]) -> Term
     } else {
         Term::Name
     }
+}
+
+/// The number that digits write.
+pub fn decimal_value(digits: &[u8]) -> u32
+    requires { decimal_value digits.now ≤ greatest }
+    ensures { result ≡ decimal_value digits.now }
+{
+    let mut value = 0;
+    for digit in digits {
+        value = 10 * value + u32::from(digit.saturating_sub(b'0'));
+    }
+    value
 }

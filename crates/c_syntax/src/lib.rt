@@ -4,6 +4,7 @@
 pub mod fault;
 pub mod grammar;
 pub mod lexeme;
+pub mod names;
 pub mod node;
 pub mod rules;
 pub mod term;

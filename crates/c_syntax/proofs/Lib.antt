@@ -1,0 +1,4 @@
+pub mod Lexemes
+pub mod Numbers
+pub mod Digits
+pub mod WordLists
