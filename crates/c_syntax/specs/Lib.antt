@@ -1,4 +1,7 @@
 pub mod Words
+pub mod Lexemes
+pub mod Names
+pub mod WordViews
 pub mod Tree
 pub mod Grammar
 pub mod Heads

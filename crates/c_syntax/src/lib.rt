@@ -5,9 +5,13 @@ pub mod fault;
 pub mod grammar;
 pub mod head;
 pub mod laws;
+pub mod lexeme;
+pub mod names;
 pub mod node;
 pub mod plan;
 pub mod rules;
 pub mod term;
+pub mod word;
+pub mod words;
 
 pub use node::NodeKind;

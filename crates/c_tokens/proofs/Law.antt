@@ -38,7 +38,7 @@ passed-some in_line bytes rest (inr (inl (inr same))) = omega (arith, ap length 
 passed-some in_line bytes rest (inr (inr (inl (inside, same, inline, ends)))) = omega (arith, ap length same)
 passed-some in_line bytes rest (inr (inr (inr (inside, same, earliest)))) = omega (arith, ap length same)
 
-token-some : (kind : TokenKind) (in_line : Line) (bytes rest : List ℕ) → IsToken kind in_line bytes rest → 1 ≤ length bytes
+pub token-some : (kind : TokenKind) (in_line : Line) (bytes rest : List ℕ) → IsToken kind in_line bytes rest → 1 ≤ length bytes
 token-some kind.Name in_line bytes rest (begun, all, stops) = begins-some is_letter bytes begun
 token-some kind.Number in_line bytes rest (begun, all, plain, least, stops, ends) = begins-some is_digit bytes begun
 token-some kind.Text in_line bytes rest (inside, same, quoted) = omega (arith, ap length same)

@@ -9,3 +9,4 @@ pub mod Texts
 pub mod Pieces
 pub mod Fronts
 pub mod Law
+pub mod Spans

@@ -1,0 +1,22 @@
+//! Words.
+
+ghost use Rattle.std.specs.Prelude.{◌≤◌};
+
+use crate::term::Term;
+use c_tokens::Spot;
+
+/// A word of a text.
+#[derive(Clone, Copy)]
+pub struct Word {
+    /// What it is to the grammar.
+    pub term: Term,
+    /// The number of a name, from 1 in the order in which they first appear, or the number that digits write. Else 0.
+    pub value: u32,
+    /// Where the bytes between the quotes of a text begin in the source. Any other word has none, and both are its token's start.
+    pub start: u32,
+    /// Where they end.
+    pub end: u32,
+    /// The place of its first byte.
+    pub spot: Spot,
+    ghost small: { value ≤ 2147483647 },
+}
