@@ -5,3 +5,8 @@ pub mod Heads
 pub mod Derivation
 pub mod Faults
 pub mod Reading
+pub mod Numbered
+pub mod Nodes
+pub mod Keeping
+pub mod Growth
+pub mod Codes
