@@ -23,12 +23,12 @@ abbrev pub IsBelow : ℕ → Option ℕ → Type 0
 IsBelow limit None = Unit {0}
 IsBelow limit (Some number) = number < limit
 
--- what holds of the node with this number, where there are so many texts' bytes: its children are before it
+-- what holds of the node with this number: its text and its children lie in the table, and the children before it
 pub record IsNode (children : List (Option ℕ)) (texts : List ℕ) (number : ℕ) (node : row.Node) : Type 0 where
   pub value : node.label.number ≤ 2147483647
-  pub text : node.text.start ≤ node.text.end
+  pub text_start : node.text.start ≤ node.text.end
   pub text_end : node.text.end ≤ length texts
-  pub children : node.children.start ≤ node.children.end
+  pub children_start : node.children.start ≤ node.children.end
   pub children_end : node.children.end ≤ length children
   pub below : All (IsBelow number) (slice_range children node.children.start node.children.end)
 

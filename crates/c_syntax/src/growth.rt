@@ -160,7 +160,7 @@ impl Growth {
         };
         let label = Label {
             kind,
-            spot: self.nodes.spot(*left),
+            spot: self.nodes.label(*left).spot,
             name: 0,
             number: 0,
         };
@@ -179,7 +179,7 @@ impl Growth {
         };
         let label = Label {
             kind,
-            spot: self.nodes.spot(*inner),
+            spot: self.nodes.label(*inner).spot,
             name: 0,
             number: 0,
         };

@@ -1,6 +1,6 @@
 //! Nodes in a table, by their numbers.
 
-ghost use Rattle.std.specs.Prelude.{◌≡◌, ℕ, ◌<◌, ◌≤◌, ◌++◌, ◌∷◌, [], length, pos, IfOk, IfSome, OnErr};
+ghost use Rattle.std.specs.Prelude.{◌≡◌, ◌<◌, ◌≤◌, ◌++◌, ◌∷◌, [], length, IfOk, IfSome, OnErr};
 ghost use Rattle.std.specs.Option.{option_map};
 ghost use Rattle.std.specs.List.{All};
 ghost use Rattle.c_syntax.specs.Tree.Tree.{Node as tree_node};
@@ -17,8 +17,11 @@ use std::marker::Model;
 #[derive(Clone, Copy)]
 pub(crate) struct Label {
     pub kind: NodeKind,
+    /// Where its first word is.
     pub spot: Spot,
+    /// The number of its name, or 0.
     pub name: u32,
+    /// The value of its number, or 0.
     pub number: u32,
 }
 
@@ -115,11 +118,16 @@ impl Nodes {
         Ok(number)
     }
 
-    pub fn kind(&self, node: u32) -> NodeKind
+    /// What a node says of itself.
+    pub fn label(&self, node: u32) -> Label
         requires { node < length self.now }
-        ensures { result ≡ kind_of (tree_at self.now node) }
+        ensures kind { result.kind ≡ kind_of (tree_at self.now node) }
+        ensures spot { result.spot ≡ spot_of (tree_at self.now node) }
+        ensures name { result.name ≡ name_of (tree_at self.now node) }
+        ensures number { result.number ≡ number_of (tree_at self.now node) }
+        ensures few { result.number ≤ 2147483647 }
     {
-        self.nodes[node as usize].label.kind
+        self.nodes[node as usize].label
     }
 
     /// The number of the child at a place, counted from 0. `None` where it is absent, and past the last.
@@ -136,27 +144,7 @@ impl Nodes {
         }
     }
 
-    pub fn spot(&self, node: u32) -> Spot
-        requires { node < length self.now }
-        ensures { result ≡ spot_of (tree_at self.now node) }
-    {
-        self.nodes[node as usize].label.spot
-    }
-
-    pub fn name(&self, node: u32) -> u32
-        requires { node < length self.now }
-        ensures { result ≡ name_of (tree_at self.now node) }
-    {
-        self.nodes[node as usize].label.name
-    }
-
-    pub fn number(&self, node: u32) -> i32
-        requires { node < length self.now }
-        ensures { result ≡ pos (number_of (tree_at self.now node)) }
-    {
-        self.nodes[node as usize].label.number as i32
-    }
-
+    /// The bytes of a node's text.
     pub fn text(&self, node: u32) -> &[u8]
         requires { node < length self.now }
         ensures { result.now ≡ text_of (tree_at self.now node) }

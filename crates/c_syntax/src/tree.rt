@@ -53,7 +53,7 @@ impl Tree {
         requires { node < length self.now.trees }
         ensures { result ≡ kind_of (tree_at self.now.trees node) }
     {
-        self.nodes.kind(node)
+        self.nodes.label(node).kind
     }
 
     /// The number of a node's child at a place, counted from 0. `None` where the child is absent, and past the last.
@@ -70,7 +70,7 @@ impl Tree {
         requires { node < length self.now.trees }
         ensures { result ≡ spot_of (tree_at self.now.trees node) }
     {
-        self.nodes.spot(node)
+        self.nodes.label(node).spot
     }
 
     /// The value of a node's number, from 0 to 2147483647; 0 where it has none.
@@ -78,7 +78,7 @@ impl Tree {
         requires { node < length self.now.trees }
         ensures { result ≡ pos (number_of (tree_at self.now.trees node)) }
     {
-        self.nodes.number(node)
+        self.nodes.label(node).number as i32
     }
 
     /// The number of a node's name: names count from 1, in the order in which they first appear. 0 where it has none.
@@ -86,7 +86,7 @@ impl Tree {
         requires { node < length self.now.trees }
         ensures { result ≡ name_of (tree_at self.now.trees node) }
     {
-        self.nodes.name(node)
+        self.nodes.label(node).name
     }
 
     /// The bytes between the quotes of a node's text; none where it has no text.
