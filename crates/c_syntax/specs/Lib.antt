@@ -8,5 +8,6 @@ pub mod Reading
 pub mod Numbered
 pub mod Nodes
 pub mod Keeping
+pub mod Children
 pub mod Growth
 pub mod Codes

@@ -1,9 +1,14 @@
 //! The tree of a program while it is read.
 
-ghost use Rattle.std.specs.Prelude.{◌≡◌, ◌≤◌, ◌∷◌, OnOk, IfOk};
+ghost use Rattle.std.specs.Prelude.{◌≡◌, ◌≤◌, ◌<◌, [], ◌∷◌, ◌++◌, length, reverse, OnOk, OnErr, IfOk};
+ghost use Rattle.std.specs.List.{All};
+ghost use Rattle.c_syntax.specs.Tree.Tree.{Node as tree_node};
+ghost use Rattle.c_syntax.specs.Tree.{spot_of};
 ghost use Rattle.c_syntax.specs.Derivation.{outermost, opened_at, made, joined, wrapped, skipped, result_of, name_in};
 ghost use Rattle.c_syntax.specs.Keeping.{with_name, with_number, with_text};
-ghost use Rattle.c_syntax.specs.Numbered.{root_tree};
+ghost use Rattle.c_syntax.specs.Children.{last_of, last_two_of};
+ghost use Rattle.c_syntax.specs.Nodes.{IsBelow};
+ghost use Rattle.c_syntax.specs.Numbered.{root_tree, tree_at, children_at};
 
 use crate::node::NodeKind;
 use crate::nodes::{Label, Nodes};
@@ -130,23 +135,22 @@ impl Growth {
     pub fn make(&mut self, kind: NodeKind) -> Result<(), AllocError>
         ensures { OnOk result (self.new ≡ made kind self.old) }
     {
-        if self.outer.is_empty() {
+        let Some(parent) = self.outer.pop() else {
             return Ok(());
-        }
+        };
+        let node = self.inner;
         let label = Label {
             kind,
-            spot: self.inner.spot,
-            name: name_in(kind, self.inner.name),
-            number: self.inner.number,
+            spot: node.spot,
+            name: name_in(kind, node.name),
+            number: node.number,
         };
-        let text = &self.texts[self.inner.text..];
-        let children = &self.children[self.inner.children..];
+        let text = &self.texts[node.text..];
+        let children = &self.children[node.children..];
         let made = self.nodes.add(label, text, children)?;
-        self.texts.truncate(self.inner.text);
-        self.children.truncate(self.inner.children);
-        if let Some(parent) = self.outer.pop() {
-            self.inner = parent;
-        }
+        self.inner = parent;
+        self.texts.truncate(node.text);
+        self.children.truncate(node.children);
         self.children.push(Some(made))?;
         Ok(())
     }
@@ -155,16 +159,10 @@ impl Growth {
     pub fn join(&mut self, kind: NodeKind) -> Result<(), AllocError>
         ensures { OnOk result (self.new ≡ joined kind self.old) }
     {
-        let [.., Some(left), Some(right)] = &self.children[self.inner.children..] else {
+        let Some((left, right)) = last_two(&self.children[self.inner.children..]) else {
             return Ok(());
         };
-        let label = Label {
-            kind,
-            spot: self.nodes.label(*left).spot,
-            name: 0,
-            number: 0,
-        };
-        let made = self.nodes.add(label, &[], &[Some(*left), Some(*right)])?;
+        let made = add_over(&mut self.nodes, kind, left, &[Some(left), Some(right)])?;
         self.children.truncate(self.children.len() - 2);
         self.children.push(Some(made))?;
         Ok(())
@@ -174,16 +172,10 @@ impl Growth {
     pub fn wrap(&mut self, kind: NodeKind) -> Result<(), AllocError>
         ensures { OnOk result (self.new ≡ wrapped kind self.old) }
     {
-        let [.., Some(inner)] = &self.children[self.inner.children..] else {
+        let Some(child) = last_made(&self.children[self.inner.children..]) else {
             return Ok(());
         };
-        let label = Label {
-            kind,
-            spot: self.nodes.label(*inner).spot,
-            name: 0,
-            number: 0,
-        };
-        let made = self.nodes.add(label, &[], &[Some(*inner)])?;
+        let made = add_over(&mut self.nodes, kind, child, &[Some(child)])?;
         self.children.truncate(self.children.len() - 1);
         self.children.push(Some(made))?;
         Ok(())
@@ -204,12 +196,51 @@ impl Growth {
         ensures end { IfOk result (λ tree. tree.end ≡ end) }
         ensures main { IfOk result (λ tree. tree.main ≡ main) }
     {
-        let root = match self.children[self.inner.children..].last() {
-            Some(Some(root)) => *root,
-            _ => self.nodes.add(NOTHING, &[], &[])?,
+        let root = match last_made(&self.children[self.inner.children..]) {
+            Some(root) => root,
+            None => self.nodes.add(NOTHING, &[], &[])?,
         };
         Ok(Tree::new(self.nodes, root, end, main))
     }
+}
+
+/// The last of these children, unless it is absent.
+fn last_made(children: &[Option<u32>]) -> Option<u32>
+    ensures { result ≡ last_of (reverse children.now) }
+{
+    let (last, _) = children.split_last()?;
+    *last
+}
+
+/// The last two of these children, the older first, unless one is absent.
+fn last_two(children: &[Option<u32>]) -> Option<(u32, u32)>
+    ensures { result ≡ last_two_of (reverse children.now) }
+{
+    let (right, older) = children.split_last()?;
+    let left = last_made(older)?;
+    Some((left, (*right)?))
+}
+
+/// Adds a node over these children, which begins where this child does, and gives its number.
+fn add_over(
+    nodes: &mut Nodes,
+    kind: NodeKind,
+    first: u32,
+    children: &[Option<u32>],
+) -> Result<u32, AllocError>
+    requires first { first < length nodes.old }
+    requires children { All (IsBelow (length nodes.old)) children.now }
+    ensures added { IfOk result (λ number. nodes.new ≡ nodes.old ++ tree_node kind (spot_of (tree_at nodes.old first)) 0 0 [] (children_at nodes.old children.now) ∷ []) }
+    ensures number { IfOk result (λ number. number ≡ length nodes.old) }
+    ensures err { OnErr result (nodes.new ≡ nodes.old) }
+{
+    let label = Label {
+        kind,
+        spot: nodes.label(first).spot,
+        name: 0,
+        number: 0,
+    };
+    nodes.add(label, &[], children)
 }
 
 /// The name that a node of this kind has: a routine that gives a number has none.
