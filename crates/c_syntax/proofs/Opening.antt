@@ -10,13 +10,13 @@ use Rattle.c_syntax.specs.declared.node.NodeKind.{NodeKind}
 use Rattle.c_syntax.specs.Tree.{Tree, Children, before, children_from}
 use Rattle.c_syntax.specs.Tree.Tree.{Node}
 use Rattle.c_syntax.specs.Tree.Children.{Over, Child, Absent}
-use Rattle.c_syntax.specs.Derivation.{Opened, made, name_in, nothing, with_child}
+use Rattle.c_syntax.specs.Derivation.{Opened, made, name_in, nothing}
 use Rattle.c_syntax.specs.Numbered.{tree_at, children_at}
 use Rattle.c_syntax.specs.Nodes.{IsBelow}
 use Rattle.c_syntax.specs.Growth.{AreOpen, opened_nodes}
 
 -- the children with these numbers, the last one first
-abbrev newest_first : List Tree → List (Option ℕ) → List (Option Tree)
+abbrev pub newest_first : List Tree → List (Option ℕ) → List (Option Tree)
 newest_first trees numbers = reverse (map (option_map (tree_at trees)) numbers)
 
 reverse-push : {X : Type 0} (xs : List X) (x : X) → reverse (xs ++ x ∷ []) ≡ x ∷ reverse xs
@@ -42,20 +42,21 @@ opened-stays trees more children texts (node ∷ outer) below =
     λ i. record { spot = node.spot; name = node.name; number = node.number; text = drop node.text texts; children = reverse (map-stays trees more (drop node.children children) (All-drop (IsBelow (length trees)) node.children children below) i) }
       ∷ opened-stays trees more (take node.children children) (take node.text texts) outer (All-take (IsBelow (length trees)) node.children children below) i
 
--- the innermost node has one child more
-abbrev with_newest : Option Tree → List Opened → List Opened
-with_newest child [] = []
-with_newest child (node ∷ outer) = with_child child node ∷ outer
+-- the innermost node has these children more, the last one first
+abbrev pub with_newer : List (Option Tree) → List Opened → List Opened
+with_newer newer [] = []
+with_newer newer (node ∷ outer) = record node { children = newer ++ node.children } ∷ outer
 
-opened-push : (trees : List Tree) (children : List (Option ℕ)) (texts : List ℕ) (node : OpenNode) (outer : List OpenNode) (child : Option ℕ) → node.children ≤ length children → opened_nodes trees (children ++ child ∷ []) texts (node ∷ outer) ≡ with_newest (option_map (tree_at trees) child) (opened_nodes trees children texts (node ∷ outer))
-opened-push trees children texts node outer child within =
-    rw (drop-append-le node.children children (child ∷ []) within, take-append-le node.children children (child ∷ []) within, map-append (option_map (tree_at trees)) (drop node.children children) (child ∷ []), reverse-push (map (option_map (tree_at trees)) (drop node.children children)) (option_map (tree_at trees) child)) refl
+pub opened-append : (trees : List Tree) (children newer : List (Option ℕ)) (texts : List ℕ) (node : OpenNode) (outer : List OpenNode) → node.children ≤ length children → opened_nodes trees (children ++ newer) texts (node ∷ outer) ≡ with_newer (newest_first trees newer) (opened_nodes trees children texts (node ∷ outer))
+opened-append trees children newer texts node outer within =
+    let seen = option_map (tree_at trees) in
+    rw (drop-append-le node.children children newer within, take-append-le node.children children newer within, map-append seen (drop node.children children) newer, reverse-append (map seen (drop node.children children)) (map seen newer)) refl
 
 -- a tree is added, and is the newest child of the innermost node
-pub opened-grown : (trees : List Tree) (tree : Tree) (children : List (Option ℕ)) (texts : List ℕ) (node : OpenNode) (outer : List OpenNode) → node.children ≤ length children → All (IsBelow (length trees)) children → opened_nodes (trees ++ tree ∷ []) (children ++ Some (length trees) ∷ []) texts (node ∷ outer) ≡ with_newest (Some tree) (opened_nodes trees children texts (node ∷ outer))
+pub opened-grown : (trees : List Tree) (tree : Tree) (children : List (Option ℕ)) (texts : List ℕ) (node : OpenNode) (outer : List OpenNode) → node.children ≤ length children → All (IsBelow (length trees)) children → opened_nodes (trees ++ tree ∷ []) (children ++ Some (length trees) ∷ []) texts (node ∷ outer) ≡ with_newer (Some tree ∷ []) (opened_nodes trees children texts (node ∷ outer))
 opened-grown trees tree children texts node outer within below =
-    opened-push (trees ++ tree ∷ []) children texts node outer (Some (length trees)) within
-    ∙ (λ i. with_newest (Some (get_or-append_seam trees tree [] nothing i)) (opened-stays trees (tree ∷ []) children texts (node ∷ outer) below i))
+    opened-append (trees ++ tree ∷ []) children (Some (length trees) ∷ []) texts node outer within
+    ∙ (λ i. with_newer (Some (get_or-append_seam trees tree [] nothing i) ∷ []) (opened-stays trees (tree ∷ []) children texts (node ∷ outer) below i))
 
 before-append : (some others : List (Option Tree)) (children : Children) → before (some ++ others) children ≡ before others (before some children)
 before-append [] others children = refl
@@ -98,7 +99,7 @@ module _ (trees : List Tree) (children : List (Option ℕ)) (texts : List ℕ) (
       let within : parent.children ≤ length (take node.children children) = omega (arith, length-take-le node.children children both.0, both.1.1.1.0) in
       let inner = opened_nodes trees (take node.children children) (take node.text texts) (parent ∷ reverse rest) in
       opened-grown trees (tree_made kind) (take node.children children) (take node.text texts) parent (reverse rest) within (All-take (IsBelow (length trees)) node.children children below)
-      ∙ ap (λ (own : Children). with_newest (Some (Node kind node.spot (name_in kind node.name) node.number (drop node.text texts) own)) inner) (sym (children_from-newest_first trees (drop node.children children)))
+      ∙ ap (λ (own : Children). with_newer (Some (Node kind node.spot (name_in kind node.name) node.number (drop node.text texts) own) ∷ []) inner) (sym (children_from-newest_first trees (drop node.children children)))
       ∙ ap (λ (nodes : List OpenNode). made kind (opened_nodes trees children texts (node ∷ nodes))) (sym reversed)
 
   pub opened-made : (kind : NodeKind) (grown : List Tree) (own : List (Option ℕ)) (text : List ℕ) (number : ℕ) (old : List Opened) → All (IsBelow (length trees)) children → opened_nodes trees children texts (node ∷ reverse outer) ≡ old → grown ≡ trees ++ tree_made kind ∷ [] → number ≡ length trees → own ≡ take node.children children ++ Some number ∷ [] → text ≡ take node.text texts → opened_nodes grown own text (parent ∷ reverse rest) ≡ made kind old

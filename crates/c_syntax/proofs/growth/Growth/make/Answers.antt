@@ -9,7 +9,9 @@ invariant_of-self-in_err-made c =
     (AreOpen-without inside.nodes inside.children.items inside.texts.items inside.inner _ _ _ c.in-Some.ensures.items c.self.invariant.0, rw c.in_err-made.ensures.err c.self.invariant.1)
 
 grown : (c : goal.In_ok-push) → c.add.new.self ≡ c.self.inside.nodes ++ tree_made c.self.inside.nodes c.self.inside.children.items c.self.inside.texts.items c.self.inside.inner c.in-Some.parent c.self.inside.outer.items c.pop.new.self.items c.in-Some.ensures.items c.self.invariant.0 c.args.kind ∷ []
-grown c = c.in_ok-made.ensures.added ∙ rw (c.deref.ensures.value, c.deref-2.ensures.value, take_rest, take_rest, c.name_in.ensures) refl
+grown c =
+    let inside = c.self.inside in
+    c.in_ok-made.ensures.added ∙ rw (c.deref.ensures.value, c.deref-2.ensures.value, take_rest inside.texts.items inside.inner.text, take_rest inside.children.items inside.inner.children, c.name_in.ensures) refl
 
 pub invariant_of-self-2 : goal.invariant_of-self-2
 invariant_of-self-2 c =
