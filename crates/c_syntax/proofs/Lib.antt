@@ -11,3 +11,7 @@ pub mod Lexemes
 pub mod Numbers
 pub mod Digits
 pub mod WordLists
+pub mod Table
+pub mod Opening
+pub mod Joining
+pub mod ReaderSteps

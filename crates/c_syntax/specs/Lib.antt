@@ -9,3 +9,10 @@ pub mod Derivation
 pub mod Closing
 pub mod Faults
 pub mod Reading
+pub mod Numbered
+pub mod Nodes
+pub mod Keeping
+pub mod Children
+pub mod Growth
+pub mod Codes
+pub mod ReaderViews
