@@ -5,3 +5,9 @@ pub mod Heads
 pub mod Derivation
 pub mod Faults
 pub mod Reading
+pub mod Numbered
+pub mod Nodes
+pub mod Keeping
+pub mod LastChildren
+pub mod Growth
+pub mod Codes

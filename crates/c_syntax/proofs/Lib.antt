@@ -1,0 +1,4 @@
+pub mod Table
+pub mod Opening
+pub mod Joining
+pub mod Keeping
