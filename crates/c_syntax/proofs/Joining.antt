@@ -1,5 +1,5 @@
 -- The last children of the innermost open node become those of one node.
-use Rattle.std.proofs.Common.{◌≡◌, ℕ, zero, suc, ◌+◌, ◌-◌, ◌<◌, ◌≤◌, List, [], ◌∷◌, ◌++◌, length, map, reverse, take, drop, Option, Some, None, refl, sym, ap, subst, ◌∙◌, arith, length-append}
+use Rattle.std.proofs.Common.{◌≡◌, ℕ, ◌-◌, ◌≤◌, List, [], ◌∷◌, ◌++◌, length, map, reverse, take, drop, Option, Some, None, refl, sym, ap, subst, ◌∙◌, arith, length-append}
 use Rattle.std.specs.Prelude.{slice_range}
 use Rattle.std.specs.Option.{option_map}
 use Rattle.std.specs.List.{All}
@@ -9,12 +9,12 @@ use Rattle.std.proofs.Math.Seq.{drop-append_seam, take-append_seam}
 use Rattle.c_syntax.specs.declared.growth.OpenNode.{OpenNode}
 use Rattle.c_syntax.specs.declared.node.NodeKind.{NodeKind}
 use Rattle.c_syntax.specs.Tree.{Tree}
-use Rattle.c_syntax.specs.Derivation.{Opened, join_children, joined, newest, nothing, over_one, over_two, result_of, wrap_children, wrapped}
-use Rattle.c_syntax.specs.Children.{last_of, last_two_of}
+use Rattle.c_syntax.specs.Derivation.{Opened, join_children, joined, newest, nothing, result_of, wrap_children, wrapped}
+use Rattle.c_syntax.specs.LastChildren.{last_of, last_two_of}
 use Rattle.c_syntax.specs.Numbered.{tree_at}
 use Rattle.c_syntax.specs.Nodes.{IsBelow}
 use Rattle.c_syntax.specs.Growth.{AreOpen, opened_nodes}
-use Rattle.c_syntax.proofs.Opening.{AllBelow-made, newest_first, opened-append, opened-grown, with_newer}
+use Rattle.c_syntax.proofs.Opening.{AllBelow-puts, Puts, newest_first, opened-append, opened-puts, with_newer}
 
 -- a list ends with these, which are behind its start
 pub record EndsWith (start : ℕ) (xs ends : List (Option ℕ)) : Type 0 where
@@ -76,28 +76,22 @@ module _ (trees : List Tree) (children ends : List (Option ℕ)) (texts : List �
   abbrev front : List (Option ℕ)
   front = take (length children - length ends) children
 
-  pub still-open : (tree : Tree) (grown : List Tree) (own : List (Option ℕ)) (number : ℕ) → AreOpen (node ∷ outer) (length children) (length texts) → All (IsBelow (length trees)) children → grown ≡ trees ++ tree ∷ [] → number ≡ length trees → own ≡ front ++ Some number ∷ [] → AreOpen (node ∷ outer) (length own) (length texts) × All (IsBelow (length grown)) own
-  still-open tree grown own number are below grown_is number_is own_is =
-      rw (grown_is, own_is, number_is)
-        ( (omega (arith, at.behind, length-append front (Some (length trees) ∷ [])), are.1)
-        , AllBelow-made trees tree children (length children - length ends) below )
+  -- a tree takes their place
+  module _ (tree : Tree) (grown : List Tree) (more : List (Option ℕ)) (number : ℕ) (puts : Puts trees tree front grown more number) where
+    pub still-open : AreOpen (node ∷ outer) (length children) (length texts) → All (IsBelow (length trees)) children → AreOpen (node ∷ outer) (length more) (length texts) × All (IsBelow (length grown)) more
+    still-open are below = (
+      (omega (arith, at.behind, ap length puts.pushed, length-append front (Some number ∷ [])), are.1),
+      AllBelow-puts trees tree front grown more number puts (All-take (IsBelow (length trees)) (length children - length ends) children below),
+    )
 
-  -- a node that takes their place, by a change of the children that makes it of them
-  opened-over : (change : List Opened → List Opened) (tree : Tree) → (with_newer (Some tree ∷ []) (opened_nodes trees front texts (node ∷ outer)) ≡ change (with_newer (newest_first trees ends) (opened_nodes trees front texts (node ∷ outer)))) → (grown : List Tree) (own : List (Option ℕ)) (number : ℕ) (old : List Opened) → All (IsBelow (length trees)) children → opened_nodes trees children texts (node ∷ outer) ≡ old → grown ≡ trees ++ tree ∷ [] → number ≡ length trees → own ≡ front ++ Some number ∷ [] → opened_nodes grown own texts (node ∷ outer) ≡ change old
-  opened-over change tree changes grown own number old below seen grown_is number_is own_is =
-      let own_same = own_is ∙ ap (λ (made : ℕ). front ++ Some made ∷ []) number_is in
-      (λ i. opened_nodes (grown_is i) (own_same i) texts (node ∷ outer))
-      ∙ opened-grown trees tree front texts node outer at.behind (All-take (IsBelow (length trees)) (length children - length ends) children below)
-      ∙ changes
-      ∙ ap change (sym (opened-append trees front ends texts node outer at.behind))
-      ∙ ap (λ (whole : List (Option ℕ)). change (opened_nodes trees whole texts (node ∷ outer))) (sym at.whole)
-      ∙ ap change seen
-
-pub opened-joined : (trees : List Tree) (children : List (Option ℕ)) (texts : List ℕ) (node : OpenNode) (outer : List OpenNode) (left right : ℕ) → EndsWith node.children children (Some left ∷ Some right ∷ []) → (kind : NodeKind) (grown : List Tree) (own : List (Option ℕ)) (number : ℕ) (old : List Opened) → All (IsBelow (length trees)) children → opened_nodes trees children texts (node ∷ outer) ≡ old → grown ≡ trees ++ over_two kind (tree_at trees left) (tree_at trees right) ∷ [] → number ≡ length trees → own ≡ take (length children - 2) children ++ Some number ∷ [] → opened_nodes grown own texts (node ∷ outer) ≡ joined kind old
-opened-joined trees children texts node outer left right at kind = opened-over trees children (Some left ∷ Some right ∷ []) texts node outer at (joined kind) (over_two kind (tree_at trees left) (tree_at trees right)) refl
-
-pub opened-wrapped : (trees : List Tree) (children : List (Option ℕ)) (texts : List ℕ) (node : OpenNode) (outer : List OpenNode) (last : ℕ) → EndsWith node.children children (Some last ∷ []) → (kind : NodeKind) (grown : List Tree) (own : List (Option ℕ)) (number : ℕ) (old : List Opened) → All (IsBelow (length trees)) children → opened_nodes trees children texts (node ∷ outer) ≡ old → grown ≡ trees ++ over_one kind (tree_at trees last) ∷ [] → number ≡ length trees → own ≡ take (length children - 1) children ++ Some number ∷ [] → opened_nodes grown own texts (node ∷ outer) ≡ wrapped kind old
-opened-wrapped trees children texts node outer last at kind = opened-over trees children (Some last ∷ []) texts node outer at (wrapped kind) (over_one kind (tree_at trees last)) refl
+    -- the change of the open nodes that makes it of them
+    pub opened-over : (change : List Opened → List Opened) (old : List Opened) → with_newer (Some tree ∷ []) (opened_nodes trees front texts (node ∷ outer)) ≡ change (with_newer (newest_first trees ends) (opened_nodes trees front texts (node ∷ outer))) → All (IsBelow (length trees)) children → opened_nodes trees children texts (node ∷ outer) ≡ old → opened_nodes grown more texts (node ∷ outer) ≡ change old
+    opened-over change old changes below seen =
+        opened-puts trees tree front grown more number puts texts node outer at.behind (All-take (IsBelow (length trees)) (length children - length ends) children below)
+        ∙ changes
+        ∙ ap change (sym (opened-append trees front ends texts node outer at.behind))
+        ∙ ap (λ (whole : List (Option ℕ)). change (opened_nodes trees whole texts (node ∷ outer))) (sym at.whole)
+        ∙ ap change seen
 
 newest_first-is : (trees : List Tree) (numbers : List (Option ℕ)) → newest_first trees numbers ≡ map (option_map (tree_at trees)) (reverse numbers)
 newest_first-is trees [] = refl

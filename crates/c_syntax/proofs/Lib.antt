@@ -15,3 +15,4 @@ pub mod Table
 pub mod Opening
 pub mod Joining
 pub mod ReaderSteps
+pub mod Keeping

@@ -1,5 +1,5 @@
 -- The open nodes of a tree as nodes are made: what stays, and what a child more changes.
-use Rattle.std.proofs.Common.{◌≡◌, ℕ, zero, suc, ◌+◌, ◌-◌, ◌<◌, ◌≤◌, List, [], ◌∷◌, ◌++◌, length, map, reverse, take, drop, Option, Some, None, refl, sym, ap, subst, ◌∙◌, arith, length-append}
+use Rattle.std.proofs.Common.{◌≡◌, ℕ, suc, ◌+◌, ◌≤◌, List, [], ◌∷◌, ◌++◌, length, map, reverse, take, drop, Option, Some, None, refl, sym, ap, subst, ◌∙◌, arith, length-append}
 use Rattle.std.specs.Option.{option_map}
 use Rattle.std.specs.List.{All}
 use Rattle.std.proofs.lemmas.List.{map-append, reverse-append, take-append-le, drop-append-le, get_or_append_left, length-take-le}
@@ -40,7 +40,7 @@ opened-stays : (trees more : List Tree) (children : List (Option ℕ)) (texts : 
 opened-stays trees more children texts [] below = refl
 opened-stays trees more children texts (node ∷ outer) below =
     λ i. record { spot = node.spot; name = node.name; number = node.number; text = drop node.text texts; children = reverse (map-stays trees more (drop node.children children) (All-drop (IsBelow (length trees)) node.children children below) i) }
-      ∷ opened-stays trees more (take node.children children) (take node.text texts) outer (All-take (IsBelow (length trees)) node.children children below) i
+    ∷ opened-stays trees more (take node.children children) (take node.text texts) outer (All-take (IsBelow (length trees)) node.children children below) i
 
 -- the innermost node has these children more, the last one first
 abbrev pub with_newer : List (Option Tree) → List Opened → List Opened
@@ -52,11 +52,27 @@ opened-append trees children newer texts node outer within =
     let seen = option_map (tree_at trees) in
     rw (drop-append-le node.children children newer within, take-append-le node.children children newer within, map-append seen (drop node.children children) newer, reverse-append (map seen (drop node.children children)) (map seen newer)) refl
 
--- a tree is added, and is the newest child of the innermost node
-pub opened-grown : (trees : List Tree) (tree : Tree) (children : List (Option ℕ)) (texts : List ℕ) (node : OpenNode) (outer : List OpenNode) → node.children ≤ length children → All (IsBelow (length trees)) children → opened_nodes (trees ++ tree ∷ []) (children ++ Some (length trees) ∷ []) texts (node ∷ outer) ≡ with_newer (Some tree ∷ []) (opened_nodes trees children texts (node ∷ outer))
-opened-grown trees tree children texts node outer within below =
-    opened-append (trees ++ tree ∷ []) children (Some (length trees) ∷ []) texts node outer within
-    ∙ (λ i. with_newer (Some (get_or-append_seam trees tree [] nothing i) ∷ []) (opened-stays trees (tree ∷ []) children texts (node ∷ outer) below i))
+-- a tree is added to these, and has the number that is added to the children
+pub record Puts (trees : List Tree) (tree : Tree) (children : List (Option ℕ)) (grown : List Tree) (more : List (Option ℕ)) (number : ℕ) : Type 0 where
+  pub added : grown ≡ trees ++ tree ∷ []
+  pub numbered : number ≡ length trees
+  pub pushed : more ≡ children ++ Some number ∷ []
+
+module _ (trees : List Tree) (tree : Tree) (children : List (Option ℕ)) (grown : List Tree) (more : List (Option ℕ)) (number : ℕ) (puts : Puts trees tree children grown more number) where
+  more-is : more ≡ children ++ Some (length trees) ∷ []
+  more-is = puts.pushed ∙ ap (λ (number : ℕ). children ++ Some number ∷ []) puts.numbered
+
+  -- it is the newest child of the innermost node
+  pub opened-puts : (texts : List ℕ) (node : OpenNode) (outer : List OpenNode) → node.children ≤ length children → All (IsBelow (length trees)) children → opened_nodes grown more texts (node ∷ outer) ≡ with_newer (Some tree ∷ []) (opened_nodes trees children texts (node ∷ outer))
+  opened-puts texts node outer within below =
+      (λ i. opened_nodes (puts.added i) (more-is i) texts (node ∷ outer))
+      ∙ opened-append (trees ++ tree ∷ []) children (Some (length trees) ∷ []) texts node outer within
+      ∙ (λ i. with_newer (Some (get_or-append_seam trees tree [] nothing i) ∷ []) (opened-stays trees (tree ∷ []) children texts (node ∷ outer) below i))
+
+  pub AllBelow-puts : All (IsBelow (length trees)) children → All (IsBelow (length grown)) more
+  AllBelow-puts below =
+      let longer : length grown ≡ length trees + 1 = omega (arith, ap length puts.added, length-append trees (tree ∷ [])) in
+      rw more-is (All-push (IsBelow (length grown)) children (Some (length trees)) (AllBelow-more children (length trees) (length grown) (omega arith) below) (omega arith))
 
 before-append : (some others : List (Option Tree)) (children : Children) → before (some ++ others) children ≡ before others (before some children)
 before-append [] others children = refl
@@ -87,29 +103,23 @@ module _ (trees : List Tree) (children : List (Option ℕ)) (texts : List ℕ) (
   pub AreOpen-without : AreOpen (node ∷ reverse rest) (length children) (length texts)
   AreOpen-without = (both.0, (both.1.0, (both.1.1.0, AreOpen-more (reverse rest) parent.children node.children parent.text node.text both.1.1.1.0 both.1.1.1.1.0 both.1.1.1.1.1.1)))
 
-  pub AreOpen-made : (own : List (Option ℕ)) (text : List ℕ) → length own ≡ node.children → length text ≡ node.text → (child : Option ℕ) → AreOpen (parent ∷ reverse rest) (length (own ++ child ∷ [])) (length text)
-  AreOpen-made own text own_is text_is child = AreOpen-more (parent ∷ reverse rest) node.children (length (own ++ child ∷ [])) node.text (length text) (omega (arith, length-append own (child ∷ []))) (omega arith) both.1.1.1
-
   -- the node that it becomes
   abbrev pub tree_made : NodeKind → Tree
   tree_made kind = Node kind node.spot (name_in kind node.name) node.number (drop node.text texts) (children_at trees (drop node.children children))
 
-  opened-over : (kind : NodeKind) → All (IsBelow (length trees)) children → opened_nodes (trees ++ tree_made kind ∷ []) (take node.children children ++ Some (length trees) ∷ []) (take node.text texts) (parent ∷ reverse rest) ≡ made kind (opened_nodes trees children texts (node ∷ reverse outer))
-  opened-over kind below =
-      let within : parent.children ≤ length (take node.children children) = omega (arith, length-take-le node.children children both.0, both.1.1.1.0) in
-      let inner = opened_nodes trees (take node.children children) (take node.text texts) (parent ∷ reverse rest) in
-      opened-grown trees (tree_made kind) (take node.children children) (take node.text texts) parent (reverse rest) within (All-take (IsBelow (length trees)) node.children children below)
-      ∙ ap (λ (own : Children). with_newer (Some (Node kind node.spot (name_in kind node.name) node.number (drop node.text texts) own) ∷ []) inner) (sym (children_from-newest_first trees (drop node.children children)))
-      ∙ ap (λ (nodes : List OpenNode). made kind (opened_nodes trees children texts (node ∷ nodes))) (sym reversed)
+  module _ (kind : NodeKind) (grown : List Tree) (more : List (Option ℕ)) (number : ℕ) (text : List ℕ) (puts : Puts trees (tree_made kind) (take node.children children) grown more number) (text_is : text ≡ take node.text texts) where
+    pub AreOpen-made : AreOpen (parent ∷ reverse rest) (length more) (length text)
+    AreOpen-made =
+        AreOpen-more (parent ∷ reverse rest) node.children (length more) node.text (length text)
+        (omega (arith, ap length puts.pushed, length-append (take node.children children) (Some number ∷ []), length-take-le node.children children both.0))
+        (omega (arith, ap length text_is, length-take-le node.text texts both.1.0)) both.1.1.1
 
-  pub opened-made : (kind : NodeKind) (grown : List Tree) (own : List (Option ℕ)) (text : List ℕ) (number : ℕ) (old : List Opened) → All (IsBelow (length trees)) children → opened_nodes trees children texts (node ∷ reverse outer) ≡ old → grown ≡ trees ++ tree_made kind ∷ [] → number ≡ length trees → own ≡ take node.children children ++ Some number ∷ [] → text ≡ take node.text texts → opened_nodes grown own text (parent ∷ reverse rest) ≡ made kind old
-  opened-made kind grown own text number old below seen grown_is number_is own_is text_is =
-      let own_same = own_is ∙ ap (λ (made : ℕ). take node.children children ++ Some made ∷ []) number_is in
-      (λ i. opened_nodes (grown_is i) (own_same i) (text_is i) (parent ∷ reverse rest)) ∙ opened-over kind below ∙ ap (made kind) seen
-
--- the numbers of the children where the last of them are replaced by a tree that is added
-pub AllBelow-made : (trees : List Tree) (tree : Tree) (children : List (Option ℕ)) (count : ℕ) → All (IsBelow (length trees)) children → All (IsBelow (length (trees ++ tree ∷ []))) (take count children ++ Some (length trees) ∷ [])
-AllBelow-made trees tree children count below =
-    let longer : length (trees ++ tree ∷ []) ≡ length trees + 1 = length-append trees (tree ∷ []) in
-    All-push (IsBelow (length (trees ++ tree ∷ []))) (take count children) (Some (length trees))
-    (AllBelow-more (take count children) (length trees) (length (trees ++ tree ∷ [])) (omega arith) (All-take (IsBelow (length trees)) count children below)) (omega arith)
+    pub opened-made : (old : List Opened) → All (IsBelow (length trees)) children → opened_nodes trees children texts (node ∷ reverse outer) ≡ old → opened_nodes grown more text (parent ∷ reverse rest) ≡ made kind old
+    opened-made old below seen =
+        let within : parent.children ≤ length (take node.children children) = omega (arith, length-take-le node.children children both.0, both.1.1.1.0) in
+        let inner = opened_nodes trees (take node.children children) (take node.text texts) (parent ∷ reverse rest) in
+        ap (λ text. opened_nodes grown more text (parent ∷ reverse rest)) text_is
+        ∙ opened-puts trees (tree_made kind) (take node.children children) grown more number puts (take node.text texts) parent (reverse rest) within (All-take (IsBelow (length trees)) node.children children below)
+        ∙ ap (λ (own : Children). with_newer (Some (Node kind node.spot (name_in kind node.name) node.number (drop node.text texts) own) ∷ []) inner) (sym (children_from-newest_first trees (drop node.children children)))
+        ∙ ap (λ (nodes : List OpenNode). made kind (opened_nodes trees children texts (node ∷ nodes))) (sym reversed)
+        ∙ ap (made kind) seen

@@ -9,7 +9,7 @@ use Rattle.std.proofs.lemmas.Bool.{cases_lt}
 use Rattle.c_syntax.specs.declared.nodes.Node as row
 use Rattle.c_syntax.specs.Tree.{Tree, Children, at_place, child_of}
 use Rattle.c_syntax.specs.Tree.Tree.{Node}
-use Rattle.c_syntax.specs.Tree.Children.{Over, Child, Absent}
+use Rattle.c_syntax.specs.Tree.Children.{Child, Absent}
 use Rattle.c_syntax.specs.Derivation.{nothing}
 use Rattle.c_syntax.specs.Numbered.{tree_at, children_at}
 use Rattle.c_syntax.specs.Nodes.{AreNodes, IsBelow, IsNode, tree_of, trees_behind}
@@ -95,7 +95,7 @@ module _ (children : List (Option ℕ)) (texts : List ℕ) where
       let all = trees_behind children texts (trees ++ tree ∷ []) nodes in
       let longer : length (trees ++ tree ∷ []) ≡ length trees + 1 = length-append trees (tree ∷ []) in
       let earlier : (j : ℕ) → j < length trees → tree_at trees j ≡ tree_at all j =
-        λ j before. sym (behind-before children texts (trees ++ tree ∷ []) nodes j (omega arith) ∙ get_or_append_left trees (tree ∷ []) nothing j before) in
+      λ j before. sym (behind-before children texts (trees ++ tree ∷ []) nodes j (omega arith) ∙ get_or_append_left trees (tree ∷ []) nothing j before) in
       let here : tree_at all (length trees) ≡ tree = behind-before children texts (trees ++ tree ∷ []) nodes (length trees) (omega arith) ∙ get_or-append_seam trees tree [] nothing in
       let at : number ≡ length trees = omega arith in
       ap (tree_at all) at ∙ here ∙ tree_of-same trees all (length trees) node earlier (rw plus-zero at (are 0 node (omega arith)))
@@ -121,8 +121,9 @@ module _ (children : List (Option ℕ)) (texts : List ℕ) where
   pub AreNodes-push : (nodes : List row.Node) (node : row.Node) → AreNodes children texts nodes → IsNode children texts (length nodes) node → AreNodes children texts (nodes ++ node ∷ [])
   AreNodes-push nodes node are is number other within =
       elim (cases_lt number (length nodes)) [
-        inl before ↦ rw (get_or_append_left nodes (node ∷ []) other number before) (are number other before)
-      | inr past ↦ let last : number ≡ length nodes = omega (arith, length-append nodes (node ∷ [])) in rw (last, get_or-append_seam nodes node [] other) is ]
+        | inl before ↦ rw (get_or_append_left nodes (node ∷ []) other number before) (are number other before)
+        | inr past ↦ let last : number ≡ length nodes = omega (arith, length-append nodes (node ∷ [])) in rw (last, get_or-append_seam nodes node [] other) is
+      ]
 
 -- the child at a place
 pub at_place-children_at : (trees : List Tree) (numbers : List (Option ℕ)) (place : ℕ) → at_place (children_at trees numbers) place ≡ option_map (tree_at trees) (get_or numbers place None)

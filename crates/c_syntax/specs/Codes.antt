@@ -1,8 +1,8 @@
 -- Codes of trees and of what has trees, by which proofs tell them apart.
 use Rattle.std.specs.Prelude.{ℕ, ◌≡◌, List, Option, refl}
 use Rattle.std.specs.Coded.{Coded, code_by, coded×, coded_ℕ, coded_list, coded_option}
-use Rattle.std.proofs.Common.{ap}
-use base.Stored.{Gv, gnil, gnum, gcons}
+use Rattle.std.proofs.Common.{ap, subst, sym}
+use base.Stored.{Gv, gnil, gcons}
 use Rattle.c_tokens.specs.declared.token.Spot.{Spot}
 use Rattle.c_syntax.specs.declared.node.NodeKind.{NodeKind}
 use Rattle.c_syntax.specs.contracts.node.NodeKind as kind
@@ -31,23 +31,35 @@ abbrev mutual
   children_value (Absent rest) = gcons gnil (children_value rest)
   children_value (Child tree rest) = gcons (tree_value tree) (children_value rest)
 
+abbrev IsPair : Gv → Type 0
+IsPair (gcons first rest) = Unit {0}
+IsPair other = ⊥
+
+abbrev first_of : Gv → Gv
+first_of (gcons first rest) = first
+first_of other = gnil
+
+abbrev rest_of : Gv → Gv
+rest_of (gcons first rest) = rest
+rest_of other = gnil
+
 mutual
   pub same_tree : (a b : Tree) → tree_value a ≡ tree_value b → a ≡ b
   same_tree (Node ka sa na ma ta left) (Node kb sb nb mb tb right) same =
-      let label = label_code.inj (ka, (sa, (na, (ma, ta)))) (kb, (sb, (nb, (mb, tb)))) (cc) in
-      let children = same_children left right (cc) in
+      let label = label_code.inj (ka, (sa, (na, (ma, ta)))) (kb, (sb, (nb, (mb, tb)))) (ap first_of same) in
+      let children = same_children left right (ap rest_of same) in
       λ i. Node (label i).0 (label i).1.0 (label i).1.1.0 (label i).1.1.1.0 (label i).1.1.1.1 (children i)
 
   same_children : (a b : Children) → children_value a ≡ children_value b → a ≡ b
   same_children Over Over same = refl
-  same_children Over (Absent right) same = cc
-  same_children Over (Child tree right) same = cc
-  same_children (Absent left) Over same = cc
-  same_children (Absent left) (Absent right) same = ap Absent (same_children left right (cc))
-  same_children (Absent left) (Child (Node kind spot name number text children) right) same = cc
-  same_children (Child tree left) Over same = cc
-  same_children (Child (Node kind spot name number text children) left) (Absent right) same = cc
-  same_children (Child first left) (Child second right) same = λ i. Child (same_tree first second (cc) i) (same_children left right (cc) i)
+  same_children Over (Absent right) same = absurd (subst IsPair (sym same) tt)
+  same_children Over (Child tree right) same = absurd (subst IsPair (sym same) tt)
+  same_children (Absent left) Over same = absurd (subst IsPair same tt)
+  same_children (Absent left) (Absent right) same = ap Absent (same_children left right (ap rest_of same))
+  same_children (Absent left) (Child (Node kind spot name number text children) right) same = absurd (subst IsPair (sym (ap first_of same)) tt)
+  same_children (Child tree left) Over same = absurd (subst IsPair same tt)
+  same_children (Child (Node kind spot name number text children) left) (Absent right) same = absurd (subst IsPair (ap first_of same) tt)
+  same_children (Child one left) (Child other right) same = λ i. Child (same_tree one other (ap first_of same) i) (same_children left right (ap rest_of same) i)
 
 abbrev pub tree_code : Coded Tree
 tree_code = record { code = tree_value; inj = same_tree }

@@ -1,12 +1,10 @@
 -- The open nodes of a tree that grows.
-use Rattle.std.specs.Prelude.{ℕ, ◌≤◌, List, [], ◌∷◌, length, map, reverse, take, drop, Option}
+use Rattle.std.specs.Prelude.{ℕ, ◌≤◌, List, [], ◌∷◌, map, reverse, take, drop, Option}
 use Rattle.std.specs.Option.{option_map}
-use Rattle.std.specs.List.{All}
 use Rattle.c_syntax.specs.declared.growth.OpenNode.{OpenNode}
 use Rattle.c_syntax.specs.Tree.{Tree}
 use Rattle.c_syntax.specs.Derivation.{Opened}
 use Rattle.c_syntax.specs.Numbered.{tree_at}
-use Rattle.c_syntax.specs.Nodes.{IsBelow}
 
 -- open nodes, the innermost first. Their children and the bytes that they keep lie one after another, those of the innermost last
 abbrev pub opened_nodes : List Tree → List (Option ℕ) → List ℕ → List OpenNode → List Opened

@@ -12,7 +12,7 @@ pub mod Reading
 pub mod Numbered
 pub mod Nodes
 pub mod Keeping
-pub mod Children
 pub mod Growth
 pub mod Codes
 pub mod ReaderViews
+pub mod LastChildren

@@ -1,5 +1,5 @@
 -- What the nodes of a table stand for, and what holds of each of them.
-use Rattle.std.specs.Prelude.{ℕ, ◌+◌, ◌<◌, ◌≤◌, List, [], ◌∷◌, ◌++◌, length, Option, Some, None, slice_range, slice_index_or}
+use Rattle.std.specs.Prelude.{ℕ, ◌<◌, ◌≤◌, List, [], ◌∷◌, ◌++◌, length, Option, Some, None, slice_range, slice_index_or}
 use Rattle.std.specs.List.{All}
 use Rattle.c_syntax.specs.declared.nodes.Node as row
 use Rattle.c_syntax.specs.Tree.{Tree}

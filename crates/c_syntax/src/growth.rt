@@ -6,7 +6,7 @@ ghost use Rattle.c_syntax.specs.Tree.Tree.{Node as tree_node};
 ghost use Rattle.c_syntax.specs.Tree.{spot_of};
 ghost use Rattle.c_syntax.specs.Derivation.{outermost, opened_at, made, joined, wrapped, skipped, result_of, name_in};
 ghost use Rattle.c_syntax.specs.Keeping.{with_name, with_number, with_text};
-ghost use Rattle.c_syntax.specs.Children.{last_of, last_two_of};
+ghost use Rattle.c_syntax.specs.LastChildren.{last_of, last_two_of};
 ghost use Rattle.c_syntax.specs.Nodes.{IsBelow};
 ghost use Rattle.c_syntax.specs.Numbered.{root_tree, tree_at, children_at};
 

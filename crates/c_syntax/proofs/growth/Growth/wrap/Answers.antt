@@ -1,6 +1,9 @@
-use Rattle.std.proofs.Common.{◌≡◌, length, Some, refl, ◌∙◌, arith}
+use Rattle.std.proofs.Common.{◌≡◌, ◌-◌, length, take, Some, refl, ◌∙◌, arith}
+use Rattle.c_syntax.specs.Derivation.{wrapped, over_one}
 use Rattle.c_syntax.specs.Nodes.{IsBelow}
-use Rattle.c_syntax.proofs.Joining.{All-ends, ends-one, wrapped-none, opened-wrapped, still-open}
+use Rattle.c_syntax.specs.Numbered.{tree_at}
+use Rattle.c_syntax.proofs.Opening.{Puts}
+use Rattle.c_syntax.proofs.Joining.{All-ends, ends-one, wrapped-none, opened-over, still-open}
 use Rattle.c_syntax.proofs.growth.Growth.wrap.Goals as goal
 
 pub returns-in_default : goal.returns-in_default
@@ -17,16 +20,23 @@ add_over-requires c =
       children = below;
     }
 
+puts : (c : goal.In_ok-push) → Puts c.self.inside.nodes (over_one c.args.kind (tree_at c.self.inside.nodes c.in-Some.child)) (take (length c.self.inside.children.items - 1) c.self.inside.children.items) c.add_over.new.nodes c.push.new.self.items c.in_ok-made.made
+puts c =
+    let count : c.len.result ≡ length c.self.inside.children.items = omega arith in
+    record {
+      added = c.in_ok-made.ensures.added;
+      numbered = c.in_ok-made.ensures.number;
+      pushed = c.in_ok-push.ensures.items ∙ rw (c.truncate.ensures.items, count) refl;
+    }
+
 pub invariant_of-self-2 : goal.invariant_of-self-2
 invariant_of-self-2 c =
     let inside = c.self.inside in
     let at = ends-one _ _ _ _ c.deref.ensures.value c.self.invariant.0.0 c.in-Some.ensures in
-    let count : c.len.result ≡ length inside.children.items = omega arith in
-    still-open inside.nodes inside.children.items _ inside.texts.items inside.inner _ at _ _ _ _ c.self.invariant.0 c.self.invariant.1 c.in_ok-made.ensures.added c.in_ok-made.ensures.number (c.in_ok-push.ensures.items ∙ rw (c.truncate.ensures.items, count) refl)
+    still-open inside.nodes inside.children.items _ inside.texts.items inside.inner _ at _ _ _ _ (puts c) c.self.invariant.0 c.self.invariant.1
 
 pub returns : goal.returns
 returns c =
     let inside = c.self.inside in
     let at = ends-one _ _ _ _ c.deref.ensures.value c.self.invariant.0.0 c.in-Some.ensures in
-    let count : c.len.result ≡ length inside.children.items = omega arith in
-    opened-wrapped inside.nodes inside.children.items inside.texts.items inside.inner _ _ at c.args.kind _ _ _ _ c.self.invariant.1 c.self.view_is c.in_ok-made.ensures.added c.in_ok-made.ensures.number (c.in_ok-push.ensures.items ∙ rw (c.truncate.ensures.items, count) refl)
+    opened-over inside.nodes inside.children.items _ inside.texts.items inside.inner _ at _ _ _ _ (puts c) (wrapped c.args.kind) _ refl c.self.invariant.1 c.self.view_is

@@ -1,5 +1,5 @@
 use Rattle.std.proofs.Common.{◌≡◌, ◌≤◌, length, None, arith}
-use Rattle.c_syntax.proofs.Table.{StandsAt, length-trees, stands_at, child-at, child-before}
+use Rattle.c_syntax.proofs.Table.{length-trees, stands_at, child-at, child-before}
 use Rattle.c_syntax.proofs.nodes.Nodes.child.Goals as goal
 
 pub index-requires : goal.index-requires

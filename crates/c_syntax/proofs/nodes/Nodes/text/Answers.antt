@@ -1,6 +1,6 @@
 use Rattle.std.proofs.Common.{◌≡◌, length, sym, ap, arith}
 use Rattle.c_syntax.specs.Tree.{text_of}
-use Rattle.c_syntax.proofs.Table.{StandsAt, length-trees, stands_at}
+use Rattle.c_syntax.proofs.Table.{length-trees, stands_at}
 use Rattle.c_syntax.proofs.nodes.Nodes.text.Goals as goal
 
 pub index-requires : goal.index-requires

@@ -6,6 +6,6 @@ use Rattle.c_syntax.proofs.reader.Reader.rise.Goals as goal
 
 pub returns-clause-does : goal.returns-clause-does
 returns-clause-does c = λ next seen. record {
-  faces = λ before faces. faces-same (faces-rise faces refl) refl c.saturating_sub.ensures refl refl;
+  faces = λ before faces. faces-same (faces-rise faces refl) refl c.saturating_sub-self.ensures refl refl;
   nearer = lighter-plain Rise _ refl;
 }

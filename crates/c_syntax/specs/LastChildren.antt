@@ -1,5 +1,5 @@
 -- The last of some children by their numbers, which come the last one first.
-use Rattle.std.specs.Prelude.{ℕ, List, [], ◌∷◌, Option, Some, None}
+use Rattle.std.specs.Prelude.{ℕ, List, ◌∷◌, Option, Some, None}
 
 -- the last, unless it is absent
 abbrev pub last_of : List (Option ℕ) → Option ℕ
