@@ -1,5 +1,5 @@
 -- The words of tokens, one after another.
-use Rattle.std.proofs.Common.{◌≡◌, ℕ, ◌+◌, ◌<◌, ◌≤◌, List, [], ◌∷◌, ◌++◌, length, take, Ok, get_or, length-take, refl, ap, ◌∙◌, arith}
+use Rattle.std.proofs.Common.{◌≡◌, ℕ, suc, ◌+◌, ◌<◌, ◌≤◌, List, [], ◌∷◌, ◌++◌, length, take, Ok, get_or, length-take, refl, ap, ◌∙◌, arith}
 use Rattle.std.proofs.lemmas.List.{take_more}
 use Rattle.std.proofs.lemmas.List.Elements.{All-get_or}
 use Rattle.c_tokens.specs.declared.token.Spot.{Spot}
@@ -80,3 +80,13 @@ words_of-end text tokens whole =
       is_end = ap (λ (kind : TokenKind). term_of kind bytes) ended.is_end;
       spot_of_end = ended.spot_of_end;
     }
+
+words_from-length : (text : List ℕ) (names : List (List ℕ)) (tokens : List Token) → length (words_from text names tokens) ≡ length tokens
+unfolding words_from
+words_from-length text names [] = refl
+words_from-length text names (first ∷ tokens) =
+    ap (λ n. suc n) (words_from-length text (names_with first.kind names (bytes_of text first)) tokens)
+
+-- the words are as few as the bytes of a short text
+pub words_of-few : (text : List ℕ) (tokens : List Token) → length text ≤ 65536 → tokens_of text ≡ Ok tokens → length (words_of text tokens) < greatest
+words_of-few text tokens short whole = omega (arith, words_from-length text [] tokens, tokens-length text tokens whole)

@@ -11,6 +11,7 @@ pub mod names;
 pub mod node;
 pub mod nodes;
 pub mod plan;
+pub mod program;
 pub mod reader;
 pub mod rules;
 pub mod term;

@@ -1,13 +1,30 @@
-use Rattle.std.proofs.Common.{refl, sym, ap, ◌∙◌}
-use Rattle.c_syntax.proofs.Facing.{reaches-deepen, reaches-same, refuses-deepen}
+use Rattle.std.proofs.Common.{◌≡◌, ◌∷◌, ◌++◌, refl, sym, ap, subst, ◌∙◌, rules, arith}
+use denote.Enum.Bare.{differs_false, differs_true}
+use Rattle.c_tokens.specs.declared.token.Spot.{Spot}
+use Rattle.c_syntax.specs.contracts.term.Term.{the_type}
+use Rattle.c_syntax.specs.declared.fault.SyntaxFault.TheVariants as fault
+use Rattle.c_syntax.specs.Faults.{IsFault}
+use Rattle.c_syntax.specs.Heads.{behind}
+use Rattle.c_syntax.specs.Reading.{State}
+use Rattle.c_syntax.proofs.Facing.{reaches-deepen, reaches-same, refuses-deepen, refuses-depth}
 use Rattle.c_syntax.proofs.ReaderSteps.{refused}
 use Rattle.c_syntax.proofs.reader.Reader.deepen.Goals as goal
 
 pub returns-then-ne-clause-does : goal.returns-then-ne-clause-does
-returns-then-ne-clause-does c = λ next seen before after faces. let h = c.if-ne.ensures in ?
-
-pub returns-clause-does : goal.returns-clause-does
-returns-clause-does c = λ next seen before faces. let h = c.if-ne.ensures in let g = c.pass.ensures.state in ?
+returns-then-ne-clause-does c = λ next seen before after faces.
+    let other = differs_true the_type c.args.word.term c.args.term (sym c.if-ne.ensures) in
+    refused _ _ _ (c.unexpected.ensures.fault next seen) (refuses-deepen faces refl (λ same. other (sym seen.term ∙ same)) after)
 
 pub returns-then-self-ge-DEPTH_LIMIT-clause-does : goal.returns-then-self-ge-DEPTH_LIMIT-clause-does
-returns-then-self-ge-DEPTH_LIMIT-clause-does c = λ next seen before after faces. ?
+returns-then-self-ge-DEPTH_LIMIT-clause-does c = λ next seen before after faces.
+    let same = differs_false the_type (search rules) c.args.word.term c.args.term (sym c.if-ne.ensures) in
+    let P : Spot → Type 0 = λ spot. IsFault (before ++ next ∷ after) (fault.TooDeep spot) in
+    subst P seen.spot (refuses-depth faces refl (seen.term ∙ same) (omega arith) after)
+
+pub returns-clause-does : goal.returns-clause-does
+returns-clause-does c = λ next seen before faces.
+    let same = differs_false the_type (search rules) c.args.word.term c.args.term (sym c.if-ne.ensures) in
+    let state = c.pass.ensures.state in
+    reaches-same (reaches-deepen faces refl (seen.term ∙ same) (omega arith))
+    (ap (λ (s : State). s.steps) state) (ap (λ (s : State). s.depth) state)
+    (ap (λ (s : State). s.at) state ∙ ap (behind c.args.self.now.at) (sym seen.term)) (ap (λ (s : State). s.nodes) state)

@@ -1,0 +1,52 @@
+use Rattle.std.proofs.Common.{◌≡◌, ◌≢◌, ℕ, List, length, map, Result, Err, sym, ap, subst, ◌∙◌, refl, arith}
+use Rattle.std.proofs.lemmas.List.{length-map}
+use Rattle.std.proofs.lemmas.Result.{err_from_is_err_and}
+use Rattle.std.specs.Result.{IfErr}
+use Rattle.c_syntax.specs.declared.tree.Tree as code
+use Rattle.c_syntax.specs.declared.fault.SyntaxFault.{SyntaxFault}
+use Rattle.c_syntax.specs.declared.fault.SyntaxFault.TheVariants as fault
+use Rattle.c_syntax.specs.declared.node.NodeKind.TheVariants as node
+use Rattle.c_syntax.specs.Derivation.{Spells, made, result_of}
+use Rattle.c_syntax.specs.Faults.{IsFault}
+use Rattle.c_syntax.specs.Reading.{Reaches}
+use Rattle.c_syntax.specs.ReaderViews.{MayFault, state_of}
+use Rattle.c_syntax.specs.Tree.{Tree}
+use Rattle.c_syntax.specs.Words.{Word, words_of}
+use Rattle.c_syntax.specs.WordViews.{word_view}
+use Rattle.c_syntax.proofs.Facing.{reaches-end, reaches-spells}
+use Rattle.c_syntax.proofs.WordLists.{words_of-end, words_of-few}
+use Rattle.c_syntax.proofs.program.read_program.Goals as goal
+
+pub read_words-requires-clause-few : goal.read_words-requires-clause-few
+read_words-requires-clause-few c =
+    let text = c.args.text.now in
+    omega (arith, ap (λ (words : List Word). length words) c.in-Ok.ensures.words, length-map c.in-Ok.words.list.items (word_view text), words_of-few text c.args.tokens.now c.requires.short c.requires.tokens)
+
+-- the fault of the words is the answer
+passed_on : (words : List Word) (result : Result code.Tree SyntaxFault) (found other : SyntaxFault) → result ≡ Err other → found ≡ other → (found ≢ fault.Memory → IsFault words found) → IfErr result (λ one. one ≢ fault.Memory → IsFault words one)
+passed_on words result found other is same may = subst (λ one. IfErr one (λ it. it ≢ fault.Memory → IsFault words it)) (sym is) (subst (λ one. one ≢ fault.Memory → IsFault words one) same may)
+
+is-fault : (words : List Word) (found : SyntaxFault) → MayFault words found → found ≢ fault.Memory → IsFault words found
+is-fault words fault.Memory may other = absurd (other refl)
+is-fault words (fault.Unexpected spot) may other = may
+is-fault words (fault.OutOfProfile spot) may other = may
+is-fault words (fault.UnknownDirective spot) may other = may
+is-fault words (fault.TooDeep spot) may other = may
+
+pub returns-in_err-read_words-clause-fault : goal.returns-in_err-read_words-clause-fault
+returns-in_err-read_words-clause-fault c =
+    let text = c.args.text.now in
+    let found = c.in_err-read_words.field-0.0 in
+    let same : map (word_view text) c.deref.result.now ≡ words_of text c.args.tokens.now = ap (map (word_view text)) c.deref.ensures.value ∙ c.in-Ok.ensures.words in
+    let p = err_from_is_err_and c.from_residual.result c.from_residual.ensures.1 in
+    passed_on _ c.from_residual.result found p.0 p.1 (sym p.2) (is-fault _ found (subst (λ words. MayFault words found) same c.in_err-read_words.ensures.fault))
+
+pub returns-in-Ok-finish-clause-tree : goal.returns-in-Ok-finish-clause-tree
+returns-in-Ok-finish-clause-tree c =
+    let text = c.args.text.now in
+    let ended = words_of-end text c.args.tokens.now c.requires.tokens in
+    let state = state_of c.read_words.new.reader in
+    let all : Reaches (words_of text c.args.tokens.now) state = subst (λ words. Reaches words state) c.in-Ok.ensures.words (subst (λ items. Reaches (map (word_view text) items) state) c.deref.ensures.value c.in_ok-read_words.ensures.read) in
+    let parted = subst (λ words. Reaches words state) ended.parts all in
+    subst (λ tree. Spells (words_of text c.args.tokens.now) tree) (sym c.in-Ok-finish.ensures.tree)
+        (reaches-spells all (reaches-end ended.front ended.last parted ended.is_end))
