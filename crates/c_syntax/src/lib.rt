@@ -1,22 +1,61 @@
-//! The grammar.
+//! The grammar of the language: which tokens are a program, and the tree of a program.
+//!
+//! [`read_program`] answers the tree of a text's tokens, or their fault. A tree has nodes of the kinds of [`NodeKind`], each with
+//! the place of its first token, a name, a number or a text where it keeps one, and its children in order, of which some may
+//! be absent. A fault has a number from 4 to 7 ([`SyntaxFault`]) and the place of the first token with which no program goes on.
+//!
+//! The definitions:
+//!
+//! - `specs/Words.antt`: what a token is to the grammar. All names have numbers, in the order in which they first appear;
+//! - `specs/Tree.antt`: trees;
+//! - `specs/Grammar.antt`: the grammar, as rules. A rule says by which steps a sort of text is read where a certain word is next;
+//! - `specs/Derivation.antt`: `Derives` says which words some steps read and which tree they make, and `Spells` that words are a
+//!   program with a tree, in which nothing is deeper than 64. `CanGoOn` says that words begin a program;
+//! - `specs/Heads.antt`: whether words leave off where a directive, a clause or the kind of a schedule should stand;
+//! - `specs/Faults.antt`: `IsFault`, the fault of words that are no program: where it stands, and its number.
+//!
+//! Proved:
+//!
+//! - [`read_program`] answers `Ok` with a tree that the words spell, and a fault that the words have. It may answer want of memory
+//!   at any time, and no clause says when;
+//! - words spell one tree at most, by [`one_tree`], and have one fault at most, by [`one_fault`]. No words spell a tree and have a
+//!   fault, by [`tree_or_fault`]. So the answer is determined but for want of memory.
+//!
+//! Which sentences of `docs/language.md` the rules stand for is to be read. The place of a fault doesn't depend on the rules' form:
+//! it is said by what can be completed to a program.
+//!
+//! No function calls itself as deep as the text nests, and each word takes a bounded number of steps. The time and the memory
+//! are no clauses.
+//!
+//! Tests compare a table of texts with what was written out by hand: that a text is a program, or the number and place of its
+//! fault. They look at no trees.
 #![tactic(auto)]
 
-pub mod fault;
-pub mod grammar;
-pub mod growth;
-pub mod head;
-pub mod laws;
-pub mod lexeme;
-pub mod names;
-pub mod node;
-pub mod nodes;
-pub mod plan;
-pub mod program;
-pub mod reader;
-pub mod rules;
-pub mod term;
-pub mod tree;
-pub mod word;
-pub mod words;
+mod fault;
+mod grammar;
+mod growth;
+mod head;
+mod laws;
+mod lexeme;
+mod names;
+mod node;
+mod nodes;
+mod plan;
+mod program;
+mod reader;
+mod rules;
+mod term;
+#[cfg(test)]
+mod tests;
+mod tree;
+mod word;
+mod words;
 
-pub use node::NodeKind;
+pub use fault::SyntaxFault;
+pub use laws::{one_fault, one_tree, tree_or_fault};
+pub use node::{
+    BinaryOp, Bump, Directive, Getter, Lead, LockCall, NodeKind, Parameters, Returns, Setting,
+    Side, Sign, Standalone, UnaryOp,
+};
+pub use program::read_program;
+pub use tree::Tree;

@@ -156,9 +156,9 @@ HasEnd-at at other spot next tokens same place ended = record {
 }
 
 closing-end : (place : Place) (in_line : Line) → HasEnd place.at place.spot (closing in_line place)
-closing-end place line.Fresh = record { front = []; last = token_at kind.End place 0; parts = refl; is_end = refl; at_end = (refl, omega arith); spot_of_end = refl; }
-closing-end place line.Begun = record { front = []; last = token_at kind.End place 0; parts = refl; is_end = refl; at_end = (refl, omega arith); spot_of_end = refl; }
-closing-end place line.Directive = record { front = token_at kind.PragmaEnd place 0 ∷ []; last = token_at kind.End place 0; parts = refl; is_end = refl; at_end = (refl, omega arith); spot_of_end = refl; }
+closing-end place line.Fresh = record { front = []; last = token_at kind.End place 0; parts = refl; is_end = refl; at_end = (refl, omega arith); spot_of_end = refl }
+closing-end place line.Begun = record { front = []; last = token_at kind.End place 0; parts = refl; is_end = refl; at_end = (refl, omega arith); spot_of_end = refl }
+closing-end place line.Directive = record { front = token_at kind.PragmaEnd place 0 ∷ []; last = token_at kind.End place 0; parts = refl; is_end = refl; at_end = (refl, omega arith); spot_of_end = refl }
 
 reads-end : {place : Place} {rest : List ℕ} {tokens : List Token} → Reads place rest tokens → HasEnd (place.at + length rest) (places_after rest place).spot tokens
 reads-end (over {place}) = HasEnd-at place.at (place.at + 0) place.spot place.spot (closing place.line place) (omega arith) refl (closing-end place place.line)

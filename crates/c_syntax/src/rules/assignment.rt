@@ -9,7 +9,7 @@ use crate::grammar::{Class, Sort, Step};
 use crate::node::{Bump, NodeKind, Setting, Side};
 use crate::term::Term;
 
-/// `right = expression | call. A name may begin either`.
+/// `right = expression | call`. A name may begin either.
 pub(super) fn right(next: Term) -> Rule
     ensures { option_copied result ≡ right next }
 {
@@ -96,7 +96,7 @@ pub(super) fn right(next: Term) -> Rule
     }
 }
 
-/// `.. as a call, or as a place in an expression`.
+/// The name goes on as a call, or as a place in an expression.
 pub(super) fn after_right_name(next: Term) -> Rule
     ensures { option_copied result ≡ after_right_name next }
 {
@@ -304,7 +304,7 @@ pub(super) fn assign_right(next: Term) -> Rule
     }
 }
 
-/// `.. a name there`.
+/// The name there goes on.
 pub(super) fn after_assign_name(next: Term) -> Rule
     ensures { option_copied result ≡ after_assign_name next }
 {

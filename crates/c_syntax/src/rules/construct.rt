@@ -68,7 +68,7 @@ pub(super) fn item_directive(next: Term) -> Rule
     }
 }
 
-/// `construct = # directive { [ , ] clause } statement, from the directive on`.
+/// `construct = # directive { [ , ] clause } statement`, from the directive on.
 pub(super) fn construct(next: Term) -> Rule
     ensures { option_copied result ≡ construct next }
 {
@@ -242,7 +242,7 @@ pub(super) fn first_section(next: Term) -> Rule
     }
 }
 
-/// `.. behind the head of its directive`.
+/// A construct goes on behind the head of its directive.
 pub(super) fn section_or_construct(next: Term) -> Rule
     ensures { option_copied result ≡ section_or_construct next }
 {

@@ -290,7 +290,7 @@ pub(super) fn index_part(next: Term) -> Rule
     }
 }
 
-/// `.. ( ), or in the head of a directive the routine's name as a place`.
+/// `.. ( )`, or in the head of a directive the routine's name as a place.
 pub(super) fn after_getter(which: Getter, next: Term) -> Rule
     ensures { option_copied result ≡ after_getter which next }
 {

@@ -258,7 +258,7 @@ pub(super) fn plain_statement(next: Term) -> Rule
     }
 }
 
-/// `[ else statement ]. It belongs to the nearest `if`, since it is absent only where no `else` stands`.
+/// `[ else statement ]`. It belongs to the nearest `if`, since it is absent only where no `else` stands.
 pub(super) fn else_part(next: Term) -> Rule
     ensures { option_copied result ≡ else_part next }
 {

@@ -49,4 +49,4 @@ returns-in-Ok-finish-clause-tree c =
     let all : Reaches (words_of text c.args.tokens.now) state = subst (λ words. Reaches words state) c.in-Ok.ensures.words (subst (λ items. Reaches (map (word_view text) items) state) c.deref.ensures.value c.in_ok-read_words.ensures.read) in
     let parted = subst (λ words. Reaches words state) ended.parts all in
     subst (λ tree. Spells (words_of text c.args.tokens.now) tree) (sym c.in-Ok-finish.ensures.tree)
-        (reaches-spells all (reaches-end ended.front ended.last parted ended.is_end))
+    (reaches-spells all (reaches-end ended.front ended.last parted ended.is_end))

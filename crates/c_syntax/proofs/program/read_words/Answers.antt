@@ -35,9 +35,9 @@ returns-in_err-read-clause-fault c =
     let item = c.word-item.result in
     let word = word_view text item in
     let parts : map (word_view text) words ≡ before ++ word ∷ after =
-        ap (map (word_view text)) (sym (take-append-drop at words))
-        ∙ map-append (word_view text) (take at words) (drop at words)
-        ∙ ap (λ (rest : List code.Word). before ++ map (word_view text) rest) (drop_more words at item c.loop-word-test.true)
-        ∙ ap (λ (one : code.Word). before ++ word_view text one ∷ after) (sym c.word-item.is) in
+    ap (map (word_view text)) (sym (take-append-drop at words))
+    ∙ map-append (word_view text) (take at words) (drop at words)
+    ∙ ap (λ (rest : List code.Word). before ++ map (word_view text) rest) (drop_more words at item c.loop-word-test.true)
+    ∙ ap (λ (one : code.Word). before ++ word_view text one ∷ after) (sym c.word-item.is) in
     let p = err_from_is_err_and c.from_residual.result c.from_residual.ensures.1 in
     passed_on _ c.from_residual.result c.in_err-read.field-0.0 p.0 p.1 (sym p.2) (subst (λ all. MayFault all c.in_err-read.field-0.0) (sym parts) (c.in_err-read.ensures.fault before after c.loop-word.invariant.reaches))
