@@ -9,7 +9,7 @@ use Rattle.omp_model.specs.Snapshots.{lowest_levels, regions_after}
 use Rattle.omp_model.specs.Turn.{walk, unlimited, turn, enabled}
 use Rattle.omp_model.specs.Heard.{heard}
 use Rattle.omp_model.specs.Serial.{enabled_among}
-use Rattle.omp_model.proofs.Regions.{on_two, region_of_two}
+use Rattle.omp_model.proofs.Regions.{on_two, region_of_two, two_at}
 
 -- where a worker's implicit task begins: its own task, and beyond its stack the initial task, which waits for the region
 abbrev worker_begins : Snapshot
@@ -41,7 +41,7 @@ worker_waits =
 abbrev worker_ends : Snapshot
 worker_ends = record { thread = fresh_word 2; state = 0x100; wait_id = 0; tasks = []; regions = []; fresh = None }
 
-worker-levels : map (λ (item : Item). item.snapshot) (take 1 (drop 5 (heard (on_two (2 ∷ [])) region_of_two)) ++ take 1 (drop 9 (heard (on_two (2 ∷ [])) region_of_two)) ++ take 1 (drop 15 (heard (on_two (2 ∷ [])) region_of_two)))
+worker-levels : map (λ (item : Item). item.snapshot) (take 1 (drop 5 (heard (on_two (two_at 2 ∷ [])) region_of_two)) ++ take 1 (drop 9 (heard (on_two (two_at 2 ∷ [])) region_of_two)) ++ take 1 (drop 15 (heard (on_two (two_at 2 ∷ [])) region_of_two)))
     ≡ worker_begins ∷ worker_waits ∷ worker_ends ∷ []
 unfolding silent event walk unlimited turn enabled enabled_among lowest_levels regions_after
 worker-levels = refl

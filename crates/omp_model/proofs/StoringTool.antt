@@ -19,11 +19,11 @@ use Rattle.omp_model.specs.Heard.{heard}
 use Rattle.omp_model.specs.Cause.{cause_of}
 use Rattle.omp_model.specs.Serial.{enabled_among}
 use Rattle.omp_model.specs.Program.{run_of_blocks}
-use Rattle.omp_model.proofs.Regions.{go, one}
+use Rattle.omp_model.proofs.Regions.{go, one, two_at}
 
 -- the callbacks 3 and 7 are registered
 abbrev storing_run : Run
-storing_run = run_of_blocks (2 ∷ []) 0x88 1 1000000
+storing_run = run_of_blocks (two_at 2 ∷ []) 0x88 1 1000000
 
 -- the 25 entries: the store is entry 5
 abbrev storing_history : List Entry

@@ -26,6 +26,7 @@ use Rattle.omp_model.specs.Storing.{put_all}
 use Rattle.omp_model.specs.Legal.{put_from, put, back_from, back}
 use Rattle.omp_model.specs.Turn.{Walk, walk_on, walk, stepped, Turn, counted, happening, after_steps, after_walk, halted, unlimited, turn}
 use Rattle.omp_model.specs.Cause.{threads_over, whole_value, is_stuck, cause_of_value, cause_of_whole, cause_by_halt, cause_in}
+use Rattle.omp_model.specs.declared.blocks.Block.{Block}
 use Rattle.omp_model.specs.Program.{blocks_code, run_of_blocks}
 use Rattle.omp_model.specs.Tame.{ReturnsZero, IsZeroOrNone, TameTask, TameTasks, NoTrap, IsTame, TameCause}
 
@@ -227,13 +228,13 @@ tame-put-all S t (store ∷ rest) tame =
     tame-put-all (put S t store.target store.word) t rest (tame-put-from S t store.target store.word (pending_at S t) tame)
 
 -- main's code returns nothing but 0
-zero-blocks : (line : ℕ) (blocks : List ℕ) → ReturnsZero (blocks_code line blocks)
-zero-blocks line [] = (refl, tt)
-zero-blocks line (k ∷ ks) = zero-blocks (line + 2) ks
+zero-blocks : (blocks : List Block) → ReturnsZero (blocks_code blocks)
+zero-blocks [] = (refl, tt)
+zero-blocks (block ∷ blocks) = zero-blocks blocks
 
 -- the first state of a run of parallel blocks is tame
-pub tame-first : (blocks : List ℕ) (mask threads steps : ℕ) → IsTame (first (run_of_blocks blocks mask threads steps))
-tame-first blocks mask threads steps = record { tasks = (tame-none, (record { code = zero-blocks 2 blocks; value = tt }, tt)); halt = tt }
+pub tame-first : (blocks : List Block) (mask threads steps : ℕ) → IsTame (first (run_of_blocks blocks mask threads steps))
+tame-first blocks mask threads steps = record { tasks = (tame-none, (record { code = zero-blocks blocks; value = tt }, tt)); halt = tt }
 
 -- the cause, if there is one
 abbrev TameEnd : Option Cause → Type 0

@@ -1,5 +1,6 @@
 -- The programs that run today: a main with parallel blocks one after another, which returns 0.
-use Rattle.std.specs.Prelude.{ℕ, ◌+◌, ◌*◌, pos, List, [], ◌∷◌}
+use Rattle.std.specs.Prelude.{ℕ, pos, List, [], ◌∷◌}
+use Rattle.omp_model.specs.declared.blocks.Block.{Block}
 use Rattle.omp_model.specs.declared.machine.Instruction.{Instruction}
 use Rattle.omp_model.specs.declared.machine.Instruction.TheVariants.{EnterBlock, Return, Parallel}
 use Rattle.ompt_calls.specs.declared.call.Call.TheVariants.{ThreadBegin, ThreadEnd, ImplicitTask}
@@ -9,17 +10,16 @@ use Rattle.omp_model.specs.declared.history.EventRecord.{EventRecord}
 use Rattle.omp_model.specs.State.{Run}
 use Rattle.omp_model.specs.Words.{fresh_word}
 
--- the code of a main whose parallel blocks ask for so many threads. The first construct stands in line 2, and each takes
--- two lines. The place of a construct is line × 65536 + column
-abbrev pub blocks_code : ℕ → List ℕ → List Instruction
-blocks_code line [] = Return (pos 0) ∷ []
-blocks_code line (k ∷ ks) = Parallel k (line * 65536 + 1) ∷ blocks_code (line + 2) ks
+-- the code of a main with these parallel blocks
+abbrev pub blocks_code : List Block → List Instruction
+blocks_code [] = Return (pos 0) ∷ []
+blocks_code (block ∷ blocks) = Parallel block.requested block.codeptr ∷ blocks_code blocks
 
-abbrev pub code_of : List ℕ → List Instruction
-code_of blocks = EnterBlock ∷ blocks_code 2 blocks
+abbrev pub code_of : List Block → List Instruction
+code_of blocks = EnterBlock ∷ blocks_code blocks
 
 -- its run with these callbacks registered, so many threads and so many silent steps
-abbrev pub run_of_blocks : List ℕ → ℕ → ℕ → ℕ → Run
+abbrev pub run_of_blocks : List Block → ℕ → ℕ → ℕ → Run
 run_of_blocks blocks mask threads steps = record { code = code_of blocks; mask = mask; threads = threads; steps = steps }
 
 -- the run of the program without a block: a main that returns 0 at once

@@ -35,7 +35,7 @@ mod laws;
 mod limits;
 mod machine;
 
-pub use blocks::Blocks;
+pub use blocks::{Block, Blocks};
 pub use cause::Cause;
 pub use history::{Entry, EventRecord, History, What};
 pub use laws::{empty_program_ends, serial_history_is_one};
