@@ -54,8 +54,8 @@ mod words;
 pub use fault::SyntaxFault;
 pub use laws::{one_fault, one_tree, tree_or_fault};
 pub use node::{
-    BinaryOp, Bump, Directive, Getter, Lead, LockCall, NodeKind, Parameters, Returns, Setting,
-    Side, Sign, Standalone, UnaryOp,
+    BinaryOp, Bump, Data, Default, Directive, Getter, Lead, LockCall, NodeKind, Parameters,
+    ReductionOp, Returns, ScheduleKind, Setting, Side, Sign, Standalone, UnaryOp,
 };
 pub use program::read_program;
 pub use tree::Tree;

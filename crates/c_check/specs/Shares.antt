@@ -1,0 +1,90 @@
+-- How a construct sees a variable (OpenMP 5.2, 5.1), by the constructs around it.
+use Rattle.std.specs.Prelude.{ℕ, ◌==◌, ◌&&◌, ◌||◌, if◌then◌else◌, Bool, true, false, List, [], ◌∷◌, Option, Some, None}
+use Rattle.c_syntax.specs.declared.node.Directive.{Directive}
+use Rattle.c_syntax.specs.declared.node.Directive.TheVariants as directive
+use Rattle.c_check.specs.declared.act.DataClause.{DataClause}
+use Rattle.c_check.specs.declared.act.DataClause.TheVariants as clause
+use Rattle.c_check.specs.declared.sharing.Sharing.{Sharing}
+use Rattle.c_check.specs.declared.sharing.Sharing.TheVariants as sharing
+use Rattle.c_check.specs.Constructs.{Construct, is_inside, mention}
+
+abbrev pub is_parallel : Directive → Bool
+is_parallel directive.Parallel = true
+is_parallel directive.ParallelFor = true
+is_parallel directive.ParallelSections = true
+is_parallel other = false
+
+abbrev pub is_task : Directive → Bool
+is_task directive.Task = true
+is_task other = false
+
+abbrev pub is_loop_variable : Option ℕ → ℕ → Bool
+is_loop_variable None slot = false
+is_loop_variable (Some loop) slot = loop == slot
+
+abbrev pub given_by : DataClause → Sharing
+given_by clause.Shared = sharing.Shared
+given_by clause.Private = sharing.Private
+given_by clause.First = sharing.First
+given_by clause.Reduced = sharing.Reduced
+
+-- what a construct itself says of a variable: its loop's variable is private, and else a data clause counts
+abbrev pub given_with : Bool → Option DataClause → Option Sharing
+given_with true clause = Some sharing.Private
+given_with false None = None
+given_with false (Some clause) = Some (given_by clause)
+
+abbrev pub own_sharing : Construct → ℕ → Option Sharing
+own_sharing construct slot = given_with (is_loop_variable construct.loop slot) (mention construct.mentions slot)
+
+abbrev pub is_shared : Sharing → Bool
+is_shared sharing.Shared = true
+is_shared other = false
+
+-- a parallel construct shares what it doesn't say otherwise of
+abbrev pub shared_or : Option Sharing → Bool → Bool
+shared_or None other = other
+shared_or (Some own) other = is_shared own
+
+-- A variable is shared by a task that says nothing of it, where these constructs are around. Where one of them is parallel, the variable
+-- is declared outside of the innermost such one and shared there, and no construct between makes copies of it. Where none is, it
+-- is a variable of the file, and none of them makes copies.
+unfoldable pub shared_by_rule : List Construct → Bool → ℕ → Bool
+shared_by_rule [] of_file slot = of_file
+shared_by_rule (first ∷ around) of_file slot =
+    if is_parallel first.head.directive
+    then (if is_inside first slot then false else shared_or (own_sharing first slot) true)
+    else shared_or (own_sharing first slot) true && shared_by_rule around of_file slot
+
+-- how a construct sees a variable of which it says nothing and that is declared outside of it
+abbrev pub by_directive : Construct → Bool → Sharing → Sharing
+by_directive construct by_rule around =
+    if is_parallel construct.head.directive then sharing.Shared
+    else if is_task construct.head.directive then (if construct.clauses.default_shared || by_rule then sharing.Shared else sharing.First) else around
+
+abbrev pub sharing_by : Option Sharing → Bool → Sharing → Sharing
+sharing_by (Some own) inside other = own
+sharing_by None true other = sharing.Local
+sharing_by None false other = other
+
+-- How the first of some constructs, which stands in the others, sees a variable. A construct that is neither parallel nor a task sees what it
+-- says nothing of as the one around does, and outside of all constructs a variable is shared.
+unfoldable pub sharing_at : List Construct → Bool → ℕ → Sharing
+sharing_at [] of_file slot = sharing.Shared
+sharing_at (first ∷ around) of_file slot =
+    sharing_by (own_sharing first slot) (is_inside first slot) (by_directive first (shared_by_rule around of_file slot) (sharing_at around of_file slot))
+
+abbrev pub is_unnamed : Option Sharing → Bool
+is_unnamed None = true
+is_unnamed (Some own) = false
+
+-- a task has a copy of a variable that it doesn't name, by rule
+abbrev pub copies_by_rule : Construct → Bool → ℕ → Bool
+copies_by_rule construct by_rule slot =
+    is_task construct.head.directive && is_unnamed (own_sharing construct slot)
+    && (if is_inside construct slot || construct.clauses.default_shared || by_rule then false else true)
+
+-- one of the tasks around has one
+unfoldable pub is_copied : List Construct → Bool → ℕ → Bool
+is_copied [] of_file slot = false
+is_copied (first ∷ around) of_file slot = copies_by_rule first (shared_by_rule around of_file slot) slot || is_copied around of_file slot

@@ -1,0 +1,33 @@
+//! Why a program is refused.
+
+use c_tokens::Spot;
+use thiserror::Error;
+
+/// The rule that a program breaks, and the place: that of the name, the call, the directive or the statement that breaks it.
+#[derive(Clone, Copy, Debug, PartialEq, Eq, Error)]
+pub enum CheckFault {
+    /// Number 8: no declaration of the name is in scope.
+    #[error("unknown name")]
+    UnknownName(Spot),
+    /// Number 9: the name is declared a second time in its scope.
+    #[error("declared twice")]
+    TwiceDeclared(Spot),
+    /// Number 10: the name, call, return, text or clause isn't used as what it is.
+    #[error("wrong use")]
+    WrongUse(Spot),
+    /// Number 11: the directive or return may not stand inside the construct around it.
+    #[error("bad nesting")]
+    BadNesting(Spot),
+    /// Number 12: the statement of a `for` directive isn't a loop that can be shared out.
+    #[error("bad loop")]
+    BadLoop(Spot),
+    /// Number 13: there is no function main. The place is the end of the text.
+    #[error("no main")]
+    NoMain(Spot),
+    /// Number 14: under `default(none)` a variable is used that no clause lists.
+    #[error("not listed")]
+    NotListed(Spot),
+    /// No memory was left.
+    #[error("memory")]
+    Memory,
+}
