@@ -12,7 +12,7 @@ use Rattle.c_check.specs.declared.sharing.Sharing.TheVariants as sharing
 use Rattle.c_check.specs.Acts.{acts}
 use Rattle.c_check.specs.declared.declared.Declared.{Declared}
 use Rattle.c_check.specs.declared.declared.Named.{Named}
-use Rattle.c_check.specs.Constructs.{Construct}
+use Rattle.c_check.specs.Constructs.{Construct, numbered}
 use Rattle.c_check.specs.Here.{Here, after, before_all}
 use Rattle.c_check.specs.Rules.{broken_by, is_of_file}
 use Rattle.c_check.specs.Shares.{sharing_at}
@@ -90,19 +90,18 @@ slot_in (first ∷ rest) spot = if is_same_place first.spot spot then Some first
 abbrev pub slot_at : TreeView → Spot → Option ℕ
 slot_at program spot = slot_in (end_of program).named spot
 
+-- the construct that stands there
+unfoldable pub construct_at : List Construct → Spot → Option Construct
+construct_at [] spot = None
+construct_at (first ∷ rest) spot = if is_same_place first.head.spot spot then Some first else construct_at rest spot
+
+abbrev pub seen_by : List Construct → Option Construct → Option Declared → Option Sharing
+seen_by all None it = None
+seen_by all (Some construct) None = None
+seen_by all (Some construct) (Some it) = Some (sharing_at (construct ∷ numbered all construct.around) (is_of_file it) it.slot)
+
 -- how the construct that stands there sees the variable with a slot; none where no construct stands there, or nothing has the slot
-abbrev pub spot_of_first : List Construct → Spot → Bool
-spot_of_first [] spot = false
-spot_of_first (first ∷ around) spot = is_same_place first.head.spot spot
-
-unfoldable pub construct_at : List (List Construct) → Spot → List Construct
-construct_at [] spot = []
-construct_at (first ∷ rest) spot = if spot_of_first first spot then first else construct_at rest spot
-
-abbrev pub seen_as : List Construct → Option Declared → Option Sharing
-seen_as [] it = None
-seen_as constructs None = None
-seen_as constructs (Some it) = Some (sharing_at constructs (is_of_file it) it.slot)
-
 abbrev pub sharing_of : TreeView → Spot → ℕ → Option Sharing
-sharing_of program spot slot = seen_as (construct_at (end_of program).constructs.ended spot) (slice_get (end_of program).names.all slot)
+sharing_of program spot slot =
+    let end = end_of program in
+    seen_by end.constructs.all (construct_at end.constructs.all spot) (slice_get end.names.all slot)

@@ -1,8 +1,9 @@
 -- The constructs of a program: those around, and those that have ended.
-use Rattle.std.specs.Prelude.{ℕ, ◌+◌, ◌==◌, ◌&&◌, ◌||◌, nat_le, if◌then◌else◌, Bool, true, false, List, [], ◌∷◌, ◌++◌, Option, Some, None}
+use Rattle.std.specs.Prelude.{ℕ, ◌+◌, ◌==◌, ◌&&◌, ◌||◌, nat_le, if◌then◌else◌, Bool, true, false, List, [], ◌∷◌, ◌++◌, length, map, drop, slice_index_or, slice_set, Option, Some, None}
 use Rattle.c_tokens.specs.declared.token.Spot.{Spot}
 use Rattle.c_syntax.specs.declared.node.Default.TheVariants as default
 use Rattle.c_syntax.specs.declared.node.Directive.{Directive}
+use Rattle.c_syntax.specs.declared.node.Directive.TheVariants as directive
 use Rattle.c_check.specs.declared.act.DataClause.{DataClause}
 use Rattle.c_check.specs.declared.act.Single.{Single}
 use Rattle.c_check.specs.declared.act.Single.TheVariants as single
@@ -12,25 +13,25 @@ use Rattle.c_check.specs.declared.declared.LoopInside.{LoopInside}
 use Rattle.c_check.specs.declared.declared.Mention.{Mention}
 use Rattle.c_check.specs.declared.declared.Unlisted.{Unlisted}
 
--- a construct, with its clauses, the variables that its data clauses list, and the slot of its loop's variable
+-- a construct: the numbers of those around it, the innermost first, its clauses, the variables that its data clauses list, and the slot of
+-- its loop's variable
 pub record Construct : Type 0 where
   pub head : Head
+  pub around : List ℕ
   pub clauses : Clauses
   pub mentions : List Mention
   pub loop : Option ℕ
 
 pub record Constructs : Type 0 where
-  -- those of the function around, the innermost first
-  pub around : List Construct
-  -- how many have begun
-  pub entered : ℕ
-  -- those that have ended, each with those around it
-  pub ended : List (List Construct)
+  -- all so far, in the order of the text: each stands at its number
+  pub all : List Construct
+  -- the numbers of those of the function around, the innermost first
+  pub around : List ℕ
   pub unlisted : List Unlisted
   pub loops : List LoopInside
 
 abbrev pub no_constructs : Constructs
-no_constructs = record { around = []; entered = 0; ended = []; unlisted = []; loops = [] }
+no_constructs = record { all = []; around = []; unlisted = []; loops = [] }
 
 abbrev pub no_clauses : Clauses
 no_clauses = record { num_threads = false; default_shared = false; default_none = false; schedule = false; nowait = false; condition = false }
@@ -42,6 +43,18 @@ with_single (single.Default default.None) clauses = record clauses { default_non
 with_single (single.Schedule chunk) clauses = record clauses { schedule = true }
 with_single single.Nowait clauses = record clauses { nowait = true }
 with_single single.If clauses = record clauses { condition = true }
+
+-- a construct that isn't there
+abbrev pub no_construct : Construct
+no_construct = record { head = record { spot = record { line = 0; column = 0 }; directive = directive.Parallel; critical = 0; number = 0; first = 0 }; around = []; clauses = no_clauses; mentions = []; loop = None }
+
+-- the constructs with some numbers
+abbrev pub numbered : List Construct → List ℕ → List Construct
+numbered all numbers = map (λ (number : ℕ). slice_index_or all number no_construct) numbers
+
+-- those around, the innermost first
+abbrev pub around_of : Constructs → List Construct
+around_of constructs = numbered constructs.all constructs.around
 
 -- the clause that lists a variable: the first that does
 unfoldable pub mention : List Mention → ℕ → Option DataClause
@@ -66,28 +79,28 @@ unlisted_in (first ∷ around) spot slot = if leaves_out first slot then record 
 
 -- a variable is used
 abbrev pub with_use : Constructs → Spot → ℕ → Constructs
-with_use constructs spot slot = record constructs { unlisted = constructs.unlisted ++ unlisted_in constructs.around spot slot }
+with_use constructs spot slot = record constructs { unlisted = constructs.unlisted ++ unlisted_in (around_of constructs) spot slot }
 
 -- a construct begins where so many declarations stand before it
 abbrev pub with_head : Constructs → Spot → Directive → ℕ → ℕ → Constructs
 with_head constructs spot which critical first =
-    let head : Head = record { spot = spot; directive = which; critical = critical; number = constructs.entered; first = first } in
+    let head : Head = record { spot = spot; directive = which; critical = critical; number = length constructs.all; first = first } in
     record constructs {
-      around = record { head = head; clauses = no_clauses; mentions = []; loop = None } ∷ constructs.around;
-      entered = constructs.entered + 1;
+      all = constructs.all ++ record { head = head; around = constructs.around; clauses = no_clauses; mentions = []; loop = None } ∷ [];
+      around = length constructs.all ∷ constructs.around;
     }
 
 -- the innermost construct changes
-abbrev pub changed : (Construct → Construct) → List Construct → List Construct
-changed change [] = []
-changed change (first ∷ around) = change first ∷ around
+abbrev pub changed : (Construct → Construct) → List Construct → List ℕ → List Construct
+changed change all [] = all
+changed change all (number ∷ around) = slice_set all number (change (slice_index_or all number no_construct))
 
 abbrev pub with_clause : Constructs → Single → Constructs
-with_clause constructs one = record constructs { around = changed (λ (construct : Construct). record construct { clauses = with_single one construct.clauses }) constructs.around }
+with_clause constructs one = record constructs { all = changed (λ (construct : Construct). record construct { clauses = with_single one construct.clauses }) constructs.all constructs.around }
 
 abbrev pub with_mention : Constructs → ℕ → DataClause → Constructs
 with_mention constructs slot clause =
-    record constructs { around = changed (λ (construct : Construct). record construct { mentions = construct.mentions ++ record { slot = slot; clause = clause } ∷ [] }) constructs.around }
+    record constructs { all = changed (λ (construct : Construct). record construct { mentions = construct.mentions ++ record { slot = slot; clause = clause } ∷ [] }) constructs.all constructs.around }
 
 unfoldable pub loops_in : List Construct → ℕ → List LoopInside
 loops_in [] slot = []
@@ -97,17 +110,13 @@ loops_in (first ∷ around) slot = record { slot = slot; construct = first.head.
 abbrev pub with_loop : Constructs → ℕ → Constructs
 with_loop constructs slot =
     record constructs {
-      around = changed (λ (construct : Construct). record construct { loop = Some slot }) constructs.around;
-      loops = constructs.loops ++ loops_in constructs.around slot;
+      all = changed (λ (construct : Construct). record construct { loop = Some slot }) constructs.all constructs.around;
+      loops = constructs.loops ++ loops_in (around_of constructs) slot;
     }
 
 -- the innermost construct ends
-abbrev pub left_from : Constructs → List Construct → Constructs
-left_from constructs [] = constructs
-left_from constructs (first ∷ around) = record constructs { around = around; ended = constructs.ended ++ (first ∷ around) ∷ [] }
-
 abbrev pub left : Constructs → Constructs
-left constructs = left_from constructs constructs.around
+left constructs = record constructs { around = drop 1 constructs.around }
 
 -- a function begins
 abbrev pub with_none_around : Constructs → Constructs

@@ -29,7 +29,7 @@ unfoldable mutual
 
   pub stands_among : ℕ → Children → Bool
   stands_among name Over = false
-  stands_among name (Absent rest) = stands_among name rest
+  stands_among name (Absent rest) = false
   stands_among name (Child tree rest) = stands_in name tree || stands_among name rest
 
 -- The first part of a loop: the name of its variable, where it has one. The start of a variable that the loop doesn't declare

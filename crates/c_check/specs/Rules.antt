@@ -28,7 +28,7 @@ use Rattle.c_check.specs.declared.declared.Declared.{Declared}
 use Rattle.c_check.specs.declared.declared.LoopInside.{LoopInside}
 use Rattle.c_check.specs.declared.declared.Unlisted.{Unlisted}
 use Rattle.c_check.specs.Names.{find, is_at_level}
-use Rattle.c_check.specs.Constructs.{Construct, is_unmentioned, mention}
+use Rattle.c_check.specs.Constructs.{Construct, around_of, is_unmentioned, mention}
 use Rattle.c_check.specs.Here.{Here, cells_of, most_cells}
 use Rattle.c_check.specs.Shares.{is_copied, is_loop_variable, is_parallel, is_task}
 
@@ -98,7 +98,7 @@ copies_lock other around it = false
 
 abbrev pub misused : Here → ℕ → Spot → Usage → Option Declared → List CheckFault
 misused here name spot used None = fault.UnknownName spot ∷ []
-misused here name spot used (Some it) = if_so (is_wrong it.thing used || calls_main used (name == here.main) || copies_lock it.thing here.constructs.around it) (fault.WrongUse spot)
+misused here name spot used (Some it) = if_so (is_wrong it.thing used || calls_main used (name == here.main) || copies_lock it.thing (around_of here.constructs) it) (fault.WrongUse spot)
 
 abbrev pub wrong_print : Spot → Printed → List CheckFault
 wrong_print spot printed.Right = []
@@ -220,15 +220,15 @@ unfoldable pub broken_by : Here → Act → List CheckFault
 broken_by here (Begin name spot gives parameters) = twice here name spot ++ wrong_function here name spot gives parameters
 broken_by here (Declare name spot what) = twice here name spot ++ wrong_declaration here spot what
 broken_by here (Use name spot used) = misused here name spot used (find here.names.visible name)
-broken_by here (Assign name) = spoiled_by (find here.names.visible name) here.constructs.around
+broken_by here (Assign name) = spoiled_by (find here.names.visible name) (around_of here.constructs)
 broken_by here (Print spot shown) = wrong_print spot shown
-broken_by here (Return spot what) = if_so (is_wrong_return here.returns what) (fault.WrongUse spot) ++ if_so (is_within here.constructs.around) (fault.BadNesting spot)
-broken_by here (Barrier spot) = if_so (binds_badly here.constructs.around) (fault.BadNesting spot)
-broken_by here (Enter spot which critical) = if_so (nests_badly which critical here.constructs.around) (fault.BadNesting spot)
-broken_by here (Clause one) = wrong_clause one here.constructs.around
-broken_by here (Listing name spot which) = listed_again spot (find here.names.visible name) here.constructs.around
-broken_by here OddLoop = bad_loop here.constructs.around
-broken_by here (Loop name) = if is_int (find here.names.visible name) then [] else bad_loop here.constructs.around
+broken_by here (Return spot what) = if_so (is_wrong_return here.returns what) (fault.WrongUse spot) ++ if_so (is_within (around_of here.constructs)) (fault.BadNesting spot)
+broken_by here (Barrier spot) = if_so (binds_badly (around_of here.constructs)) (fault.BadNesting spot)
+broken_by here (Enter spot which critical) = if_so (nests_badly which critical (around_of here.constructs)) (fault.BadNesting spot)
+broken_by here (Clause one) = wrong_clause one (around_of here.constructs)
+broken_by here (Listing name spot which) = listed_again spot (find here.names.visible name) (around_of here.constructs)
+broken_by here OddLoop = bad_loop (around_of here.constructs)
+broken_by here (Loop name) = if is_int (find here.names.visible name) then [] else bad_loop (around_of here.constructs)
 broken_by here (Finish spot) = if_so (if here.has_main then false else true) (fault.NoMain spot) ++ not_listed here.constructs.loops here.constructs.unlisted
 broken_by here Open = []
 broken_by here Close = []

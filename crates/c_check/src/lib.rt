@@ -2,10 +2,15 @@
 #![tactic(auto)]
 
 mod act;
+mod constructs;
 mod declared;
 mod fault;
+mod loops;
+mod names;
+mod place;
 mod role;
 mod sharing;
+mod walk;
 
 pub use fault::CheckFault;
 pub use sharing::Sharing;
