@@ -17,7 +17,7 @@
 //! Proved:
 //!
 //! - [`read_program`] answers `Ok` with a tree that the words spell, and a fault that the words have. It may answer want of memory
-//!   at any time, and no clause says when;
+//!   at any time, and no clause says when. Its one condition is that the tokens are those of the text, however long that is;
 //! - words spell one tree at most, by [`one_tree`], and have one fault at most, by [`one_fault`]. No words spell a tree and have a
 //!   fault, by [`tree_or_fault`]. So the answer is determined but for want of memory.
 //!
