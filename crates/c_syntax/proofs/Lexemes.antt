@@ -1,11 +1,15 @@
 -- Look-ups of names.
-use Rattle.std.proofs.Common.{◌≡◌, ℕ, suc, ◌+◌, ◌<◌, ◌≤◌, Bool, true, false, cond, ◌==◌, List, [], ◌∷◌, length, drop, map, get_or, refl, sym, ap, ◌∙◌, add-one, drop-cons, inl, inr, Bor, ne_eqb}
-use Rattle.std.specs.Prelude.{◌&&◌, filter, bytes_eq}
-use Rattle.std.proofs.lemmas.Bool.{cases_Bool, eqb-false}
+use Rattle.std.proofs.Common.{◌≡◌, ◌≢◌, ℕ, suc, ◌+◌, ◌<◌, ◌≤◌, Bool, true, false, IsTrue, if◌then◌else◌, cond, nat_eq, ◌==◌, List, [], ◌∷◌, length, drop, map, get_or, refl, sym, ap, ◌∙◌, add-one, drop-cons, inl, inr, Bor, ne_eqb}
+use Rattle.std.specs.Prelude.{◌&&◌, codes, filter, bytes_eq}
+use Rattle.std.specs.List.{starts_with}
+use Rattle.std.proofs.lemmas.Bool.{cases_Bool, eqb-false, false≢true}
 use Rattle.std.proofs.lemmas.List.{drop_all}
 use Rattle.c_syntax.specs.declared.term.Term.{Term}
+use Rattle.c_syntax.specs.declared.term.Term.TheVariants as term
 use Rattle.c_syntax.specs.Words.{Row, look_up, name_term, other_name, same_bytes}
 use Rattle.c_syntax.specs.Lexemes.{name_rows, row_view, rows_of_len}
+use Rattle.c_syntax.specs.Derivation.{is_number}
+use Rattle.c_syntax.proofs.Terms.{both-left, both-right}
 
 pub bytes_eq-same : (bytes others : List ℕ) → bytes_eq bytes others ≡ same_bytes bytes others
 bytes_eq-same [] [] = refl
@@ -56,3 +60,31 @@ look_up-passed items at none bytes other within apart =
 
 pub look_up-over : (items : List (Bor (List ℕ) × Term)) (at : ℕ) (bytes : List ℕ) (other : Term) → length items ≤ at → look_up (map row_view (drop at items)) bytes other ≡ other
 look_up-over items at bytes other over = ap (λ (rest : List (Bor (List ℕ) × Term)). look_up (map row_view rest) bytes other) (drop_all at items over)
+
+-- whether none of some rows is that of a number
+abbrev no_number : List Row → Bool
+no_number [] = true
+no_number (first ∷ rows) = (if is_number first.term then false else true) && no_number rows
+
+not-number : (term : Term) → IsTrue (if is_number term then false else true) → is_number term ≡ false
+not-number term.Number fails = absurd (false≢true fails)
+not-number other holds = refl
+
+look_up-no_number : (rows : List Row) (bytes : List ℕ) (other : Term) → IsTrue (no_number rows) → is_number other ≡ false → is_number (look_up rows bytes other) ≡ false
+look_up-no_number [] bytes other none plain = plain
+look_up-no_number (first ∷ rows) bytes other none plain =
+    elim (cases_Bool (same_bytes first.bytes bytes)) [
+      | inl same ↦ rw same (not-number first.term (both-left (if is_number first.term then false else true) (no_number rows) none))
+      | inr apart ↦ rw apart (look_up-no_number rows bytes other (both-right (if is_number first.term then false else true) (no_number rows) none) plain)
+    ]
+
+other_name-no_number : (bytes : List ℕ) → is_number (other_name bytes) ≡ false
+other_name-no_number bytes =
+    elim (cases_Bool (starts_with nat_eq bytes (codes "omp_"))) [
+      | inl same ↦ rw same refl
+      | inr apart ↦ rw apart refl
+    ]
+
+-- no name is a number
+pub name-no_number : (bytes : List ℕ) → name_term bytes ≢ term.Number
+name-no_number bytes same = false≢true (sym (look_up-no_number name_rows bytes (other_name bytes) refl (other_name-no_number bytes)) ∙ ap is_number same)

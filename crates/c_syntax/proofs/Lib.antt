@@ -7,6 +7,7 @@ mod Readying
 pub mod Facing
 pub mod Weights
 pub mod Unique
+pub mod Answering
 pub mod Lexemes
 pub mod Numbers
 pub mod Digits

@@ -1,5 +1,5 @@
 -- Names, and their numbers.
-use Rattle.std.proofs.Common.{◌≡◌, ℕ, ◌+◌, ◌<◌, ◌≤◌, Bool, true, false, cond, List, [], ◌∷◌, ◌++◌, Option, Some, None, unwrap_or, length, refl, sym, ap, subst, ◌∙◌, arith, inl, inr, length-append}
+use Rattle.std.proofs.Common.{◌≡◌, ℕ, ◌+◌, ◌≤◌, Bool, true, false, cond, List, [], ◌∷◌, ◌++◌, Option, Some, None, unwrap_or, length, refl, sym, ap, subst, ◌∙◌, arith, inl, inr, length-append}
 use Rattle.std.specs.Prelude.{bytes_eq}
 use Rattle.std.proofs.lemmas.Bool.{cases_Bool}
 use Rattle.std.proofs.lemmas.Slice.Eq.{bytes_eq-Decides}
@@ -58,21 +58,9 @@ names-new before names next name number counted are none updated grown =
     let P : List (List ℕ) → Type 0 = λ b. AreNames b next in
     subst P (sym (with_name-new before name new)) whole
 
--- no number of a name is greater than the names are many
-number_from-within : (number : ℕ) (names : List (List ℕ)) (name : List ℕ) → 1 ≤ number → unwrap_or (number_from number names name) 0 + 1 ≤ number + length names
-number_from-within number [] name some = omega arith
-number_from-within number (first ∷ names) name some =
-    elim (cases_Bool (same_bytes first name)) [
-      | inl same ↦ rw same (omega arith)
-      | inr apart ↦ rw apart (omega (arith, number_from-within (number + 1) names name (omega arith)))
-    ]
-
 pub with_name-length : (names : List (List ℕ)) (name : List ℕ) → length (with_name names name) ≤ length names + 1
 with_name-length names name =
     elim (number_of names name) as (λ found. length (added found names name) ≤ length names + 1) [
       | None ↦ omega (arith, length-append names (name ∷ []))
       | Some number ↦ omega arith
     ]
-
-pub number_of-few : (names : List (List ℕ)) (name : List ℕ) (number : ℕ) → length names < number → unwrap_or (number_of (with_name names name) name) 0 ≤ number
-number_of-few names name number few = omega (arith, number_from-within 1 (with_name names name) name (omega arith), with_name-length names name)

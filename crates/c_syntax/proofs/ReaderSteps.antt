@@ -1,10 +1,9 @@
 -- What the reader's steps come to.
-use Rattle.std.proofs.Common.{◌≡◌, List, ◌∷◌, ◌++◌, sym, subst}
+use Rattle.std.proofs.Common.{◌≡◌, List, sym, subst}
 use Rattle.c_syntax.specs.declared.fault.SyntaxFault.{SyntaxFault}
 use Rattle.c_syntax.specs.declared.fault.SyntaxFault.TheVariants as fault
 use Rattle.c_syntax.specs.Words.{Word}
-use Rattle.c_syntax.specs.Faults.{IsFault, fault_of}
-use Rattle.c_syntax.specs.Reading.{Faces, State}
+use Rattle.c_syntax.specs.Faults.{IsFault}
 use Rattle.c_syntax.specs.ReaderViews.{MayFault}
 
 pub MayFault-is : (words : List Word) (found : SyntaxFault) → IsFault words found → MayFault words found

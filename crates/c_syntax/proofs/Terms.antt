@@ -1,6 +1,6 @@
 -- Words and lists of them, compared by numbers, so that what holds of each word can be seen by computing.
-use Rattle.std.proofs.Common.{ℕ, ◌≡◌, Bool, true, false, ◌==◌, ◌&&◌, ◌||◌, IsTrue, List, [], ◌∷◌, get_or, refl, sym, ap, subst, ◌∙◌, inl, inr}
-use Rattle.std.proofs.lemmas.Bool.{eqb-true, false≢true}
+use Rattle.std.proofs.Common.{ℕ, ◌≡◌, ◌≢◌, ◌⊎◌, Bool, true, false, ◌==◌, ◌&&◌, ◌||◌, IsTrue, List, [], ◌∷◌, get_or, refl, sym, ap, subst, ◌∙◌, inl, inr}
+use Rattle.std.proofs.lemmas.Bool.{cases_Bool, eqb-false, eqb-true, false≢true}
 use Rattle.c_syntax.specs.declared.term.Term.{Term}
 use Rattle.c_syntax.specs.declared.term.Term.TheVariants as term
 use Rattle.c_syntax.specs.Closing.{IsAmong}
@@ -121,6 +121,13 @@ same first second = number first == number second
 
 pub same-true : (first second : Term) → IsTrue (same first second) → first ≡ second
 same-true first second holds = sym (numbered-number first) ∙ (ap numbered (eqb-true (number first) (number second) holds) ∙ numbered-number second)
+
+pub same-or-not : (first second : Term) → (first ≡ second) ⊎ (first ≢ second)
+same-or-not first second =
+    elim (cases_Bool (same first second)) [
+      | inl holds ↦ inl (same-true first second holds)
+      | inr apart ↦ inr (λ one. eqb-false (number first) (number second) apart (ap number one))
+    ]
 
 abbrev pub is_among : Term → List Term → Bool
 is_among word [] = false

@@ -1,5 +1,5 @@
 -- The words of tokens, one after another.
-use Rattle.std.proofs.Common.{◌≡◌, ℕ, suc, ◌+◌, ◌<◌, ◌≤◌, List, [], ◌∷◌, ◌++◌, length, take, Ok, get_or, length-take, refl, ap, ◌∙◌, arith}
+use Rattle.std.proofs.Common.{◌≡◌, ℕ, ◌+◌, ◌<◌, ◌≤◌, List, [], ◌∷◌, ◌++◌, length, take, Ok, get_or, refl, ap, ◌∙◌, arith}
 use Rattle.std.proofs.lemmas.List.{take_more}
 use Rattle.std.proofs.lemmas.List.Elements.{All-get_or}
 use Rattle.c_tokens.specs.declared.token.Spot.{Spot}
@@ -7,8 +7,8 @@ use Rattle.c_tokens.specs.declared.token.Token.{Token}
 use Rattle.c_tokens.specs.declared.token.TokenKind.{TokenKind}
 use Rattle.c_tokens.specs.declared.token.TokenKind.TheVariants as token
 use Rattle.c_tokens.specs.Tokens.{beginning, places_after, tokens_of}
-use Rattle.c_tokens.specs.Words.{greatest}
-use Rattle.c_tokens.proofs.Spans.{IsSpanOf, spans, tokens-end, tokens-length}
+use Rattle.c_tokens.proofs.NameCounts.{names-fewer, names_in, one_name}
+use Rattle.c_tokens.proofs.Spans.{IsSpanOf, spans, tokens-end}
 use Rattle.c_syntax.specs.declared.term.Term.TheVariants as term
 use Rattle.c_syntax.specs.Words.{Word, bytes_of, names_of, names_with, term_of, word_of, words_from, words_of}
 use Rattle.c_syntax.specs.WordViews.{IsTokenOf}
@@ -26,11 +26,11 @@ words_from-append text names (first ∷ tokens) more =
     let now = names_with first.kind names (bytes_of text first) in
     ap (λ (words : List Word). word_of now first.kind (bytes_of text first) first.spot ∷ words) (words_from-append text now tokens more)
 
-names_with-length : (kind : TokenKind) (names : List (List ℕ)) (bytes : List ℕ) → length (names_with kind names bytes) ≤ length names + 1
+names_with-length : (kind : TokenKind) (names : List (List ℕ)) (bytes : List ℕ) → length (names_with kind names bytes) ≤ length names + one_name kind
 names_with-length token.Name names bytes = with_name-length names bytes
 names_with-length _ names bytes = omega arith
 
-names_of-length : (text : List ℕ) (names : List (List ℕ)) (tokens : List Token) → length (names_of text names tokens) ≤ length names + length tokens
+names_of-length : (text : List ℕ) (names : List (List ℕ)) (tokens : List Token) → length (names_of text names tokens) ≤ length names + names_in tokens
 unfolding names_of
 names_of-length text names [] = omega arith
 names_of-length text names (first ∷ tokens) =
@@ -48,10 +48,10 @@ unfolding names_of words_from
 words_of-more text tokens at none within =
     ap (words_from text []) (take_more tokens at none within) ∙ words_from-append text [] (take at tokens) (get_or tokens at none ∷ [])
 
--- the names are fewer than numbers can count
-pub names_of-few : (text : List ℕ) (tokens : List Token) (at : ℕ) → length text ≤ 65536 → tokens_of text ≡ Ok tokens → at ≤ length tokens → length (names_of text [] (take at tokens)) < greatest
-names_of-few text tokens at short whole within =
-    omega (arith, names_of-length text [] (take at tokens), length-take at tokens, tokens-length text tokens whole)
+-- the names before a name are fewer than the bytes up to its end
+pub names_of-fewer : (text : List ℕ) (tokens : List Token) (at : ℕ) (none : Token) → tokens_of text ≡ Ok tokens → at < length tokens → let it = get_or tokens at none in it.kind ≡ token.Name → length (names_of text [] (take at tokens)) < it.end
+names_of-fewer text tokens at none whole within same =
+    omega (arith, names_of-length text [] (take at tokens), names-fewer text tokens at none whole within same)
 
 pub token_of : (text : List ℕ) (tokens : List Token) (at : ℕ) (none : Token) → tokens_of text ≡ Ok tokens → at < length tokens → IsTokenOf text (get_or tokens at none)
 token_of text tokens at none whole within =
@@ -80,13 +80,3 @@ words_of-end text tokens whole =
       is_end = ap (λ (kind : TokenKind). term_of kind bytes) ended.is_end;
       spot_of_end = ended.spot_of_end;
     }
-
-words_from-length : (text : List ℕ) (names : List (List ℕ)) (tokens : List Token) → length (words_from text names tokens) ≡ length tokens
-unfolding words_from
-words_from-length text names [] = refl
-words_from-length text names (first ∷ tokens) =
-    ap (λ n. suc n) (words_from-length text (names_with first.kind names (bytes_of text first)) tokens)
-
--- the words are as few as the bytes of a short text
-pub words_of-few : (text : List ℕ) (tokens : List Token) → length text ≤ 65536 → tokens_of text ≡ Ok tokens → length (words_of text tokens) < greatest
-words_of-few text tokens short whole = omega (arith, words_from-length text [] tokens, tokens-length text tokens whole)

@@ -1,6 +1,5 @@
 -- The first fault of words that are no program.
-use Rattle.std.specs.Prelude.{ℕ, ◌≡◌, Bool, true, false, ◌||◌, ◌&&◌, if◌then◌else◌, List, [], ◌∷◌, ◌++◌}
-use Rattle.c_tokens.specs.declared.token.Spot.{Spot}
+use Rattle.std.specs.Prelude.{ℕ, ◌≡◌, ◌⊎◌, Bool, true, false, ◌||◌, ◌&&◌, if◌then◌else◌, List, [], ◌∷◌, ◌++◌}
 use Rattle.c_syntax.specs.declared.fault.SyntaxFault.{SyntaxFault}
 use Rattle.c_syntax.specs.declared.fault.SyntaxFault.TheVariants as fault
 use Rattle.c_syntax.specs.declared.head.Head.{Head}
@@ -9,7 +8,8 @@ use Rattle.c_syntax.specs.declared.term.Term.{Term}
 use Rattle.c_syntax.specs.declared.term.Term.TheVariants as term
 use Rattle.c_syntax.specs.Heads.{behind}
 use Rattle.c_syntax.specs.Words.{Word}
-use Rattle.c_syntax.specs.Derivation.{CanGoOn, depth_limit, is_word}
+use Rattle.c_syntax.specs.Tree.{Tree}
+use Rattle.c_syntax.specs.Derivation.{CanGoOn, Spells, depth_limit, is_word}
 
 -- where some words leave off
 abbrev pub left_off : Head → List Word → Head
@@ -75,3 +75,7 @@ IsFaultAt before word found = (found ≡ fault_of (left_off head.Outside before)
 -- The words before the fault can be completed to a program, and with the word at which it stands they can't.
 abbrev pub IsFault : List Word → SyntaxFault → Type 0
 IsFault words found = (before : List Word) × (word : Word) × (after : List Word) × (words ≡ before ++ word ∷ after) × CanGoOn depth_limit before × (CanGoOn depth_limit (before ++ word ∷ []) → ⊥) × IsFaultAt before word found
+
+-- the words are a program, or have a fault
+abbrev pub IsAnswered : List Word → Type 0
+IsAnswered words = ((tree : Tree) × Spells words tree) ⊎ ((found : SyntaxFault) × IsFault words found)

@@ -2,7 +2,6 @@
 use Rattle.std.specs.Prelude.{ℕ, zero, suc, List, [], ◌∷◌, Option, Some, None}
 use Rattle.c_tokens.specs.declared.token.Spot.{Spot}
 use Rattle.c_syntax.specs.declared.node.NodeKind.{NodeKind}
-use Rattle.c_syntax.specs.declared.node.NodeKind.TheVariants as node
 
 mutual
   pub data Tree : Type 0 where

@@ -27,6 +27,6 @@ pub record IsTokenOf (text : List ℕ) (it : Token) : Type 0 where
   pub small : it.kind ≡ token.Number → decimal_value (bytes_of text it) ≤ greatest
   pub quoted : it.kind ≡ token.Text → it.start + 2 ≤ it.end
 
--- there are as few names as all numbers of names can count
-abbrev pub AreFew : Names → Type 0
-AreFew names = (before : List (List ℕ)) × AreNames before names × (length before < greatest)
+-- there are fewer names than this
+abbrev pub AreFewer : ℕ → Names → Type 0
+AreFewer count names = (before : List (List ℕ)) × AreNames before names × (length before < count)

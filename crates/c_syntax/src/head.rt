@@ -27,13 +27,13 @@ pub enum Head {
     /// Where the kind of a schedule should stand.
     Kind,
     /// Inside so many parentheses.
-    Inside(u32),
+    Inside(u64),
 }
 
 impl Head {
     /// Where the words leave off with one more.
     pub fn behind(self, word: Term) -> Head
-        requires { parentheses_of self < 2 ^ 32 - 1 }
+        requires { parentheses_of self < 2 ^ 64 - 1 }
         ensures behind { result ≡ behind self word }
         ensures deeper { parentheses_of result ≤ parentheses_of self + 1 }
     {
@@ -133,8 +133,8 @@ fn behind_schedule(word: Term) -> Head
     }
 }
 
-fn behind_inside(count: u32, word: Term) -> Head
-    requires { count < 2 ^ 32 - 1 }
+fn behind_inside(count: u64, word: Term) -> Head
+    requires { count < 2 ^ 64 - 1 }
     ensures behind { result ≡ behind_inside count word }
     ensures deeper { parentheses_of result ≤ count + 1 }
 {

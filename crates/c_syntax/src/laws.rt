@@ -1,11 +1,12 @@
 //! What follows from the definitions alone: each law is the contract of a function with an empty body.
 
-ghost use Rattle.std.specs.Prelude.{◌≡◌, List};
+ghost use Rattle.std.specs.Prelude.{◌≡◌, ◌∷◌, ◌++◌, [], List};
 ghost use Rattle.c_syntax.specs.declared.fault.SyntaxFault.{SyntaxFault};
+ghost use Rattle.c_syntax.specs.declared.term.Term.TheVariants.{End};
 ghost use Rattle.c_syntax.specs.Words.{Word};
 ghost use Rattle.c_syntax.specs.Tree.{Tree};
 ghost use Rattle.c_syntax.specs.Derivation.{Spells};
-ghost use Rattle.c_syntax.specs.Faults.{IsFault};
+ghost use Rattle.c_syntax.specs.Faults.{IsAnswered, IsFault};
 
 /// A program has one tree.
 pub fn one_tree()
@@ -20,4 +21,9 @@ pub fn one_fault()
 /// No words are a program and have a fault.
 pub fn tree_or_fault()
     ensures { (words : List Word) (tree : Tree) (found : SyntaxFault) → Spells words tree → IsFault words found → ⊥ }
+{}
+
+/// Words that end with the end of the text are a program, or have a fault.
+pub fn program_or_fault()
+    ensures { (front : List Word) (last : Word) → last.term ≡ End → IsAnswered (front ++ last ∷ []) }
 {}

@@ -12,14 +12,16 @@
 //! - `specs/Derivation.antt`: `Derives` says which words some steps read and which tree they make, and `Spells` that words are a
 //!   program with a tree, in which nothing is deeper than 64. `CanGoOn` says that words begin a program;
 //! - `specs/Heads.antt`: whether words leave off where a directive, a clause or the kind of a schedule should stand;
-//! - `specs/Faults.antt`: `IsFault`, the fault of words that are no program: where it stands, and its number.
+//! - `specs/Faults.antt`: `IsFault`, the fault of words that are no program: where it stands, and its number. `IsAnswered` says
+//!   that words are a program or have a fault.
 //!
 //! Proved:
 //!
 //! - [`read_program`] answers `Ok` with a tree that the words spell, and a fault that the words have. It may answer want of memory
-//!   at any time, and no clause says when;
+//!   at any time, and no clause says when. Its one condition is that the tokens are those of the text, however long that is;
 //! - words spell one tree at most, by [`one_tree`], and have one fault at most, by [`one_fault`]. No words spell a tree and have a
-//!   fault, by [`tree_or_fault`]. So the answer is determined but for want of memory.
+//!   fault, by [`tree_or_fault`], and words that end with the end of the text have one or the other, by [`program_or_fault`]. So
+//!   the answer is determined but for want of memory.
 //!
 //! Which sentences of `docs/language.md` the rules stand for is to be read. The place of a fault doesn't depend on the rules' form:
 //! it is said by what can be completed to a program.
@@ -52,7 +54,7 @@ mod word;
 mod words;
 
 pub use fault::SyntaxFault;
-pub use laws::{one_fault, one_tree, tree_or_fault};
+pub use laws::{one_fault, one_tree, program_or_fault, tree_or_fault};
 pub use node::{
     BinaryOp, Bump, Data, Default, Directive, Getter, Lead, LockCall, NodeKind, Parameters,
     ReductionOp, Returns, ScheduleKind, Setting, Side, Sign, Standalone, UnaryOp,

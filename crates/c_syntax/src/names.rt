@@ -1,6 +1,6 @@
 //! The numbers of names.
 
-ghost use Rattle.std.specs.Prelude.{◌≡◌, ◌<◌, ℕ, List, [], IfOk, OnOk, unwrap_or};
+ghost use Rattle.std.specs.Prelude.{◌≡◌, ◌<◌, ◌-◌, ◌^◌, ℕ, List, [], IfOk, OnOk, unwrap_or};
 ghost use Rattle.std.specs.HashMap.{hash_map_len};
 ghost use Rattle.c_syntax.specs.Names.{AreNames};
 ghost use Rattle.c_syntax.specs.Words.{number_of, with_name};
@@ -26,7 +26,7 @@ impl<'a> Names<'a> {
 
     /// The number of a name, which has now appeared.
     pub fn add(&mut self, name: &'a [u8]) -> Result<u32, AllocError>
-        requires { hash_map_len self.old.numbers < 2147483647 }
+        requires { hash_map_len self.old.numbers < 2 ^ 32 - 1 }
         ensures names { OnOk result ((before : List (List ℕ)) → AreNames before self.old → AreNames (with_name before name.now) self.new) }
         ensures number { IfOk result (λ number. (before : List (List ℕ)) → AreNames before self.old → number ≡ unwrap_or (number_of (with_name before name.now) name.now) 0) }
     {

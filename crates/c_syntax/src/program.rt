@@ -1,6 +1,6 @@
 //! The program that tokens are.
 
-ghost use Rattle.std.specs.Prelude.{◌≡◌, ◌≢◌, ◌≤◌, ◌<◌, ◌-◌, ◌^◌, ◌∷◌, ◌++◌, [], List, All, IfOk, IfErr, OnOk, Ok, length, map};
+ghost use Rattle.std.specs.Prelude.{◌≡◌, ◌≢◌, ◌∷◌, ◌++◌, [], List, All, IfOk, IfErr, OnOk, Ok, length, map};
 ghost use Rattle.c_tokens.specs.declared.token.Token.{Token};
 ghost use Rattle.c_tokens.specs.Tokens.{tokens_of};
 ghost use Rattle.c_syntax.specs.Words.{main_of, words_of};
@@ -21,7 +21,6 @@ use std::alloc::Global;
 
 /// The tree of the program that a text is, where these are its tokens. Or the fault at the first token with which no program goes on.
 pub fn read_program(alloc: Global, text: &[u8], tokens: &[Token]) -> Result<Tree, SyntaxFault>
-    requires short { length text.now ≤ 65536 }
     requires tokens { tokens_of text.now ≡ Ok tokens.now }
 
     // The words of the text are a program, and this is its tree.
@@ -49,7 +48,6 @@ pub fn read_program(alloc: Global, text: &[u8], tokens: &[Token]) -> Result<Tree
 fn read_words(reader: &mut Reader, text: &[u8], words: &[Word]) -> Result<(), SyntaxFault>
     requires start { state_of reader.old ≡ beginning }
     requires within { All (IsWithin (length text.now)) words.now }
-    requires few { length words.now < 2 ^ 32 - 1 }
     ensures read { OnOk result (Reaches (map (word_view text.now) words.now) (state_of reader.new)) }
     ensures fault { IfErr result (λ fault. MayFault (map (word_view text.now) words.now) fault) }
 {

@@ -3,8 +3,8 @@
 //! What is left to do is a list of steps, so the reader doesn't call itself. A step that reads a sort of text is replaced by the
 //! steps of its rule.
 
-ghost use Rattle.std.specs.Prelude.{ℕ, ◌≡◌, ◌≢◌, ◌<◌, ◌≤◌, ◌+◌, ◌-◌, ◌^◌, [], ◌∷◌, ◌++◌, List, IfOk, IfErr, OnOk, IfSome, MatchOption, length, Ok, Err, pos};
-ghost use Rattle.c_syntax.specs.Derivation.{joined, kept, made, opened_at, outermost, program_steps, skipped, wrapped, result_of};
+ghost use Rattle.std.specs.Prelude.{ℕ, ◌≡◌, ◌≢◌, ◌<◌, ◌≤◌, ◌+◌, ◌-◌, ◌^◌, [], ◌∷◌, ◌++◌, List, IfOk, IfErr, OnOk, IfSome, MatchOption, true, length, Ok, Err, pos};
+ghost use Rattle.c_syntax.specs.Derivation.{fits, joined, kept, made, opened_at, outermost, program_steps, skipped, wrapped, result_of};
 ghost use Rattle.c_syntax.specs.Faults.{IsFault, fault_of};
 ghost use Rattle.c_syntax.specs.Heads.{behind, parentheses_of};
 ghost use Rattle.c_syntax.specs.Reading.{Faces, Reaches, State, weight};
@@ -67,7 +67,7 @@ impl Reader {
     /// Reads the next word of a source.
     pub fn read(&mut self, source: &[u8], word: Word) -> Result<(), SyntaxFault>
         requires within { IsWithin (length source.now) word }
-        requires flat { parentheses_of self.old.at < 2 ^ 32 - 1 }
+        requires flat { parentheses_of self.old.at < 2 ^ 64 - 1 }
         ensures read { OnOk result ((before : List Spelled) → Reaches before (state_of self.old) → Reaches (before ++ word_view source.now word ∷ []) (state_of self.new)) }
         ensures flat { parentheses_of self.new.at ≤ parentheses_of self.old.at + 1 }
         ensures fault { IfErr result (λ fault. (before after : List Spelled) → Reaches before (state_of self.old) → MayFault (before ++ word_view source.now word ∷ after) fault) }
@@ -84,7 +84,7 @@ impl Reader {
     /// Does a step, which was the next one.
     fn does(&mut self, step: Step, source: &[u8], word: Word) -> Result<Progress, SyntaxFault>
         requires within { IsWithin (length source.now) word }
-        requires flat { parentheses_of self.old.at < 2 ^ 32 - 1 }
+        requires flat { parentheses_of self.old.at < 2 ^ 64 - 1 }
         ensures does { Does (word_view source.now word) (with_step step (state_of self.old)) (state_of self.new) result }
         ensures at { HeadsOn self.old.at self.new.at result }
     {
@@ -105,7 +105,7 @@ impl Reader {
 
     /// The next word is this one.
     fn expect(&mut self, term: Term, word: Word) -> Result<Progress, SyntaxFault>
-        requires { parentheses_of self.old.at < 2 ^ 32 - 1 }
+        requires { parentheses_of self.old.at < 2 ^ 64 - 1 }
         ensures does { (next : Spelled) → IsSeen next word → Does next (with_step (Step.Expect term) (state_of self.old)) (state_of self.new) result }
         ensures at { HeadsOn self.old.at self.new.at result }
     {
@@ -118,7 +118,7 @@ impl Reader {
 
     /// The next word is this one, and begins something that counts for the depth.
     fn deepen(&mut self, term: Term, word: Word) -> Result<Progress, SyntaxFault>
-        requires { parentheses_of self.old.at < 2 ^ 32 - 1 }
+        requires { parentheses_of self.old.at < 2 ^ 64 - 1 }
         ensures does { (next : Spelled) → IsSeen next word → Does next (with_step (Step.Deepen term) (state_of self.old)) (state_of self.new) result }
         ensures at { HeadsOn self.old.at self.new.at result }
     {
@@ -136,7 +136,7 @@ impl Reader {
     /// The next word is of this class, and its value is kept.
     fn take(&mut self, which: Class, source: &[u8], word: Word) -> Result<Progress, SyntaxFault>
         requires within { IsWithin (length source.now) word }
-        requires flat { parentheses_of self.old.at < 2 ^ 32 - 1 }
+        requires flat { parentheses_of self.old.at < 2 ^ 64 - 1 }
         ensures does { Does (word_view source.now word) (with_step (Step.Take which) (state_of self.old)) (state_of self.new) result }
         ensures at { HeadsOn self.old.at self.new.at result }
     {
@@ -153,7 +153,8 @@ impl Reader {
 
     /// The open node keeps what a word of this class has.
     fn keep(&mut self, which: Class, source: &[u8], word: Word) -> Result<(), AllocError>
-        requires { IsWithin (length source.now) word }
+        requires within { IsWithin (length source.now) word }
+        requires fit { fits self.old.at which word.term ≡ true }
         ensures kept { OnOk result (state_of self.new ≡ record (state_of self.old) { nodes = kept which (word_view source.now word) self.old.growth }) }
         ensures at { self.new.at ≡ self.old.at }
     {
@@ -263,7 +264,7 @@ impl Reader {
 
     /// The word is read.
     fn pass(&mut self, word: Word)
-        requires { parentheses_of self.old.at < 2 ^ 32 - 1 }
+        requires { parentheses_of self.old.at < 2 ^ 64 - 1 }
         ensures state { state_of self.new ≡ record (state_of self.old) { at = behind self.old.at word.term } }
         ensures at { parentheses_of self.new.at ≤ parentheses_of self.old.at + 1 }
     {

@@ -4,7 +4,7 @@ ghost use Rattle.std.specs.Prelude.{◌≡◌, ◌≤◌, ◌+◌, ℕ, List, Al
 ghost use Rattle.c_tokens.specs.Tokens.{tokens_of};
 ghost use Rattle.c_syntax.specs.Words.{bytes_of, main_of, names_with, text_of, word_of, words_of};
 ghost use Rattle.c_syntax.specs.Names.{AreNames};
-ghost use Rattle.c_syntax.specs.WordViews.{AreFew, IsTokenOf, IsWithin, span, word_view};
+ghost use Rattle.c_syntax.specs.WordViews.{AreFewer, IsTokenOf, IsWithin, span, word_view};
 
 use crate::lexeme::{decimal_value, term_of};
 use crate::names::Names;
@@ -23,7 +23,6 @@ pub struct Words {
 
 /// The words of a text, which has these tokens.
 pub fn words_of(alloc: Global, text: &[u8], tokens: &[Token]) -> Result<Words, AllocError>
-    requires short { length text.now ≤ 65536 }
     requires tokens { tokens_of text.now ≡ Ok tokens.now }
     ensures words { IfOk result (λ found. map (word_view text.now) found.list.items ≡ words_of text.now tokens.now) }
     ensures within { IfOk result (λ found. All (IsWithin (length text.now)) found.list.items) }
@@ -41,7 +40,7 @@ pub fn words_of(alloc: Global, text: &[u8], tokens: &[Token]) -> Result<Words, A
 /// The word that a token is, where the names before it have appeared.
 fn word_of<'a>(text: &'a [u8], token: Token, names: &mut Names<'a>) -> Result<Word, AllocError>
     requires token { IsTokenOf text.now token }
-    requires names { AreFew names.old }
+    requires names { token.kind ≡ TokenKind.Name → AreFewer token.end names.old }
     ensures names { OnOk result ((before : List (List ℕ)) → AreNames before names.old → AreNames (names_with token.kind before (bytes_of text.now token)) names.new) }
     ensures word { IfOk result (λ word. (before : List (List ℕ)) → AreNames before names.old → word_view text.now word ≡ word_of (names_with token.kind before (bytes_of text.now token)) token.kind (bytes_of text.now token) token.spot) }
     ensures within { IfOk result (IsWithin (length text.now)) }

@@ -10,3 +10,4 @@ pub mod Pieces
 pub mod Fronts
 pub mod Law
 pub mod Spans
+pub mod NameCounts

@@ -29,7 +29,7 @@ pub record IsSpanOf (text : List ℕ) (it : Token) : Type 0 where
   pub small : it.kind ≡ kind.Number → decimal_value (bytes_at text it) ≤ greatest
   pub quoted : it.kind ≡ kind.Text → it.start + 2 ≤ it.end
 
-places_after-at : (bytes : List ℕ) (place : Place) → (places_after bytes place).at ≡ place.at + length bytes
+pub places_after-at : (bytes : List ℕ) (place : Place) → (places_after bytes place).at ≡ place.at + length bytes
 places_after-at [] place = omega arith
 places_after-at (byte ∷ bytes) place = omega (arith, places_after-at bytes (place_after byte place))
 

@@ -1,26 +1,18 @@
-use Rattle.std.proofs.Common.{◌≡◌, ◌≢◌, ℕ, List, length, map, Result, Err, sym, ap, subst, ◌∙◌, refl, arith}
-use Rattle.std.proofs.lemmas.List.{length-map}
+use Rattle.std.proofs.Common.{◌≡◌, ◌≢◌, List, map, Result, Err, sym, ap, subst, ◌∙◌, refl}
 use Rattle.std.proofs.lemmas.Result.{err_from_is_err_and}
 use Rattle.std.specs.Result.{IfErr}
 use Rattle.c_syntax.specs.declared.tree.Tree as code
 use Rattle.c_syntax.specs.declared.fault.SyntaxFault.{SyntaxFault}
 use Rattle.c_syntax.specs.declared.fault.SyntaxFault.TheVariants as fault
-use Rattle.c_syntax.specs.declared.node.NodeKind.TheVariants as node
-use Rattle.c_syntax.specs.Derivation.{Spells, made, result_of}
+use Rattle.c_syntax.specs.Derivation.{Spells}
 use Rattle.c_syntax.specs.Faults.{IsFault}
 use Rattle.c_syntax.specs.Reading.{Reaches}
 use Rattle.c_syntax.specs.ReaderViews.{MayFault, state_of}
-use Rattle.c_syntax.specs.Tree.{Tree}
 use Rattle.c_syntax.specs.Words.{Word, words_of}
 use Rattle.c_syntax.specs.WordViews.{word_view}
 use Rattle.c_syntax.proofs.Facing.{reaches-end, reaches-spells}
-use Rattle.c_syntax.proofs.WordLists.{words_of-end, words_of-few}
+use Rattle.c_syntax.proofs.WordLists.{words_of-end}
 use Rattle.c_syntax.proofs.program.read_program.Goals as goal
-
-pub read_words-requires-clause-few : goal.read_words-requires-clause-few
-read_words-requires-clause-few c =
-    let text = c.args.text.now in
-    omega (arith, ap (λ (words : List Word). length words) c.in-Ok.ensures.words, length-map c.in-Ok.words.list.items (word_view text), words_of-few text c.args.tokens.now c.requires.short c.requires.tokens)
 
 -- the fault of the words is the answer
 passed_on : (words : List Word) (result : Result code.Tree SyntaxFault) (found other : SyntaxFault) → result ≡ Err other → found ≡ other → (found ≢ fault.Memory → IsFault words found) → IfErr result (λ one. one ≢ fault.Memory → IsFault words one)

@@ -1,4 +1,4 @@
-use Rattle.std.proofs.Common.{◌∙◌, ◌++◌, ◌∷◌, [], List, ℕ, length, map, take, ap, sym, arith, subst, rules}
+use Rattle.std.proofs.Common.{◌∙◌, ◌++◌, ◌∷◌, [], List, ℕ, length, map, take, ap, sym, subst, rules}
 use Rattle.std.proofs.lemmas.List.{map-append}
 use Rattle.std.proofs.lemmas.List.Elements.{All-push, All-same}
 use Rattle.c_tokens.specs.declared.token.Token.{Token}
@@ -6,7 +6,7 @@ use Rattle.c_tokens.specs.declared.token.TokenKind.TheVariants as token
 use Rattle.c_syntax.specs.Names.{AreNames}
 use Rattle.c_syntax.specs.Words.{Word, names_of, words_from}
 use Rattle.c_syntax.specs.WordViews.{IsWithin, word_view}
-use Rattle.c_syntax.proofs.WordLists.{names_of-few, names_of-more, words_of-more, token_of}
+use Rattle.c_syntax.proofs.WordLists.{names_of-fewer, names_of-more, words_of-more, token_of}
 use Rattle.c_syntax.proofs.words.words_of.Goals as goal
 
 -- what a look-up past the end gives
@@ -22,11 +22,12 @@ unfolding none
 word_of-requires-clause-token c = token_of c.args.text.now c.args.tokens.now c.loop-token.token-index none c.requires.tokens c.loop-token-test.true
 
 pub word_of-requires-clause-names : goal.word_of-requires-clause-names
+unfolding none
 word_of-requires-clause-names c =
     let text = c.args.text.now in
     let tokens = c.args.tokens.now in
     let at = c.loop-token.token-index in
-    (names_of text [] (take at tokens), c.loop-token.invariant.names, names_of-few text tokens at c.requires.short c.requires.tokens (omega arith))
+    λ same. (names_of text [] (take at tokens), c.loop-token.invariant.names, names_of-fewer text tokens at none c.requires.tokens c.loop-token-test.true same)
 
 pub loop-token-preserved : goal.loop-token-preserved
 unfolding none

@@ -1,4 +1,4 @@
-use Rattle.std.proofs.Common.{◌≡◌, refl, sym, ap, ◌∙◌, rules}
+use Rattle.std.proofs.Common.{refl, sym, ap, ◌∙◌, rules}
 use denote.Enum.Bare.{differs_false, differs_true}
 use Rattle.c_syntax.specs.contracts.term.Term.{the_type}
 use Rattle.c_syntax.specs.Heads.{behind}
