@@ -1,5 +1,6 @@
 pub mod Loops
 pub mod Acts
+pub mod Tasks
 pub mod Names
 pub mod Constructs
 pub mod Here
