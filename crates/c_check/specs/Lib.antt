@@ -1,9 +1,10 @@
 pub mod Loops
 pub mod Acts
-pub mod Tasks
+--pub mod Tasks
 pub mod Names
 pub mod Constructs
 pub mod Here
 pub mod Shares
 pub mod Rules
 pub mod Checked
+pub mod Slots

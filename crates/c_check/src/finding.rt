@@ -1,0 +1,70 @@
+//! The first fault.
+
+ghost use Rattle.std.specs.Prelude.{◌≡◌};
+ghost use Rattle.c_check.specs.Checked.{comes_first, is_earlier, is_same_place, number_of, sooner, spot_of};
+
+use crate::fault::CheckFault;
+use c_tokens::Spot;
+
+/// The fault that comes first of those so far and another one.
+pub fn sooner(known: Option<CheckFault>, found: CheckFault) -> Option<CheckFault>
+    ensures { result ≡ sooner known found }
+{
+    match known {
+        Some(first) if !comes_first(found, first) => Some(first),
+        _ => Some(found),
+    }
+}
+
+/// Whether a fault is told before another: its place comes first, or at one place its number is less.
+fn comes_first(first: CheckFault, second: CheckFault) -> bool
+    ensures { result ≡ comes_first first second }
+{
+    is_earlier(spot_of(first), spot_of(second))
+        || is_same_place(spot_of(first), spot_of(second))
+            && number_of(first) < number_of(second)
+}
+
+fn is_earlier(first: Spot, second: Spot) -> bool
+    ensures { result ≡ is_earlier first second }
+{
+    first.line < second.line || first.line == second.line && first.column < second.column
+}
+
+fn is_same_place(first: Spot, second: Spot) -> bool
+    ensures { result ≡ is_same_place first second }
+{
+    first.line == second.line && first.column == second.column
+}
+
+/// The number of a fault, from 8 to 14; 0 for want of memory.
+fn number_of(fault: CheckFault) -> u8
+    ensures { result ≡ number_of fault }
+{
+    match fault {
+        CheckFault::UnknownName(_) => 8,
+        CheckFault::TwiceDeclared(_) => 9,
+        CheckFault::WrongUse(_) => 10,
+        CheckFault::BadNesting(_) => 11,
+        CheckFault::BadLoop(_) => 12,
+        CheckFault::NoMain(_) => 13,
+        CheckFault::NotListed(_) => 14,
+        CheckFault::Memory => 0,
+    }
+}
+
+/// The place of a fault.
+fn spot_of(fault: CheckFault) -> Spot
+    ensures { result ≡ spot_of fault }
+{
+    match fault {
+        CheckFault::UnknownName(spot)
+        | CheckFault::TwiceDeclared(spot)
+        | CheckFault::WrongUse(spot)
+        | CheckFault::BadNesting(spot)
+        | CheckFault::BadLoop(spot)
+        | CheckFault::NoMain(spot)
+        | CheckFault::NotListed(spot) => spot,
+        CheckFault::Memory => Spot { line: 0, column: 0 },
+    }
+}
