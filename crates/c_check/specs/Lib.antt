@@ -2,6 +2,7 @@ pub mod Loops
 pub mod Acts
 --pub mod Tasks
 pub mod Names
+pub mod Visible
 pub mod Constructs
 pub mod Here
 pub mod Shares

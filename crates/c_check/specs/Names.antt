@@ -1,5 +1,5 @@
 -- The declarations of a program, and which of them are in scope.
-use Rattle.std.specs.Prelude.{ℕ, ◌+◌, ◌-◌, ◌==◌, nat_le, if◌then◌else◌, Bool, true, false, List, [], ◌∷◌, ◌++◌, length, Option, Some, None}
+use Rattle.std.specs.Prelude.{ℕ, ◌+◌, ◌-◌, ◌==◌, nat_le, if◌then◌else◌, Bool, false, List, [], ◌∷◌, ◌++◌, length, Option, Some, None}
 use Rattle.c_check.specs.declared.act.Thing.{Thing}
 use Rattle.c_check.specs.declared.declared.Declared.{Declared}
 
