@@ -1,6 +1,6 @@
 pub mod Loops
 pub mod Acts
---pub mod Tasks
+pub mod Tasks
 pub mod Names
 pub mod Visible
 pub mod Constructs

@@ -6,14 +6,14 @@ mod constructs;
 mod declared;
 mod fault;
 mod finding;
-//mod loops;
-//mod names;
-//mod place;
+mod loops;
+mod names;
+mod place;
 mod role;
 mod sharing;
 mod slots;
 mod uses;
-//mod walk;
+mod walk;
 
 pub use fault::CheckFault;
 pub use sharing::Sharing;
