@@ -1,2 +1,3 @@
+mod Earliest
 mod Places
 pub mod Visible

@@ -9,3 +9,4 @@ pub mod Shares
 pub mod Rules
 pub mod Checked
 pub mod Slots
+pub mod First

@@ -6,6 +6,7 @@ mod constructs;
 mod declared;
 mod fault;
 mod finding;
+mod laws;
 mod loops;
 mod names;
 mod place;
@@ -16,4 +17,5 @@ mod uses;
 mod walk;
 
 pub use fault::CheckFault;
+pub use laws::first_fault;
 pub use sharing::Sharing;
