@@ -1,3 +1,4 @@
 mod Earliest
+pub mod Found
 mod Places
 pub mod Visible

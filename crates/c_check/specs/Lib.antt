@@ -10,3 +10,6 @@ pub mod Rules
 pub mod Checked
 pub mod Slots
 pub mod First
+pub mod Standing
+pub mod Ended
+pub mod Under

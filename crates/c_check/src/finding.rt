@@ -1,10 +1,23 @@
 //! The first fault.
 
 ghost use Rattle.std.specs.Prelude.{◌≡◌};
-ghost use Rattle.c_check.specs.Checked.{comes_first, is_earlier, is_same_place, number_of, sooner, spot_of};
+ghost use Rattle.c_check.specs.Rules.{if_so};
+ghost use Rattle.c_check.specs.Checked.{comes_first, first_of, is_earlier, is_same_place, number_of, sooner, spot_of};
 
 use crate::fault::CheckFault;
 use c_tokens::Spot;
+
+/// The fault that comes first of those so far and another one, if this is so.
+#[tactic(auto, unfolding(crate::specs::Checked::first_of))]
+pub fn sooner_if(known: Option<CheckFault>, broken: bool, found: CheckFault) -> Option<CheckFault>
+    ensures { result ≡ first_of known (if_so broken found) }
+{
+    if broken {
+        sooner(known, found)
+    } else {
+        known
+    }
+}
 
 /// The fault that comes first of those so far and another one.
 pub fn sooner(known: Option<CheckFault>, found: CheckFault) -> Option<CheckFault>

@@ -1,7 +1,7 @@
 //! What names are declared as and used as.
 
-ghost use Rattle.std.specs.Prelude.{◌≡◌, ◌≤◌};
-ghost use Rattle.c_check.specs.Here.{cells_of, is_variable, most_cells, up_to_most};
+ghost use Rattle.std.specs.Prelude.{◌≡◌};
+ghost use Rattle.c_check.specs.Here.{is_variable};
 ghost use Rattle.c_check.specs.Rules.{calls_main, is_odd_main, is_odd_size, is_wrong, is_wrong_return, lacks_value};
 
 use crate::act::{DataClause, Returned, Thing, Usage, Value};
@@ -10,9 +10,6 @@ use c_syntax::Returns;
 /// The most elements of an array.
 const MOST_ELEMENTS: u32 = 4096;
 
-/// The most cells of the variables of a file.
-pub const MOST_CELLS: u64 = 1_048_576;
-
 /// Whether an array has a size that none may have.
 pub fn is_odd_size(thing: Thing) -> bool
     ensures { result ≡ is_odd_size thing }
@@ -20,28 +17,6 @@ pub fn is_odd_size(thing: Thing) -> bool
     match thing {
         Thing::Array(size) => size == 0 || MOST_ELEMENTS < size,
         _ => false,
-    }
-}
-
-/// How many cells a variable has.
-pub fn cells_of(thing: Thing) -> u64
-    ensures { result ≡ cells_of thing }
-{
-    match thing {
-        Thing::Int | Thing::Lock => 1,
-        Thing::Array(size) => u64::from(size),
-        Thing::Function(_, _) => 0,
-    }
-}
-
-/// A count of cells, which stands still at one more than the most.
-pub fn up_to_most(count: u64) -> u64
-    ensures { result ≡ up_to_most count }
-{
-    if MOST_CELLS < count {
-        MOST_CELLS + 1
-    } else {
-        count
     }
 }
 

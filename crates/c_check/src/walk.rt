@@ -3,6 +3,13 @@
 //! What is left is a list of tasks, so the walk doesn't call itself, however deep a tree is. A task on a node is replaced by tasks on
 //! its children.
 
+ghost use Rattle.std.specs.Prelude.{◌≡◌, [], ◌∷◌, ◌++◌, IfOk, OnOk, MatchOption};
+ghost use Rattle.c_syntax.specs.Numbered.{root_tree};
+ghost use Rattle.c_check.specs.declared.act.Act.TheVariants as act;
+ghost use Rattle.c_check.specs.declared.role.Role.TheVariants as role;
+ghost use Rattle.c_check.specs.Acts.{acts};
+ghost use Rattle.c_check.specs.Tasks.{AreThere, left_of};
+
 use crate::act::{Act, DataClause, Printed, Returned, Single, Thing, Usage, Value};
 use crate::loops::loop_name;
 use crate::place::{count, next_place};
@@ -39,7 +46,10 @@ pub struct Walk {
 
 impl Walk {
     /// The walk through a program from its beginning.
-    pub fn new(alloc: Global, tree: &Tree) -> Result<Walk, AllocError> {
+    pub fn new(alloc: Global, tree: &Tree) -> Result<Walk, AllocError>
+        ensures left { IfOk result (λ walk. left_of tree.now.trees walk ≡ acts role.Plain (root_tree tree.now) ++ act.Finish tree.now.end ∷ []) }
+        ensures there { IfOk result (AreThere tree.now.trees) }
+    {
         let mut tasks = Vec::new(alloc);
         tasks.push(Task::Tell(Act::Finish { spot: tree.end() }))?;
         tasks.push(Task::Visit(Role::Plain, tree.root()))?;
@@ -47,7 +57,11 @@ impl Walk {
     }
 
     /// The next act, or `None` at the end.
-    pub fn next(&mut self, alloc: Global, tree: &Tree) -> Result<Option<Act>, AllocError> {
+    pub fn next(&mut self, alloc: Global, tree: &Tree) -> Result<Option<Act>, AllocError>
+        requires { AreThere tree.now.trees self.old }
+        ensures there { OnOk result (AreThere tree.now.trees self.new) }
+        ensures next { IfOk result (λ found. MatchOption found ((left_of tree.now.trees self.old ≡ []) × (left_of tree.now.trees self.new ≡ [])) (λ one. left_of tree.now.trees self.old ≡ one ∷ left_of tree.now.trees self.new)) }
+    {
         while let Some(task) = self.tasks.pop() {
             if let Task::Tell(act) = task {
                 return Ok(Some(act));
