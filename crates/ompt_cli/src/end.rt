@@ -18,9 +18,17 @@ pub enum Refusal {
     OpenComment(Spot),
     /// Number 3: digits that are no number.
     BadNumber(Spot),
+    /// Number 4: a token with which no program goes on.
+    Unexpected(Spot),
+    /// Number 5: a word that should be a directive, and is none.
+    UnknownDirective(Spot),
+    /// Number 6: a part of C or of OpenMP that is out of the language.
+    OutOfProfile(Spot),
+    /// Number 7: the program would be deeper than the limit.
+    TooDeep(Spot),
     /// Number 15: the text is longer than 65,536 bytes.
     TooLong,
-    /// Number 16: the text is of neither form that runs.
+    /// Number 16: the text is a program, and isn't of the form that runs.
     OtherForm,
 }
 
