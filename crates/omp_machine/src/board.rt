@@ -55,8 +55,7 @@ impl Model for Board {
 impl Board {
     /// The board of a program, with so many threads, of which thread 0 is made.
     pub fn new(alloc: Global, blocks: &Blocks, threads: u8) -> Result<Board, AllocError>
-        requires some { 1 ≤ threads }
-        requires blocks { length blocks.now ≤ 65536 }
+        requires { 1 ≤ threads }
         ensures { IfOk result (λ board. board.world ≡ record {
           threads = initial_thread ∷ replicate (threads - 1) unmade;
           tasks = no_task ∷ initial_task (code_of blocks.now) ∷ [];
@@ -565,7 +564,6 @@ fn all_threads(alloc: Global, threads: u8) -> Result<Vec<Thread>, AllocError>
 
 /// No task, and the initial one.
 fn all_tasks(alloc: Global, blocks: &Blocks) -> Result<Vec<Task>, AllocError>
-    requires { length blocks.now ≤ 65536 }
     ensures { IfOk result (λ all. all.items ≡ no_task ∷ initial_task (code_of blocks.now) ∷ []) }
 {
     let mut all = Vec::new(alloc);

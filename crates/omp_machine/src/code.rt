@@ -1,8 +1,7 @@
 //! What remains of a task's code.
 
-ghost use Rattle.std.specs.Prelude.{◌≡◌, ◌<◌, ◌≤◌, ◌+◌, ◌*◌, ◌^◌, length, drop, IfOk};
+ghost use Rattle.std.specs.Prelude.{◌≡◌, drop, IfOk};
 ghost use Rattle.omp_model.specs.Program.{code_of};
-ghost use Rattle.omp_model.specs.declared.machine.Instruction.TheVariants.{Parallel};
 ghost use Rattle.omp_model.specs.Events.{first_of};
 ghost use Rattle.omp_machine.specs.Code.{code_view};
 
@@ -26,15 +25,15 @@ pub enum Code {
 impl Code {
     /// The code of a main with these blocks.
     pub fn of_blocks(alloc: Global, blocks: &Blocks) -> Result<Code, AllocError>
-        requires { length blocks.now ≤ 65536 }
         ensures { IfOk result (λ code. code_view code ≡ code_of blocks.now) }
     {
         let mut code = VecDeque::new(alloc);
         code.push_back(Instruction::EnterBlock)?;
-        let mut line = 2;
-        for requested in blocks.teams() {
-            code.push_back(construct(line, *requested))?;
-            line += 2;
+        for block in blocks.list() {
+            code.push_back(Instruction::Parallel {
+                requested: u32::from(block.requested),
+                codeptr: block.codeptr,
+            })?;
         }
         code.push_back(Instruction::Return(0))?;
         Ok(Code::List(code))
@@ -63,16 +62,5 @@ impl Code {
             Code::BlockToEnter => *self = Code::BlockToLeave,
             Code::BlockToLeave | Code::Nothing => *self = Code::Nothing,
         }
-    }
-}
-
-/// The parallel construct that stands in this line, in the first column.
-fn construct(line: u64, requested: u8) -> Instruction
-    requires { line < 2 ^ 32 }
-    ensures { result ≡ Parallel requested (line * 65536 + 1) }
-{
-    Instruction::Parallel {
-        requested: u32::from(requested),
-        codeptr: line * 65536 + 1,
     }
 }

@@ -1,6 +1,6 @@
 //! The machine that runs the program.
 
-ghost use Rattle.std.specs.Prelude.{◌≡◌, ◌<◌, ◌≤◌, IfOk, OnOk, OnErr, IsSome, IsTrue, is_some, length, ◌-◌};
+ghost use Rattle.std.specs.Prelude.{◌≡◌, ◌<◌, ◌≤◌, IfOk, OnOk, OnErr, IsSome, IsTrue, is_some, ◌-◌};
 ghost use Rattle.omp_model.specs.State.{first, pending_at};
 ghost use Rattle.omp_model.specs.Turn.{turn, enabled};
 ghost use Rattle.omp_model.specs.Words.{is_made};
@@ -55,7 +55,6 @@ impl Machine {
         threads: u8,
         steps: u32,
     ) -> Result<Machine, Memory>
-        requires blocks { length blocks ≤ 65536 }
         requires some { 1 ≤ threads }
         requires few { threads ≤ 16 }
         requires steps { 1 ≤ steps }

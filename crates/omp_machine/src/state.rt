@@ -64,8 +64,7 @@ impl Model for State {
 impl State {
     /// The first state.
     pub fn new(alloc: Global, settings: &Settings) -> Result<State, AllocError>
-        requires some { 1 ≤ settings.now.threads }
-        requires blocks { length settings.now.blocks ≤ 65536 }
+        requires { 1 ≤ settings.now.threads }
         ensures { IfOk result (λ state. state.state ≡ first (run_of settings.now)) }
     {
         let board = Board::new(alloc, &settings.blocks, settings.threads)?;

@@ -1,6 +1,6 @@
 //! A task: how far it has come, where it stands, and its remaining code.
 
-ghost use Rattle.std.specs.Prelude.{◌≡◌, ◌≤◌, length, drop, Some, IfOk, IsTrue};
+ghost use Rattle.std.specs.Prelude.{◌≡◌, drop, Some, IfOk, IsTrue};
 ghost use Rattle.omp_model.specs.State.{no_task, initial_task, member_task};
 ghost use Rattle.omp_model.specs.Silent.{step_of};
 ghost use Rattle.omp_model.specs.Events.{first_of, has_returned};
@@ -64,7 +64,6 @@ impl Task {
 
     /// The initial task of a program, before it starts.
     pub fn initial(alloc: Global, blocks: &Blocks) -> Result<Task, AllocError>
-        requires { length blocks.now ≤ 65536 }
         ensures { IfOk result (λ task. task ≡ initial_task (code_of blocks.now)) }
     {
         let code = Code::of_blocks(alloc, blocks)?;

@@ -1,5 +1,5 @@
 use super::*;
-use omp_model::{Blocks, Cause};
+use omp_model::{Block, Blocks, Cause};
 use ompt_calls::{Call, Frame, RegionLevel, Target, TaskLevel, Word};
 
 /// Each callback that a tool of the profile registers.
@@ -116,7 +116,7 @@ fn the_second_step_meets_the_limit(rt: HostRuntime) -> Result<(), Memory> {
 /// and waits for the worker to end.
 #[test]
 fn a_region_of_two_runs(rt: HostRuntime) -> Result<(), Memory> {
-    let blocks = Blocks(Vec::from_array(rt.alloc(), [2])?);
+    let blocks = Blocks(Vec::from_array(rt.alloc(), [two_threads()])?);
     let mut machine = Machine::new(rt.alloc(), blocks, ALL, 2, 1_000_000)?;
     let mut heard = Vec::new(rt.alloc());
     let mut seq = 0;
@@ -142,7 +142,7 @@ fn a_region_of_two_runs(rt: HostRuntime) -> Result<(), Memory> {
 /// A tool that hears regions and implicit tasks stores 77 into the word of a region, and finds it there at the next event.
 #[test]
 fn a_tool_stores(rt: HostRuntime) -> Result<(), Memory> {
-    let blocks = Blocks(Vec::from_array(rt.alloc(), [2])?);
+    let blocks = Blocks(Vec::from_array(rt.alloc(), [two_threads()])?);
     let mut machine = Machine::new(rt.alloc(), blocks, REGIONS_AND_TASKS, 1, 1_000_000)?;
     for call in [None, Some(initial(1, ONE, 1))] {
         assert!(rt; machine.enabled(0));
@@ -190,7 +190,7 @@ fn a_tool_stores(rt: HostRuntime) -> Result<(), Memory> {
 /// The worker of a region of two: what it can inquire where its implicit task begins, and where that task ends.
 #[test]
 fn a_worker_has_levels(rt: HostRuntime) -> Result<(), Memory> {
-    let blocks = Blocks(Vec::from_array(rt.alloc(), [2])?);
+    let blocks = Blocks(Vec::from_array(rt.alloc(), [two_threads()])?);
     let mut machine = Machine::new(rt.alloc(), blocks, REGIONS_AND_TASKS, 2, 1_000_000)?;
     let mut begun = None;
     let mut ended = None;
@@ -227,6 +227,14 @@ fn a_worker_has_levels(rt: HostRuntime) -> Result<(), Memory> {
     assert_eq!(rt; ended.get_state(), (0x100, 0));
     assert!(rt; ended.tasks.0.is_empty() && ended.regions.0.is_empty());
     Ok(())
+}
+
+/// The construct in line 2, which asks for two threads.
+fn two_threads() -> Block {
+    Block {
+        requested: 2,
+        codeptr: PLACE,
+    }
 }
 
 /// The call that was told, if one was.

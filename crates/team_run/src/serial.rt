@@ -30,7 +30,6 @@ pub fn run_serial<P: ToolPart>(
     steps: u32,
     parts: Vec<P>,
 ) -> Result<Ran<P>, Memory>
-    requires blocks { length blocks ≤ 65536 }
     requires some { 1 ≤ threads }
     requires few { threads ≤ 16 }
     requires steps { 1 ≤ steps }

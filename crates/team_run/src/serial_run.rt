@@ -46,7 +46,6 @@ impl<P: ToolPart> SerialRun<P> {
         steps: u32,
         parts: Vec<P>,
     ) -> Result<SerialRun<P>, Memory>
-        requires blocks { length blocks ≤ 65536 }
         requires some { 1 ≤ threads }
         requires few { threads ≤ 16 }
         requires steps { 1 ≤ steps }

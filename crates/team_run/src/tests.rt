@@ -1,7 +1,7 @@
 //! Serial runs with small tools, against values written out by hand.
 
 use super::*;
-use omp_model::{Blocks, Cause, Entry, What};
+use omp_model::{Block, Blocks, Cause, Entry, What};
 use ompt_calls::{
     Call, Frame, RegionLevel, Reply, Snapshot, Store, Target, TaskLevel, Word, WordAt,
 };
@@ -124,7 +124,7 @@ fn a_tool_stores(rt: HostRuntime) -> Result<(), Memory> {
     let mut part = new_part(&rt, REGIONS_AND_TASKS, 1);
     part.replies.push((4, stores(WordAt::Fresh, 77)))?;
     let parts = Vec::from_array(rt.alloc(), [part])?;
-    let blocks = Blocks(Vec::from_array(rt.alloc(), [2])?);
+    let blocks = Blocks(Vec::from_array(rt.alloc(), [two_threads()])?);
     let ran = run_serial(rt.alloc(), blocks, 1, 1_000_000, parts)?;
     assert_eq!(rt; ran.cause, Cause::Done);
     assert_eq!(rt; ran.mask, 0x88);
@@ -183,7 +183,7 @@ fn a_tool_stores(rt: HostRuntime) -> Result<(), Memory> {
 #[test]
 fn an_inactive_tool_hears_nothing(rt: HostRuntime) -> Result<(), Memory> {
     let parts = Vec::from_array(rt.alloc(), [new_part(&rt, TASKS, 0), new_part(&rt, ALL, 1)])?;
-    let blocks = Blocks(Vec::from_array(rt.alloc(), [2])?);
+    let blocks = Blocks(Vec::from_array(rt.alloc(), [two_threads()])?);
     let ran = run_serial(rt.alloc(), blocks, 2, 1_000_000, parts)?;
     assert_eq!(rt; ran.cause, Cause::Done);
     assert_eq!(rt; ran.mask, 0);
@@ -204,7 +204,7 @@ fn a_tool_finds_no_memory(rt: HostRuntime) -> Result<(), Memory> {
     let mut part = new_part(&rt, ALL, 1);
     part.fails = 3;
     let parts = Vec::from_array(rt.alloc(), [part])?;
-    let blocks = Blocks(Vec::from_array(rt.alloc(), [2])?);
+    let blocks = Blocks(Vec::from_array(rt.alloc(), [two_threads()])?);
     let ran = run_serial(rt.alloc(), blocks, 1, 1_000_000, parts)?;
     assert_eq!(rt; ran.cause, Cause::Memory);
     let entries = [
@@ -227,7 +227,7 @@ fn a_tool_finds_no_memory(rt: HostRuntime) -> Result<(), Memory> {
 #[test]
 fn two_parts_hear_their_own(rt: HostRuntime) -> Result<(), Memory> {
     let parts = Vec::from_array(rt.alloc(), [new_part(&rt, ALL, 1), new_part(&rt, 0, 0)])?;
-    let blocks = Blocks(Vec::from_array(rt.alloc(), [2])?);
+    let blocks = Blocks(Vec::from_array(rt.alloc(), [two_threads()])?);
     let ran = run_serial(rt.alloc(), blocks, 2, 1_000_000, parts)?;
     assert_eq!(rt; ran.cause, Cause::Done);
     assert_eq!(rt; ran.mask, ALL);
@@ -262,7 +262,7 @@ fn a_reply_stores_thrice(rt: HostRuntime) -> Result<(), Memory> {
     part.replies.push((6, thrice))?;
     part.replies.push((11, once))?;
     let parts = Vec::from_array(rt.alloc(), [part])?;
-    let blocks = Blocks(Vec::from_array(rt.alloc(), [2])?);
+    let blocks = Blocks(Vec::from_array(rt.alloc(), [two_threads()])?);
     let ran = run_serial(rt.alloc(), blocks, 1, 1_000_000, parts)?;
     assert_eq!(rt; ran.cause, Cause::Done);
     let entries = ran.history.entries();
@@ -333,6 +333,14 @@ fn a_reply_stores_thrice(rt: HostRuntime) -> Result<(), Memory> {
         [Some(region(team, 1)), Some(region(ONE, 1)), None]
     );
     Ok(())
+}
+
+/// The construct in line 2, which asks for two threads.
+fn two_threads() -> Block {
+    Block {
+        requested: 2,
+        codeptr: PLACE,
+    }
 }
 
 /// A part that has heard nothing, with these callbacks and this answer. It stores nothing and finds memory.
