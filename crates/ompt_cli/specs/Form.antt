@@ -1,6 +1,6 @@
 -- The form of the programs that run: includes, and one function `int main` without parameters. Its block has parallel constructs, each
 -- with one clause, num_threads of a number from 1 to 16, and an empty block, and last `return 0;`.
-use Rattle.std.specs.Prelude.{ℕ, ◌+◌, ◌*◌, ◌==◌, ◌<=◌, ◌&&◌, Bool, true, false, if◌then◌else◌, List, [], ◌∷◌, Option, Some, None, is_none}
+use Rattle.std.specs.Prelude.{ℕ, ◌+◌, ◌*◌, ◌==◌, ◌&&◌, nat_le, Bool, true, false, if◌then◌else◌, List, [], ◌∷◌, Option, Some, None, is_none}
 use Rattle.std.specs.Option.{option_and_then, option_map}
 use Rattle.c_tokens.specs.declared.token.Spot.{Spot}
 use Rattle.c_syntax.specs.declared.node.Returns.TheVariants as returns
@@ -18,12 +18,12 @@ codeptr_at spot = spot.line * 65536 + spot.column
 
 -- the number of threads that a parallel construct may ask for
 abbrev pub is_team : ℕ → Bool
-is_team number = 1 <= number && number <= 16
+is_team number = nat_le 1 number && nat_le number 16
 
 -- a clause, what it is, and what is in its parentheses: the number that it asks for
 abbrev pub asked_by : NodeKind → NodeKind → NodeKind → ℕ → Option ℕ
 asked_by (node.Clause lead) node.NumThreads node.Number number = if is_team number then Some number else None
-asked_by clause what inside number = None
+asked_by other what inside number = None
 
 abbrev pub asked_in : Tree → Option ℕ
 asked_in clause =

@@ -3,9 +3,10 @@
 ghost use Rattle.std.specs.Prelude.{◌≡◌, ◌≤◌, ◌+◌, ◌∷◌, ◌++◌, [], length};
 ghost use Rattle.std.specs.Fmt.{decimal};
 ghost use Rattle.arrayvec.specs.ArrayString.{array_string_len};
-ghost use Rattle.ompt_cli.specs.Ends.{end_of_fault, line_of_end, refusal_number, refusal_spot, refusal_text, status_of};
+ghost use Rattle.ompt_cli.specs.Ends.{end_of_fault, end_of_syntax_fault, line_of_end, refusal_number, refusal_spot, refusal_text, status_of};
 
 use arrayvec::ArrayString;
+use c_syntax::SyntaxFault;
 use c_tokens::{Spot, TokenFault};
 use itoa::Buffer;
 
@@ -105,6 +106,10 @@ impl Refusal {
             Refusal::BadByte(_) => 1,
             Refusal::OpenComment(_) => 2,
             Refusal::BadNumber(_) => 3,
+            Refusal::Unexpected(_) => 4,
+            Refusal::UnknownDirective(_) => 5,
+            Refusal::OutOfProfile(_) => 6,
+            Refusal::TooDeep(_) => 7,
             Refusal::TooLong => 15,
             Refusal::OtherForm => 16,
         }
@@ -115,7 +120,13 @@ impl Refusal {
         ensures { result ≡ refusal_spot self }
     {
         match self {
-            Refusal::BadByte(spot) | Refusal::OpenComment(spot) | Refusal::BadNumber(spot) => spot,
+            Refusal::BadByte(spot)
+            | Refusal::OpenComment(spot)
+            | Refusal::BadNumber(spot)
+            | Refusal::Unexpected(spot)
+            | Refusal::UnknownDirective(spot)
+            | Refusal::OutOfProfile(spot)
+            | Refusal::TooDeep(spot) => spot,
             Refusal::TooLong | Refusal::OtherForm => Spot { line: 0, column: 0 },
         }
     }
@@ -137,7 +148,7 @@ impl Refusal {
     }
 }
 
-/// The end of a command whose text has this fault.
+/// The end of a command whose text has this fault in its tokens.
 pub(crate) fn end_of_fault(fault: TokenFault) -> End
     ensures { result ≡ end_of_fault fault }
 {
@@ -146,6 +157,19 @@ pub(crate) fn end_of_fault(fault: TokenFault) -> End
         TokenFault::OpenComment(spot) => End::Refused(Refusal::OpenComment(spot)),
         TokenFault::BadNumber(spot) => End::Refused(Refusal::BadNumber(spot)),
         TokenFault::Memory => End::Memory,
+    }
+}
+
+/// The end of a command whose tokens are no program for this fault.
+pub(crate) fn end_of_syntax_fault(fault: SyntaxFault) -> End
+    ensures { result ≡ end_of_syntax_fault fault }
+{
+    match fault {
+        SyntaxFault::Unexpected(spot) => End::Refused(Refusal::Unexpected(spot)),
+        SyntaxFault::UnknownDirective(spot) => End::Refused(Refusal::UnknownDirective(spot)),
+        SyntaxFault::OutOfProfile(spot) => End::Refused(Refusal::OutOfProfile(spot)),
+        SyntaxFault::TooDeep(spot) => End::Refused(Refusal::TooDeep(spot)),
+        SyntaxFault::Memory => End::Memory,
     }
 }
 
