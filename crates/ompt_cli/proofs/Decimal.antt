@@ -1,9 +1,8 @@
 -- The numbers from 1 to 16 in decimal, byte by byte.
-use Rattle.std.proofs.Common.{ℕ, ◌≡◌, ◌+◌, ◌-◌, ◌/◌, ◌%◌, ◌<◌, ◌≤◌, ◌⊎◌, inl, inr, List, [], ◌∷◌, ◌++◌, length, get_or, take, drop, refl, sym, ◌∙◌, arith}
+use Rattle.std.proofs.Common.{ℕ, ◌≡◌, ◌+◌, ◌-◌, ◌/◌, ◌%◌, ◌<◌, ◌≤◌, ◌⊎◌, inl, inr, List, [], ◌∷◌, length, get_or, refl, sym, ◌∙◌, arith}
 use Rattle.std.specs.Fmt.{decimal}
 use Rattle.std.proofs.lemmas.Bool.{cases_lt}
 use Rattle.std.proofs.lemmas.Fmt.{decimal_digit, decimal_step}
-use Rattle.std.proofs.lemmas.List.{take_rest}
 use Rattle.std.proofs.lemmas.Slice.Eq.{text_from_reads}
 
 -- a number of two digits, the first of which is 1
@@ -35,23 +34,3 @@ from_two_bytes s len first low high =
 
 -- from a number from 1 to 16 to its bytes, and back
 pub ruleset small_decimals = (bytes_of_small, from_one_byte, from_two_bytes)
-
--- one digit before a closing bracket is such a number, and so are a 1 and a digit
-pub front_of_one_byte : (s : List ℕ) → 2 ≤ length s → 48 ≤ get_or s 0 0 → get_or s 0 0 ≤ 57 → get_or s 1 0 ≡ 41 → s ≡ decimal (get_or s 0 0 - 48) ++ 41 ∷ take (length s - 2) (drop 2 s)
-front_of_one_byte [] len low high close = absurd (omega arith)
-front_of_one_byte (a ∷ []) len low high close = absurd (omega arith)
-front_of_one_byte (a ∷ b ∷ rest) len low high close =
-    let digit : 48 + (a - 48) ≡ a = omega arith in
-    rw (decimal_digit (a - 48) (omega arith), digit, close, take_rest (a ∷ b ∷ rest) 2) refl
-
-pub front_of_two_bytes : (s : List ℕ) → 3 ≤ length s → get_or s 0 0 ≡ 49 → 48 ≤ get_or s 1 0 → get_or s 1 0 ≤ 57 → get_or s 2 0 ≡ 41 → s ≡ decimal (10 + (get_or s 1 0 - 48)) ++ 41 ∷ take (length s - 3) (drop 3 s)
-front_of_two_bytes [] len first low high close = absurd (omega arith)
-front_of_two_bytes (a ∷ []) len first low high close = absurd (omega arith)
-front_of_two_bytes (a ∷ b ∷ []) len first low high close = absurd (omega arith)
-front_of_two_bytes (a ∷ b ∷ c ∷ rest) len first low high close =
-    let digit : 38 + (10 + (b - 48)) ≡ b = omega arith in
-    rw (teen (10 + (b - 48)) (omega arith) (omega arith), digit, first, close, take_rest (a ∷ b ∷ c ∷ rest) 3) refl
-
--- such a number before a closing bracket is read in one way
-pub same_small : (j k : ℕ) (xs ys : List ℕ) → 1 ≤ j → j ≤ 16 → 1 ≤ k → k ≤ 16 → decimal j ++ 41 ∷ xs ≡ decimal k ++ 41 ∷ ys → (j ≡ k) × (xs ≡ ys)
-same_small j k xs ys one few one' few' same = grind (arith, bytes_of_small)

@@ -1,6 +1,7 @@
 pub mod Decimal
-pub mod BlockText
+pub mod Behind
+pub mod Items
 pub mod Handing
 pub mod Listing
 pub mod Ending
-pub mod FormTokens
+pub mod Reading

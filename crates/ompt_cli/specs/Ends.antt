@@ -3,10 +3,12 @@ use Rattle.std.specs.Prelude.{ℕ, if◌then◌else◌, ◌==◌, ◌≡◌, Lis
 use Rattle.std.specs.Io.KnownBytes.{Appends}
 use Rattle.run_edges.specs.Edges.{Rose, AppendsFront}
 use Rattle.ompt_cli.specs.declared.end.Refusal.{Refusal}
-use Rattle.ompt_cli.specs.declared.end.Refusal.TheVariants.{BadByte, OpenComment, BadNumber, TooLong, OtherForm}
+use Rattle.ompt_cli.specs.declared.end.Refusal.TheVariants.{BadByte, OpenComment, BadNumber, Unexpected, UnknownDirective, OutOfProfile, TooDeep, TooLong, OtherForm}
 use Rattle.c_tokens.specs.declared.token.Spot.{Spot}
 use Rattle.c_tokens.specs.declared.token.TokenFault.{TokenFault}
 use Rattle.c_tokens.specs.declared.token.TokenFault.TheVariants as fault
+use Rattle.c_syntax.specs.declared.fault.SyntaxFault.{SyntaxFault}
+use Rattle.c_syntax.specs.declared.fault.SyntaxFault.TheVariants as syntax
 use Rattle.std.specs.Fmt.{decimal}
 use Rattle.ompt_cli.specs.declared.end.End.{End}
 use Rattle.ompt_cli.specs.declared.end.End.TheVariants.{Done, Usage, Refused, Deadlock, Limit, ReadFault, WriteFault, Memory}
@@ -26,6 +28,10 @@ abbrev pub refusal_number : Refusal → ℕ
 refusal_number (BadByte spot) = 1
 refusal_number (OpenComment spot) = 2
 refusal_number (BadNumber spot) = 3
+refusal_number (Unexpected spot) = 4
+refusal_number (UnknownDirective spot) = 5
+refusal_number (OutOfProfile spot) = 6
+refusal_number (TooDeep spot) = 7
 refusal_number TooLong = 15
 refusal_number OtherForm = 16
 
@@ -36,15 +42,26 @@ abbrev pub refusal_spot : Refusal → Spot
 refusal_spot (BadByte spot) = spot
 refusal_spot (OpenComment spot) = spot
 refusal_spot (BadNumber spot) = spot
+refusal_spot (Unexpected spot) = spot
+refusal_spot (UnknownDirective spot) = spot
+refusal_spot (OutOfProfile spot) = spot
+refusal_spot (TooDeep spot) = spot
 refusal_spot TooLong = nowhere
 refusal_spot OtherForm = nowhere
 
--- the end of a command whose text has this fault
+-- the end of a command whose text has this fault in its tokens, and one whose tokens are no program for this fault
 abbrev pub end_of_fault : TokenFault → End
 end_of_fault (fault.BadByte spot) = Refused (BadByte spot)
 end_of_fault (fault.OpenComment spot) = Refused (OpenComment spot)
 end_of_fault (fault.BadNumber spot) = Refused (BadNumber spot)
 end_of_fault fault.Memory = Memory
+
+abbrev pub end_of_syntax_fault : SyntaxFault → End
+end_of_syntax_fault (syntax.Unexpected spot) = Refused (Unexpected spot)
+end_of_syntax_fault (syntax.UnknownDirective spot) = Refused (UnknownDirective spot)
+end_of_syntax_fault (syntax.OutOfProfile spot) = Refused (OutOfProfile spot)
+end_of_syntax_fault (syntax.TooDeep spot) = Refused (TooDeep spot)
+end_of_syntax_fault syntax.Memory = Memory
 
 -- the line on standard error that tells a refusal, without its newline
 abbrev pub refusal_at : ℕ → Spot → List ℕ

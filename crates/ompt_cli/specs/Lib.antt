@@ -1,4 +1,5 @@
 pub mod Words
+pub mod Form
 pub mod Text
 pub mod Ends
 pub mod Guests

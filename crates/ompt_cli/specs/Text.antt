@@ -1,65 +1,53 @@
 -- The texts that run, with their programs, and the refusals of all others.
-use Rattle.std.specs.Prelude.{ℕ, ◌≡◌, ◌<◌, ◌≤◌, ◌⊎◌, List, [], ◌∷◌, ◌++◌, length, flat_map, All, codes, Ok, Err}
-use Rattle.std.specs.Fmt.{decimal}
+use Rattle.std.specs.Prelude.{ℕ, ◌≡◌, ◌<◌, ◌≤◌, List, length, Some, None, Ok, Err}
 use Rattle.ompt_cli.specs.declared.end.Refusal.{Refusal}
-use Rattle.ompt_cli.specs.declared.end.Refusal.TheVariants.{BadByte, OpenComment, BadNumber, TooLong, OtherForm}
+use Rattle.ompt_cli.specs.declared.end.Refusal.TheVariants.{BadByte, OpenComment, BadNumber, Unexpected, UnknownDirective, OutOfProfile, TooDeep, TooLong, OtherForm}
 use Rattle.c_tokens.specs.declared.token.Token.{Token}
 use Rattle.c_tokens.specs.declared.token.TokenFault.{TokenFault}
 use Rattle.c_tokens.specs.declared.token.TokenFault.TheVariants as fault
 use Rattle.c_tokens.specs.Tokens.{tokens_of}
+use Rattle.c_syntax.specs.declared.fault.SyntaxFault.{SyntaxFault}
+use Rattle.c_syntax.specs.declared.fault.SyntaxFault.TheVariants as syntax
+use Rattle.c_syntax.specs.Words.{main_of, words_of}
+use Rattle.c_syntax.specs.Tree.{Tree}
+use Rattle.c_syntax.specs.Derivation.{Spells as IsTreeOf}
+use Rattle.c_syntax.specs.Faults.{IsFault}
+use Rattle.omp_model.specs.declared.blocks.Block.{Block}
+use Rattle.ompt_cli.specs.Form.{blocks_of}
 
--- the text of the first form
-abbrev pub program_text : List ℕ
-program_text = codes "int main(void) { return 0; }" ++ 10 ∷ []
+-- the text has these tokens, and they are a program with this tree
+pub record HasTree (text : List ℕ) (tokens : List Token) (tree : Tree) : Type 0 where
+  pub tokens_are : tokens_of text ≡ Ok tokens
+  pub tree_is : IsTreeOf (words_of text tokens) tree
 
--- a line with its newline
-abbrev pub line : List ℕ → List ℕ
-line text = text ++ 10 ∷ []
+-- the text spells this program: its tree is of the form, with these blocks
+abbrev pub Spells : List ℕ → List Block → Type 0
+Spells text blocks = (tokens : List Token) × (tree : Tree) × HasTree text tokens tree × (blocks_of (main_of text tokens) tree ≡ Some blocks)
 
--- the lines before the blocks
-abbrev pub opening : List ℕ
-opening = line (codes "int main(void) {")
-
--- the lines of one block
-abbrev pub block_text : ℕ → List ℕ
-block_text k = line (codes "#pragma omp parallel num_threads(" ++ decimal k ++ codes ")") ++ line (codes "{ }")
-
--- the lines after the blocks
-abbrev pub ending : List ℕ
-ending = line (codes "return 0;") ++ line (codes "}")
-
--- the text of the second form with these blocks
-abbrev pub blocks_text : List ℕ → List ℕ
-blocks_text ks = opening ++ flat_map block_text ks ++ ending
-
--- the number of threads that a block may ask for
-abbrev pub IsTeam : ℕ → Type 0
-IsTeam k = (1 ≤ k) × (k ≤ 16)
-
--- each block asks for such a number
-abbrev pub AreTeams : List ℕ → Type 0
-AreTeams ks = All IsTeam ks
-
--- the text spells this program: it is of the first form and the program is empty, or of the second with these blocks
-abbrev pub Spells : List ℕ → List ℕ → Type 0
-Spells text ks = ((text ≡ program_text) × (ks ≡ [])) ⊎ (AreTeams ks × (text ≡ blocks_text ks))
-
--- the text has tokens
-abbrev pub HasTokens : List ℕ → Type 0
-HasTokens text = (tokens : List Token) × (tokens_of text ≡ Ok tokens)
-
--- the text isn't too long, and its first fault is this one
+-- the text isn't too long, and the first fault of its tokens is this one
 abbrev pub HasFault : TokenFault → List ℕ → Type 0
 HasFault fault text = (length text ≤ 65536) × (tokens_of text ≡ Err fault)
 
--- the text is refused for this: it is too long, or else its tokens have a fault, or else it is of neither form
+-- the text isn't too long and has tokens, and the fault of these is this one
+abbrev pub HasSyntaxFault : SyntaxFault → List ℕ → Type 0
+HasSyntaxFault fault text = (length text ≤ 65536) × ((tokens : List Token) × (tokens_of text ≡ Ok tokens) × IsFault (words_of text tokens) fault)
+
+-- the text isn't too long and is a program, but of another form
+abbrev pub HasOtherForm : List ℕ → Type 0
+HasOtherForm text = (length text ≤ 65536) × ((tokens : List Token) × (tree : Tree) × HasTree text tokens tree × (blocks_of (main_of text tokens) tree ≡ None))
+
+-- the text is refused for this: it is too long, or else its tokens have a fault, or else it is no program, or else it is of another form
 abbrev pub IsRefused : Refusal → List ℕ → Type 0
 IsRefused (BadByte spot) text = HasFault (fault.BadByte spot) text
 IsRefused (OpenComment spot) text = HasFault (fault.OpenComment spot) text
 IsRefused (BadNumber spot) text = HasFault (fault.BadNumber spot) text
+IsRefused (Unexpected spot) text = HasSyntaxFault (syntax.Unexpected spot) text
+IsRefused (UnknownDirective spot) text = HasSyntaxFault (syntax.UnknownDirective spot) text
+IsRefused (OutOfProfile spot) text = HasSyntaxFault (syntax.OutOfProfile spot) text
+IsRefused (TooDeep spot) text = HasSyntaxFault (syntax.TooDeep spot) text
 IsRefused TooLong text = 65536 < length text
-IsRefused OtherForm text = (length text ≤ 65536) × HasTokens text × ((ks : List ℕ) → ¬ Spells text ks)
+IsRefused OtherForm text = HasOtherForm text
 
 -- the text runs: it isn't too long, and spells a program
 abbrev pub IsProgram : List ℕ → Type 0
-IsProgram text = (length text ≤ 65536) × ((ks : List ℕ) × Spells text ks)
+IsProgram text = (length text ≤ 65536) × ((blocks : List Block) × Spells text blocks)

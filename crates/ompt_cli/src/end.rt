@@ -3,9 +3,10 @@
 ghost use Rattle.std.specs.Prelude.{◌≡◌, ◌≤◌, ◌+◌, ◌∷◌, ◌++◌, [], length};
 ghost use Rattle.std.specs.Fmt.{decimal};
 ghost use Rattle.arrayvec.specs.ArrayString.{array_string_len};
-ghost use Rattle.ompt_cli.specs.Ends.{end_of_fault, line_of_end, refusal_number, refusal_spot, refusal_text, status_of};
+ghost use Rattle.ompt_cli.specs.Ends.{end_of_fault, end_of_syntax_fault, line_of_end, refusal_number, refusal_spot, refusal_text, status_of};
 
 use arrayvec::ArrayString;
+use c_syntax::SyntaxFault;
 use c_tokens::{Spot, TokenFault};
 use itoa::Buffer;
 
@@ -18,9 +19,17 @@ pub enum Refusal {
     OpenComment(Spot),
     /// Number 3: digits that are no number.
     BadNumber(Spot),
+    /// Number 4: a token with which no program goes on.
+    Unexpected(Spot),
+    /// Number 5: a word that should be a directive, and is none.
+    UnknownDirective(Spot),
+    /// Number 6: a part of C or of OpenMP that is out of the language.
+    OutOfProfile(Spot),
+    /// Number 7: the program would be deeper than the limit.
+    TooDeep(Spot),
     /// Number 15: the text is longer than 65,536 bytes.
     TooLong,
-    /// Number 16: the text is of neither form that runs.
+    /// Number 16: the text is a program, and isn't of the form that runs.
     OtherForm,
 }
 
@@ -97,6 +106,10 @@ impl Refusal {
             Refusal::BadByte(_) => 1,
             Refusal::OpenComment(_) => 2,
             Refusal::BadNumber(_) => 3,
+            Refusal::Unexpected(_) => 4,
+            Refusal::UnknownDirective(_) => 5,
+            Refusal::OutOfProfile(_) => 6,
+            Refusal::TooDeep(_) => 7,
             Refusal::TooLong => 15,
             Refusal::OtherForm => 16,
         }
@@ -107,7 +120,13 @@ impl Refusal {
         ensures { result ≡ refusal_spot self }
     {
         match self {
-            Refusal::BadByte(spot) | Refusal::OpenComment(spot) | Refusal::BadNumber(spot) => spot,
+            Refusal::BadByte(spot)
+            | Refusal::OpenComment(spot)
+            | Refusal::BadNumber(spot)
+            | Refusal::Unexpected(spot)
+            | Refusal::UnknownDirective(spot)
+            | Refusal::OutOfProfile(spot)
+            | Refusal::TooDeep(spot) => spot,
             Refusal::TooLong | Refusal::OtherForm => Spot { line: 0, column: 0 },
         }
     }
@@ -129,7 +148,7 @@ impl Refusal {
     }
 }
 
-/// The end of a command whose text has this fault.
+/// The end of a command whose text has this fault in its tokens.
 pub(crate) fn end_of_fault(fault: TokenFault) -> End
     ensures { result ≡ end_of_fault fault }
 {
@@ -138,6 +157,19 @@ pub(crate) fn end_of_fault(fault: TokenFault) -> End
         TokenFault::OpenComment(spot) => End::Refused(Refusal::OpenComment(spot)),
         TokenFault::BadNumber(spot) => End::Refused(Refusal::BadNumber(spot)),
         TokenFault::Memory => End::Memory,
+    }
+}
+
+/// The end of a command whose tokens are no program for this fault.
+pub(crate) fn end_of_syntax_fault(fault: SyntaxFault) -> End
+    ensures { result ≡ end_of_syntax_fault fault }
+{
+    match fault {
+        SyntaxFault::Unexpected(spot) => End::Refused(Refusal::Unexpected(spot)),
+        SyntaxFault::UnknownDirective(spot) => End::Refused(Refusal::UnknownDirective(spot)),
+        SyntaxFault::OutOfProfile(spot) => End::Refused(Refusal::OutOfProfile(spot)),
+        SyntaxFault::TooDeep(spot) => End::Refused(Refusal::TooDeep(spot)),
+        SyntaxFault::Memory => End::Memory,
     }
 }
 

@@ -5,17 +5,17 @@
 //! to standard error. Its contract says, over any source and any sinks, when each end comes, that what ran is one serial
 //! run of the program, what the outputs gain, and what the guests were called for.
 //!
-//! The definitions stand in `specs/`: the form of the words (`Words`), the texts that run, with their programs, and why
-//! others are refused (`Text`), the status and the line of each end (`Ends`), what a command reports and writes
+//! The definitions stand in `specs/`: the form of the words (`Words`), the form of the programs that run, over the tree of a
+//! program (`Form`), the texts that run, with their blocks, and why others are refused (`Text`), the status and the line of each end (`Ends`), what a command reports and writes
 //! (`Commands`), and what guests stand for after it (`Guests`).
 //!
 //! Want of memory is free: no clause says when it comes, only what stands after it. That the calls succeed with ample
 //! memory is shown by the tests in `ompt_tests`.
 #![tactic(auto)]
 
-mod blocks;
 mod end;
 mod ended;
+mod form;
 mod guest_part;
 mod guests;
 mod job;

@@ -9,7 +9,7 @@ use std::alloc::{AllocError, Global};
 pub(crate) fn copied(alloc: Global, blocks: &Blocks) -> Result<Blocks, AllocError>
     ensures { IfOk result (λ copy. copy ≡ blocks.now) }
 {
-    let mut teams = Vec::new(alloc);
-    teams.extend_from_slice(blocks.teams())?;
-    Ok(Blocks(teams))
+    let mut list = Vec::new(alloc);
+    list.extend_from_slice(blocks.list())?;
+    Ok(Blocks(list))
 }

@@ -18,7 +18,7 @@ pub struct Report {
     pub command: Command,
     /// Why the run ended.
     pub cause: Cause,
-    /// The program.
+    /// The program: its parallel blocks.
     pub blocks: Blocks,
     /// The callbacks that were registered: bit n for number n.
     pub mask: u64,

@@ -18,7 +18,7 @@ use crate::job::Job;
 use crate::list::list;
 use crate::report::{ALL_CALLBACKS, Top};
 use crate::run::run;
-use crate::text::read_program;
+use crate::text::read_blocks;
 use crate::words::{Asked, Command, asked_of};
 use omp_model::Cause;
 use run_edges::{Sink, Source, write_all};
@@ -103,7 +103,7 @@ pub fn top<R, S: Source, O: Sink, E: Sink>(
     let Some(Asked { command, threads }) = asked_of(words) else {
         return tell(without_run(End::Usage), err);
     };
-    match (read_program(alloc, source), command) {
+    match (read_blocks(alloc, source), command) {
         (Ok(blocks), Command::List) => tell(
             list(alloc, Job::new(blocks, threads), guests, out),
             err,

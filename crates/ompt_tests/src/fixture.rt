@@ -8,7 +8,7 @@ use run_edges::{MemSink, MemSource, Memory, PureSource, Script, Source};
 use std::process::Abort;
 use tool_api::GuestTool;
 
-/// The text of the first form.
+/// The program without a block.
 pub(crate) const PROGRAM: &[u8] = b"int main(void) { return 0; }\n";
 
 /// What is listed of it.
@@ -51,6 +51,9 @@ pub(crate) const REGION_LISTING: &[u8] = b"0 0 thread_begin 1 1:0
 37 0 implicit_task 2 0:0 1:0 0 1 1
 39 0 thread_end 1:0
 ";
+
+/// Words that list on one thread.
+pub(crate) const LIST_ON_ONE: &[&str] = &["list", "--serial", "--threads", "1"];
 
 /// Words that list on two threads.
 pub(crate) const LIST_ON_TWO: &[&str] = &["list", "--serial", "--threads", "2"];
@@ -106,7 +109,7 @@ pub(crate) fn tell_text<R: AllocGlobal>(
     tell_amply(rt, words, &mut source_of(rt, text)?)
 }
 
-/// Hands the command the words that list on this many threads, the text of the first form in a source that can't fail, sinks
+/// Hands the command the words that list on this many threads, the program without a block in a source that can't fail, sinks
 /// that never fail, and no guests.
 pub(crate) fn tell_pure<R: AllocGlobal>(rt: &R, threads: &str) -> Result<Told, Memory> {
     let words = ["list", "--serial", "--threads", threads];

@@ -9,3 +9,5 @@ mod listening;
 mod runs;
 #[cfg(test)]
 mod tests;
+#[cfg(test)]
+mod texts;

@@ -2,7 +2,7 @@
 
 use crate::fixture::*;
 use crate::listening::{Listening, NULL, ONE, STORED, TWO, answers_of};
-use omp_model::{Blocks, Cause, Entry, What};
+use omp_model::{Block, Blocks, Cause, Entry, What};
 use ompt_calls::{Call, Frame, Target, Word};
 use ompt_cli::{Command, End};
 use run_edges::Memory;
@@ -142,7 +142,11 @@ fn a_region_of_two_lists_twenty_lines(rt: HostRuntime) -> Result<(), Fail> {
     ended(&rt, &told, End::Done, 0, REGION_LISTING, b"", 0);
     let ran = ran_in(&rt, &told);
     went(&rt, ran, Command::List, Cause::Done, ALL, 41, 0);
-    assert_eq!(rt; ran.blocks.teams(), [2].as_slice());
+    let block = Block {
+        requested: 2,
+        codeptr: 131_073,
+    };
+    assert_eq!(rt; ran.blocks.list(), [block].as_slice());
     has_entry(&rt, ran, 34, 0, What::Go);
     has_entry(&rt, ran, 35, 1, What::Go);
     heard(&rt, ran, &[[0, 0, 0], [0, 0, 0]]);

@@ -1,8 +1,7 @@
 //! What no clause says: that each end of the command comes about, with the bytes that it writes.
 
 use crate::fixture::*;
-use c_tokens::Spot;
-use omp_model::{Cause, Entry, What};
+use omp_model::{Block, Cause, Entry, What};
 use ompt_cli::{Command, End, Refusal};
 use run_edges::{MemSink, read_all};
 use std::process::Abort;
@@ -27,6 +26,15 @@ const NUMBERS: &[&str] = &[
     "1", "2", "3", "4", "5", "6", "7", "8", "9", "10", "11", "12", "13", "14", "15", "16",
 ];
 
+/// Other texts of the program without a block.
+const EMPTY_TEXTS: &[&str] = &[
+    "int main(void) {\nreturn 0;\n}\n",
+    "int main(void) { return 0; }",
+    "int main(){return 0;}\n ",
+    "#include <omp.h>\nint main(void) { return 0; } // over",
+    "/* one */ int main ( /* none */ )\n{\n\treturn \\\n0 ;\n}\n\n",
+];
+
 #[test]
 fn the_empty_program_lists_four_lines(rt: HostRuntime) -> Result<(), Fail> {
     let mut threads = 0_u8;
@@ -34,8 +42,9 @@ fn the_empty_program_lists_four_lines(rt: HostRuntime) -> Result<(), Fail> {
         threads = threads.saturating_add(1);
         lists_four_lines(&rt, &tell_pure(&rt, number)?, threads);
     }
-    let told = tell_text(&rt, LIST, b"int main(void) {\nreturn 0;\n}\n")?;
-    lists_four_lines(&rt, &told, 4);
+    for text in EMPTY_TEXTS {
+        lists_four_lines(&rt, &tell_text(&rt, LIST, text.as_bytes())?, 4);
+    }
     Ok(())
 }
 
@@ -84,123 +93,6 @@ fn other_words_are_a_faulty_command_line(rt: HostRuntime) -> Result<(), Fail> {
         assert_eq!(rt; left.as_slice(), PROGRAM);
     }
     Ok(())
-}
-
-/// Texts of neither form, which have tokens.
-const OTHER_TEXTS: &[&str] = &[
-    "",
-    "int main(void) { return 0; }",
-    "int main(void) { return 0; }\n ",
-    "int main(void) { return 1; }\n",
-    "int main(void) {\nreturn 0;\n}",
-    "int main(void) {\nreturn 0; \n}\n",
-    "int main(void) {\n#pragma omp parallel num_threads(0)\n{ }\nreturn 0;\n}\n",
-    "int main(void) {\n#pragma omp parallel num_threads(17)\n{ }\nreturn 0;\n}\n",
-    "int main(void) {\n#pragma omp parallel num_threads()\n{ }\nreturn 0;\n}\n",
-    "int main(void) {\n#pragma omp parallel num_threads(2)\nreturn 0;\n}\n",
-    "int main(void) {\n#pragma omp parallel num_threads(2)\n{}\nreturn 0;\n}\n",
-];
-
-#[test]
-fn other_texts_are_refused(rt: HostRuntime) -> Result<(), Fail> {
-    let mut case = 0_usize;
-    for text in OTHER_TEXTS {
-        case = case.saturating_add(1);
-        let told = tell_text(&rt, LIST, text.as_bytes())?;
-        refused(&rt, &told, Refusal::OtherForm, b"refused 16 at 0:0\n", case);
-    }
-    Ok(())
-}
-
-/// A text with a fault, what it is refused for, and its line.
-type Faulty = (&'static str, Refusal, &'static [u8]);
-
-/// Texts with a fault in their tokens. The first fault counts, whatever the form of the text.
-const FAULTY_TEXTS: &[Faulty] = &[
-    (
-        "int main(void) { return 2147483648; }",
-        Refusal::BadNumber(Spot {
-            line: 1,
-            column: 25,
-        }),
-        b"refused 3 at 1:25\n",
-    ),
-    (
-        "int main(void) { /*",
-        Refusal::OpenComment(Spot {
-            line: 1,
-            column: 18,
-        }),
-        b"refused 2 at 1:18\n",
-    ),
-    (
-        "int main(void) { @ }",
-        Refusal::BadByte(Spot {
-            line: 1,
-            column: 18,
-        }),
-        b"refused 1 at 1:18\n",
-    ),
-    (
-        "int main(void) {\n\n  return 08; @\n}\n",
-        Refusal::BadNumber(Spot {
-            line: 3,
-            column: 10,
-        }),
-        b"refused 3 at 3:10\n",
-    ),
-    (
-        "int main(void) {\n#pragma omp parallel num_threads(02)\n{ }\nreturn 0;\n}\n",
-        Refusal::BadNumber(Spot {
-            line: 2,
-            column: 34,
-        }),
-        b"refused 3 at 2:34\n",
-    ),
-];
-
-#[test]
-fn faulty_texts_are_refused_at_their_first_fault(rt: HostRuntime) -> Result<(), Fail> {
-    let mut case = 0_usize;
-    for (text, why, line) in FAULTY_TEXTS {
-        case = case.saturating_add(1);
-        let told = tell_text(&rt, LIST, text.as_bytes())?;
-        refused(&rt, &told, *why, line, case);
-    }
-    Ok(())
-}
-
-/// How many bytes a text of blanks has, its first byte, what it is refused for, and its line.
-type Long = (usize, u8, Refusal, &'static [u8]);
-
-const LONG_TEXTS: &[Long] = &[
-    (65_536, b' ', Refusal::OtherForm, b"refused 16 at 0:0\n"),
-    (65_537, b' ', Refusal::TooLong, b"refused 15 at 0:0\n"),
-    (
-        65_536,
-        b'@',
-        Refusal::BadByte(Spot { line: 1, column: 1 }),
-        b"refused 1 at 1:1\n",
-    ),
-    (65_537, b'@', Refusal::TooLong, b"refused 15 at 0:0\n"),
-];
-
-#[test]
-fn a_long_text_is_refused_for_its_length_first(rt: HostRuntime) -> Result<(), Fail> {
-    for (length, first, why, line) in LONG_TEXTS {
-        let mut text = vec![in rt.alloc(); b' '; *length]?;
-        if let Some(byte) = text.first_mut() {
-            *byte = *first;
-        }
-        let told = tell_text(&rt, LIST, &text)?;
-        refused(&rt, &told, *why, line, *length);
-    }
-    Ok(())
-}
-
-/// The text was refused for this, with this line.
-fn refused(rt: &impl Abort, told: &Told, why: Refusal, line: &[u8], case: usize) {
-    nothing_ran(rt, told, End::Refused(why), 3, line, case);
 }
 
 #[test]
@@ -366,9 +258,6 @@ return 0;
 }
 ";
 
-/// Words that list on one thread.
-const LIST_ON_ONE: &[&str] = &["list", "--serial", "--threads", "1"];
-
 /// A team has at most as many members as there are threads.
 #[test]
 fn a_listing_has_so_many_lines(rt: HostRuntime) -> Result<(), Fail> {
@@ -385,12 +274,18 @@ fn a_listing_has_so_many_lines(rt: HostRuntime) -> Result<(), Fail> {
     Ok(())
 }
 
-/// The second region has the worker of the first one.
+/// The second region has the worker of the first one. Each has the place of its own construct, in lines 2 and 4.
 #[test]
 fn two_regions_of_two_keep_their_worker(rt: HostRuntime) -> Result<(), Fail> {
     let told = tell_text(&rt, LIST_ON_TWO, TWO_REGIONS_OF_TWO)?;
     has_lines(&rt, &told, 34);
-    assert_eq!(rt; ran_in(&rt, &told).history.entries().len(), 69);
+    let ran = ran_in(&rt, &told);
+    assert_eq!(rt; ran.history.entries().len(), 69);
+    let blocks = [131_073, 262_145].map(|codeptr| Block {
+        requested: 2,
+        codeptr,
+    });
+    assert_eq!(rt; ran.blocks.list(), blocks.as_slice());
     Ok(())
 }
 

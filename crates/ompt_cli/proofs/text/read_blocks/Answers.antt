@@ -1,6 +1,6 @@
 use Rattle.std.proofs.Common.{Err, ap, ◌∙◌}
 use Rattle.ompt_cli.proofs.Ending.{program-not_long}
-use Rattle.ompt_cli.proofs.text.read_program.Goals as goal
+use Rattle.ompt_cli.proofs.text.read_blocks.Goals as goal
 
 pub returns-in-Err-TooLong-clause-runs : goal.returns-in-Err-TooLong-clause-runs
 returns-in-Err-TooLong-clause-runs g c = λ told.

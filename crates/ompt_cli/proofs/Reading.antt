@@ -1,0 +1,113 @@
+-- A text spells a program, or is refused for one thing, and not both.
+use Rattle.std.proofs.Common.{◌≡◌, ◌≢◌, ℕ, ◌<◌, ◌≤◌, List, length, Ok, refl, sym, ap, subst, ◌∙◌, arith}
+use Rattle.c_tokens.specs.declared.token.Token.{Token}
+use Rattle.c_tokens.specs.declared.token.TokenFault.{TokenFault}
+use Rattle.c_tokens.specs.declared.token.TokenFault.TheVariants as fault
+use Rattle.c_tokens.specs.Tokens.{tokens_of}
+use Rattle.c_syntax.specs.declared.fault.SyntaxFault.{SyntaxFault}
+use Rattle.c_syntax.specs.declared.fault.SyntaxFault.TheVariants as syntax
+use Rattle.c_syntax.specs.Words.{main_of, words_of}
+use Rattle.c_syntax.specs.Tree.{Tree}
+use Rattle.c_syntax.specs.Faults.{IsFault}
+use Rattle.c_syntax.proofs.Unique.{fault-one, spells-no_fault, spells-one}
+use Rattle.ompt_cli.specs.declared.end.Refusal.{Refusal}
+use Rattle.ompt_cli.specs.declared.end.Refusal.TheVariants.{BadByte, OpenComment, BadNumber, Unexpected, UnknownDirective, OutOfProfile, TooDeep, TooLong, OtherForm}
+use Rattle.ompt_cli.specs.declared.end.End.TheVariants.{Refused}
+use Rattle.ompt_cli.specs.Commands.{MayRefuse, MayRun}
+use Rattle.ompt_cli.specs.Ends.{end_of_fault, end_of_syntax_fault}
+use Rattle.ompt_cli.specs.Form.{blocks_of}
+use Rattle.ompt_cli.specs.Text.{HasFault, HasOtherForm, HasSyntaxFault, HasTree, IsProgram, IsRefused}
+
+refused-one : {first second : Refusal} → Refused first ≡ Refused second → first ≡ second
+refused-one same = cc
+
+module _ (text : List ℕ) where
+  -- a text has one list of tokens, with one tree
+  tokens-one : (first second : List Token) → tokens_of text ≡ Ok first → tokens_of text ≡ Ok second → first ≡ second
+  tokens-one first second one other = cc
+
+  tree-one : (tokens others : List Token) (first second : Tree) → HasTree text tokens first → HasTree text others second → blocks_of (main_of text tokens) first ≡ blocks_of (main_of text others) second
+  tree-one tokens others first second one other =
+      let same = tokens-one tokens others one.tokens_are other.tokens_are in
+      let tree = spells-one (words_of text others) first second (subst (λ list. HasTree text list first) same one).tree_is other.tree_is in
+      cc
+
+  no-tree : (tokens others : List Token) (tree : Tree) (found : SyntaxFault) → HasTree text tokens tree → tokens_of text ≡ Ok others → IsFault (words_of text others) found → ⊥
+  no-tree tokens others tree found spells are fault =
+      let same = tokens-one tokens others spells.tokens_are are in
+      spells-no_fault (words_of text others) tree found (subst (λ list. HasTree text list tree) same spells).tree_is fault
+
+  syntax-one : (tokens others : List Token) (first second : SyntaxFault) → tokens_of text ≡ Ok tokens → IsFault (words_of text tokens) first → tokens_of text ≡ Ok others → IsFault (words_of text others) second → first ≡ second
+  syntax-one tokens others first second are one are_too other =
+      let same = tokens-one tokens others are are_too in
+      fault-one (words_of text others) first second (subst (λ list. IsFault (words_of text list) first) same one) other
+
+  -- why a text is refused
+  data Why (why : Refusal) : Type 0 where
+    by_tokens : (found : TokenFault) → end_of_fault found ≡ Refused why → HasFault found text → Why why
+    by_grammar : (found : SyntaxFault) → end_of_syntax_fault found ≡ Refused why → HasSyntaxFault found text → Why why
+    by_length : TooLong ≡ why → 65536 < length text → Why why
+    by_form : OtherForm ≡ why → HasOtherForm text → Why why
+
+  why-of : (why : Refusal) → IsRefused why text → Why why
+  why-of (BadByte spot) refused = Why.by_tokens (fault.BadByte spot) refl refused
+  why-of (OpenComment spot) refused = Why.by_tokens (fault.OpenComment spot) refl refused
+  why-of (BadNumber spot) refused = Why.by_tokens (fault.BadNumber spot) refl refused
+  why-of (Unexpected spot) refused = Why.by_grammar (syntax.Unexpected spot) refl refused
+  why-of (UnknownDirective spot) refused = Why.by_grammar (syntax.UnknownDirective spot) refl refused
+  why-of (OutOfProfile spot) refused = Why.by_grammar (syntax.OutOfProfile spot) refl refused
+  why-of (TooDeep spot) refused = Why.by_grammar (syntax.TooDeep spot) refl refused
+  why-of TooLong refused = Why.by_length refl refused
+  why-of OtherForm refused = Why.by_form refl refused
+
+  -- it is refused for one thing
+  why-one : (first second : Refusal) → Why first → Why second → first ≡ second
+  why-one first second (Why.by_tokens found told has) (Why.by_tokens other told_too has_too) =
+      let same : found ≡ other = let one = has.1 in let two = has_too.1 in cc in
+      refused-one (sym told ∙ ap end_of_fault same ∙ told_too)
+  why-one first second (Why.by_tokens found told has) (Why.by_grammar other told_too has_too) = let one = has.1 in let two = has_too.1.1 in cc
+  why-one first second (Why.by_tokens found told has) (Why.by_length told_too over) = absurd (omega (arith, has.0, over))
+  why-one first second (Why.by_tokens found told has) (Why.by_form told_too has_too) = let one = has.1 in let two = has_too.1.2.tokens_are in cc
+  why-one first second (Why.by_grammar found told has) (Why.by_tokens other told_too has_too) = let one = has.1.1 in let two = has_too.1 in cc
+  why-one first second (Why.by_grammar found told has) (Why.by_grammar other told_too has_too) =
+      let same = syntax-one has.1.0 has_too.1.0 found other has.1.1 has.1.2 has_too.1.1 has_too.1.2 in
+      refused-one (sym told ∙ ap end_of_syntax_fault same ∙ told_too)
+  why-one first second (Why.by_grammar found told has) (Why.by_length told_too over) = absurd (omega (arith, has.0, over))
+  why-one first second (Why.by_grammar found told has) (Why.by_form told_too has_too) = absurd (no-tree has_too.1.0 has.1.0 has_too.1.1 found has_too.1.2 has.1.1 has.1.2)
+  why-one first second (Why.by_length told over) (Why.by_tokens other told_too has_too) = absurd (omega (arith, has_too.0, over))
+  why-one first second (Why.by_length told over) (Why.by_grammar other told_too has_too) = absurd (omega (arith, has_too.0, over))
+  why-one first second (Why.by_length told over) (Why.by_length told_too too) = sym told ∙ told_too
+  why-one first second (Why.by_length told over) (Why.by_form told_too has_too) = absurd (omega (arith, has_too.0, over))
+  why-one first second (Why.by_form told has) (Why.by_tokens other told_too has_too) = let one = has.1.2.tokens_are in let two = has_too.1 in cc
+  why-one first second (Why.by_form told has) (Why.by_grammar other told_too has_too) = absurd (no-tree has.1.0 has_too.1.0 has.1.1 other has.1.2 has_too.1.1 has_too.1.2)
+  why-one first second (Why.by_form told has) (Why.by_length told_too over) = absurd (omega (arith, has.0, over))
+  why-one first second (Why.by_form told has) (Why.by_form told_too has_too) = sym told ∙ told_too
+
+  pub refusal-one : (first second : Refusal) → IsRefused first text → IsRefused second text → first ≡ second
+  refusal-one first second one other = why-one first second (why-of first one) (why-of second other)
+
+  -- and for nothing where it spells a program that runs
+  program-no_why : (why : Refusal) → IsProgram text → Why why → ⊥
+  program-no_why why (short, (blocks, (tokens, tree, has, same))) (Why.by_tokens found told other) = let one = has.tokens_are in let two = other.1 in cc
+  program-no_why why (short, (blocks, (tokens, tree, has, same))) (Why.by_grammar found told other) = no-tree tokens other.1.0 tree found has other.1.1 other.1.2
+  program-no_why why (short, (blocks, (tokens, tree, has, same))) (Why.by_length told over) = absurd (omega (arith, short, over))
+  program-no_why why (short, (blocks, (tokens, tree, has, same))) (Why.by_form told other) = let one = tree-one tokens other.1.0 tree other.1.1 has other.1.2 in let two = other.1.3 in cc
+
+  pub program-not_refused : (why : Refusal) → IsProgram text → IsRefused why text → ⊥
+  program-not_refused why program refused = program-no_why why program (why-of why refused)
+
+  -- so a fault that was found in the grammar is the refusal, if there is one, and there is none where the text runs
+  module _ (list : List Token) (short : length text ≤ 65536) (are : tokens_of text ≡ Ok list) where
+    pub syntax-accepted : (found : SyntaxFault) → (found ≢ syntax.Memory → IsFault (words_of text list) found) → (why : Refusal) → IsRefused why text → MayRefuse why (end_of_syntax_fault found)
+    syntax-accepted (syntax.Unexpected spot) known why refused = refusal-one (Unexpected spot) why (short, (list, are, known (λ same. cc))) refused
+    syntax-accepted (syntax.UnknownDirective spot) known why refused = refusal-one (UnknownDirective spot) why (short, (list, are, known (λ same. cc))) refused
+    syntax-accepted (syntax.OutOfProfile spot) known why refused = refusal-one (OutOfProfile spot) why (short, (list, are, known (λ same. cc))) refused
+    syntax-accepted (syntax.TooDeep spot) known why refused = refusal-one (TooDeep spot) why (short, (list, are, known (λ same. cc))) refused
+    syntax-accepted syntax.Memory known why refused = tt
+
+    pub syntax-runs : (found : SyntaxFault) → (found ≢ syntax.Memory → IsFault (words_of text list) found) → IsProgram text → MayRun (end_of_syntax_fault found)
+    syntax-runs (syntax.Unexpected spot) known program = program-not_refused (Unexpected spot) program (short, (list, are, known (λ same. cc)))
+    syntax-runs (syntax.UnknownDirective spot) known program = program-not_refused (UnknownDirective spot) program (short, (list, are, known (λ same. cc)))
+    syntax-runs (syntax.OutOfProfile spot) known program = program-not_refused (OutOfProfile spot) program (short, (list, are, known (λ same. cc)))
+    syntax-runs (syntax.TooDeep spot) known program = program-not_refused (TooDeep spot) program (short, (list, are, known (λ same. cc)))
+    syntax-runs syntax.Memory known program = tt
