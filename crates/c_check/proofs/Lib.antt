@@ -1,1 +1,4 @@
 pub mod Visible
+pub mod Mentioned
+pub mod InnerLoops
+pub mod Numbers
