@@ -54,14 +54,14 @@ tells known (first ∷ rest) found same =
       | inl sooner_is ↦
           let more : Tells first rest found = tells first rest found (rw sooner_is at same) in
           record {
-            from = inr (elim more.from [ | inl here ↦ subst (λ (one : CheckFault). IsAmong (one ∷ rest) found) here (among-first rest) | inr there ↦ among-behind first rest there ]);
+            from = inr (elim more.from [ inl here ↦ subst (λ (one : CheckFault). IsAmong (one ∷ rest) found) here (among-first rest) | inr there ↦ among-behind first rest there ]);
             not_known = across found first known more.not_known (not-both first known sooner_is);
             none_before = All-cons (λ (other : CheckFault). comes_first other found ≡ false) first rest more.not_known more.none_before;
           }
       | inr later ↦
           let more : Tells known rest found = tells known rest found (rw later at same) in
           record {
-            from = elim more.from [ | inl here ↦ inl here | inr there ↦ inr (among-behind first rest there) ];
+            from = elim more.from [ inl here ↦ inl here | inr there ↦ inr (among-behind first rest there) ];
             not_known = more.not_known;
             none_before = All-cons (λ (other : CheckFault). comes_first other found ≡ false) first rest (across found known first more.not_known later) more.none_before;
           }
@@ -73,7 +73,7 @@ first-told [] found same = absurd (cc)
 first-told (first ∷ rest) found same =
     let more : Tells first rest found = tells first rest found same in
     record {
-      among = elim more.from [ | inl here ↦ subst (λ (one : CheckFault). IsAmong (one ∷ rest) found) here (among-first rest) | inr there ↦ among-behind first rest there ];
+      among = elim more.from [ inl here ↦ subst (λ (one : CheckFault). IsAmong (one ∷ rest) found) here (among-first rest) | inr there ↦ among-behind first rest there ];
       none_before = All-cons (λ (other : CheckFault). comes_first other found ≡ false) first rest more.not_known more.none_before;
     }
 

@@ -12,7 +12,7 @@ use Rattle.c_check.specs.declared.sharing.Sharing.TheVariants as sharing
 use Rattle.c_check.specs.Acts.{acts}
 use Rattle.c_check.specs.declared.declared.Declared.{Declared}
 use Rattle.c_check.specs.declared.declared.Named.{Named}
-use Rattle.c_check.specs.Constructs.{Construct, Constructs, numbered}
+use Rattle.c_check.specs.Constructs.{Construct, numbered}
 use Rattle.c_check.specs.Here.{Here, after, before_all}
 use Rattle.c_check.specs.Rules.{broken_by, is_of_file}
 use Rattle.c_check.specs.Shares.{sharing_at}
@@ -95,18 +95,13 @@ unfoldable pub construct_at : List Construct → Spot → Option Construct
 construct_at [] spot = None
 construct_at (first ∷ rest) spot = if is_same_place first.head.spot spot then Some first else construct_at rest spot
 
-abbrev pub seen_by : List Construct → Option Construct → Bool → ℕ → Option Sharing
-seen_by all None of_file slot = None
-seen_by all (Some construct) of_file slot = Some (sharing_at (construct ∷ numbered all construct.around) of_file slot)
+abbrev pub seen_by : List Construct → Option Construct → Option Declared → Option Sharing
+seen_by all None it = None
+seen_by all (Some construct) None = None
+seen_by all (Some construct) (Some it) = Some (sharing_at (construct ∷ numbered all construct.around) (is_of_file it) it.slot)
 
--- how the construct that stands there sees the variable with a slot
-abbrev pub seen_at : Constructs → Spot → Bool → ℕ → Option Sharing
-seen_at constructs spot of_file slot = seen_by constructs.all (construct_at constructs.all spot) of_file slot
-
-abbrev pub seen_of : Constructs → Spot → Option Declared → Option Sharing
-seen_of constructs spot None = None
-seen_of constructs spot (Some it) = seen_at constructs spot (is_of_file it) it.slot
-
--- the same where a program ends; none where no construct stands there, or nothing has the slot
+-- how the construct that stands there sees the variable with a slot; none where no construct stands there, or nothing has the slot
 abbrev pub sharing_of : TreeView → Spot → ℕ → Option Sharing
-sharing_of program spot slot = seen_of (end_of program).constructs spot (slice_get (end_of program).names.all slot)
+sharing_of program spot slot =
+    let end = end_of program in
+    seen_by end.constructs.all (construct_at end.constructs.all spot) (slice_get end.names.all slot)

@@ -126,15 +126,11 @@ abbrev pub wrong_clause : Single → List Construct → List CheckFault
 wrong_clause one [] = []
 wrong_clause one (first ∷ around) = if_so (is_empty_chunk one || has_single first.clauses one) (fault.WrongUse first.head.spot)
 
--- the innermost construct lists a variable already
-abbrev pub lists_in : List Construct → ℕ → Bool
-lists_in [] slot = false
-lists_in (first ∷ around) slot = if is_unmentioned (mention first.mentions slot) then false else true
-
 -- a variable stands a second time in the data clauses of a construct
 abbrev pub listed_again : Spot → Option Declared → List Construct → List CheckFault
 listed_again spot None around = []
-listed_again spot (Some it) around = if_so (lists_in around it.slot) (fault.WrongUse spot)
+listed_again spot (Some it) [] = []
+listed_again spot (Some it) (first ∷ around) = if_so (if is_unmentioned (mention first.mentions it.slot) then false else true) (fault.WrongUse spot)
 
 -- BadNesting
 

@@ -1,12 +1,5 @@
 //! What a program breaks, act by act.
-#![tactic(
-    auto,
-    using(crate::proofs::Found::first_of_append, crate::proofs::Found::first_of_nothing),
-    unfolding(
-        crate::specs::Here::after,
-        crate::specs::Rules::broken_by
-    )
-)]
+#![tactic(auto, using(crate::proofs::Found::first_of_append, crate::proofs::Found::first_of_nothing), unfolding(crate::specs::Here::after, crate::specs::Rules::broken_by))]
 
 ghost use Rattle.std.specs.Prelude.{◌≡◌, ◌==◌, ◌+◌, ◌&&◌, ◌||◌, nat_lt, None, OnOk};
 ghost use Rattle.c_check.specs.declared.act.Act.TheVariants as act;
@@ -17,17 +10,18 @@ ghost use Rattle.c_check.specs.Rules.{calls_main, copies_lock, if_so, is_wrong};
 ghost use Rattle.c_check.specs.Checked.{first_of};
 ghost use Rattle.c_check.specs.Standing.{Does, Stands};
 
-use crate::cells::CellCount;
 use crate::act::{Act, DataClause, Printed, Returned, Single, Thing, Usage};
+use crate::breaches::{bad_loop, listed_again, spoiled, wrong_clause};
+use crate::cells::CellCount;
 use crate::constructs::Constructs;
 use crate::declared::Declared;
 use crate::fault::CheckFault;
 use crate::finding::sooner_if;
 use crate::names::Names;
+use crate::nesting::{binds_badly, is_within, nests_badly};
+use crate::shares::is_copied;
 use crate::slots::Slots;
-use crate::uses::{
-    calls_main, is_odd_main, is_odd_size, is_variable, is_wrong, is_wrong_return,
-};
+use crate::uses::{calls_main, is_odd_main, is_odd_size, is_variable, is_wrong, is_wrong_return};
 use c_syntax::{Directive, Returns};
 use c_tokens::Spot;
 use std::alloc::{AllocError, Global};
@@ -113,7 +107,7 @@ impl Checker {
     }
 
     /// A name is declared, with a slot.
-    fn add(&mut self, name: u32, spot: Spot, thing: Thing) -> Result<(), AllocError> 
+    fn add(&mut self, name: u32, spot: Spot, thing: Thing) -> Result<(), AllocError>
         ensures stands { OnOk result ((here : Here) → Stands self.old here → Stands self.new (declared here name spot thing)) }
         ensures found { OnOk result (self.new.found ≡ self.old.found) }
     {
@@ -125,7 +119,7 @@ impl Checker {
     }
 
     /// Whether the name is declared in the innermost scope.
-    fn is_twice(&self, name: u32) -> bool 
+    fn is_twice(&self, name: u32) -> bool
         ensures { result ≡ is_at_level self.now.names.level (find self.now.names.visible name) }
     {
         match self.names.find(name) {
@@ -162,7 +156,7 @@ impl Checker {
         spot: Spot,
         returns: Returns,
         parameters: u32,
-    ) -> Result<(), AllocError> 
+    ) -> Result<(), AllocError>
         ensures { OnOk result (Does self.old (act.Begin name spot returns parameters) self.new) }
     {
         self.note_if(self.is_twice(name), CheckFault::TwiceDeclared(spot));
@@ -178,7 +172,7 @@ impl Checker {
     }
 
     /// A name is declared.
-    fn declare(&mut self, name: u32, spot: Spot, thing: Thing) -> Result<(), AllocError> 
+    fn declare(&mut self, name: u32, spot: Spot, thing: Thing) -> Result<(), AllocError>
         ensures { OnOk result (Does self.old (act.Declare name spot thing) self.new) }
     {
         self.note_if(self.is_twice(name), CheckFault::TwiceDeclared(spot));
@@ -190,21 +184,24 @@ impl Checker {
     }
 
     /// Whether the variables of the file would have too many cells.
-    fn is_too_much(&self, thing: Thing) -> bool 
+    fn is_too_much(&self, thing: Thing) -> bool
         ensures { result ≡ (self.now.names.level == 0 && nat_lt most_cells (self.now.cells + cells_of thing)) }
     {
         self.names.level() == 0 && self.cells.is_too_much(thing)
     }
 
     /// A name is used.
-    fn use_name(&mut self, name: u32, spot: Spot, usage: Usage) -> Result<(), AllocError> 
+    fn use_name(&mut self, name: u32, spot: Spot, usage: Usage) -> Result<(), AllocError>
         ensures { OnOk result (Does self.old (act.Use name spot usage) self.new) }
     {
         let Some(found) = self.names.find(name) else {
             self.note_if(true, CheckFault::UnknownName(spot));
             return Ok(());
         };
-        self.note_if(self.is_misused(name, usage, found), CheckFault::WrongUse(spot));
+        self.note_if(
+            self.is_misused(name, usage, found),
+            CheckFault::WrongUse(spot),
+        );
         if is_variable(found.thing) {
             self.constructs.use_variable(spot, found.slot)?;
         }
@@ -212,7 +209,7 @@ impl Checker {
     }
 
     /// Whether a declaration may not be used so here.
-    fn is_misused(&self, name: u32, usage: Usage, found: Declared) -> bool 
+    fn is_misused(&self, name: u32, usage: Usage, found: Declared) -> bool
         ensures { result ≡ (is_wrong found.thing usage || calls_main usage (name == self.now.main) || copies_lock found.thing (around_of self.now.constructs) found) }
     {
         is_wrong(found.thing, usage)
@@ -221,97 +218,103 @@ impl Checker {
     }
 
     /// Whether it is a lock of which a task around has a copy.
-    fn copies_lock(&self, found: Declared) -> bool 
+    fn copies_lock(&self, found: Declared) -> bool
         ensures { result ≡ copies_lock found.thing (around_of self.now.constructs) found }
     {
         match found.thing {
-            Thing::Lock => self.constructs.is_copied(found.level == 0, found.slot),
+            Thing::Lock => is_copied(self.constructs.around(), found.level == 0, found.slot),
             _ => false,
         }
     }
 
     /// A variable is assigned, which spoils the loops around that have it.
-    fn assign(&mut self, name: u32) -> Result<(), AllocError> 
+    fn assign(&mut self, name: u32) -> Result<(), AllocError>
         ensures { OnOk result (Does self.old (act.Assign name) self.new) }
     {
         if let Some(found) = self.names.find(name) {
-            self.found = self.constructs.spoil(found.slot, self.found);
+            self.found = spoiled(self.constructs.around(), found.slot, self.found);
         }
         Ok(())
     }
 
-    fn print(&mut self, spot: Spot, printed: Printed) -> Result<(), AllocError> 
+    fn print(&mut self, spot: Spot, printed: Printed) -> Result<(), AllocError>
         ensures { OnOk result (Does self.old (act.Print spot printed) self.new) }
     {
         self.note_if(printed == Printed::Wrong, CheckFault::WrongUse(spot));
         Ok(())
     }
 
-    fn return_(&mut self, spot: Spot, returned: Returned) -> Result<(), AllocError> 
+    fn return_(&mut self, spot: Spot, returned: Returned) -> Result<(), AllocError>
         ensures { OnOk result (Does self.old (act.Return spot returned) self.new) }
     {
         self.note_if(
             is_wrong_return(self.returns, returned),
             CheckFault::WrongUse(spot),
         );
-        let within = self.constructs.is_within();
+        let within = is_within(self.constructs.around());
         self.note_if(within, CheckFault::BadNesting(spot));
         Ok(())
     }
 
-    fn barrier(&mut self, spot: Spot) -> Result<(), AllocError> 
+    fn barrier(&mut self, spot: Spot) -> Result<(), AllocError>
         ensures { OnOk result (Does self.old (act.Barrier spot) self.new) }
     {
-        let misplaced = self.constructs.binds_badly();
+        let misplaced = binds_badly(self.constructs.around());
         self.note_if(misplaced, CheckFault::BadNesting(spot));
         Ok(())
     }
 
     /// A construct begins.
-    fn enter(&mut self, spot: Spot, directive: Directive, critical: u32) -> Result<(), AllocError> 
+    fn enter(&mut self, spot: Spot, directive: Directive, critical: u32) -> Result<(), AllocError>
         ensures { OnOk result (Does self.old (act.Enter spot directive critical) self.new) }
     {
-        let misplaced = self.constructs.nests_badly(directive, critical);
+        let misplaced = nests_badly(self.constructs.around(), directive, critical);
         self.note_if(misplaced, CheckFault::BadNesting(spot));
         let first = self.names.count();
         self.constructs.enter(spot, directive, critical, first)
     }
 
     /// The innermost construct has this clause.
-    fn clause(&mut self, single: Single) -> Result<(), AllocError> 
+    fn clause(&mut self, single: Single) -> Result<(), AllocError>
         ensures { OnOk result (Does self.old (act.Clause single) self.new) }
     {
-        self.found = self.constructs.wrong_clause(single, self.found);
+        self.found = wrong_clause(self.constructs.around(), single, self.found);
         self.constructs.clause(single);
         Ok(())
     }
 
     /// A data clause of the innermost construct lists this name.
-    fn list(&mut self, name: u32, spot: Spot, clause: DataClause) -> Result<(), AllocError> 
+    fn list(&mut self, name: u32, spot: Spot, clause: DataClause) -> Result<(), AllocError>
         ensures { OnOk result (Does self.old (act.List name spot clause) self.new) }
     {
-        let Some(found) = self.names.find(name) else {
-            return Ok(());
-        };
-        let again = self.constructs.lists(found.slot);
-        self.note_if(again, CheckFault::WrongUse(spot));
-        self.constructs.mention(found.slot, clause)
+        let found = self.names.find(name);
+        self.found = listed_again(self.constructs.around(), spot, found, self.found);
+        match found {
+            Some(found) => self.constructs.mention(found.slot, clause),
+            None => Ok(()),
+        }
     }
 
-    fn odd_loop(&mut self) -> Result<(), AllocError> 
+    fn odd_loop(&mut self) -> Result<(), AllocError>
         ensures { OnOk result (Does self.old act.OddLoop self.new) }
     {
-        self.found = self.constructs.bad_loop(self.found);
+        self.found = bad_loop(self.constructs.around(), self.found);
         Ok(())
     }
 
     /// The body of the innermost construct's loop begins, whose variable has this name.
-    fn share_loop(&mut self, name: u32) -> Result<(), AllocError> 
+    fn share_loop(&mut self, name: u32) -> Result<(), AllocError>
         ensures { OnOk result (Does self.old (act.Loop name) self.new) }
     {
         let found = self.names.find(name);
-        if !matches!(found, Some(Declared { thing: Thing::Int, .. })) {
-            self.found = self.constructs.bad_loop(self.found);
+        if !matches!(
+            found,
+            Some(Declared {
+                thing: Thing::Int,
+                ..
+            })
+        ) {
+            self.found = bad_loop(self.constructs.around(), self.found);
         }
         match found {
             Some(found) => self.constructs.share_loop(found.slot),
@@ -319,7 +322,7 @@ impl Checker {
         }
     }
 
-    fn leave(&mut self) -> Result<(), AllocError> 
+    fn leave(&mut self) -> Result<(), AllocError>
         ensures { OnOk result (Does self.old act.Leave self.new) }
     {
         self.constructs.leave();
@@ -327,7 +330,7 @@ impl Checker {
     }
 
     /// The text ends.
-    fn finish(&mut self, spot: Spot) -> Result<(), AllocError> 
+    fn finish(&mut self, spot: Spot) -> Result<(), AllocError>
         ensures { OnOk result (Does self.old (act.Finish spot) self.new) }
     {
         self.note_if(!self.has_main, CheckFault::NoMain(spot));

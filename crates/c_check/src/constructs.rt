@@ -1,154 +1,185 @@
-//! The constructs of a program: all of them, and those around. (stub)
+//! The constructs of a program: all of them, and those around.
 
-ghost use Rattle.std.specs.Prelude.{◌≡◌, ◌≢◌, OnOk, Some, None, is_none};
-ghost use Rattle.c_check.specs.Constructs.{around_of, no_constructs, left, with_clause, with_head, with_loop, with_mention, with_none_around, with_use, mention, is_unmentioned};
-ghost use Rattle.c_check.specs.Shares.{is_copied};
-ghost use Rattle.c_check.specs.Rules.{bad_loop, binds_badly, is_within, lists_in, nests_badly, not_listed, spoiled, wrong_clause};
-ghost use Rattle.c_check.specs.Checked.{first_of, seen_at};
+ghost use Rattle.std.specs.Prelude.{◌≡◌, Some, OnOk};
+ghost use Rattle.std.specs.Option.{option_copied};
+ghost use Rattle.c_check.specs.Constructs.{around_of, left, no_constructs, with_clause, with_head, with_loop, with_mention, with_none_around, with_use};
+ghost use Rattle.c_check.specs.Rules.{not_listed};
+ghost use Rattle.c_check.specs.Checked.{construct_at, first_of, seen_by};
 
 use crate::act::{DataClause, Single};
-use crate::declared::{Clauses, Head, Mention, Unlisted, LoopInside};
+use crate::around::Around;
+use crate::breaches::not_listed;
+use crate::construct::Construct;
+use crate::declared::{Declared, Head, Mention, Unlisted};
 use crate::fault::CheckFault;
+use crate::finding::is_same_place;
+use crate::inner_loops::InnerLoops;
+use crate::noted::{note_loop, note_use};
+use crate::shares::sharing;
 use crate::sharing::Sharing;
 use c_syntax::Directive;
 use c_tokens::Spot;
 use std::alloc::{AllocError, Global};
 use std::marker::Model;
 
-#[derive(Drop)]
-pub struct Construct {
-    pub head: Head,
-    pub around: Vec<usize>,
-    pub clauses: Clauses,
-    pub mentions: Vec<Mention>,
-    pub loop_slot: Option<u32>,
-}
-
-impl Model for Construct {
-    ghost use Rattle.c_check.specs.Constructs.{Construct};
-    ghost Value = { Construct };
-    ghost view = { λ construct. record { head = construct.head; around = construct.around.items; clauses = construct.clauses; mentions = construct.mentions.items; loop = construct.loop_slot } };
-}
-
+/// The constructs so far. Contracts see all of them, the numbers of those around, the innermost first, and what is noted.
 #[derive(Drop)]
 pub struct Constructs {
     alloc: Global,
+    /// All of them: each stands at its number.
     all: Vec<Construct>,
+    /// The numbers of those around, the innermost last.
     around: Vec<usize>,
+    /// The uses of variables that a construct with `default(none)` doesn't list.
     unlisted: Vec<Unlisted>,
-    loops: Vec<LoopInside>,
+    /// The loops inside constructs.
+    loops: InnerLoops,
 }
 
 impl Model for Constructs {
     ghost use Rattle.std.specs.Prelude.{reverse};
     ghost use Rattle.c_check.specs.Constructs.{Constructs};
+
     ghost Value = { Constructs };
-    ghost view = { λ constructs. record { all = constructs.all.items; around = reverse constructs.around.items; unlisted = constructs.unlisted.items; loops = constructs.loops.items } };
+
+    ghost use Rattle.c_check.specs.Around.{AreConstructs};
+
+    ghost view = { λ them. record { all = them.all.items; around = reverse them.around.items; unlisted = them.unlisted.items; loops = them.loops } };
+
+    ghost invariant = { λ them. AreConstructs them.all.items (reverse them.around.items) };
 }
 
 impl Constructs {
+    /// No constructs.
     pub fn new(alloc: Global) -> Constructs
         ensures { result ≡ no_constructs }
     {
-        Constructs { alloc, all: Vec::new(alloc), around: Vec::new(alloc), unlisted: Vec::new(alloc), loops: Vec::new(alloc) }
+        Constructs {
+            alloc,
+            all: Vec::new(alloc),
+            around: Vec::new(alloc),
+            unlisted: Vec::new(alloc),
+            loops: InnerLoops::new(alloc),
+        }
     }
 
-    pub fn enter(&mut self, spot: Spot, directive: Directive, critical: u32, first: usize) -> Result<(), AllocError>
+    /// Those around.
+    pub fn around(&self) -> Around<'_>
+        ensures { result ≡ around_of self.now }
+    {
+        Around::new(&self.all, &self.around)
+    }
+
+    /// A construct begins where so many declarations stand before it, with the number of a critical's name, or 0.
+    pub fn enter(
+        &mut self,
+        spot: Spot,
+        directive: Directive,
+        critical: u32,
+        first: usize,
+    ) -> Result<(), AllocError>
         ensures { OnOk result (self.new ≡ with_head self.old spot directive critical first) }
     {
+        let number = self.all.len();
+        let head = Head {
+            spot,
+            directive,
+            critical,
+            number,
+            first,
+        };
+        let around = Vec::from_slice(self.alloc, &self.around)?;
+        let construct = Construct::new(self.alloc, head, around);
+        self.all.push(construct)?;
+        self.around.push(number)?;
         Ok(())
     }
 
+    /// The innermost construct has this clause.
     pub fn clause(&mut self, single: Single)
         ensures { self.new ≡ with_clause self.old single }
     {
+        if let Some(number) = self.around.last().copied() {
+            let innermost = &mut self.all[number];
+            innermost.add_clause(single);
+        }
     }
 
+    /// A data clause of the innermost construct lists a variable.
     pub fn mention(&mut self, slot: u32, clause: DataClause) -> Result<(), AllocError>
         ensures { OnOk result (self.new ≡ with_mention self.old slot clause) }
     {
+        if let Some(number) = self.around.last().copied() {
+            let innermost = &mut self.all[number];
+            innermost.add_mention(Mention { slot, clause })?;
+        }
         Ok(())
     }
 
+    /// The innermost construct shares out a loop with this variable.
     pub fn share_loop(&mut self, slot: u32) -> Result<(), AllocError>
         ensures { OnOk result (self.new ≡ with_loop self.old slot) }
     {
+        note_loop(&mut self.loops, Around::new(&self.all, &self.around), slot)?;
+        if let Some(number) = self.around.last().copied() {
+            let innermost = &mut self.all[number];
+            innermost.set_loop(slot);
+        }
         Ok(())
     }
 
-    pub fn leave(&mut self)
-        ensures { self.new ≡ left self.old }
-    {
-    }
-
-    pub fn begin_function(&mut self)
-        ensures { self.new ≡ with_none_around self.old }
-    {
-    }
-
+    /// A variable is used.
     pub fn use_variable(&mut self, spot: Spot, slot: u32) -> Result<(), AllocError>
         ensures { OnOk result (self.new ≡ with_use self.old spot slot) }
     {
-        Ok(())
+        note_use(
+            &mut self.unlisted,
+            Around::new(&self.all, &self.around),
+            spot,
+            slot,
+        )
     }
 
-    pub fn is_copied(&self, of_file: bool, slot: u32) -> bool
-        ensures { result ≡ is_copied (around_of self.now) of_file slot }
+    /// The innermost construct ends.
+    pub fn leave(&mut self)
+        ensures { self.new ≡ left self.old }
     {
-        of_file
+        self.around.pop();
     }
 
-    pub fn lists(&self, slot: u32) -> bool
-        ensures { result ≡ lists_in (around_of self.now) slot }
+    /// A function begins.
+    pub fn begin_function(&mut self)
+        ensures { self.new ≡ with_none_around self.old }
     {
-        false
+        self.around.clear();
     }
 
-    pub fn is_within(&self) -> bool
-        ensures { result ≡ is_within (around_of self.now) }
-    {
-        false
-    }
-
-    pub fn binds_badly(&self) -> bool
-        ensures { result ≡ binds_badly (around_of self.now) }
-    {
-        false
-    }
-
-    pub fn nests_badly(&self, directive: Directive, critical: u32) -> bool
-        ensures { result ≡ nests_badly directive critical (around_of self.now) }
-    {
-        false
-    }
-
-    pub fn spoil(&self, slot: u32, found: Option<CheckFault>) -> Option<CheckFault>
-        ensures { result ≡ first_of found (spoiled slot (around_of self.now)) }
-    {
-        found
-    }
-
-    pub fn bad_loop(&self, found: Option<CheckFault>) -> Option<CheckFault>
-        ensures { result ≡ first_of found (bad_loop (around_of self.now)) }
-    {
-        found
-    }
-
-    pub fn wrong_clause(&self, single: Single, found: Option<CheckFault>) -> Option<CheckFault>
-        ensures { result ≡ first_of found (wrong_clause single (around_of self.now)) }
-    {
-        found
-    }
-
-    pub fn sharing(&self, spot: Spot, of_file: bool, slot: u32) -> Option<Sharing>
-        ensures { result ≡ seen_at self.now spot of_file slot }
-    {
-        None
-    }
-
+    /// The first fault, with those of variables that a construct would have to list and doesn't.
     pub fn not_listed(&self, found: Option<CheckFault>) -> Option<CheckFault>
         ensures { result ≡ first_of found (not_listed self.now.loops self.now.unlisted) }
     {
-        found
+        not_listed(&self.loops, &self.unlisted, found)
     }
+
+    /// How the construct that stands there sees a variable. `None` where none stands there.
+    pub fn sharing(&self, spot: Spot, variable: Declared) -> Option<Sharing>
+        ensures { result ≡ seen_by self.now.all (construct_at self.now.all spot) (Some variable) }
+    {
+        let construct = construct_at(&self.all, spot)?;
+        let around = Around::new(&self.all, construct.around());
+        Some(sharing(construct, around, variable.level == 0, variable.slot))
+    }
+}
+
+/// The construct that stands there.
+#[tactic(auto, unfolding(crate::specs::Checked::construct_at))]
+fn construct_at(all: &[Construct], spot: Spot) -> Option<&Construct>
+    ensures { option_copied result ≡ construct_at all.now spot }
+{
+    for construct in all {
+        if is_same_place(construct.head().spot, spot) {
+            return Some(construct);
+        }
+    }
+    None
 }

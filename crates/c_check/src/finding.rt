@@ -1,4 +1,4 @@
-//! The first fault.
+//! Which of two faults is told.
 
 ghost use Rattle.std.specs.Prelude.{◌≡◌};
 ghost use Rattle.c_check.specs.Rules.{if_so};
@@ -7,19 +7,15 @@ ghost use Rattle.c_check.specs.Checked.{comes_first, first_of, is_earlier, is_sa
 use crate::fault::CheckFault;
 use c_tokens::Spot;
 
-/// The fault that comes first of those so far and another one, if this is so.
+/// The one that is told of the fault that is known, if there is one, and another where this is so.
 #[tactic(auto, unfolding(crate::specs::Checked::first_of))]
 pub fn sooner_if(known: Option<CheckFault>, broken: bool, found: CheckFault) -> Option<CheckFault>
     ensures { result ≡ first_of known (if_so broken found) }
 {
-    if broken {
-        sooner(known, found)
-    } else {
-        known
-    }
+    if broken { sooner(known, found) } else { known }
 }
 
-/// The fault that comes first of those so far and another one.
+/// The one that is told of the fault that is known, if there is one, and another.
 pub fn sooner(known: Option<CheckFault>, found: CheckFault) -> Option<CheckFault>
     ensures { result ≡ sooner known found }
 {
@@ -33,9 +29,8 @@ pub fn sooner(known: Option<CheckFault>, found: CheckFault) -> Option<CheckFault
 fn comes_first(first: CheckFault, second: CheckFault) -> bool
     ensures { result ≡ comes_first first second }
 {
-    is_earlier(spot_of(first), spot_of(second))
-        || is_same_place(spot_of(first), spot_of(second))
-            && number_of(first) < number_of(second)
+    let (here, there) = (spot_of(first), spot_of(second));
+    is_earlier(here, there) || is_same_place(here, there) && number_of(first) < number_of(second)
 }
 
 fn is_earlier(first: Spot, second: Spot) -> bool
@@ -44,29 +39,13 @@ fn is_earlier(first: Spot, second: Spot) -> bool
     first.line < second.line || first.line == second.line && first.column < second.column
 }
 
-fn is_same_place(first: Spot, second: Spot) -> bool
+/// Whether two places are one.
+pub fn is_same_place(first: Spot, second: Spot) -> bool
     ensures { result ≡ is_same_place first second }
 {
     first.line == second.line && first.column == second.column
 }
 
-/// The number of a fault, from 8 to 14; 0 for want of memory.
-fn number_of(fault: CheckFault) -> u8
-    ensures { result ≡ number_of fault }
-{
-    match fault {
-        CheckFault::UnknownName(_) => 8,
-        CheckFault::TwiceDeclared(_) => 9,
-        CheckFault::WrongUse(_) => 10,
-        CheckFault::BadNesting(_) => 11,
-        CheckFault::BadLoop(_) => 12,
-        CheckFault::NoMain(_) => 13,
-        CheckFault::NotListed(_) => 14,
-        CheckFault::Memory => 0,
-    }
-}
-
-/// The place of a fault.
 fn spot_of(fault: CheckFault) -> Spot
     ensures { result ≡ spot_of fault }
 {
@@ -79,5 +58,20 @@ fn spot_of(fault: CheckFault) -> Spot
         | CheckFault::NoMain(spot)
         | CheckFault::NotListed(spot) => spot,
         CheckFault::Memory => Spot { line: 0, column: 0 },
+    }
+}
+
+fn number_of(fault: CheckFault) -> u32
+    ensures { result ≡ number_of fault }
+{
+    match fault {
+        CheckFault::UnknownName(_) => 8,
+        CheckFault::TwiceDeclared(_) => 9,
+        CheckFault::WrongUse(_) => 10,
+        CheckFault::BadNesting(_) => 11,
+        CheckFault::BadLoop(_) => 12,
+        CheckFault::NoMain(_) => 13,
+        CheckFault::NotListed(_) => 14,
+        CheckFault::Memory => 0,
     }
 }

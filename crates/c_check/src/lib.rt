@@ -2,19 +2,27 @@
 #![tactic(auto)]
 
 mod act;
+mod around;
+mod breaches;
 mod cells;
-mod checking;
 mod checker;
+mod checking;
+mod construct;
 mod constructs;
 mod declared;
 mod fault;
 mod finding;
+mod inner_loops;
 mod laws;
 mod loops;
+mod mentions;
 mod names;
+mod nesting;
+mod noted;
 mod place;
 mod program;
 mod role;
+mod shares;
 mod sharing;
 mod slots;
 mod uses;

@@ -87,7 +87,7 @@ impl Program {
         };
         let spot = self.tree.spot(construct);
         self.constructs
-            .sharing(spot, declared.level == 0, slot)
+            .sharing(spot, declared)
             .unwrap_or(Sharing::Shared)
     }
 }

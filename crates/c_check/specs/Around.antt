@@ -1,0 +1,18 @@
+-- The numbers of constructs.
+use Rattle.std.specs.Prelude.{ℕ, ◌<◌, List, [], ◌∷◌, length}
+use Rattle.c_check.specs.Constructs.{Construct}
+
+-- some numbers are below a count
+unfoldable pub AreBelow : ℕ → List ℕ → Type 0
+AreBelow count [] = Unit {0}
+AreBelow count (first ∷ numbers) = (first < count) × AreBelow count numbers
+
+-- those of the constructs around each construct are
+unfoldable pub HaveBelow : ℕ → List Construct → Type 0
+HaveBelow count [] = Unit {0}
+HaveBelow count (first ∷ others) = AreBelow count first.around × HaveBelow count others
+
+-- all constructs, with the numbers of those around
+pub record AreConstructs (all : List Construct) (around : List ℕ) : Type 0 where
+  pub here : AreBelow (length all) around
+  pub inside : HaveBelow (length all) all

@@ -1,0 +1,6 @@
+-- The loops inside constructs, as they are kept.
+use Rattle.std.specs.Prelude.{ℕ, Bool, ◌&&◌, nat_eq}
+
+-- two pairs are one
+abbrev pub same_pair : ℕ × ℕ → ℕ × ℕ → Bool
+same_pair first second = nat_eq first.0 second.0 && nat_eq first.1 second.1
