@@ -1,4 +1,6 @@
 pub mod Visible
-pub mod Mentioned
+pub mod Kept
+pub mod Listed
 pub mod InnerLoops
 pub mod Numbers
+pub mod Standing

@@ -10,15 +10,16 @@ mod declared;
 mod fault;
 mod finding;
 mod inner_loops;
-mod mentions;
 mod loops;
+mod mentions;
 mod names;
-mod place;
 mod nesting;
 mod noted;
+mod place;
 mod role;
 mod shares;
 mod sharing;
+mod spots;
 mod walk;
 
 pub use fault::CheckFault;
