@@ -2,6 +2,8 @@ mod Earliest
 pub mod Found
 mod Places
 pub mod Visible
-pub mod Mentioned
+pub mod Kept
+pub mod Listed
 pub mod InnerLoops
 pub mod Numbers
+pub mod Standing

@@ -4,12 +4,12 @@ pub mod Tasks
 pub mod Names
 pub mod Visible
 pub mod Constructs
-pub mod Mentions
+pub mod Pairs
+pub mod Spots
 pub mod Around
 pub mod Here
 pub mod Shares
 pub mod Rules
-pub mod InnerLoops
 pub mod Checked
 pub mod Slots
 pub mod First

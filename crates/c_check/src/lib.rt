@@ -25,6 +25,7 @@ mod role;
 mod shares;
 mod sharing;
 mod slots;
+mod spots;
 mod uses;
 mod walk;
 
