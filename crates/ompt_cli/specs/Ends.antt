@@ -3,12 +3,14 @@ use Rattle.std.specs.Prelude.{ℕ, if◌then◌else◌, ◌==◌, ◌≡◌, Lis
 use Rattle.std.specs.Io.KnownBytes.{Appends}
 use Rattle.run_edges.specs.Edges.{Rose, AppendsFront}
 use Rattle.ompt_cli.specs.declared.end.Refusal.{Refusal}
-use Rattle.ompt_cli.specs.declared.end.Refusal.TheVariants.{BadByte, OpenComment, BadNumber, Unexpected, UnknownDirective, OutOfProfile, TooDeep, TooLong, OtherForm}
+use Rattle.ompt_cli.specs.declared.end.Refusal.TheVariants.{BadByte, OpenComment, BadNumber, Unexpected, UnknownDirective, OutOfProfile, TooDeep, UnknownName, TwiceDeclared, WrongUse, BadNesting, BadLoop, NoMain, NotListed, TooLong, OtherForm}
 use Rattle.c_tokens.specs.declared.token.Spot.{Spot}
 use Rattle.c_tokens.specs.declared.token.TokenFault.{TokenFault}
 use Rattle.c_tokens.specs.declared.token.TokenFault.TheVariants as fault
 use Rattle.c_syntax.specs.declared.fault.SyntaxFault.{SyntaxFault}
 use Rattle.c_syntax.specs.declared.fault.SyntaxFault.TheVariants as syntax
+use Rattle.c_check.specs.declared.fault.CheckFault.{CheckFault}
+use Rattle.c_check.specs.declared.fault.CheckFault.TheVariants as rule
 use Rattle.std.specs.Fmt.{decimal}
 use Rattle.ompt_cli.specs.declared.end.End.{End}
 use Rattle.ompt_cli.specs.declared.end.End.TheVariants.{Done, Usage, Refused, Deadlock, Limit, ReadFault, WriteFault, Memory}
@@ -32,6 +34,13 @@ refusal_number (Unexpected spot) = 4
 refusal_number (UnknownDirective spot) = 5
 refusal_number (OutOfProfile spot) = 6
 refusal_number (TooDeep spot) = 7
+refusal_number (UnknownName spot) = 8
+refusal_number (TwiceDeclared spot) = 9
+refusal_number (WrongUse spot) = 10
+refusal_number (BadNesting spot) = 11
+refusal_number (BadLoop spot) = 12
+refusal_number (NoMain spot) = 13
+refusal_number (NotListed spot) = 14
 refusal_number TooLong = 15
 refusal_number OtherForm = 16
 
@@ -46,10 +55,18 @@ refusal_spot (Unexpected spot) = spot
 refusal_spot (UnknownDirective spot) = spot
 refusal_spot (OutOfProfile spot) = spot
 refusal_spot (TooDeep spot) = spot
+refusal_spot (UnknownName spot) = spot
+refusal_spot (TwiceDeclared spot) = spot
+refusal_spot (WrongUse spot) = spot
+refusal_spot (BadNesting spot) = spot
+refusal_spot (BadLoop spot) = spot
+refusal_spot (NoMain spot) = spot
+refusal_spot (NotListed spot) = spot
 refusal_spot TooLong = nowhere
 refusal_spot OtherForm = nowhere
 
--- the end of a command whose text has this fault in its tokens, and one whose tokens are no program for this fault
+-- the end of a command whose text has this fault in its tokens, of one whose tokens are no program for this fault, and of one whose
+-- program breaks a rule so
 abbrev pub end_of_fault : TokenFault → End
 end_of_fault (fault.BadByte spot) = Refused (BadByte spot)
 end_of_fault (fault.OpenComment spot) = Refused (OpenComment spot)
@@ -62,6 +79,16 @@ end_of_syntax_fault (syntax.UnknownDirective spot) = Refused (UnknownDirective s
 end_of_syntax_fault (syntax.OutOfProfile spot) = Refused (OutOfProfile spot)
 end_of_syntax_fault (syntax.TooDeep spot) = Refused (TooDeep spot)
 end_of_syntax_fault syntax.Memory = Memory
+
+abbrev pub end_of_check_fault : CheckFault → End
+end_of_check_fault (rule.UnknownName spot) = Refused (UnknownName spot)
+end_of_check_fault (rule.TwiceDeclared spot) = Refused (TwiceDeclared spot)
+end_of_check_fault (rule.WrongUse spot) = Refused (WrongUse spot)
+end_of_check_fault (rule.BadNesting spot) = Refused (BadNesting spot)
+end_of_check_fault (rule.BadLoop spot) = Refused (BadLoop spot)
+end_of_check_fault (rule.NoMain spot) = Refused (NoMain spot)
+end_of_check_fault (rule.NotListed spot) = Refused (NotListed spot)
+end_of_check_fault rule.Memory = Memory
 
 -- the line on standard error that tells a refusal, without its newline
 abbrev pub refusal_at : ℕ → Spot → List ℕ

@@ -1,7 +1,8 @@
 -- The texts that run, with their programs, and the refusals of all others.
-use Rattle.std.specs.Prelude.{ℕ, ◌≡◌, ◌<◌, ◌≤◌, List, length, Some, None, Ok, Err}
+use Rattle.std.specs.Prelude.{ℕ, ◌≡◌, ◌<◌, ◌≤◌, List, [], ◌∷◌, length, Option, Some, None, Ok, Err}
 use Rattle.ompt_cli.specs.declared.end.Refusal.{Refusal}
-use Rattle.ompt_cli.specs.declared.end.Refusal.TheVariants.{BadByte, OpenComment, BadNumber, Unexpected, UnknownDirective, OutOfProfile, TooDeep, TooLong, OtherForm}
+use Rattle.ompt_cli.specs.declared.end.Refusal.TheVariants.{BadByte, OpenComment, BadNumber, Unexpected, UnknownDirective, OutOfProfile, TooDeep, UnknownName, TwiceDeclared, WrongUse, BadNesting, BadLoop, NoMain, NotListed, TooLong, OtherForm}
+use Rattle.c_tokens.specs.declared.token.Spot.{Spot}
 use Rattle.c_tokens.specs.declared.token.Token.{Token}
 use Rattle.c_tokens.specs.declared.token.TokenFault.{TokenFault}
 use Rattle.c_tokens.specs.declared.token.TokenFault.TheVariants as fault
@@ -12,6 +13,9 @@ use Rattle.c_syntax.specs.Words.{main_of, words_of}
 use Rattle.c_syntax.specs.Tree.{Tree}
 use Rattle.c_syntax.specs.Derivation.{Spells as IsTreeOf}
 use Rattle.c_syntax.specs.Faults.{IsFault}
+use Rattle.c_check.specs.declared.fault.CheckFault.{CheckFault}
+use Rattle.c_check.specs.declared.fault.CheckFault.TheVariants as rule
+use Rattle.c_check.specs.Checked.{fault_in}
 use Rattle.omp_model.specs.declared.blocks.Block.{Block}
 use Rattle.ompt_cli.specs.Form.{blocks_of}
 
@@ -20,9 +24,22 @@ pub record HasTree (text : List ℕ) (tokens : List Token) (tree : Tree) : Type 
   pub tokens_are : tokens_of text ≡ Ok tokens
   pub tree_is : IsTreeOf (words_of text tokens) tree
 
--- the text spells this program: its tree is of the form, with these blocks
+-- where a text with these tokens ends: at the last of them
+abbrev pub end_at : Spot → List Token → Spot
+end_at spot [] = spot
+end_at spot (first ∷ tokens) = end_at first.spot tokens
+
+abbrev pub end_of : List Token → Spot
+end_of tokens = end_at (record { line = 1; column = 1 }) tokens
+
+-- the rule that a text with these tokens and this tree breaks first, if it breaks one
+abbrev pub rule_broken : List ℕ → List Token → Tree → Option CheckFault
+rule_broken text tokens tree = fault_in tree (end_of tokens) (main_of text tokens)
+
+-- the text spells this program: it breaks no rule, and its tree is of the form, with these blocks
 abbrev pub Spells : List ℕ → List Block → Type 0
-Spells text blocks = (tokens : List Token) × (tree : Tree) × HasTree text tokens tree × (blocks_of (main_of text tokens) tree ≡ Some blocks)
+Spells text blocks =
+    (tokens : List Token) × (tree : Tree) × HasTree text tokens tree × (rule_broken text tokens tree ≡ None) × (blocks_of (main_of text tokens) tree ≡ Some blocks)
 
 -- the text isn't too long, and the first fault of its tokens is this one
 abbrev pub HasFault : TokenFault → List ℕ → Type 0
@@ -32,11 +49,18 @@ HasFault fault text = (length text ≤ 65536) × (tokens_of text ≡ Err fault)
 abbrev pub HasSyntaxFault : SyntaxFault → List ℕ → Type 0
 HasSyntaxFault fault text = (length text ≤ 65536) × ((tokens : List Token) × (tokens_of text ≡ Ok tokens) × IsFault (words_of text tokens) fault)
 
--- the text isn't too long and is a program, but of another form
-abbrev pub HasOtherForm : List ℕ → Type 0
-HasOtherForm text = (length text ≤ 65536) × ((tokens : List Token) × (tree : Tree) × HasTree text tokens tree × (blocks_of (main_of text tokens) tree ≡ None))
+-- the text isn't too long and is a program by the grammar, and the first rule that it breaks is broken so
+abbrev pub HasCheckFault : CheckFault → List ℕ → Type 0
+HasCheckFault fault text =
+    (length text ≤ 65536) × ((tokens : List Token) × (tree : Tree) × HasTree text tokens tree × (rule_broken text tokens tree ≡ Some fault))
 
--- the text is refused for this: it is too long, or else its tokens have a fault, or else it is no program, or else it is of another form
+-- the text isn't too long and is a program that breaks no rule, but of another form
+abbrev pub HasOtherForm : List ℕ → Type 0
+HasOtherForm text =
+    (length text ≤ 65536) × ((tokens : List Token) × (tree : Tree) × HasTree text tokens tree × (rule_broken text tokens tree ≡ None) × (blocks_of (main_of text tokens) tree ≡ None))
+
+-- the text is refused for this: it is too long, or else its tokens have a fault, or else it is no program, or else it breaks a rule, or
+-- else it is of another form
 abbrev pub IsRefused : Refusal → List ℕ → Type 0
 IsRefused (BadByte spot) text = HasFault (fault.BadByte spot) text
 IsRefused (OpenComment spot) text = HasFault (fault.OpenComment spot) text
@@ -45,6 +69,13 @@ IsRefused (Unexpected spot) text = HasSyntaxFault (syntax.Unexpected spot) text
 IsRefused (UnknownDirective spot) text = HasSyntaxFault (syntax.UnknownDirective spot) text
 IsRefused (OutOfProfile spot) text = HasSyntaxFault (syntax.OutOfProfile spot) text
 IsRefused (TooDeep spot) text = HasSyntaxFault (syntax.TooDeep spot) text
+IsRefused (UnknownName spot) text = HasCheckFault (rule.UnknownName spot) text
+IsRefused (TwiceDeclared spot) text = HasCheckFault (rule.TwiceDeclared spot) text
+IsRefused (WrongUse spot) text = HasCheckFault (rule.WrongUse spot) text
+IsRefused (BadNesting spot) text = HasCheckFault (rule.BadNesting spot) text
+IsRefused (BadLoop spot) text = HasCheckFault (rule.BadLoop spot) text
+IsRefused (NoMain spot) text = HasCheckFault (rule.NoMain spot) text
+IsRefused (NotListed spot) text = HasCheckFault (rule.NotListed spot) text
 IsRefused TooLong text = 65536 < length text
 IsRefused OtherForm text = HasOtherForm text
 

@@ -27,6 +27,20 @@ pub enum Refusal {
     OutOfProfile(Spot),
     /// Number 7: the program would be deeper than the limit.
     TooDeep(Spot),
+    /// Number 8: a name that nothing in scope declares.
+    UnknownName(Spot),
+    /// Number 9: a name that its scope declares already.
+    TwiceDeclared(Spot),
+    /// Number 10: something that is not used as what it is.
+    WrongUse(Spot),
+    /// Number 11: a directive or a `return` inside a construct where it may not stand.
+    BadNesting(Spot),
+    /// Number 12: a loop under a directive that can't be shared out.
+    BadLoop(Spot),
+    /// Number 13: no function main.
+    NoMain(Spot),
+    /// Number 14: a variable that `default(none)` wants listed.
+    NotListed(Spot),
     /// Number 15: the text is longer than 65,536 bytes.
     TooLong,
     /// Number 16: the text is a program, and isn't of the form that runs.
