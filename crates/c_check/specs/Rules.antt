@@ -68,7 +68,7 @@ wrong_function here name spot gives parameters = if_so (name == here.main && is_
 -- a void function has no value
 abbrev pub lacks_value : Returns → Value → Bool
 lacks_value returns.Void value.Used = true
-lacks_value gives used = false
+lacks_value gives other = false
 
 -- what is declared so may not be used so
 abbrev pub is_wrong : Thing → Usage → Bool
@@ -84,7 +84,7 @@ is_wrong what used = true
 
 -- main is called
 abbrev pub calls_main : Usage → Bool → Bool
-calls_main (usage.Called arguments used) is_main = is_main
+calls_main (usage.Called arguments value) is_main = is_main
 calls_main other is_main = false
 
 -- a variable of the file
