@@ -79,8 +79,8 @@ is_wrong (thing.Array size) (usage.Listed clause.Reduced) = true
 is_wrong (thing.Array size) (usage.Listed which) = false
 is_wrong thing.Lock usage.Locked = false
 is_wrong thing.Lock (usage.Listed clause.Shared) = false
-is_wrong (thing.Function gives parameters) (usage.Called arguments used) = (if arguments == parameters then false else true) || lacks_value gives used
-is_wrong what used = true
+is_wrong (thing.Function gives parameters) (usage.Called arguments value) = (if arguments == parameters then false else true) || lacks_value gives value
+is_wrong what other = true
 
 -- main is called
 abbrev pub calls_main : Usage → Bool → Bool
