@@ -11,7 +11,7 @@ use std::alloc::{AllocError, Global};
 use std::collections::HashMap;
 use std::marker::Model;
 
-/// Spots, each with its number, from 0. Contracts see them in their order.
+/// The places of constructs, each with its number, from 0. Contracts see them in their order.
 #[derive(Drop)]
 pub struct Spots {
     all: Vec<Spot>,
