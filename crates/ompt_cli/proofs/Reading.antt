@@ -1,5 +1,5 @@
 -- A text spells a program, or is refused for one thing, and not both.
-use Rattle.std.proofs.Common.{◌≡◌, ◌≢◌, ℕ, ◌<◌, ◌≤◌, List, length, Ok, refl, sym, ap, subst, ◌∙◌, arith}
+use Rattle.std.proofs.Common.{◌≡◌, ◌≢◌, ℕ, ◌<◌, ◌≤◌, List, length, Some, Ok, refl, sym, ap, subst, ◌∙◌, arith}
 use Rattle.c_tokens.specs.declared.token.Token.{Token}
 use Rattle.c_tokens.specs.declared.token.TokenFault.{TokenFault}
 use Rattle.c_tokens.specs.declared.token.TokenFault.TheVariants as fault
@@ -10,13 +10,15 @@ use Rattle.c_syntax.specs.Words.{main_of, words_of}
 use Rattle.c_syntax.specs.Tree.{Tree}
 use Rattle.c_syntax.specs.Faults.{IsFault}
 use Rattle.c_syntax.proofs.Unique.{fault-one, spells-no_fault, spells-one}
+use Rattle.c_check.specs.declared.fault.CheckFault.{CheckFault}
+use Rattle.c_check.specs.declared.fault.CheckFault.TheVariants as rule
 use Rattle.ompt_cli.specs.declared.end.Refusal.{Refusal}
-use Rattle.ompt_cli.specs.declared.end.Refusal.TheVariants.{BadByte, OpenComment, BadNumber, Unexpected, UnknownDirective, OutOfProfile, TooDeep, TooLong, OtherForm}
+use Rattle.ompt_cli.specs.declared.end.Refusal.TheVariants.{BadByte, OpenComment, BadNumber, Unexpected, UnknownDirective, OutOfProfile, TooDeep, UnknownName, TwiceDeclared, WrongUse, BadNesting, BadLoop, NoMain, NotListed, TooLong, OtherForm}
 use Rattle.ompt_cli.specs.declared.end.End.TheVariants.{Refused}
 use Rattle.ompt_cli.specs.Commands.{MayRefuse, MayRun}
-use Rattle.ompt_cli.specs.Ends.{end_of_fault, end_of_syntax_fault}
+use Rattle.ompt_cli.specs.Ends.{end_of_check_fault, end_of_fault, end_of_syntax_fault}
 use Rattle.ompt_cli.specs.Form.{blocks_of}
-use Rattle.ompt_cli.specs.Text.{HasFault, HasOtherForm, HasSyntaxFault, HasTree, IsProgram, IsRefused}
+use Rattle.ompt_cli.specs.Text.{HasCheckFault, HasFault, HasOtherForm, HasSyntaxFault, HasTree, IsProgram, IsRefused, rule_broken}
 
 refused-one : {first second : Refusal} → Refused first ≡ Refused second → first ≡ second
 refused-one same = cc
@@ -26,11 +28,11 @@ module _ (text : List ℕ) where
   tokens-one : (first second : List Token) → tokens_of text ≡ Ok first → tokens_of text ≡ Ok second → first ≡ second
   tokens-one first second one other = cc
 
-  tree-one : (tokens others : List Token) (first second : Tree) → HasTree text tokens first → HasTree text others second → blocks_of (main_of text tokens) first ≡ blocks_of (main_of text others) second
+  tree-one : (tokens others : List Token) (first second : Tree) → HasTree text tokens first → HasTree text others second → (blocks_of (main_of text tokens) first ≡ blocks_of (main_of text others) second) × (rule_broken text tokens first ≡ rule_broken text others second)
   tree-one tokens others first second one other =
       let same = tokens-one tokens others one.tokens_are other.tokens_are in
       let tree = spells-one (words_of text others) first second (subst (λ list. HasTree text list first) same one).tree_is other.tree_is in
-      cc
+      (cc, cc)
 
   no-tree : (tokens others : List Token) (tree : Tree) (found : SyntaxFault) → HasTree text tokens tree → tokens_of text ≡ Ok others → IsFault (words_of text others) found → ⊥
   no-tree tokens others tree found spells are fault =
@@ -47,6 +49,7 @@ module _ (text : List ℕ) where
     by_tokens : (found : TokenFault) → end_of_fault found ≡ Refused why → HasFault found text → Why why
     by_grammar : (found : SyntaxFault) → end_of_syntax_fault found ≡ Refused why → HasSyntaxFault found text → Why why
     by_length : TooLong ≡ why → 65536 < length text → Why why
+    by_rule : (found : CheckFault) → end_of_check_fault found ≡ Refused why → HasCheckFault found text → Why why
     by_form : OtherForm ≡ why → HasOtherForm text → Why why
 
   why-of : (why : Refusal) → IsRefused why text → Why why
@@ -57,6 +60,13 @@ module _ (text : List ℕ) where
   why-of (UnknownDirective spot) refused = Why.by_grammar (syntax.UnknownDirective spot) refl refused
   why-of (OutOfProfile spot) refused = Why.by_grammar (syntax.OutOfProfile spot) refl refused
   why-of (TooDeep spot) refused = Why.by_grammar (syntax.TooDeep spot) refl refused
+  why-of (UnknownName spot) refused = Why.by_rule (rule.UnknownName spot) refl refused
+  why-of (TwiceDeclared spot) refused = Why.by_rule (rule.TwiceDeclared spot) refl refused
+  why-of (WrongUse spot) refused = Why.by_rule (rule.WrongUse spot) refl refused
+  why-of (BadNesting spot) refused = Why.by_rule (rule.BadNesting spot) refl refused
+  why-of (BadLoop spot) refused = Why.by_rule (rule.BadLoop spot) refl refused
+  why-of (NoMain spot) refused = Why.by_rule (rule.NoMain spot) refl refused
+  why-of (NotListed spot) refused = Why.by_rule (rule.NotListed spot) refl refused
   why-of TooLong refused = Why.by_length refl refused
   why-of OtherForm refused = Why.by_form refl refused
 
@@ -67,31 +77,60 @@ module _ (text : List ℕ) where
       refused-one (sym told ∙ ap end_of_fault same ∙ told_too)
   why-one first second (Why.by_tokens found told has) (Why.by_grammar other told_too has_too) = let one = has.1 in let two = has_too.1.1 in cc
   why-one first second (Why.by_tokens found told has) (Why.by_length told_too over) = absurd (omega (arith, has.0, over))
+  why-one first second (Why.by_tokens found told has) (Why.by_rule other told_too has_too) = let one = has.1 in let two = has_too.1.2.tokens_are in cc
   why-one first second (Why.by_tokens found told has) (Why.by_form told_too has_too) = let one = has.1 in let two = has_too.1.2.tokens_are in cc
   why-one first second (Why.by_grammar found told has) (Why.by_tokens other told_too has_too) = let one = has.1.1 in let two = has_too.1 in cc
   why-one first second (Why.by_grammar found told has) (Why.by_grammar other told_too has_too) =
       let same = syntax-one has.1.0 has_too.1.0 found other has.1.1 has.1.2 has_too.1.1 has_too.1.2 in
       refused-one (sym told ∙ ap end_of_syntax_fault same ∙ told_too)
   why-one first second (Why.by_grammar found told has) (Why.by_length told_too over) = absurd (omega (arith, has.0, over))
+  why-one first second (Why.by_grammar found told has) (Why.by_rule other told_too has_too) = absurd (no-tree has_too.1.0 has.1.0 has_too.1.1 found has_too.1.2 has.1.1 has.1.2)
   why-one first second (Why.by_grammar found told has) (Why.by_form told_too has_too) = absurd (no-tree has_too.1.0 has.1.0 has_too.1.1 found has_too.1.2 has.1.1 has.1.2)
   why-one first second (Why.by_length told over) (Why.by_tokens other told_too has_too) = absurd (omega (arith, has_too.0, over))
   why-one first second (Why.by_length told over) (Why.by_grammar other told_too has_too) = absurd (omega (arith, has_too.0, over))
   why-one first second (Why.by_length told over) (Why.by_length told_too too) = sym told ∙ told_too
+  why-one first second (Why.by_length told over) (Why.by_rule other told_too has_too) = absurd (omega (arith, has_too.0, over))
   why-one first second (Why.by_length told over) (Why.by_form told_too has_too) = absurd (omega (arith, has_too.0, over))
   why-one first second (Why.by_form told has) (Why.by_tokens other told_too has_too) = let one = has.1.2.tokens_are in let two = has_too.1 in cc
   why-one first second (Why.by_form told has) (Why.by_grammar other told_too has_too) = absurd (no-tree has.1.0 has_too.1.0 has.1.1 other has.1.2 has_too.1.1 has_too.1.2)
   why-one first second (Why.by_form told has) (Why.by_length told_too over) = absurd (omega (arith, has.0, over))
+  why-one first second (Why.by_form told has) (Why.by_rule other told_too has_too) =
+      let same = (tree-one has.1.0 has_too.1.0 has.1.1 has_too.1.1 has.1.2 has_too.1.2).1 in
+      let none = has.1.3 in
+      let some = has_too.1.3 in
+      cc
   why-one first second (Why.by_form told has) (Why.by_form told_too has_too) = sym told ∙ told_too
+  why-one first second (Why.by_rule found told has) (Why.by_tokens other told_too has_too) = let one = has.1.2.tokens_are in let two = has_too.1 in cc
+  why-one first second (Why.by_rule found told has) (Why.by_grammar other told_too has_too) = absurd (no-tree has.1.0 has_too.1.0 has.1.1 other has.1.2 has_too.1.1 has_too.1.2)
+  why-one first second (Why.by_rule found told has) (Why.by_length told_too over) = absurd (omega (arith, has.0, over))
+  why-one first second (Why.by_rule found told has) (Why.by_rule other told_too has_too) =
+      let same = (tree-one has.1.0 has_too.1.0 has.1.1 has_too.1.1 has.1.2 has_too.1.2).1 in
+      let one = has.1.3 in
+      let two = has_too.1.3 in
+      let faults : found ≡ other = cc in
+      refused-one (sym told ∙ ap end_of_check_fault faults ∙ told_too)
+  why-one first second (Why.by_rule found told has) (Why.by_form told_too has_too) =
+      let same = (tree-one has.1.0 has_too.1.0 has.1.1 has_too.1.1 has.1.2 has_too.1.2).1 in
+      let one = has.1.3 in
+      let none = has_too.1.3 in
+      cc
 
   pub refusal-one : (first second : Refusal) → IsRefused first text → IsRefused second text → first ≡ second
   refusal-one first second one other = why-one first second (why-of first one) (why-of second other)
 
   -- and for nothing where it spells a program that runs
   program-no_why : (why : Refusal) → IsProgram text → Why why → ⊥
-  program-no_why why (short, (blocks, (tokens, tree, has, same))) (Why.by_tokens found told other) = let one = has.tokens_are in let two = other.1 in cc
-  program-no_why why (short, (blocks, (tokens, tree, has, same))) (Why.by_grammar found told other) = no-tree tokens other.1.0 tree found has other.1.1 other.1.2
-  program-no_why why (short, (blocks, (tokens, tree, has, same))) (Why.by_length told over) = absurd (omega (arith, short, over))
-  program-no_why why (short, (blocks, (tokens, tree, has, same))) (Why.by_form told other) = let one = tree-one tokens other.1.0 tree other.1.1 has other.1.2 in let two = other.1.3 in cc
+  program-no_why why (short, (blocks, (tokens, tree, has, keeps, same))) (Why.by_tokens found told other) = let one = has.tokens_are in let two = other.1 in cc
+  program-no_why why (short, (blocks, (tokens, tree, has, keeps, same))) (Why.by_grammar found told other) = no-tree tokens other.1.0 tree found has other.1.1 other.1.2
+  program-no_why why (short, (blocks, (tokens, tree, has, keeps, same))) (Why.by_length told over) = absurd (omega (arith, short, over))
+  program-no_why why (short, (blocks, (tokens, tree, has, keeps, same))) (Why.by_rule found told other) =
+      let one = (tree-one tokens other.1.0 tree other.1.1 has other.1.2).1 in
+      let two = other.1.3 in
+      cc
+  program-no_why why (short, (blocks, (tokens, tree, has, keeps, same))) (Why.by_form told other) =
+      let one = (tree-one tokens other.1.0 tree other.1.1 has other.1.2).0 in
+      let two = other.1.4 in
+      cc
 
   pub program-not_refused : (why : Refusal) → IsProgram text → IsRefused why text → ⊥
   program-not_refused why program refused = program-no_why why program (why-of why refused)
@@ -111,3 +150,28 @@ module _ (text : List ℕ) where
     syntax-runs (syntax.OutOfProfile spot) known program = program-not_refused (OutOfProfile spot) program (short, (list, are, known (λ same. cc)))
     syntax-runs (syntax.TooDeep spot) known program = program-not_refused (TooDeep spot) program (short, (list, are, known (λ same. cc)))
     syntax-runs syntax.Memory known program = tt
+
+    -- and so is a rule that the tree breaks
+    module _ (tree : Tree) (has : HasTree text list tree) where
+      broken-so : (found : CheckFault) → (found ≢ rule.Memory → rule_broken text list tree ≡ Some found) → found ≢ rule.Memory → HasCheckFault found text
+      broken-so found known named = (short, (list, tree, has, known named))
+
+      pub check-accepted : (found : CheckFault) → (found ≢ rule.Memory → rule_broken text list tree ≡ Some found) → (why : Refusal) → IsRefused why text → MayRefuse why (end_of_check_fault found)
+      check-accepted (rule.UnknownName spot) known why refused = refusal-one (UnknownName spot) why (broken-so (rule.UnknownName spot) known (λ same. cc)) refused
+      check-accepted (rule.TwiceDeclared spot) known why refused = refusal-one (TwiceDeclared spot) why (broken-so (rule.TwiceDeclared spot) known (λ same. cc)) refused
+      check-accepted (rule.WrongUse spot) known why refused = refusal-one (WrongUse spot) why (broken-so (rule.WrongUse spot) known (λ same. cc)) refused
+      check-accepted (rule.BadNesting spot) known why refused = refusal-one (BadNesting spot) why (broken-so (rule.BadNesting spot) known (λ same. cc)) refused
+      check-accepted (rule.BadLoop spot) known why refused = refusal-one (BadLoop spot) why (broken-so (rule.BadLoop spot) known (λ same. cc)) refused
+      check-accepted (rule.NoMain spot) known why refused = refusal-one (NoMain spot) why (broken-so (rule.NoMain spot) known (λ same. cc)) refused
+      check-accepted (rule.NotListed spot) known why refused = refusal-one (NotListed spot) why (broken-so (rule.NotListed spot) known (λ same. cc)) refused
+      check-accepted rule.Memory known why refused = tt
+
+      pub check-runs : (found : CheckFault) → (found ≢ rule.Memory → rule_broken text list tree ≡ Some found) → IsProgram text → MayRun (end_of_check_fault found)
+      check-runs (rule.UnknownName spot) known program = program-not_refused (UnknownName spot) program (broken-so (rule.UnknownName spot) known (λ same. cc))
+      check-runs (rule.TwiceDeclared spot) known program = program-not_refused (TwiceDeclared spot) program (broken-so (rule.TwiceDeclared spot) known (λ same. cc))
+      check-runs (rule.WrongUse spot) known program = program-not_refused (WrongUse spot) program (broken-so (rule.WrongUse spot) known (λ same. cc))
+      check-runs (rule.BadNesting spot) known program = program-not_refused (BadNesting spot) program (broken-so (rule.BadNesting spot) known (λ same. cc))
+      check-runs (rule.BadLoop spot) known program = program-not_refused (BadLoop spot) program (broken-so (rule.BadLoop spot) known (λ same. cc))
+      check-runs (rule.NoMain spot) known program = program-not_refused (NoMain spot) program (broken-so (rule.NoMain spot) known (λ same. cc))
+      check-runs (rule.NotListed spot) known program = program-not_refused (NotListed spot) program (broken-so (rule.NotListed spot) known (λ same. cc))
+      check-runs rule.Memory known program = tt

@@ -3,9 +3,10 @@
 ghost use Rattle.std.specs.Prelude.{◌≡◌, ◌≤◌, ◌+◌, ◌∷◌, ◌++◌, [], length};
 ghost use Rattle.std.specs.Fmt.{decimal};
 ghost use Rattle.arrayvec.specs.ArrayString.{array_string_len};
-ghost use Rattle.ompt_cli.specs.Ends.{end_of_fault, end_of_syntax_fault, line_of_end, refusal_number, refusal_spot, refusal_text, status_of};
+ghost use Rattle.ompt_cli.specs.Ends.{end_of_check_fault, end_of_fault, end_of_syntax_fault, line_of_end, refusal_number, refusal_spot, refusal_text, status_of};
 
 use arrayvec::ArrayString;
+use c_check::CheckFault;
 use c_syntax::SyntaxFault;
 use c_tokens::{Spot, TokenFault};
 use itoa::Buffer;
@@ -124,6 +125,13 @@ impl Refusal {
             Refusal::UnknownDirective(_) => 5,
             Refusal::OutOfProfile(_) => 6,
             Refusal::TooDeep(_) => 7,
+            Refusal::UnknownName(_) => 8,
+            Refusal::TwiceDeclared(_) => 9,
+            Refusal::WrongUse(_) => 10,
+            Refusal::BadNesting(_) => 11,
+            Refusal::BadLoop(_) => 12,
+            Refusal::NoMain(_) => 13,
+            Refusal::NotListed(_) => 14,
             Refusal::TooLong => 15,
             Refusal::OtherForm => 16,
         }
@@ -140,7 +148,14 @@ impl Refusal {
             | Refusal::Unexpected(spot)
             | Refusal::UnknownDirective(spot)
             | Refusal::OutOfProfile(spot)
-            | Refusal::TooDeep(spot) => spot,
+            | Refusal::TooDeep(spot)
+            | Refusal::UnknownName(spot)
+            | Refusal::TwiceDeclared(spot)
+            | Refusal::WrongUse(spot)
+            | Refusal::BadNesting(spot)
+            | Refusal::BadLoop(spot)
+            | Refusal::NoMain(spot)
+            | Refusal::NotListed(spot) => spot,
             Refusal::TooLong | Refusal::OtherForm => Spot { line: 0, column: 0 },
         }
     }
@@ -184,6 +199,22 @@ pub(crate) fn end_of_syntax_fault(fault: SyntaxFault) -> End
         SyntaxFault::OutOfProfile(spot) => End::Refused(Refusal::OutOfProfile(spot)),
         SyntaxFault::TooDeep(spot) => End::Refused(Refusal::TooDeep(spot)),
         SyntaxFault::Memory => End::Memory,
+    }
+}
+
+/// The end of a command whose program breaks a rule so.
+pub(crate) fn end_of_check_fault(fault: CheckFault) -> End
+    ensures { result ≡ end_of_check_fault fault }
+{
+    match fault {
+        CheckFault::UnknownName(spot) => End::Refused(Refusal::UnknownName(spot)),
+        CheckFault::TwiceDeclared(spot) => End::Refused(Refusal::TwiceDeclared(spot)),
+        CheckFault::WrongUse(spot) => End::Refused(Refusal::WrongUse(spot)),
+        CheckFault::BadNesting(spot) => End::Refused(Refusal::BadNesting(spot)),
+        CheckFault::BadLoop(spot) => End::Refused(Refusal::BadLoop(spot)),
+        CheckFault::NoMain(spot) => End::Refused(Refusal::NoMain(spot)),
+        CheckFault::NotListed(spot) => End::Refused(Refusal::NotListed(spot)),
+        CheckFault::Memory => End::Memory,
     }
 }
 

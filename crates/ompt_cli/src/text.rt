@@ -5,8 +5,9 @@ ghost use Rattle.run_edges.specs.Edges.{Rose};
 ghost use Rattle.ompt_cli.specs.Text.{IsProgram, IsRefused, Spells};
 ghost use Rattle.ompt_cli.specs.Commands.{IsBeforeRun, MayRefuse, MayRun};
 
-use crate::end::{End, Refusal, end_of_fault, end_of_syntax_fault};
+use crate::end::{End, Refusal, end_of_check_fault, end_of_fault, end_of_syntax_fault};
 use crate::form::blocks_of;
+use c_check::check;
 use c_syntax::read_program;
 use c_tokens::tokens;
 use omp_model::Blocks;
@@ -35,7 +36,7 @@ pub(crate) fn read_blocks<S: Source>(alloc: Global, source: &mut S) -> Result<Bl
     }
 }
 
-/// The blocks that the text spells. All its tokens are tried before the grammar, and the grammar before the form.
+/// The blocks that the text spells. All its tokens are tried before the grammar, then the rules, and then the form.
 fn program_of(alloc: Global, text: &[u8]) -> Result<Blocks, End>
     requires { length text.now ≤ 65536 }
     ensures program { IfOk result (λ blocks. Spells text.now blocks) }
@@ -53,7 +54,11 @@ fn program_of(alloc: Global, text: &[u8]) -> Result<Blocks, End>
         Ok(tree) => tree,
         Err(fault) => return Err(end_of_syntax_fault(fault)),
     };
-    match blocks_of(alloc, &tree) {
+    let program = match check(alloc, tree) {
+        Ok(program) => program,
+        Err(fault) => return Err(end_of_check_fault(fault)),
+    };
+    match blocks_of(alloc, program.tree()) {
         Ok(Some(blocks)) => Ok(blocks),
         Ok(None) => Err(End::Refused(Refusal::OtherForm)),
         Err(_) => Err(End::Memory),
