@@ -172,7 +172,7 @@ const LOST: &[Lost] = &[
         text: b"",
         reads: 9,
         writes: 9,
-        end: End::Refused(Refusal::OtherForm),
+        end: End::Refused(Refusal::NoMain(Spot { line: 1, column: 1 })),
         status: 9,
         out: b"",
         front: b"ref",

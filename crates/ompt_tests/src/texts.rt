@@ -80,12 +80,7 @@ fn a_region_runs_in_each_layout(rt: HostRuntime) -> Result<(), Fail> {
 
 /// Programs of another form.
 const OTHER_TEXTS: &[&str] = &[
-    "",
-    "#include <omp.h>\n",
     "int main(void) { return 0; }\n#include <omp.h>\n",
-    "int mine(void) { return 0; }\n",
-    "void main(void) { return 0; }\n",
-    "int main(int a) { return 0; }\n",
     "int f(void) { return 0; }\nint main(void) { return 0; }\n",
     "int main(void) { return 0; }\nint f(void) { return 0; }\n",
     "int a;\nint main(void) { return 0; }\n",
@@ -93,7 +88,6 @@ const OTHER_TEXTS: &[&str] = &[
     "int main(void) { return 1; }\n",
     "int main(void) { return (0); }\n",
     "int main(void) { return -0; }\n",
-    "int main(void) { return; }\n",
     "int main(void) { return 0; ; }\n",
     "int main(void) { return 0; return 0; }\n",
     "int main(void) { ; return 0; }\n",
@@ -111,12 +105,7 @@ const OTHER_ITEMS: &[&str] = &[
     "#pragma omp parallel num_threads(-2)\n{ }\n",
     "#pragma omp parallel num_threads(1 + 1)\n{ }\n",
     "#pragma omp parallel num_threads((2))\n{ }\n",
-    "#pragma omp parallel num_threads(two)\n{ }\n",
     "#pragma omp parallel\n{ }\n",
-    "#pragma omp parallel num_threads(2) num_threads(2)\n{ }\n",
-    "#pragma omp parallel num_threads(2), shared(a)\n{ }\n",
-    "#pragma omp parallel shared(a)\n{ }\n",
-    "#pragma omp parallel for num_threads(2)\n{ }\n",
     "#pragma omp single nowait\n{ }\n",
     "#pragma omp barrier\n",
     "#pragma omp parallel num_threads(2)\n;\n",
@@ -227,10 +216,108 @@ const FAULTY_TEXTS: &[Faulty] = &[
     ),
 ];
 
+/// Programs by the grammar that break a rule. The first fault by its place counts, whatever the form.
+const RULE_TEXTS: &[Faulty] = &[
+    (
+        "",
+        Refusal::NoMain(Spot { line: 1, column: 1 }),
+        b"refused 13 at 1:1\n",
+    ),
+    (
+        "int main(void) { return x; }\n",
+        Refusal::UnknownName(Spot { line: 1, column: 25 }),
+        b"refused 8 at 1:25\n",
+    ),
+    (
+        "int main(void) {\n#pragma omp parallel num_threads(two)\n{ }\nreturn 0;\n}\n",
+        Refusal::UnknownName(Spot { line: 2, column: 34 }),
+        b"refused 8 at 2:34\n",
+    ),
+    (
+        "int main(void) { int a; int a; return 0; }\n",
+        Refusal::TwiceDeclared(Spot { line: 1, column: 29 }),
+        b"refused 9 at 1:29\n",
+    ),
+    (
+        "int main(void) { printf(\"%d\\n\"); return 0; }\n",
+        Refusal::WrongUse(Spot { line: 1, column: 18 }),
+        b"refused 10 at 1:18\n",
+    ),
+    (
+        "void main(void) { return 0; }\n",
+        Refusal::WrongUse(Spot { line: 1, column: 6 }),
+        b"refused 10 at 1:6\n",
+    ),
+    (
+        "int main(int a) { return 0; }\n",
+        Refusal::WrongUse(Spot { line: 1, column: 5 }),
+        b"refused 10 at 1:5\n",
+    ),
+    (
+        "int main(void) { return; }\n",
+        Refusal::WrongUse(Spot { line: 1, column: 18 }),
+        b"refused 10 at 1:18\n",
+    ),
+    (
+        "int main(void) {\n#pragma omp parallel num_threads(2) num_threads(2)\n{ }\nreturn 0;\n}\n",
+        Refusal::WrongUse(Spot { line: 2, column: 1 }),
+        b"refused 10 at 2:1\n",
+    ),
+    (
+        "int main(void) {\n#pragma omp parallel\n#pragma omp single\n{\n#pragma omp barrier\n}\nreturn 0;\n}\n",
+        Refusal::BadNesting(Spot { line: 5, column: 1 }),
+        b"refused 11 at 5:1\n",
+    ),
+    (
+        "int main(void) {\nint i;\n#pragma omp for\nfor (i = 0; i != 7; i++) ;\nreturn 0;\n}\n",
+        Refusal::BadLoop(Spot { line: 3, column: 1 }),
+        b"refused 12 at 3:1\n",
+    ),
+    (
+        "int main(void) {\n#pragma omp parallel for num_threads(2)\n{ }\nreturn 0;\n}\n",
+        Refusal::BadLoop(Spot { line: 2, column: 1 }),
+        b"refused 12 at 2:1\n",
+    ),
+    (
+        "int mine(void) { return 0; }\n",
+        Refusal::NoMain(Spot { line: 2, column: 1 }),
+        b"refused 13 at 2:1\n",
+    ),
+    (
+        "int main(void) {\nint a;\n#pragma omp parallel default(none)\na = 1;\nreturn 0;\n}\n",
+        Refusal::NotListed(Spot { line: 4, column: 1 }),
+        b"refused 14 at 4:1\n",
+    ),
+];
+
+/// A text whose variables of the file have too many cells is refused at the first name that is too much.
+#[test]
+fn too_many_cells_are_refused(rt: HostRuntime) -> Result<(), Fail> {
+    let mut text = String::new(rt.alloc());
+    for number in 1..258 {
+        write!(text, "int a{number}[4096];\n")?;
+    }
+    text.push_str("int main(void) { return 0; }\n")?;
+    let spot = Spot {
+        line: 257,
+        column: 5,
+    };
+    refused(
+        &rt,
+        text.as_str(),
+        Refusal::WrongUse(spot),
+        b"refused 10 at 257:5\n",
+        257,
+    )?;
+    Ok(())
+}
+
 #[test]
 fn faulty_texts_are_refused_at_their_first_fault(rt: HostRuntime) -> Result<(), Fail> {
-    for (case, (text, why, line)) in FAULTY_TEXTS.iter().enumerate() {
-        refused(&rt, text, *why, line, case)?;
+    for rows in [FAULTY_TEXTS, RULE_TEXTS] {
+        for (case, (text, why, line)) in rows.iter().enumerate() {
+            refused(&rt, text, *why, line, case)?;
+        }
     }
     Ok(())
 }
@@ -271,7 +358,15 @@ fn parenthesized(rt: &impl AllocGlobal, count: usize) -> Result<String, Memory> 
 type Long = (usize, char, Refusal, &'static [u8]);
 
 const LONG_TEXTS: &[Long] = &[
-    (65_536, ' ', Refusal::OtherForm, b"refused 16 at 0:0\n"),
+    (
+        65_536,
+        ' ',
+        Refusal::NoMain(Spot {
+            line: 1,
+            column: 65_537,
+        }),
+        b"refused 13 at 1:65537\n",
+    ),
     (65_537, ' ', Refusal::TooLong, b"refused 15 at 0:0\n"),
     (
         65_536,
