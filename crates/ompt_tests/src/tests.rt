@@ -1,6 +1,7 @@
 //! What no clause says: that each end of the command comes about, with the bytes that it writes.
 
 use crate::fixture::*;
+use c_tokens::Spot;
 use omp_model::{Block, Cause, Entry, What};
 use ompt_cli::{Command, End, Refusal};
 use run_edges::{MemSink, read_all};
