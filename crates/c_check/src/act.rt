@@ -89,17 +89,35 @@ pub enum Act {
     /// The function ends.
     End,
     /// A name is declared.
-    Declare { name: u32, spot: Spot, thing: Thing },
+    Declare {
+        name: u32,
+        spot: Spot,
+        thing: Thing,
+    },
     /// A name is used.
-    Use { name: u32, spot: Spot, usage: Usage },
+    Use {
+        name: u32,
+        spot: Spot,
+        usage: Usage,
+    },
     /// The variable with this name is assigned.
-    Assign { name: u32 },
+    Assign {
+        name: u32,
+    },
     /// A `printf`.
-    Print { spot: Spot, printed: Printed },
+    Print {
+        spot: Spot,
+        printed: Printed,
+    },
     /// A `return`.
-    Return { spot: Spot, returned: Returned },
+    Return {
+        spot: Spot,
+        returned: Returned,
+    },
     /// A `barrier`.
-    Barrier { spot: Spot },
+    Barrier {
+        spot: Spot,
+    },
     /// A construct begins, with the number of a critical's name, or 0. What its clauses compute stands before it.
     Enter {
         spot: Spot,
@@ -117,9 +135,13 @@ pub enum Act {
     /// The statement of the innermost construct isn't a loop of the form that a `for` directive has.
     OddLoop,
     /// The body of the innermost construct's loop begins, whose variable has this name.
-    Loop { name: u32 },
+    Loop {
+        name: u32,
+    },
     /// The innermost construct ends.
     Leave,
     /// The text ends.
-    Finish { spot: Spot },
+    Finish {
+        spot: Spot,
+    },
 }

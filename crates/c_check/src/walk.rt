@@ -133,9 +133,11 @@ impl Walk {
 
     /// A function: its name, its parameters, and what is in its block.
     fn function(&mut self, tree: &Tree, returns: Returns, node: u32) -> Result<(), AllocError> {
-        let (Some(name), Some(params), Some(block)) =
-            (tree.child(node, 0), tree.child(node, 1), tree.child(node, 2))
-        else {
+        let (Some(name), Some(params), Some(block)) = (
+            tree.child(node, 0),
+            tree.child(node, 1),
+            tree.child(node, 2),
+        ) else {
             return Ok(());
         };
         let begin = Act::Begin {

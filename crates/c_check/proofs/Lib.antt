@@ -1,0 +1,2 @@
+-- Lemmas behind the proofs of the functions.
+pub mod Behind
