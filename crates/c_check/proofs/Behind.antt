@@ -1,5 +1,5 @@
 -- The children from a place on: the one at the place, and those behind it.
-use Rattle.std.proofs.Common.{◌≡◌, ℕ, zero, suc, ◌+◌, List, Option, Some, None, true, false, refl, sym, ap, ◌∙◌, add-one, arith}
+use Rattle.std.proofs.Common.{◌≡◌, ℕ, zero, suc, ◌+◌, List, Option, Some, None, true, false, refl, ap, add-one}
 use Rattle.std.specs.Option.{option_map, is_some}
 use Rattle.c_syntax.specs.Tree.{Tree, Children, at_place}
 use Rattle.c_syntax.specs.Tree.Children.{Over, Child, Absent}

@@ -1,2 +1,3 @@
 -- Lemmas behind the proofs of the functions.
 pub mod Behind
+pub mod Looking

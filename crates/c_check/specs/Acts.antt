@@ -1,6 +1,5 @@
 -- What a tree does with names, scopes and constructs, in the order of its text.
-use Rattle.std.specs.Prelude.{ℕ, ◌+◌, ◌==◌, if◌then◌else◌, Bool, true, false, List, [], ◌∷◌, ◌++◌, codes, Option, Some, None}
-use Rattle.c_tokens.specs.declared.token.Spot.{Spot}
+use Rattle.std.specs.Prelude.{ℕ, ◌+◌, ◌==◌, if◌then◌else◌, Bool, true, false, List, [], ◌∷◌, ◌++◌, Option, Some, None}
 use Rattle.c_syntax.specs.declared.node.Data.{Data}
 use Rattle.c_syntax.specs.declared.node.Data.TheVariants as data_clause
 use Rattle.c_syntax.specs.declared.node.Directive.{Directive}

@@ -7,3 +7,4 @@ pub mod Here
 pub mod Shares
 pub mod Rules
 pub mod Checked
+pub mod Weights
