@@ -1,10 +1,11 @@
 -- The children from a place on: the one at the place, and those behind it.
-use Rattle.std.proofs.Common.{◌≡◌, ℕ, zero, suc, ◌+◌, List, Option, Some, None, true, false, refl, ap, add-one}
+use Rattle.std.proofs.Common.{◌≡◌, ℕ, zero, suc, ◌+◌, List, Option, Some, None, true, false, refl, sym, ap, ◌∙◌, ◌<◌, add-one, arith}
 use Rattle.std.specs.Option.{option_map, is_some}
-use Rattle.c_syntax.specs.Tree.{Tree, Children, at_place}
+use Rattle.c_syntax.specs.Tree.{Tree, Children, at_place, kind_of}
 use Rattle.c_syntax.specs.Tree.Children.{Over, Child, Absent}
+use Rattle.c_syntax.specs.Derivation.{nothing}
 use Rattle.c_syntax.specs.Numbered.{tree_at}
-use Rattle.c_check.specs.Acts.{count}
+use Rattle.c_check.specs.Acts.{count, is_head, statement_of}
 use Rattle.c_check.specs.Tasks.{behind}
 
 behind_this : (children : Children) (place : ℕ) (tree : Tree) → Some tree ≡ at_place children place → behind place children ≡ Child tree (behind (suc place) children)
@@ -40,3 +41,20 @@ module _ (trees : List Tree) (children : Children) (place : ℕ) where
   unfolding count
   count_none None at none = behind_none count 0 refl (λ rest. refl) children place at
   count_none (Some child) at none = absurd (cc)
+
+  pub count_found : (next child : ℕ) → Some (tree_at trees child) ≡ at_place children place → next ≡ place + 1 → count (behind next children) < count (behind place children)
+  unfolding count
+  count_found next child at after = omega (arith, ap count (behind_child children place next (tree_at trees child) at after))
+
+  -- the statement of a construct is the first child that isn't a head
+  pub statement_none : None ≡ at_place children place → statement_of (behind place children) ≡ nothing
+  unfolding statement_of
+  statement_none at = behind_none statement_of nothing refl (λ rest. refl) children place at
+
+  pub statement_here : (child : ℕ) → Some (tree_at trees child) ≡ at_place children place → is_head (kind_of (tree_at trees child)) ≡ false → statement_of (behind place children) ≡ tree_at trees child
+  unfolding statement_of
+  statement_here child at head = ap statement_of (behind_child children place (place + 1) (tree_at trees child) at refl) ∙ rw head refl
+
+  pub statement_behind : (next child : ℕ) → Some (tree_at trees child) ≡ at_place children place → next ≡ place + 1 → is_head (kind_of (tree_at trees child)) ≡ true → statement_of (behind next children) ≡ statement_of (behind place children)
+  unfolding statement_of
+  statement_behind next child at after head = sym (ap statement_of (behind_child children place next (tree_at trees child) at after) ∙ rw head refl)

@@ -10,7 +10,8 @@ use Rattle.c_syntax.specs.Tree.Tree.{Node}
 use Rattle.c_syntax.specs.Numbered.{tree_at}
 use Rattle.c_check.specs.Loops.{is_place, stands_in, stands_among}
 use Rattle.c_check.specs.Tasks.{behind, children_at}
-use Rattle.c_check.specs.Weights.{weight, weight_among}
+use Rattle.c_check.specs.Weights.{weight_among}
+use Rattle.c_check.proofs.Weighing.{weighs_child, weight_children}
 use Rattle.c_check.proofs.Behind.{behind_child, behind_none}
 
 -- whether a node is a place with this name
@@ -32,15 +33,6 @@ stands_over name children place at = behind_none (stands_among name) false refl 
 stands_child : (name : ℕ) (children : Children) (place next : ℕ) (tree : Tree) → Some tree ≡ at_place children place → next ≡ place + 1 → stands_among name (behind place children) ≡ (stands_in name tree || stands_among name (behind next children))
 unfolding stands_among
 stands_child name children place next tree at after = ap (stands_among name) (behind_child children place next tree at after)
-
-weighs_child : (children : Children) (place next : ℕ) (tree : Tree) → Some tree ≡ at_place children place → next ≡ place + 1 → weight_among (behind place children) ≡ weight tree + weight_among (behind next children) + 1
-unfolding weight
-weighs_child children place next tree at after = ap weight_among (behind_child children place next tree at after)
-
--- a node is heavier than its children together
-weight-children : (tree : Tree) → weight_among (behind 0 (children_of tree)) < weight tree
-unfolding weight behind
-weight-children (Node kind spot name number text children) = omega arith
 
 or-false : (found : Bool) → (found || false) ≡ found
 or-false true = refl
@@ -125,4 +117,4 @@ module _ (trees : List Tree) (name : ℕ) where
             let here = weighs_child (children_of (tree_at trees node)) place next (tree_at trees child) at after in
             let one = sum_by-last heavy once rest (node, next) first in
             let two = sum_by-last heavy twice once (child, 0) second in
-            omega (arith, weight-children (tree_at trees child))
+            omega (arith, weight_children (tree_at trees child))

@@ -239,17 +239,17 @@ unfoldable mutual
 
   -- the parts of a `for`, of which each may be absent but the last, which is its body
   pub first_part : List Act → Children → List Act
-  first_part mark Over = []
+  first_part mark Over = mark
   first_part mark (Absent rest) = second_part mark rest
   first_part mark (Child tree rest) = acts role.Plain tree ++ second_part mark rest
 
   pub second_part : List Act → Children → List Act
-  second_part mark Over = []
+  second_part mark Over = mark
   second_part mark (Absent rest) = third_part mark rest
   second_part mark (Child tree rest) = acts role.Plain tree ++ third_part mark rest
 
   pub third_part : List Act → Children → List Act
-  third_part mark Over = []
+  third_part mark Over = mark
   third_part mark (Absent rest) = mark ++ each role.Plain rest
   third_part mark (Child tree rest) = acts role.Plain tree ++ (mark ++ each role.Plain rest)
 

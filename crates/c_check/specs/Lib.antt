@@ -1,10 +1,11 @@
 pub mod Loops
 pub mod Acts
 pub mod Tasks
+pub mod Weights
+pub mod Steps
 pub mod Names
 pub mod Constructs
 pub mod Here
 pub mod Shares
 pub mod Rules
 pub mod Checked
-pub mod Weights

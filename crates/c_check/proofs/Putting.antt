@@ -1,0 +1,53 @@
+-- Tasks that are put before the others: what they tell and weigh, one after another.
+use Rattle.std.proofs.Common.{◌≡◌, ℕ, ◌+◌, ◌<◌, ◌≤◌, List, [], ◌∷◌, ◌++◌, length, reverse, sum_by, refl, sym, ap, ◌∙◌, append_assoc, arith}
+use Rattle.std.specs.List.{All}
+use Rattle.std.proofs.lemmas.List.{reverse-append}
+use Rattle.std.proofs.lemmas.List.Elements.{All-push, All-same}
+use Rattle.std.proofs.lemmas.List.Sums.{sum_by-append}
+use Rattle.c_syntax.specs.Tree.{Tree, spot_of, name_of, number_of, text_of, children_of, kind_of}
+use Rattle.c_syntax.specs.Tree.Tree.{Node}
+use Rattle.c_syntax.specs.declared.node.NodeKind.{NodeKind}
+use Rattle.c_syntax.specs.Numbered.{tree_at}
+use Rattle.c_check.specs.declared.act.Act.{Act}
+use Rattle.c_check.specs.declared.role.Role.{Role}
+use Rattle.c_check.specs.declared.walk.Task.{Task}
+use Rattle.c_check.specs.declared.walk.Walk.{Walk}
+use Rattle.c_check.specs.Acts.{acts}
+use Rattle.c_check.specs.Tasks.{told_by, told_by_all, left_of, IsThere, AreThere}
+use Rattle.c_check.specs.Steps.{Puts, weight_by, weight_left}
+
+-- a task is put before the others
+pub put : (trees : List Tree) (task : Task) (old new : Walk) → new.tasks.items ≡ old.tasks.items ++ task ∷ [] → IsThere trees task → AreThere trees old → Puts trees (told_by trees task) (weight_by trees task) old new
+unfolding told_by_all
+put trees task old new pushed is are = record {
+  tells = ap (λ items. told_by_all trees (reverse items)) pushed ∙ ap (told_by_all trees) (reverse-append old.tasks.items (task ∷ []));
+  there = All-same (IsThere trees) new.tasks.items (old.tasks.items ++ task ∷ []) pushed (All-push (IsThere trees) old.tasks.items task are is);
+  weighs = omega (arith, ap (sum_by (weight_by trees)) pushed, sum_by-append (weight_by trees) old.tasks.items (task ∷ []));
+}
+
+-- nothing is put
+pub keep : (trees : List Tree) (limit : ℕ) (walk : Walk) → AreThere trees walk → Puts trees [] limit walk walk
+keep trees limit walk are = record { tells = refl; there = are; weighs = omega arith }
+
+-- what is put later comes first
+pub both : {trees : List Tree} {first second : List Act} {one two : ℕ} {old mid new : Walk} → Puts trees first one old mid → Puts trees second two mid new → Puts trees (second ++ first) (one + two) old new
+both {trees} {first} {second} {one} {two} {old} {mid} {new} before after = record {
+  tells = after.tells ∙ ap (λ rest. second ++ rest) before.tells ∙ sym (append_assoc second first (left_of trees old));
+  there = after.there;
+  weighs = omega (arith, before.weighs, after.weighs);
+}
+
+-- the same acts, and no more weight
+pub puts_as : {trees : List Tree} {told other : List Act} {limit more : ℕ} {old new : Walk} → told ≡ other → limit ≤ more → Puts trees told limit old new → Puts trees other more old new
+puts_as {trees} {told} {other} {limit} {more} {old} {new} same lighter puts = record {
+  tells = puts.tells ∙ ap (λ (acts : List Act). acts ++ left_of trees old) same;
+  there = puts.there;
+  weighs = omega (arith, puts.weighs);
+}
+
+-- what a node of a kind does
+pub acts_of : (around : Role) (kind : NodeKind) (tree : Tree) → kind ≡ kind_of tree → acts around (Node kind (spot_of tree) (name_of tree) (number_of tree) (text_of tree) (children_of tree)) ≡ acts around tree
+acts_of around kind (Node other spot name number text children) at = ap (λ (one : NodeKind). acts around (Node one spot name number text children)) at
+
+pub keep_as : {trees : List Tree} {walk : Walk} (told : List Act) (limit : ℕ) → told ≡ [] → AreThere trees walk → Puts trees told limit walk walk
+keep_as {trees} {walk} told limit none are = puts_as (sym none) (omega arith) (keep trees limit walk are)
