@@ -1,5 +1,6 @@
 -- What a node with named parts tells, by the children at their places.
-use Rattle.std.proofs.Common.{◌≡◌, ℕ, ◌+◌, List, [], ◌∷◌, ◌++◌, Option, Some, None, refl, sym, ap, ◌∙◌, append-nil, append_assoc}
+use Rattle.std.proofs.Common.{◌≡◌, ℕ, Bool, true, false, if◌then◌else◌, List, [], ◌∷◌, ◌++◌, Option, Some, None, refl, sym, ap, ◌∙◌, append-nil, append_assoc}
+use Rattle.c_syntax.specs.declared.node.Directive.{Directive}
 use Rattle.c_syntax.specs.declared.node.Returns.{Returns}
 use Rattle.c_syntax.specs.Tree.{Tree, Children, at_place, children_of, name_of, spot_of}
 use Rattle.c_syntax.specs.Tree.Tree.{Node}
@@ -10,7 +11,8 @@ use Rattle.c_check.specs.declared.act.Thing.TheVariants as thing
 use Rattle.c_check.specs.declared.role.Role.{Role}
 use Rattle.c_check.specs.declared.role.Role.TheVariants as role
 use Rattle.c_check.specs.declared.role.Naming.TheVariants as naming
-use Rattle.c_check.specs.Acts.{acts, each, names, count, target, init, function, first_part, second_part, third_part}
+use Rattle.c_check.specs.Acts.{acts, each, names, count, target, init, function, first_part, second_part, third_part, shares_loop, statement_of, statement_role, role_with, odd_with, odd_loop}
+use Rattle.c_check.specs.Loops.{loop_name}
 use Rattle.c_check.specs.Tasks.{behind}
 use Rattle.c_check.specs.Steps.{part_of}
 
@@ -96,3 +98,19 @@ module _ (returns : Returns) where
       let are-parameters : parameters ≡ Node kind spot other number text inner = cc in
       let is-block : block ≡ Node sort place another value bytes items = cc in
       rw (is-name, are-parameters, is-block) (ap (λ (told : List Act). Begin (name_of one) (spot_of one) returns (count inner) ∷ told) (append_assoc (names naming.Parameters inner) (each role.Plain items) (End ∷ [])))
+
+-- what a construct does with its loop, by the name of the loop's variable, if it shares out a loop
+module _ (which : Directive) (children : Children) (name : Option ℕ) (is : name ≡ (if shares_loop which then loop_name (statement_of children) else None)) where
+  pub shared_role : role_with name ≡ statement_role which children
+  shared_role = by-test (shares_loop which) (loop_name (statement_of children)) is
+    where
+      by-test : (test : Bool) (found : Option ℕ) → name ≡ (if test then found else None) → role_with name ≡ (if test then role_with found else role.Plain)
+      by-test true found same = ap role_with same
+      by-test false found same = ap role_with same
+
+  pub shared_oddness : (if shares_loop which then odd_with name else []) ≡ odd_loop which children
+  shared_oddness = by-test (shares_loop which) (loop_name (statement_of children)) is
+    where
+      by-test : (test : Bool) (found : Option ℕ) → name ≡ (if test then found else None) → (if test then odd_with name else []) ≡ (if test then odd_with found else [])
+      by-test true found same = ap odd_with same
+      by-test false found same = refl

@@ -1,20 +1,26 @@
 -- Tasks that are put before the others: what they tell and weigh, one after another.
-use Rattle.std.proofs.Common.{◌≡◌, ℕ, ◌+◌, ◌<◌, ◌≤◌, List, [], ◌∷◌, ◌++◌, length, reverse, sum_by, refl, sym, ap, ◌∙◌, append_assoc, arith}
+use Rattle.std.proofs.Common.{◌≡◌, ℕ, ◌+◌, ◌<◌, ◌≤◌, true, List, [], ◌∷◌, ◌++◌, length, reverse, sum_by, refl, sym, ap, ◌∙◌, append_assoc, arith}
 use Rattle.std.specs.List.{All}
+use Rattle.std.proofs.lemmas.Bool.{false≢true}
 use Rattle.std.proofs.lemmas.List.{reverse-append}
 use Rattle.std.proofs.lemmas.List.Elements.{All-push, All-same}
 use Rattle.std.proofs.lemmas.List.Sums.{sum_by-append}
-use Rattle.c_syntax.specs.Tree.{Tree, spot_of, name_of, number_of, text_of, children_of, kind_of}
+use Rattle.c_syntax.specs.Tree.{Tree, Children, spot_of, name_of, number_of, text_of, children_of, kind_of}
 use Rattle.c_syntax.specs.Tree.Tree.{Node}
+use Rattle.c_syntax.specs.declared.node.Standalone.{Standalone}
+use Rattle.c_syntax.specs.declared.node.Standalone.TheVariants as standalone
 use Rattle.c_syntax.specs.declared.node.NodeKind.{NodeKind}
+use Rattle.c_syntax.specs.declared.node.NodeKind.TheVariants as node
+use Rattle.c_tokens.specs.declared.token.Spot.{Spot}
 use Rattle.c_syntax.specs.Numbered.{tree_at}
 use Rattle.c_check.specs.declared.act.Act.{Act}
 use Rattle.c_check.specs.declared.role.Role.{Role}
+use Rattle.c_check.specs.declared.role.Role.TheVariants as role
 use Rattle.c_check.specs.declared.walk.Task.{Task}
 use Rattle.c_check.specs.declared.walk.Walk.{Walk}
-use Rattle.c_check.specs.Acts.{acts}
+use Rattle.c_check.specs.Acts.{acts, each}
 use Rattle.c_check.specs.Tasks.{told_by, told_by_all, left_of, IsThere, AreThere}
-use Rattle.c_check.specs.Steps.{Puts, weight_by, weight_left}
+use Rattle.c_check.specs.Steps.{Puts, passes, standalone_acts, weight_by, weight_left}
 
 -- a task is put before the others
 pub put : (trees : List Tree) (task : Task) (old new : Walk) → new.tasks.items ≡ old.tasks.items ++ task ∷ [] → IsThere trees task → AreThere trees old → Puts trees (told_by trees task) (weight_by trees task) old new
@@ -51,3 +57,27 @@ acts_of around kind (Node other spot name number text children) at = ap (λ (one
 
 pub keep_as : {trees : List Tree} {walk : Walk} (told : List Act) (limit : ℕ) → told ≡ [] → AreThere trees walk → Puts trees told limit walk walk
 keep_as {trees} {walk} told limit none are = puts_as (sym none) (omega arith) (keep trees limit walk are)
+
+-- what a node does that does what its children do
+pub acts_passing : (around : Role) (kind : NodeKind) (tree : Tree) → kind ≡ kind_of tree → passes kind ≡ true → each role.Plain (children_of tree) ≡ acts around tree
+unfolding acts
+acts_passing around kind tree at passing = sym (by-kind kind (spot_of tree) (name_of tree) (number_of tree) (text_of tree) (children_of tree) passing) ∙ acts_of around kind tree at
+  where
+    by-kind : (kind : NodeKind) (spot : Spot) (name number : ℕ) (text : List ℕ) (children : Children) → passes kind ≡ true → acts around (Node kind spot name number text children) ≡ each role.Plain children
+    by-kind node.Program spot name number text children passing = refl
+    by-kind node.Globals spot name number text children passing = refl
+    by-kind node.Locals spot name number text children passing = refl
+    by-kind node.If spot name number text children passing = refl
+    by-kind node.While spot name number text children passing = refl
+    by-kind node.Step spot name number text children passing = refl
+    by-kind node.Called spot name number text children passing = refl
+    by-kind (node.Binary operator) spot name number text children passing = refl
+    by-kind (node.Unary operator) spot name number text children passing = refl
+    by-kind node.Paren spot name number text children passing = refl
+    by-kind node.Section spot name number text children passing = refl
+    by-kind other spot name number text children passing = absurd (false≢true passing)
+
+pub acts_standalone : (around : Role) (which : Standalone) (tree : Tree) → node.Standalone which ≡ kind_of tree → standalone_acts which (spot_of tree) ≡ acts around tree
+unfolding acts
+acts_standalone around standalone.Barrier tree at = acts_of around (node.Standalone standalone.Barrier) tree at
+acts_standalone around standalone.Taskwait tree at = acts_of around (node.Standalone standalone.Taskwait) tree at

@@ -1,10 +1,14 @@
 -- What a step of a walk does to what is left: tasks are put before the others.
-use Rattle.std.specs.Prelude.{ℕ, ◌≡◌, ◌≤◌, ◌+◌, List, [], ◌++◌, Option, Some, None, sum_by}
+use Rattle.std.specs.Prelude.{ℕ, Bool, true, false, ◌∷◌, ◌≡◌, ◌≤◌, ◌+◌, List, [], ◌++◌, Option, Some, None, sum_by}
+use Rattle.c_tokens.specs.declared.token.Spot.{Spot}
+use Rattle.c_syntax.specs.declared.node.Standalone.{Standalone}
+use Rattle.c_syntax.specs.declared.node.Standalone.TheVariants as standalone
 use Rattle.c_syntax.specs.declared.node.NodeKind.{NodeKind}
 use Rattle.c_syntax.specs.declared.node.NodeKind.TheVariants as node
 use Rattle.c_syntax.specs.Tree.{Tree, Children, at_place, children_of, kind_of}
 use Rattle.c_syntax.specs.Numbered.{tree_at}
 use Rattle.c_check.specs.declared.act.Act.{Act}
+use Rattle.c_check.specs.declared.act.Act.TheVariants.{Barrier}
 use Rattle.c_check.specs.declared.act.DataClause.TheVariants as clause
 use Rattle.c_check.specs.declared.role.Naming.TheVariants as naming
 use Rattle.c_check.specs.declared.role.Role.TheVariants as role
@@ -63,3 +67,22 @@ outside_by node.IfClause children = each role.Plain children
 outside_by (node.Data which) children = names (naming.Mentioned (data_of which)) children
 outside_by (node.Reduction operator) children = names (naming.Mentioned clause.Reduced) children
 outside_by other children = []
+
+abbrev pub standalone_acts : Standalone → Spot → List Act
+standalone_acts standalone.Barrier spot = Barrier spot ∷ []
+standalone_acts standalone.Taskwait spot = []
+
+-- whether a node does what its children do, and nothing else
+abbrev pub passes : NodeKind → Bool
+passes node.Program = true
+passes node.Globals = true
+passes node.Locals = true
+passes node.If = true
+passes node.While = true
+passes node.Step = true
+passes node.Called = true
+passes (node.Binary operator) = true
+passes (node.Unary operator) = true
+passes node.Paren = true
+passes node.Section = true
+passes other = false

@@ -5,14 +5,14 @@
 
 ghost use Rattle.std.specs.Prelude.{ℕ, ◌≡◌, ◌<◌, ◌≤◌, ◌+◌, [], ◌∷◌, ◌++◌, List, Option, None, length, if◌then◌else◌, unwrap_or, IfOk, IfSome, OnOk, MatchOption};
 ghost use Rattle.std.specs.Option.{option_map};
-ghost use Rattle.c_syntax.specs.Tree.{Tree as Spelled, child_of, children_of, kind_of, name_of, spot_of, text_of};
+ghost use Rattle.c_syntax.specs.Tree.{Tree as Spelled, child_of, children_of, kind_of, name_of, number_of, spot_of, text_of};
 ghost use Rattle.c_syntax.specs.Derivation.{nothing};
 ghost use Rattle.c_syntax.specs.Numbered.{root_tree, tree_at};
 ghost use Rattle.c_check.specs.Acts as texts;
 ghost use Rattle.c_check.specs.Loops.{loop_name as loop_name_of};
 ghost use Rattle.c_check.specs.Tasks.{AreThere, IsThere, children_at, left_of, told_by};
 ghost use Rattle.c_check.specs.Weights.{weight_among, weight_below, weight_if};
-ghost use Rattle.c_check.specs.Steps.{Puts, clause_in, outside_by, part_of, told_if, weight_by, weight_in};
+ghost use Rattle.c_check.specs.Steps.{Puts, clause_in, outside_by, part_of, passes, standalone_acts, told_if, weight_by, weight_in};
 
 use crate::act::{Act, DataClause, Printed, Returned, Single, Thing, Usage, Value};
 use crate::loops::loop_name;
@@ -113,7 +113,7 @@ impl Walk {
                 self.declare(name, spot, Thing::Int)
             }
             NodeKind::GlobalArray | NodeKind::LocalArray => {
-                self.declare(name, spot, Thing::Array(tree.number(node) as u32))
+                self.declare(name, spot, Thing::Array(number_at(tree, node)))
             }
             NodeKind::LocalSet => {
                 self.declare(name, spot, Thing::Int)?;
@@ -132,9 +132,7 @@ impl Walk {
             }
             NodeKind::Place => self.place(tree, role, node),
             NodeKind::Call => self.call(tree, role, node),
-            NodeKind::Standalone(Standalone::Barrier) => {
-                self.then(Task::Tell(Act::Barrier { spot }))
-            }
+            NodeKind::Standalone(standalone) => self.standalone(standalone, spot),
             NodeKind::Construct(directive) => self.construct(alloc, tree, directive, node),
             kind if passes_on(kind) => self.then(Task::Each(Role::Plain, node, 0)),
             _ => Ok(()),
@@ -146,6 +144,16 @@ impl Walk {
         ensures { OnOk result ((trees : List Spelled) → AreThere trees self.old → Puts trees (Act.Declare name spot thing ∷ []) 0 self.old self.new) }
     {
         self.then(Task::Tell(Act::Declare { name, spot, thing }))
+    }
+
+    /// A directive without a statement.
+    fn standalone(&mut self, standalone: Standalone, spot: Spot) -> Result<(), AllocError>
+        ensures { OnOk result ((trees : List Spelled) → AreThere trees self.old → Puts trees (standalone_acts standalone spot) 0 self.old self.new) }
+    {
+        match standalone {
+            Standalone::Barrier => self.then(Task::Tell(Act::Barrier { spot })),
+            Standalone::Taskwait => Ok(()),
+        }
     }
 
     /// A scope, with the children of a node in it.
@@ -423,7 +431,9 @@ impl Walk {
 }
 
 /// Whether a node does what its children do, and nothing else.
-fn passes_on(kind: NodeKind) -> bool {
+fn passes_on(kind: NodeKind) -> bool
+    ensures { result ≡ passes kind }
+{
     matches!(
         kind,
         NodeKind::Program
@@ -595,13 +605,20 @@ fn data_of(which: Data) -> DataClause
     }
 }
 
+fn number_at(tree: &Tree, node: u32) -> u32
+    requires { node < length tree.now.trees }
+    ensures { result ≡ number_of (tree_at tree.now.trees node) }
+{
+    tree.number(node) as u32
+}
+
 /// The chunk size of a `schedule`, 1 where there is none.
 fn chunk_of(tree: &Tree, clause: u32) -> u32
     requires { clause < length tree.now.trees }
     ensures { result ≡ texts.chunk_of (children_of (tree_at tree.now.trees clause)) }
 {
     match tree.child(clause, 0) {
-        Some(number) => tree.number(number) as u32,
+        Some(number) => number_at(tree, number),
         None => 1,
     }
 }

@@ -30,11 +30,11 @@ returns c =
     let block = tree_at trees c.in-Some-Some-Some.block in
     on_ok_weaker c.then-4.result
     (λ put.
-      let end = c.in_ok-then.ensures trees tt c.requires.there in
-      let body = c.in_ok-then-2.ensures trees (omega (arith, c.in-Some-Some-Some.ensures''.before, c.requires.node)) end.there in
-      let named = c.in_ok-then-3.ensures trees (omega (arith, c.in-Some-Some-Some.ensures'.before, c.requires.node)) body.there in
-      puts_as
-      (rw (c.name.ensures, c.spot.ensures, c.in_ok-count.ensures) refl ∙ sym (function_all c.args.returns children name params block c.in-Some-Some-Some.ensures.child c.in-Some-Some-Some.ensures'.child c.in-Some-Some-Some.ensures''.child))
-      (omega (arith, weighs_child children 0 1 name c.in-Some-Some-Some.ensures.child refl, weighs_child children 1 2 params c.in-Some-Some-Some.ensures'.child refl, weighs_child children 2 3 block c.in-Some-Some-Some.ensures''.child refl, weight_children params, weight_children block))
-      (both (both (both end body) named) (put trees tt named.there)))
+    let end = c.in_ok-then.ensures trees tt c.requires.there in
+    let body = c.in_ok-then-2.ensures trees (omega (arith, c.in-Some-Some-Some.ensures''.before, c.requires.node)) end.there in
+    let named = c.in_ok-then-3.ensures trees (omega (arith, c.in-Some-Some-Some.ensures'.before, c.requires.node)) body.there in
+    puts_as
+    (rw (c.name.ensures, c.spot.ensures, c.in_ok-count.ensures) refl ∙ sym (function_all c.args.returns children name params block c.in-Some-Some-Some.ensures.child c.in-Some-Some-Some.ensures'.child c.in-Some-Some-Some.ensures''.child))
+    (omega (arith, weighs_child children 0 1 name c.in-Some-Some-Some.ensures.child refl, weighs_child children 1 2 params c.in-Some-Some-Some.ensures'.child refl, weighs_child children 2 3 block c.in-Some-Some-Some.ensures''.child refl, weight_children params, weight_children block))
+    (both (both (both end body) named) (put trees tt named.there)))
     c.then-4.ensures

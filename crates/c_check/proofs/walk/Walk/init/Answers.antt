@@ -20,9 +20,9 @@ returns c =
     let name = tree_at trees c.in-Some.name in
     on_ok_weaker c.then.result
     (λ put.
-      let declared = c.in_ok-declare.ensures trees c.requires.there in
-      puts_as
-      (rw (c.name.ensures, c.spot.ensures) refl ∙ sym (init_child children name c.in-Some.ensures.child))
-      (omega (arith, weighs_child children 0 1 name c.in-Some.ensures.child refl))
-      (both declared (put trees c.requires.node declared.there)))
+    let declared = c.in_ok-declare.ensures trees c.requires.there in
+    puts_as
+    (rw (c.name.ensures, c.spot.ensures) refl ∙ sym (init_child children name c.in-Some.ensures.child))
+    (omega (arith, weighs_child children 0 1 name c.in-Some.ensures.child refl))
+    (both declared (put trees c.requires.node declared.there)))
     c.then.ensures

@@ -10,5 +10,5 @@ returns-in-Some c =
     let trees = c.args.tree.now.trees in
     on_ok_weaker c.then.result
     (λ put. rw (← c.in-Some.ensures.child)
-      (puts_as refl (omega (arith, weight_is (tree_at trees c.in-Some.part))) (put trees (omega (arith, c.in-Some.ensures.before, c.requires.node)) c.requires.there)))
+    (puts_as refl (omega (arith, weight_is (tree_at trees c.in-Some.part))) (put trees (omega (arith, c.in-Some.ensures.before, c.requires.node)) c.requires.there)))
     c.then.ensures

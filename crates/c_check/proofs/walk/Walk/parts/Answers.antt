@@ -25,12 +25,12 @@ returns c =
     let children = children_of (tree_at trees c.args.node) in
     on_ok_weaker c.then-3.result
     (λ put.
-      let close = c.in_ok-then.ensures trees tt c.requires.there in
-      let body = c.in_ok-then-2.ensures trees c.requires.node close.there in
-      let mark = c.in_ok-looped.ensures trees body.there in
-      let inner = both (both (both (both (both close body) mark) c.in_ok-part.ensures) c.in_ok-part-2.ensures) c.in_ok-part-3.ensures in
-      puts_as
-      (ap (λ (told : List Act). Open ∷ told) (simp append_assoc refl ∙ ap (λ (told : List Act). told ++ Close ∷ []) (sym (parts_are (looped c.args.role) children))))
-      (omega (arith, weighs_parts children))
-      (both inner (put trees tt c.in_ok-part-3.ensures.there)))
+    let close = c.in_ok-then.ensures trees tt c.requires.there in
+    let body = c.in_ok-then-2.ensures trees c.requires.node close.there in
+    let mark = c.in_ok-looped.ensures trees body.there in
+    let inner = both (both (both (both (both close body) mark) c.in_ok-part.ensures) c.in_ok-part-2.ensures) c.in_ok-part-3.ensures in
+    puts_as
+    (ap (λ (told : List Act). Open ∷ told) (simp append_assoc refl ∙ ap (λ (told : List Act). told ++ Close ∷ []) (sym (parts_are (looped c.args.role) children))))
+    (omega (arith, weighs_parts children))
+    (both inner (put trees tt c.in_ok-part-3.ensures.there)))
     c.then-3.ensures

@@ -20,9 +20,9 @@ returns c =
     let place = tree_at trees c.in-Some.place in
     on_ok_weaker c.then-2.result
     (λ put.
-      let rest = c.in_ok-then.ensures trees c.requires.node c.requires.there in
-      puts_as
-      (sym (target_child c.args.role children place c.in-Some.ensures.child))
-      (omega (arith, weighs_child children 0 1 place c.in-Some.ensures.child refl, weight_is place))
-      (both rest (put trees (omega (arith, c.in-Some.ensures.before, c.requires.node)) rest.there)))
+    let rest = c.in_ok-then.ensures trees c.requires.node c.requires.there in
+    puts_as
+    (sym (target_child c.args.role children place c.in-Some.ensures.child))
+    (omega (arith, weighs_child children 0 1 place c.in-Some.ensures.child refl, weight_is place))
+    (both rest (put trees (omega (arith, c.in-Some.ensures.before, c.requires.node)) rest.there)))
     c.then-2.ensures
