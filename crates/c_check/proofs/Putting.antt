@@ -1,8 +1,7 @@
 -- Tasks that are put before the others: what they tell and weigh, one after another.
-use Rattle.std.proofs.Common.{◌≡◌, ℕ, ◌+◌, ◌<◌, ◌≤◌, true, List, [], ◌∷◌, ◌++◌, length, reverse, sum_by, refl, sym, ap, ◌∙◌, append_assoc, arith}
-use Rattle.std.specs.List.{All}
+use Rattle.std.proofs.Common.{◌≡◌, ℕ, ◌+◌, ◌≤◌, true, List, [], ◌∷◌, ◌++◌, length, reverse, sum_by, refl, sym, ap, ◌∙◌, append_assoc, arith}
 use Rattle.std.proofs.lemmas.Bool.{false≢true}
-use Rattle.std.proofs.lemmas.List.{reverse-append}
+use Rattle.std.proofs.lemmas.List.{nil_from_length, reverse-append}
 use Rattle.std.proofs.lemmas.List.Elements.{All-push, All-same}
 use Rattle.std.proofs.lemmas.List.Sums.{sum_by-append}
 use Rattle.c_syntax.specs.Tree.{Tree, Children, spot_of, name_of, number_of, text_of, children_of, kind_of}
@@ -12,7 +11,6 @@ use Rattle.c_syntax.specs.declared.node.Standalone.TheVariants as standalone
 use Rattle.c_syntax.specs.declared.node.NodeKind.{NodeKind}
 use Rattle.c_syntax.specs.declared.node.NodeKind.TheVariants as node
 use Rattle.c_tokens.specs.declared.token.Spot.{Spot}
-use Rattle.c_syntax.specs.Numbered.{tree_at}
 use Rattle.c_check.specs.declared.act.Act.{Act}
 use Rattle.c_check.specs.declared.role.Role.{Role}
 use Rattle.c_check.specs.declared.role.Role.TheVariants as role
@@ -20,7 +18,7 @@ use Rattle.c_check.specs.declared.walk.Task.{Task}
 use Rattle.c_check.specs.declared.walk.Walk.{Walk}
 use Rattle.c_check.specs.Acts.{acts, each}
 use Rattle.c_check.specs.Tasks.{told_by, told_by_all, left_of, IsThere, AreThere}
-use Rattle.c_check.specs.Steps.{Puts, passes, standalone_acts, weight_by, weight_left}
+use Rattle.c_check.specs.Steps.{Puts, passes, standalone_acts, weight_by}
 
 -- a task is put before the others
 pub put : (trees : List Tree) (task : Task) (old new : Walk) → new.tasks.items ≡ old.tasks.items ++ task ∷ [] → IsThere trees task → AreThere trees old → Puts trees (told_by trees task) (weight_by trees task) old new
@@ -81,3 +79,14 @@ pub acts_standalone : (around : Role) (which : Standalone) (tree : Tree) → nod
 unfolding acts
 acts_standalone around standalone.Barrier tree at = acts_of around (node.Standalone standalone.Barrier) tree at
 acts_standalone around standalone.Taskwait tree at = acts_of around (node.Standalone standalone.Taskwait) tree at
+
+-- the next task is taken
+module _ (trees : List Tree) (old new : Walk) (next : Task) (popped : old.tasks.items ≡ new.tasks.items ++ next ∷ []) where
+  pub taken_tells : left_of trees old ≡ told_by trees next ++ left_of trees new
+  unfolding told_by_all
+  taken_tells = ap (λ (items : List Task). told_by_all trees (reverse items)) popped ∙ ap (told_by_all trees) (reverse-append new.tasks.items (next ∷ []))
+
+-- no task is left
+pub none_left : (trees : List Tree) (walk : Walk) → length walk.tasks.items ≡ 0 → left_of trees walk ≡ []
+unfolding told_by_all
+none_left trees walk none = ap (λ (items : List Task). told_by_all trees (reverse items)) (nil_from_length walk.tasks.items none)

@@ -171,11 +171,13 @@ impl Walk {
         requires there { AreThere tree.now.trees self.old }
         ensures { OnOk result (Puts tree.now.trees (texts.function returns (children_of (tree_at tree.now.trees node))) (weight_below (tree_at tree.now.trees node)) self.old self.new) }
     {
-        let (Some(name), Some(params), Some(block)) = (
-            tree.child(node, 0),
-            tree.child(node, 1),
-            tree.child(node, 2),
-        ) else {
+        let Some(name) = tree.child(node, 0) else {
+            return Ok(());
+        };
+        let Some(params) = tree.child(node, 1) else {
+            return Ok(());
+        };
+        let Some(block) = tree.child(node, 2) else {
             return Ok(());
         };
         let begin = Act::Begin {

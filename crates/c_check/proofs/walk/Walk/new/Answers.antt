@@ -1,4 +1,4 @@
-use Rattle.std.proofs.Common.{◌≡◌, ◌∷◌, [], ◌++◌, List, reverse, refl, ap, ◌∙◌}
+use Rattle.std.proofs.Common.{◌≡◌, ◌∷◌, [], List, reverse, refl, ap, ◌∙◌}
 use Rattle.c_check.specs.declared.act.Act.TheVariants.{Finish}
 use Rattle.c_check.specs.declared.role.Role.TheVariants.{Plain}
 use Rattle.c_check.specs.declared.walk.Task.{Task}

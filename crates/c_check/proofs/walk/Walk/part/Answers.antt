@@ -1,4 +1,4 @@
-use Rattle.std.proofs.Common.{refl, sym, arith}
+use Rattle.std.proofs.Common.{refl, arith}
 use Rattle.std.proofs.lemmas.Result.{on_ok_weaker}
 use Rattle.c_syntax.specs.Numbered.{tree_at}
 use Rattle.c_check.proofs.Putting.{puts_as}
