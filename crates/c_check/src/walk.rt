@@ -3,12 +3,16 @@
 //! What is left is a list of tasks, so the walk doesn't call itself, however deep a tree is. A task on a node is replaced by tasks on
 //! its children.
 
-ghost use Rattle.std.specs.Prelude.{◌≡◌, [], ◌∷◌, ◌++◌, IfOk, OnOk, MatchOption};
-ghost use Rattle.c_syntax.specs.Numbered.{root_tree};
-ghost use Rattle.c_check.specs.declared.act.Act.TheVariants as act;
-ghost use Rattle.c_check.specs.declared.role.Role.TheVariants as role;
-ghost use Rattle.c_check.specs.Acts.{acts};
-ghost use Rattle.c_check.specs.Tasks.{AreThere, left_of};
+ghost use Rattle.std.specs.Prelude.{ℕ, ◌≡◌, ◌<◌, ◌≤◌, ◌+◌, [], ◌∷◌, ◌++◌, List, Option, None, length, if◌then◌else◌, unwrap_or, IfOk, IfSome, OnOk, MatchOption};
+ghost use Rattle.std.specs.Option.{option_map};
+ghost use Rattle.c_syntax.specs.Tree.{Tree as Spelled, child_of, children_of, kind_of, name_of, number_of, spot_of, text_of};
+ghost use Rattle.c_syntax.specs.Derivation.{nothing};
+ghost use Rattle.c_syntax.specs.Numbered.{root_tree, tree_at};
+ghost use Rattle.c_check.specs.Acts as texts;
+ghost use Rattle.c_check.specs.Loops.{loop_name as loop_name_of};
+ghost use Rattle.c_check.specs.Tasks.{AreThere, IsThere, children_at, left_of, told_by};
+ghost use Rattle.c_check.specs.Weights.{weight_among, weight_below, weight_if};
+ghost use Rattle.c_check.specs.Steps.{Puts, clause_in, outside_by, part_of, passes, standalone_acts, told_if, weight_by, weight_in};
 
 use crate::act::{Act, DataClause, Printed, Returned, Single, Thing, Usage, Value};
 use crate::loops::loop_name;
@@ -47,8 +51,8 @@ pub struct Walk {
 impl Walk {
     /// The walk through a program from its beginning.
     pub fn new(alloc: Global, tree: &Tree) -> Result<Walk, AllocError>
-        ensures left { IfOk result (λ walk. left_of tree.now.trees walk ≡ acts role.Plain (root_tree tree.now) ++ act.Finish tree.now.end ∷ []) }
-        ensures there { IfOk result (AreThere tree.now.trees) }
+        ensures left { IfOk result (λ walk. left_of tree.now.trees walk ≡ texts.acts (Role.Plain) (root_tree tree.now) ++ Act.Finish tree.now.end ∷ []) }
+        ensures there { IfOk result (λ walk. AreThere tree.now.trees walk) }
     {
         let mut tasks = Vec::new(alloc);
         tasks.push(Task::Tell(Act::Finish { spot: tree.end() }))?;
@@ -59,8 +63,8 @@ impl Walk {
     /// The next act, or `None` at the end.
     pub fn next(&mut self, alloc: Global, tree: &Tree) -> Result<Option<Act>, AllocError>
         requires { AreThere tree.now.trees self.old }
+        ensures next { IfOk result (λ act. MatchOption act ((left_of tree.now.trees self.old ≡ []) × (left_of tree.now.trees self.new ≡ [])) (λ one. left_of tree.now.trees self.old ≡ one ∷ left_of tree.now.trees self.new)) }
         ensures there { OnOk result (AreThere tree.now.trees self.new) }
-        ensures next { IfOk result (λ found. MatchOption found ((left_of tree.now.trees self.old ≡ []) × (left_of tree.now.trees self.new ≡ [])) (λ one. left_of tree.now.trees self.old ≡ one ∷ left_of tree.now.trees self.new)) }
     {
         while let Some(task) = self.tasks.pop() {
             if let Task::Tell(act) = task {
@@ -72,7 +76,11 @@ impl Walk {
     }
 
     /// Puts what a task consists of in its place.
-    fn begin(&mut self, alloc: Global, tree: &Tree, task: Task) -> Result<(), AllocError> {
+    fn begin(&mut self, alloc: Global, tree: &Tree, task: Task) -> Result<(), AllocError>
+        requires task { IsThere tree.now.trees task }
+        requires there { AreThere tree.now.trees self.old }
+        ensures { OnOk result (Puts tree.now.trees (told_by tree.now.trees task) (weight_in tree.now.trees task) self.old self.new) }
+    {
         match task {
             Task::Tell(act) => self.then(Task::Tell(act)),
             Task::Visit(role, node) => self.visit(alloc, tree, role, node),
@@ -85,19 +93,19 @@ impl Walk {
     }
 
     /// A task that comes before all others.
-    fn then(&mut self, task: Task) -> Result<(), AllocError> {
+    fn then(&mut self, task: Task) -> Result<(), AllocError>
+        ensures { OnOk result ((trees : List Spelled) → IsThere trees task → AreThere trees self.old → Puts trees (told_by trees task) (weight_by trees task) self.old self.new) }
+    {
         self.tasks.push(task)?;
         Ok(())
     }
 
     /// What a node does.
-    fn visit(
-        &mut self,
-        alloc: Global,
-        tree: &Tree,
-        role: Role,
-        node: u32,
-    ) -> Result<(), AllocError> {
+    fn visit(&mut self, alloc: Global, tree: &Tree, role: Role, node: u32) -> Result<(), AllocError>
+        requires node { node < length tree.now.trees }
+        requires there { AreThere tree.now.trees self.old }
+        ensures { OnOk result (Puts tree.now.trees (texts.acts role (tree_at tree.now.trees node)) (weight_below (tree_at tree.now.trees node)) self.old self.new) }
+    {
         let (name, spot) = (tree.name(node), tree.spot(node));
         match tree.kind(node) {
             NodeKind::Function(returns) => self.function(tree, returns, node),
@@ -105,7 +113,7 @@ impl Walk {
                 self.declare(name, spot, Thing::Int)
             }
             NodeKind::GlobalArray | NodeKind::LocalArray => {
-                self.declare(name, spot, Thing::Array(tree.number(node) as u32))
+                self.declare(name, spot, Thing::Array(number_at(tree, node)))
             }
             NodeKind::LocalSet => {
                 self.declare(name, spot, Thing::Int)?;
@@ -124,9 +132,7 @@ impl Walk {
             }
             NodeKind::Place => self.place(tree, role, node),
             NodeKind::Call => self.call(tree, role, node),
-            NodeKind::Standalone(Standalone::Barrier) => {
-                self.then(Task::Tell(Act::Barrier { spot }))
-            }
+            NodeKind::Standalone(standalone) => self.standalone(standalone, spot),
             NodeKind::Construct(directive) => self.construct(alloc, tree, directive, node),
             kind if passes_on(kind) => self.then(Task::Each(Role::Plain, node, 0)),
             _ => Ok(()),
@@ -134,24 +140,44 @@ impl Walk {
     }
 
     /// A name is declared.
-    fn declare(&mut self, name: u32, spot: Spot, thing: Thing) -> Result<(), AllocError> {
+    fn declare(&mut self, name: u32, spot: Spot, thing: Thing) -> Result<(), AllocError>
+        ensures { OnOk result ((trees : List Spelled) → AreThere trees self.old → Puts trees (Act.Declare name spot thing ∷ []) 0 self.old self.new) }
+    {
         self.then(Task::Tell(Act::Declare { name, spot, thing }))
     }
 
+    /// A directive without a statement.
+    fn standalone(&mut self, standalone: Standalone, spot: Spot) -> Result<(), AllocError>
+        ensures { OnOk result ((trees : List Spelled) → AreThere trees self.old → Puts trees (standalone_acts standalone spot) 0 self.old self.new) }
+    {
+        match standalone {
+            Standalone::Barrier => self.then(Task::Tell(Act::Barrier { spot })),
+            Standalone::Taskwait => Ok(()),
+        }
+    }
+
     /// A scope, with the children of a node in it.
-    fn block(&mut self, node: u32) -> Result<(), AllocError> {
+    fn block(&mut self, node: u32) -> Result<(), AllocError>
+        ensures { OnOk result ((trees : List Spelled) → node < length trees → AreThere trees self.old → Puts trees (Act.Open ∷ texts.each (Role.Plain) (children_of (tree_at trees node)) ++ Act.Close ∷ []) (weight_below (tree_at trees node)) self.old self.new) }
+    {
         self.then(Task::Tell(Act::Close))?;
         self.then(Task::Each(Role::Plain, node, 0))?;
         self.then(Task::Tell(Act::Open))
     }
 
     /// A function: its name, its parameters, and what is in its block.
-    fn function(&mut self, tree: &Tree, returns: Returns, node: u32) -> Result<(), AllocError> {
-        let (Some(name), Some(params), Some(block)) = (
-            tree.child(node, 0),
-            tree.child(node, 1),
-            tree.child(node, 2),
-        ) else {
+    fn function(&mut self, tree: &Tree, returns: Returns, node: u32) -> Result<(), AllocError>
+        requires node { node < length tree.now.trees }
+        requires there { AreThere tree.now.trees self.old }
+        ensures { OnOk result (Puts tree.now.trees (texts.function returns (children_of (tree_at tree.now.trees node))) (weight_below (tree_at tree.now.trees node)) self.old self.new) }
+    {
+        let Some(name) = tree.child(node, 0) else {
+            return Ok(());
+        };
+        let Some(params) = tree.child(node, 1) else {
+            return Ok(());
+        };
+        let Some(block) = tree.child(node, 2) else {
             return Ok(());
         };
         let begin = Act::Begin {
@@ -167,20 +193,36 @@ impl Walk {
     }
 
     /// A `for`, of which each part may be absent.
-    fn parts(&mut self, tree: &Tree, role: Role, node: u32) -> Result<(), AllocError> {
+    fn parts(&mut self, tree: &Tree, role: Role, node: u32) -> Result<(), AllocError>
+        requires node { node < length tree.now.trees }
+        requires there { AreThere tree.now.trees self.old }
+        ensures { OnOk result (Puts tree.now.trees (Act.Open ∷ texts.first_part (texts.looped role) (children_of (tree_at tree.now.trees node)) ++ Act.Close ∷ []) (weight_below (tree_at tree.now.trees node)) self.old self.new) }
+    {
         self.then(Task::Tell(Act::Close))?;
         self.then(Task::Each(Role::Plain, node, 3))?;
-        if let Role::Looped(name) = role {
-            self.then(Task::Tell(Act::Loop { name }))?;
-        }
+        self.looped(role)?;
         self.part(tree, node, 2)?;
         self.part(tree, node, 1)?;
         self.part(tree, node, 0)?;
         self.then(Task::Tell(Act::Open))
     }
 
+    /// The body of a loop that a directive shares out begins, if it is that of one.
+    fn looped(&mut self, role: Role) -> Result<(), AllocError>
+        ensures { OnOk result ((trees : List Spelled) → AreThere trees self.old → Puts trees (texts.looped role) 0 self.old self.new) }
+    {
+        match role {
+            Role::Looped(name) => self.then(Task::Tell(Act::Loop { name })),
+            _ => Ok(()),
+        }
+    }
+
     /// A part of a `for`, if it is there.
-    fn part(&mut self, tree: &Tree, node: u32, place: u32) -> Result<(), AllocError> {
+    fn part(&mut self, tree: &Tree, node: u32, place: u32) -> Result<(), AllocError>
+        requires node { node < length tree.now.trees }
+        requires there { AreThere tree.now.trees self.old }
+        ensures { OnOk result (Puts tree.now.trees (part_of (child_of (tree_at tree.now.trees node) place)) (weight_if (child_of (tree_at tree.now.trees node) place)) self.old self.new) }
+    {
         match tree.child(node, place) {
             Some(part) => self.then(Task::Visit(Role::Plain, part)),
             None => Ok(()),
@@ -188,7 +230,11 @@ impl Walk {
     }
 
     /// A variable that a loop declares.
-    fn init(&mut self, tree: &Tree, node: u32) -> Result<(), AllocError> {
+    fn init(&mut self, tree: &Tree, node: u32) -> Result<(), AllocError>
+        requires node { node < length tree.now.trees }
+        requires there { AreThere tree.now.trees self.old }
+        ensures { OnOk result (Puts tree.now.trees (texts.init (children_of (tree_at tree.now.trees node))) (weight_below (tree_at tree.now.trees node)) self.old self.new) }
+    {
         let Some(name) = tree.child(node, 0) else {
             return Ok(());
         };
@@ -196,23 +242,32 @@ impl Walk {
         self.then(Task::Each(Role::Plain, node, 1))
     }
 
-    fn return_(&mut self, tree: &Tree, node: u32, spot: Spot) -> Result<(), AllocError> {
-        let returned = match tree.child(node, 0) {
-            Some(_) => Returned::Something,
-            None => Returned::Nothing,
-        };
+    fn return_(&mut self, tree: &Tree, node: u32, spot: Spot) -> Result<(), AllocError>
+        requires node { node < length tree.now.trees }
+        requires there { AreThere tree.now.trees self.old }
+        ensures { OnOk result (Puts tree.now.trees (texts.each (Role.Used) (children_of (tree_at tree.now.trees node)) ++ Act.Return spot (texts.returned_of (children_of (tree_at tree.now.trees node))) ∷ []) (weight_below (tree_at tree.now.trees node)) self.old self.new) }
+    {
+        let returned = returned_of(tree, node);
         self.then(Task::Tell(Act::Return { spot, returned }))?;
         self.then(Task::Each(Role::Used, node, 0))
     }
 
-    fn print(&mut self, tree: &Tree, node: u32, spot: Spot) -> Result<(), AllocError> {
+    fn print(&mut self, tree: &Tree, node: u32, spot: Spot) -> Result<(), AllocError>
+        requires node { node < length tree.now.trees }
+        requires there { AreThere tree.now.trees self.old }
+        ensures { OnOk result (Puts tree.now.trees (texts.each (Role.Plain) (children_of (tree_at tree.now.trees node)) ++ Act.Print spot (texts.as_many (texts.numbers_in (text_of (tree_at tree.now.trees node))) (texts.count (children_of (tree_at tree.now.trees node)))) ∷ []) (weight_below (tree_at tree.now.trees node)) self.old self.new) }
+    {
         let printed = as_many(numbers_in(tree.text(node)), count(tree, node)?);
         self.then(Task::Tell(Act::Print { spot, printed }))?;
         self.then(Task::Each(Role::Plain, node, 0))
     }
 
     /// A place that is assigned, and what it is set to.
-    fn target(&mut self, tree: &Tree, role: Role, node: u32) -> Result<(), AllocError> {
+    fn target(&mut self, tree: &Tree, role: Role, node: u32) -> Result<(), AllocError>
+        requires node { node < length tree.now.trees }
+        requires there { AreThere tree.now.trees self.old }
+        ensures { OnOk result (Puts tree.now.trees (texts.target role (children_of (tree_at tree.now.trees node))) (weight_below (tree_at tree.now.trees node)) self.old self.new) }
+    {
         let Some(place) = tree.child(node, 0) else {
             return Ok(());
         };
@@ -221,26 +276,35 @@ impl Walk {
     }
 
     /// A variable, with its index.
-    fn place(&mut self, tree: &Tree, role: Role, node: u32) -> Result<(), AllocError> {
+    fn place(&mut self, tree: &Tree, role: Role, node: u32) -> Result<(), AllocError>
+        requires node { node < length tree.now.trees }
+        requires there { AreThere tree.now.trees self.old }
+        ensures { OnOk result (Puts tree.now.trees (Act.Use (name_of (tree_at tree.now.trees node)) (spot_of (tree_at tree.now.trees node)) (texts.place_usage (children_of (tree_at tree.now.trees node))) ∷ texts.assigned role (name_of (tree_at tree.now.trees node)) ++ texts.each (Role.Plain) (children_of (tree_at tree.now.trees node))) (weight_below (tree_at tree.now.trees node)) self.old self.new) }
+    {
         let (name, spot) = (tree.name(node), tree.spot(node));
-        let usage = match tree.child(node, 0) {
-            Some(_) => Usage::Indexed,
-            None => Usage::Plain,
-        };
+        let usage = place_usage(tree, node);
         self.then(Task::Each(Role::Plain, node, 0))?;
-        if role == Role::Target {
-            self.then(Task::Tell(Act::Assign { name }))?;
-        }
+        self.assigned(role, name)?;
         self.then(Task::Tell(Act::Use { name, spot, usage }))
     }
 
+    /// A variable is assigned, if it is what an assignment sets.
+    fn assigned(&mut self, role: Role, name: u32) -> Result<(), AllocError>
+        ensures { OnOk result ((trees : List Spelled) → AreThere trees self.old → Puts trees (texts.assigned role name) 0 self.old self.new) }
+    {
+        match role {
+            Role::Target => self.then(Task::Tell(Act::Assign { name })),
+            _ => Ok(()),
+        }
+    }
+
     /// A call, with its arguments.
-    fn call(&mut self, tree: &Tree, role: Role, node: u32) -> Result<(), AllocError> {
-        let value = match role {
-            Role::Used => Value::Used,
-            _ => Value::Dropped,
-        };
-        let usage = Usage::Called(count(tree, node)?, value);
+    fn call(&mut self, tree: &Tree, role: Role, node: u32) -> Result<(), AllocError>
+        requires node { node < length tree.now.trees }
+        requires there { AreThere tree.now.trees self.old }
+        ensures { OnOk result (Puts tree.now.trees (Act.Use (name_of (tree_at tree.now.trees node)) (spot_of (tree_at tree.now.trees node)) (Usage.Called (texts.count (children_of (tree_at tree.now.trees node))) (texts.value_of role)) ∷ texts.each (Role.Plain) (children_of (tree_at tree.now.trees node))) (weight_below (tree_at tree.now.trees node)) self.old self.new) }
+    {
+        let usage = Usage::Called(count(tree, node)?, value_of(role));
         let (name, spot) = (tree.name(node), tree.spot(node));
         self.then(Task::Each(Role::Plain, node, 0))?;
         self.then(Task::Tell(Act::Use { name, spot, usage }))
@@ -253,13 +317,15 @@ impl Walk {
         tree: &Tree,
         directive: Directive,
         node: u32,
-    ) -> Result<(), AllocError> {
+    ) -> Result<(), AllocError>
+        requires node { node < length tree.now.trees }
+        requires there { AreThere tree.now.trees self.old }
+        ensures { OnOk result (Puts tree.now.trees (texts.outside (children_of (tree_at tree.now.trees node)) ++ Act.Enter (spot_of (tree_at tree.now.trees node)) directive (texts.critical_name (children_of (tree_at tree.now.trees node))) ∷ texts.inside (children_of (tree_at tree.now.trees node)) ++ texts.odd_loop directive (children_of (tree_at tree.now.trees node)) ++ texts.statements (texts.statement_role directive (children_of (tree_at tree.now.trees node))) (children_of (tree_at tree.now.trees node)) ++ Act.Leave ∷ []) (weight_below (tree_at tree.now.trees node)) self.old self.new) }
+    {
         let name = shared_loop(alloc, tree, directive, node)?;
         self.then(Task::Tell(Act::Leave))?;
         self.then(Task::Statements(role_with(name), node, 0))?;
-        if shares_loop(directive) && name.is_none() {
-            self.then(Task::Tell(Act::OddLoop))?;
-        }
+        self.odd_loop(directive, name)?;
         self.then(Task::Inside(node, 0))?;
         self.then(Task::Tell(Act::Enter {
             spot: tree.spot(node),
@@ -269,8 +335,22 @@ impl Walk {
         self.then(Task::Outside(node, 0))
     }
 
+    /// The loop that a directive shares out isn't of the form, if it shares out one and the loop has no such variable.
+    fn odd_loop(&mut self, directive: Directive, name: Option<u32>) -> Result<(), AllocError>
+        ensures { OnOk result ((trees : List Spelled) → AreThere trees self.old → Puts trees (if texts.shares_loop directive then texts.odd_with name else []) 0 self.old self.new) }
+    {
+        match name {
+            None if shares_loop(directive) => self.then(Task::Tell(Act::OddLoop)),
+            _ => Ok(()),
+        }
+    }
+
     /// The children of a node, from a place on.
-    fn each(&mut self, tree: &Tree, role: Role, node: u32, place: u32) -> Result<(), AllocError> {
+    fn each(&mut self, tree: &Tree, role: Role, node: u32, place: u32) -> Result<(), AllocError>
+        requires node { node < length tree.now.trees }
+        requires there { AreThere tree.now.trees self.old }
+        ensures { OnOk result (Puts tree.now.trees (texts.each role (children_at tree.now.trees node place)) (weight_among (children_at tree.now.trees node place)) self.old self.new) }
+    {
         let Some(child) = tree.child(node, place) else {
             return Ok(());
         };
@@ -279,61 +359,54 @@ impl Walk {
     }
 
     /// The names of a list, from a place on.
-    fn names(&mut self, tree: &Tree, why: Naming, node: u32, place: u32) -> Result<(), AllocError> {
+    fn names(&mut self, tree: &Tree, why: Naming, node: u32, place: u32) -> Result<(), AllocError>
+        requires node { node < length tree.now.trees }
+        requires there { AreThere tree.now.trees self.old }
+        ensures { OnOk result (Puts tree.now.trees (texts.names why (children_at tree.now.trees node place)) (weight_among (children_at tree.now.trees node place)) self.old self.new) }
+    {
         let Some(child) = tree.child(node, place) else {
             return Ok(());
         };
         self.then(Task::Names(why, node, next_place(place)?))?;
-        self.then(Task::Tell(named(why, tree.name(child), tree.spot(child))))
+        self.then(Task::Tell(named(tree, why, child)))
     }
 
     /// What the clauses of a construct compute and mention, from a place on.
-    fn outside(&mut self, tree: &Tree, node: u32, place: u32) -> Result<(), AllocError> {
+    fn outside(&mut self, tree: &Tree, node: u32, place: u32) -> Result<(), AllocError>
+        requires node { node < length tree.now.trees }
+        requires there { AreThere tree.now.trees self.old }
+        ensures { OnOk result (Puts tree.now.trees (texts.outside (children_at tree.now.trees node place)) (weight_among (children_at tree.now.trees node place)) self.old self.new) }
+    {
         let Some(child) = tree.child(node, place) else {
             return Ok(());
         };
         self.then(Task::Outside(node, next_place(place)?))?;
-        let (NodeKind::Clause(_), Some(clause)) = (tree.kind(child), tree.child(child, 0)) else {
+        let Some(clause) = clause_of(tree, child) else {
             return Ok(());
         };
-        match tree.kind(clause) {
-            NodeKind::NumThreads | NodeKind::IfClause => {
-                self.then(Task::Each(Role::Plain, clause, 0))
-            }
-            NodeKind::Data(which) => {
-                self.then(Task::Names(Naming::Mentioned(data_of(which)), clause, 0))
-            }
-            NodeKind::Reduction(_) => {
-                self.then(Task::Names(Naming::Mentioned(DataClause::Reduced), clause, 0))
-            }
-            _ => Ok(()),
+        match outside_of(tree, clause) {
+            Some(task) => self.then(task),
+            None => Ok(()),
         }
     }
 
     /// What the clauses of a construct say of it, from a place on.
-    fn inside(&mut self, tree: &Tree, node: u32, place: u32) -> Result<(), AllocError> {
+    fn inside(&mut self, tree: &Tree, node: u32, place: u32) -> Result<(), AllocError>
+        requires node { node < length tree.now.trees }
+        requires there { AreThere tree.now.trees self.old }
+        ensures { OnOk result (Puts tree.now.trees (texts.inside (children_at tree.now.trees node place)) (weight_among (children_at tree.now.trees node place)) self.old self.new) }
+    {
         let Some(child) = tree.child(node, place) else {
             return Ok(());
         };
         self.then(Task::Inside(node, next_place(place)?))?;
-        let (NodeKind::Clause(_), Some(clause)) = (tree.kind(child), tree.child(child, 0)) else {
+        let Some(clause) = clause_of(tree, child) else {
             return Ok(());
         };
-        let single = match tree.kind(clause) {
-            NodeKind::NumThreads => Single::NumThreads,
-            NodeKind::Default(word) => Single::Default(word),
-            NodeKind::Schedule(_) => Single::Schedule(chunk_of(tree, clause)),
-            NodeKind::Nowait => Single::Nowait,
-            NodeKind::IfClause => Single::If,
-            NodeKind::Data(which) => {
-                return self.then(Task::Names(Naming::Listed(data_of(which)), clause, 0));
-            }
-            NodeKind::Reduction(_) => {
-                return self.then(Task::Names(Naming::Listed(DataClause::Reduced), clause, 0));
-            }
-            _ => return Ok(()),
-        };
-        self.then(Task::Tell(Act::Clause(single)))
+        match inside_of(tree, clause) {
+            Some(task) => self.then(task),
+            None => Ok(()),
+        }
     }
 
     /// What the statement of a construct does, from a place on.
@@ -343,7 +416,11 @@ impl Walk {
         role: Role,
         node: u32,
         place: u32,
-    ) -> Result<(), AllocError> {
+    ) -> Result<(), AllocError>
+        requires node { node < length tree.now.trees }
+        requires there { AreThere tree.now.trees self.old }
+        ensures { OnOk result (Puts tree.now.trees (texts.statements role (children_at tree.now.trees node place)) (weight_among (children_at tree.now.trees node place)) self.old self.new) }
+    {
         let Some(child) = tree.child(node, place) else {
             return Ok(());
         };
@@ -356,7 +433,9 @@ impl Walk {
 }
 
 /// Whether a node does what its children do, and nothing else.
-fn passes_on(kind: NodeKind) -> bool {
+fn passes_on(kind: NodeKind) -> bool
+    ensures { result ≡ passes kind }
+{
     matches!(
         kind,
         NodeKind::Program
@@ -374,7 +453,11 @@ fn passes_on(kind: NodeKind) -> bool {
 }
 
 /// What a name in a list does.
-fn named(why: Naming, name: u32, spot: Spot) -> Act {
+fn named(tree: &Tree, why: Naming, node: u32) -> Act
+    requires { node < length tree.now.trees }
+    ensures { result ≡ texts.named why (tree_at tree.now.trees node) }
+{
+    let (name, spot) = (tree.name(node), tree.spot(node));
     match why {
         Naming::Parameters => Act::Declare {
             name,
@@ -400,34 +483,123 @@ fn named(why: Naming, name: u32, spot: Spot) -> Act {
     }
 }
 
-/// How many numbers a text of `printf` asks for, or `None` where a percent sign has another byte behind it than `d` or a second
-/// one.
-fn numbers_in(text: &[u8]) -> Option<usize> {
-    let mut rest = text;
-    let mut numbers = 0;
-    loop {
-        match rest {
-            [] => return Some(numbers),
-            [b'%', b'd', after @ ..] => {
-                numbers += 1;
-                rest = after;
-            }
-            [b'%', b'%', after @ ..] => rest = after,
-            [b'%', ..] => return None,
-            [_, after @ ..] => rest = after,
-        }
+/// What a place is used as.
+fn place_usage(tree: &Tree, node: u32) -> Usage
+    requires { node < length tree.now.trees }
+    ensures { result ≡ texts.place_usage (children_of (tree_at tree.now.trees node)) }
+{
+    match tree.child(node, 0) {
+        Some(_) => Usage::Indexed,
+        None => Usage::Plain,
     }
 }
 
+fn value_of(role: Role) -> Value
+    ensures { result ≡ texts.value_of role }
+{
+    match role {
+        Role::Used => Value::Used,
+        _ => Value::Dropped,
+    }
+}
+
+fn returned_of(tree: &Tree, node: u32) -> Returned
+    requires { node < length tree.now.trees }
+    ensures { result ≡ texts.returned_of (children_of (tree_at tree.now.trees node)) }
+{
+    match tree.child(node, 0) {
+        Some(_) => Returned::Something,
+        None => Returned::Nothing,
+    }
+}
+
+/// How many numbers a text of `printf` asks for, or `None` where a percent sign has another byte behind it than `d` or a second
+/// one.
+fn numbers_in(text: &[u8]) -> Option<usize>
+    ensures { result ≡ texts.numbers_in text.now }
+{
+    let mut numbers = 0;
+    // Whether a percent sign stands before the byte, with nothing before it that it belongs to.
+    let mut asks = false;
+    for byte in text {
+        if asks {
+            match *byte {
+                b'd' => numbers += 1,
+                b'%' => {}
+                _ => return None,
+            }
+        }
+        asks = !asks && *byte == b'%';
+    }
+    if asks { None } else { Some(numbers) }
+}
+
 /// Whether a text asks for as many numbers as there are arguments.
-fn as_many(numbers: Option<usize>, count: u32) -> Printed {
+fn as_many(numbers: Option<usize>, count: u32) -> Printed
+    ensures { result ≡ texts.as_many numbers count }
+{
     match numbers {
         Some(numbers) if numbers == count as usize => Printed::Right,
         _ => Printed::Wrong,
     }
 }
 
-fn data_of(which: Data) -> DataClause {
+/// What a clause is, if a node is a clause.
+fn clause_of(tree: &Tree, node: u32) -> Option<u32>
+    requires { node < length tree.now.trees }
+    ensures clause { option_map (tree_at tree.now.trees) result ≡ clause_in (tree_at tree.now.trees node) }
+    ensures before { IfSome result (λ clause. clause < node) }
+{
+    match tree.kind(node) {
+        NodeKind::Clause(_) => tree.child(node, 0),
+        _ => None,
+    }
+}
+
+/// What a clause computes and mentions.
+#[tactic(auto, unfolding(crate::specs::Tasks::behind))]
+fn outside_of(tree: &Tree, clause: u32) -> Option<Task>
+    requires { clause < length tree.now.trees }
+    ensures told { told_if tree.now.trees result ≡ outside_by (kind_of (tree_at tree.now.trees clause)) (children_of (tree_at tree.now.trees clause)) }
+    ensures task { IfSome result (λ task. IsThere tree.now.trees task × weight_by tree.now.trees task ≤ weight_among (children_of (tree_at tree.now.trees clause)) + 1) }
+{
+    match tree.kind(clause) {
+        NodeKind::NumThreads | NodeKind::IfClause => Some(Task::Each(Role::Plain, clause, 0)),
+        NodeKind::Data(which) => Some(Task::Names(Naming::Mentioned(data_of(which)), clause, 0)),
+        NodeKind::Reduction(_) => {
+            Some(Task::Names(Naming::Mentioned(DataClause::Reduced), clause, 0))
+        }
+        _ => None,
+    }
+}
+
+/// What a clause says of the construct.
+#[tactic(auto, unfolding(crate::specs::Tasks::behind))]
+fn inside_of(tree: &Tree, clause: u32) -> Option<Task>
+    requires { clause < length tree.now.trees }
+    ensures told { told_if tree.now.trees result ≡ texts.clause_inside (kind_of (tree_at tree.now.trees clause)) (children_of (tree_at tree.now.trees clause)) }
+    ensures task { IfSome result (λ task. IsThere tree.now.trees task × weight_by tree.now.trees task ≤ weight_among (children_of (tree_at tree.now.trees clause)) + 1) }
+{
+    let single = match tree.kind(clause) {
+        NodeKind::NumThreads => Single::NumThreads,
+        NodeKind::Default(word) => Single::Default(word),
+        NodeKind::Schedule(_) => Single::Schedule(chunk_of(tree, clause)),
+        NodeKind::Nowait => Single::Nowait,
+        NodeKind::IfClause => Single::If,
+        NodeKind::Data(which) => {
+            return Some(Task::Names(Naming::Listed(data_of(which)), clause, 0));
+        }
+        NodeKind::Reduction(_) => {
+            return Some(Task::Names(Naming::Listed(DataClause::Reduced), clause, 0));
+        }
+        _ => return None,
+    };
+    Some(Task::Tell(Act::Clause(single)))
+}
+
+fn data_of(which: Data) -> DataClause
+    ensures { result ≡ texts.data_of which }
+{
     match which {
         Data::Shared => DataClause::Shared,
         Data::Private => DataClause::Private,
@@ -435,16 +607,29 @@ fn data_of(which: Data) -> DataClause {
     }
 }
 
+fn number_at(tree: &Tree, node: u32) -> u32
+    requires { node < length tree.now.trees }
+    ensures { result ≡ number_of (tree_at tree.now.trees node) }
+{
+    tree.number(node) as u32
+}
+
 /// The chunk size of a `schedule`, 1 where there is none.
-fn chunk_of(tree: &Tree, clause: u32) -> u32 {
+fn chunk_of(tree: &Tree, clause: u32) -> u32
+    requires { clause < length tree.now.trees }
+    ensures { result ≡ texts.chunk_of (children_of (tree_at tree.now.trees clause)) }
+{
     match tree.child(clause, 0) {
-        Some(number) => tree.number(number) as u32,
+        Some(number) => number_at(tree, number),
         None => 1,
     }
 }
 
 /// The number of the name of a critical, or 0.
-fn critical_name(tree: &Tree, node: u32) -> u32 {
+fn critical_name(tree: &Tree, node: u32) -> u32
+    requires { node < length tree.now.trees }
+    ensures { result ≡ texts.critical_name (children_of (tree_at tree.now.trees node)) }
+{
     match tree.child(node, 0) {
         Some(child) if tree.kind(child) == NodeKind::Name => tree.name(child),
         _ => 0,
@@ -452,15 +637,21 @@ fn critical_name(tree: &Tree, node: u32) -> u32 {
 }
 
 /// Whether a child of a construct stands before its statement.
-fn is_head(kind: NodeKind) -> bool {
+fn is_head(kind: NodeKind) -> bool
+    ensures { result ≡ texts.is_head kind }
+{
     matches!(kind, NodeKind::Clause(_) | NodeKind::Name)
 }
 
-fn shares_loop(directive: Directive) -> bool {
+fn shares_loop(directive: Directive) -> bool
+    ensures { result ≡ texts.shares_loop directive }
+{
     matches!(directive, Directive::For | Directive::ParallelFor)
 }
 
-fn role_with(name: Option<u32>) -> Role {
+fn role_with(name: Option<u32>) -> Role
+    ensures { result ≡ texts.role_with name }
+{
     match name {
         Some(name) => Role::Looped(name),
         None => Role::Plain,
@@ -473,7 +664,10 @@ fn shared_loop(
     tree: &Tree,
     directive: Directive,
     node: u32,
-) -> Result<Option<u32>, AllocError> {
+) -> Result<Option<u32>, AllocError>
+    requires { node < length tree.now.trees }
+    ensures { IfOk result (λ found. found ≡ (if texts.shares_loop directive then loop_name_of (texts.statement_of (children_of (tree_at tree.now.trees node))) else None)) }
+{
     if !shares_loop(directive) {
         return Ok(None);
     }
@@ -484,7 +678,11 @@ fn shared_loop(
 }
 
 /// The statement of a construct, if there is one.
-fn statement_of(tree: &Tree, node: u32) -> Result<Option<u32>, AllocError> {
+fn statement_of(tree: &Tree, node: u32) -> Result<Option<u32>, AllocError>
+    requires { node < length tree.now.trees }
+    ensures statement { IfOk result (λ found. unwrap_or (option_map (tree_at tree.now.trees) found) nothing ≡ texts.statement_of (children_of (tree_at tree.now.trees node))) }
+    ensures there { IfOk result (λ found. IfSome found (λ statement. statement < length tree.now.trees)) }
+{
     let mut place = 0;
     while let Some(child) = tree.child(node, place) {
         if !is_head(tree.kind(child)) {
