@@ -4,9 +4,11 @@
 mod act;
 mod constructs;
 mod declared;
+mod directive;
 mod fault;
 mod loops;
 mod names;
+mod nodes;
 mod place;
 mod role;
 mod sharing;
