@@ -3,22 +3,24 @@
 //! What is left is a list of tasks, so the walk doesn't call itself, however deep a tree is. A task on a node is replaced by tasks on
 //! its children.
 
-ghost use Rattle.std.specs.Prelude.{ℕ, ◌≡◌, ◌<◌, ◌≤◌, ◌+◌, [], ◌∷◌, ◌++◌, List, Option, None, length, if◌then◌else◌, unwrap_or, IfOk, IfSome, OnOk, MatchOption};
-ghost use Rattle.std.specs.Option.{option_map};
-ghost use Rattle.c_syntax.specs.Tree.{Tree as Spelled, child_of, children_of, kind_of, name_of, number_of, spot_of, text_of};
-ghost use Rattle.c_syntax.specs.Derivation.{nothing};
+ghost use Rattle.std.specs.Prelude.{◌≡◌, ◌<◌, ◌≤◌, ◌+◌, [], ◌∷◌, ◌++◌, List, length, if◌then◌else◌, IfOk, IfSome, OnOk, MatchOption};
+ghost use Rattle.c_syntax.specs.Tree.{Tree as Spelled, child_of, children_of, kind_of, name_of, spot_of, text_of};
 ghost use Rattle.c_syntax.specs.Numbered.{root_tree, tree_at};
 ghost use Rattle.c_check.specs.Acts as texts;
-ghost use Rattle.c_check.specs.Loops.{loop_name as loop_name_of};
 ghost use Rattle.c_check.specs.Tasks.{AreThere, IsThere, children_at, left_of, told_by};
 ghost use Rattle.c_check.specs.Weights.{weight_among, weight_below, weight_if};
-ghost use Rattle.c_check.specs.Steps.{Puts, clause_in, outside_by, part_of, passes, standalone_acts, told_if, weight_by, weight_in};
+ghost use Rattle.c_check.specs.Steps.{Puts, outside_by, part_of, standalone_acts, told_if, weight_by, weight_in};
 
-use crate::act::{Act, DataClause, Printed, Returned, Single, Thing, Usage, Value};
-use crate::loops::loop_name;
+use crate::act::{Act, DataClause, Single, Thing, Usage};
+use crate::directive::{
+    chunk_of, clause_of, critical_name, data_of, is_head, role_with, shared_loop, shares_loop,
+};
+use crate::nodes::{
+    as_many, named, number_at, numbers_in, passes_on, place_usage, returned_of, value_of,
+};
 use crate::place::{count, next_place};
 use crate::role::{Naming, Role};
-use c_syntax::{Data, Directive, NodeKind, Returns, Standalone, Tree};
+use c_syntax::{Directive, NodeKind, Returns, Standalone, Tree};
 use c_tokens::Spot;
 use std::alloc::{AllocError, Global};
 
@@ -49,7 +51,7 @@ pub struct Walk {
 }
 
 impl Walk {
-    /// The walk through a program from its beginning.
+    /// The walk through a program from its beginning. An error means that memory ran out.
     pub fn new(alloc: Global, tree: &Tree) -> Result<Walk, AllocError>
         ensures left { IfOk result (λ walk. left_of tree.now.trees walk ≡ texts.acts (Role.Plain) (root_tree tree.now) ++ Act.Finish tree.now.end ∷ []) }
         ensures there { IfOk result (λ walk. AreThere tree.now.trees walk) }
@@ -60,7 +62,8 @@ impl Walk {
         Ok(Walk { tasks })
     }
 
-    /// The next act, or `None` at the end.
+    /// The next act, or `None` at the end. The tree is the one that the walk was made for. An error means that memory ran out; acts
+    /// may be lost then.
     pub fn next(&mut self, alloc: Global, tree: &Tree) -> Result<Option<Act>, AllocError>
         requires { AreThere tree.now.trees self.old }
         ensures next { IfOk result (λ act. MatchOption act ((left_of tree.now.trees self.old ≡ []) × (left_of tree.now.trees self.new ≡ [])) (λ one. left_of tree.now.trees self.old ≡ one ∷ left_of tree.now.trees self.new)) }
@@ -242,6 +245,7 @@ impl Walk {
         self.then(Task::Each(Role::Plain, node, 1))
     }
 
+    /// A `return`, with what it returns.
     fn return_(&mut self, tree: &Tree, node: u32, spot: Spot) -> Result<(), AllocError>
         requires node { node < length tree.now.trees }
         requires there { AreThere tree.now.trees self.old }
@@ -252,6 +256,7 @@ impl Walk {
         self.then(Task::Each(Role::Used, node, 0))
     }
 
+    /// A `printf`, with its arguments.
     fn print(&mut self, tree: &Tree, node: u32, spot: Spot) -> Result<(), AllocError>
         requires node { node < length tree.now.trees }
         requires there { AreThere tree.now.trees self.old }
@@ -432,130 +437,6 @@ impl Walk {
     }
 }
 
-/// Whether a node does what its children do, and nothing else.
-fn passes_on(kind: NodeKind) -> bool
-    ensures { result ≡ passes kind }
-{
-    matches!(
-        kind,
-        NodeKind::Program
-            | NodeKind::Globals
-            | NodeKind::Locals
-            | NodeKind::If
-            | NodeKind::While
-            | NodeKind::Step
-            | NodeKind::Called
-            | NodeKind::Binary(_)
-            | NodeKind::Unary(_)
-            | NodeKind::Paren
-            | NodeKind::Section
-    )
-}
-
-/// What a name in a list does.
-fn named(tree: &Tree, why: Naming, node: u32) -> Act
-    requires { node < length tree.now.trees }
-    ensures { result ≡ texts.named why (tree_at tree.now.trees node) }
-{
-    let (name, spot) = (tree.name(node), tree.spot(node));
-    match why {
-        Naming::Parameters => Act::Declare {
-            name,
-            spot,
-            thing: Thing::Int,
-        },
-        Naming::Locks => Act::Declare {
-            name,
-            spot,
-            thing: Thing::Lock,
-        },
-        Naming::Locked => Act::Use {
-            name,
-            spot,
-            usage: Usage::Locked,
-        },
-        Naming::Mentioned(clause) => Act::Use {
-            name,
-            spot,
-            usage: Usage::Listed(clause),
-        },
-        Naming::Listed(clause) => Act::List { name, spot, clause },
-    }
-}
-
-/// What a place is used as.
-fn place_usage(tree: &Tree, node: u32) -> Usage
-    requires { node < length tree.now.trees }
-    ensures { result ≡ texts.place_usage (children_of (tree_at tree.now.trees node)) }
-{
-    match tree.child(node, 0) {
-        Some(_) => Usage::Indexed,
-        None => Usage::Plain,
-    }
-}
-
-fn value_of(role: Role) -> Value
-    ensures { result ≡ texts.value_of role }
-{
-    match role {
-        Role::Used => Value::Used,
-        _ => Value::Dropped,
-    }
-}
-
-fn returned_of(tree: &Tree, node: u32) -> Returned
-    requires { node < length tree.now.trees }
-    ensures { result ≡ texts.returned_of (children_of (tree_at tree.now.trees node)) }
-{
-    match tree.child(node, 0) {
-        Some(_) => Returned::Something,
-        None => Returned::Nothing,
-    }
-}
-
-/// How many numbers a text of `printf` asks for, or `None` where a percent sign has another byte behind it than `d` or a second
-/// one.
-fn numbers_in(text: &[u8]) -> Option<usize>
-    ensures { result ≡ texts.numbers_in text.now }
-{
-    let mut numbers = 0;
-    // Whether a percent sign stands before the byte, with nothing before it that it belongs to.
-    let mut asks = false;
-    for byte in text {
-        if asks {
-            match *byte {
-                b'd' => numbers += 1,
-                b'%' => {}
-                _ => return None,
-            }
-        }
-        asks = !asks && *byte == b'%';
-    }
-    if asks { None } else { Some(numbers) }
-}
-
-/// Whether a text asks for as many numbers as there are arguments.
-fn as_many(numbers: Option<usize>, count: u32) -> Printed
-    ensures { result ≡ texts.as_many numbers count }
-{
-    match numbers {
-        Some(numbers) if numbers == count as usize => Printed::Right,
-        _ => Printed::Wrong,
-    }
-}
-
-/// What a clause is, if a node is a clause.
-fn clause_of(tree: &Tree, node: u32) -> Option<u32>
-    requires { node < length tree.now.trees }
-    ensures clause { option_map (tree_at tree.now.trees) result ≡ clause_in (tree_at tree.now.trees node) }
-    ensures before { IfSome result (λ clause. clause < node) }
-{
-    match tree.kind(node) {
-        NodeKind::Clause(_) => tree.child(node, 0),
-        _ => None,
-    }
-}
-
 /// What a clause computes and mentions.
 #[tactic(auto, unfolding(crate::specs::Tasks::behind))]
 fn outside_of(tree: &Tree, clause: u32) -> Option<Task>
@@ -595,100 +476,4 @@ fn inside_of(tree: &Tree, clause: u32) -> Option<Task>
         _ => return None,
     };
     Some(Task::Tell(Act::Clause(single)))
-}
-
-fn data_of(which: Data) -> DataClause
-    ensures { result ≡ texts.data_of which }
-{
-    match which {
-        Data::Shared => DataClause::Shared,
-        Data::Private => DataClause::Private,
-        Data::Firstprivate => DataClause::First,
-    }
-}
-
-fn number_at(tree: &Tree, node: u32) -> u32
-    requires { node < length tree.now.trees }
-    ensures { result ≡ number_of (tree_at tree.now.trees node) }
-{
-    tree.number(node) as u32
-}
-
-/// The chunk size of a `schedule`, 1 where there is none.
-fn chunk_of(tree: &Tree, clause: u32) -> u32
-    requires { clause < length tree.now.trees }
-    ensures { result ≡ texts.chunk_of (children_of (tree_at tree.now.trees clause)) }
-{
-    match tree.child(clause, 0) {
-        Some(number) => number_at(tree, number),
-        None => 1,
-    }
-}
-
-/// The number of the name of a critical, or 0.
-fn critical_name(tree: &Tree, node: u32) -> u32
-    requires { node < length tree.now.trees }
-    ensures { result ≡ texts.critical_name (children_of (tree_at tree.now.trees node)) }
-{
-    match tree.child(node, 0) {
-        Some(child) if tree.kind(child) == NodeKind::Name => tree.name(child),
-        _ => 0,
-    }
-}
-
-/// Whether a child of a construct stands before its statement.
-fn is_head(kind: NodeKind) -> bool
-    ensures { result ≡ texts.is_head kind }
-{
-    matches!(kind, NodeKind::Clause(_) | NodeKind::Name)
-}
-
-fn shares_loop(directive: Directive) -> bool
-    ensures { result ≡ texts.shares_loop directive }
-{
-    matches!(directive, Directive::For | Directive::ParallelFor)
-}
-
-fn role_with(name: Option<u32>) -> Role
-    ensures { result ≡ texts.role_with name }
-{
-    match name {
-        Some(name) => Role::Looped(name),
-        None => Role::Plain,
-    }
-}
-
-/// The name of the variable of the loop that a directive shares out, if it does and the loop is of the form.
-fn shared_loop(
-    alloc: Global,
-    tree: &Tree,
-    directive: Directive,
-    node: u32,
-) -> Result<Option<u32>, AllocError>
-    requires { node < length tree.now.trees }
-    ensures { IfOk result (λ found. found ≡ (if texts.shares_loop directive then loop_name_of (texts.statement_of (children_of (tree_at tree.now.trees node))) else None)) }
-{
-    if !shares_loop(directive) {
-        return Ok(None);
-    }
-    match statement_of(tree, node)? {
-        Some(statement) => loop_name(alloc, tree, statement),
-        None => Ok(None),
-    }
-}
-
-/// The statement of a construct, if there is one.
-fn statement_of(tree: &Tree, node: u32) -> Result<Option<u32>, AllocError>
-    requires { node < length tree.now.trees }
-    ensures statement { IfOk result (λ found. unwrap_or (option_map (tree_at tree.now.trees) found) nothing ≡ texts.statement_of (children_of (tree_at tree.now.trees node))) }
-    ensures there { IfOk result (λ found. IfSome found (λ statement. statement < length tree.now.trees)) }
-{
-    let mut place = 0;
-    while let Some(child) = tree.child(node, place) {
-        if !is_head(tree.kind(child)) {
-            return Ok(Some(child));
-        }
-        place = next_place(place)?;
-    }
-    Ok(None)
 }

@@ -3,7 +3,7 @@ use Rattle.c_syntax.specs.Tree.{children_of}
 use Rattle.c_syntax.specs.Numbered.{tree_at}
 use Rattle.c_check.specs.Tasks.{behind}
 use Rattle.c_check.proofs.Behind.{count_found, statement_none, statement_here, statement_behind}
-use Rattle.c_check.proofs.walk.statement_of.Goals as goal
+use Rattle.c_check.proofs.directive.statement_of.Goals as goal
 
 pub loop-child-init : goal.loop-child-init
 unfolding behind

@@ -3,7 +3,7 @@ use Rattle.c_syntax.specs.Tree.{children_of}
 use Rattle.c_syntax.specs.Numbered.{tree_at}
 use Rattle.c_check.specs.Acts.{count as count_of, statement_of}
 use Rattle.c_check.specs.Tasks.{children_at}
-use Rattle.c_check.proofs.walk.statement_of.Given as goal
+use Rattle.c_check.proofs.directive.statement_of.Given as goal
 
 -- the statement is among the children that are left
 abbrev pub invariant-loop-child : goal.invariant-loop-child

@@ -1,7 +1,7 @@
 use Rattle.std.proofs.Common.{◌≡◌, ◌≤◌, drop}
 use Rattle.c_check.specs.Acts.{numbers_in}
 use Rattle.c_check.proofs.Asking.{asked}
-use Rattle.c_check.proofs.walk.numbers_in.Given as goal
+use Rattle.c_check.proofs.nodes.numbers_in.Given as goal
 
 -- the numbers so far and those of the rest are those of the text
 abbrev pub invariant-loop-byte : goal.invariant-loop-byte

@@ -1,7 +1,7 @@
 use Rattle.std.proofs.Common.{◌≡◌, ◌==◌, ◌&&◌, not, get_or, refl, sym, ◌∙◌, arith}
 use Rattle.c_check.proofs.Asking.{asked-none, asked-last, asked-letter, asked-sign, asked-other, asked-on}
-use Rattle.c_check.proofs.walk.numbers_in.Goals as goal
-use Rattle.c_check.proofs.walk.numbers_in.Goals.{then-asks+in-100, then-asks+in-37, else-asks, then-not-asks, else-not-asks}
+use Rattle.c_check.proofs.nodes.numbers_in.Goals as goal
+use Rattle.c_check.proofs.nodes.numbers_in.Goals.{then-asks+in-100, then-asks+in-37, else-asks, then-not-asks, else-not-asks}
 
 pub returns-in_default : goal.returns-in_default
 returns-in_default c =
