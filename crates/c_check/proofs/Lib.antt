@@ -14,3 +14,4 @@ pub mod Asking
 pub mod Weighing
 pub mod Telling
 pub mod Parts
+pub mod UnderWay
