@@ -25,6 +25,8 @@ mod role;
 mod shares;
 mod sharing;
 mod slots;
+#[cfg(test)]
+mod tests;
 mod uses;
 mod walk;
 
