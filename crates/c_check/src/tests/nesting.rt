@@ -1,7 +1,7 @@
 //! Where constructs and `return` may stand.
 
 use super::told::{FILE, IN_MAIN, Row, answer, are_answered};
-use std::alloc::{AllocError, Global};
+use std::alloc::Global;
 use std::process::Abort;
 use std::test::Fail;
 
@@ -135,12 +135,9 @@ fn nested(
     (opens, closes): Around,
     (opens_between, closes_between): Around,
     inside: &str,
-) -> Result<String, AllocError> {
-    let mut text = String::from_str(alloc, "int main(void) {\n")?;
-    for part in [opens, opens_between, inside, closes_between, closes, "}"] {
-        text.push_str(part)?;
-    }
-    Ok(text)
+) -> Result<String, Fail> {
+    let opened = format!(in alloc; "int main(void) {{\n{opens}{opens_between}{inside}")?;
+    Ok(format!(in alloc; "{opened}{closes_between}{closes}}}")?)
 }
 
 /// No construct between two others.
