@@ -18,9 +18,9 @@ under-more program old new one left under does = record {
   stands = does.stands under.here under.stands;
   goes_on = under.goes_on;
   found =
-  ap (λ (known : Option CheckFault). first_of known (broken_by_all (after under.here one) left)) (does.found under.here under.stands)
-  ∙ sym (first_of_append old.found (broken_by under.here one) (broken_by_all (after under.here one) left))
-  ∙ under.found;
+      ap (λ (known : Option CheckFault). first_of known (broken_by_all (after under.here one) left)) (does.found under.here under.stands)
+      ∙ sym (first_of_append old.found (broken_by under.here one) (broken_by_all (after under.here one) left))
+      ∙ under.found;
 }
 
 pub under-stands : (program : TreeView) (checker : Checker) → IsUnderWay program checker [] → Stands checker (end_of program)

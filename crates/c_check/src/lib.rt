@@ -51,6 +51,8 @@ mod shares;
 mod sharing;
 mod slots;
 mod spots;
+#[cfg(test)]
+mod tests;
 mod uses;
 mod walk;
 

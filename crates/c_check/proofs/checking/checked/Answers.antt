@@ -7,9 +7,9 @@ pub loop-checker-preserved : goal.loop-checker-preserved
 loop-checker-preserved c = record {
   there = c.in_ok-act.ensures.there;
   under_way =
-  under-more c.args.tree.now c.loop-checker.checker c.does.new.self c.in-Some.act _
-  (subst (λ left. IsUnderWay c.args.tree.now c.loop-checker.checker left) (rw c.in-Some.is at c.in_ok-act.ensures.next) c.loop-checker.invariant.under_way)
-  c.in_ok-does.ensures;
+      under-more c.args.tree.now c.loop-checker.checker c.does.new.self c.in-Some.act _
+      (subst (λ left. IsUnderWay c.args.tree.now c.loop-checker.checker left) (rw c.in-Some.is at c.in_ok-act.ensures.next) c.loop-checker.invariant.under_way)
+      c.in_ok-does.ensures;
 }
 
 pub returns-clause-stands : goal.returns-clause-stands
