@@ -1,5 +1,5 @@
 -- A check under way goes on with each act, and ends where none is left.
-use Rattle.std.proofs.Common.{◌≡◌, List, [], ◌∷◌, Option, refl, sym, ap, subst, ◌∙◌}
+use Rattle.std.proofs.Common.{◌≡◌, List, [], ◌∷◌, Option, sym, ap, subst, ◌∙◌}
 use Rattle.c_syntax.specs.Numbered.{TreeView}
 use Rattle.c_check.specs.declared.act.Act.{Act}
 use Rattle.c_check.specs.declared.checker.Checker.{Checker}

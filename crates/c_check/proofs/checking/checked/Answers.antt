@@ -1,4 +1,4 @@
-use Rattle.std.proofs.Common.{subst, sym}
+use Rattle.std.proofs.Common.{subst}
 use Rattle.c_check.specs.Under.{IsUnderWay}
 use Rattle.c_check.proofs.UnderWay.{under-found, under-more, under-stands}
 use Rattle.c_check.proofs.checking.checked.Goals as goal
