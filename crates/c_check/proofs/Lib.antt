@@ -7,3 +7,11 @@ pub mod Listed
 pub mod InnerLoops
 pub mod Numbers
 pub mod Standing
+pub mod Behind
+pub mod Looking
+pub mod Putting
+pub mod Asking
+pub mod Weighing
+pub mod Telling
+pub mod Parts
+pub mod UnderWay

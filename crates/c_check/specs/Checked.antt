@@ -1,5 +1,5 @@
 -- What a program breaks, and the first of it.
-use Rattle.std.specs.Prelude.{ℕ, ◌+◌, ◌==◌, nat_lt, ◌&&◌, ◌||◌, if◌then◌else◌, Bool, true, false, List, [], ◌∷◌, ◌++◌, Option, Some, None, slice_get}
+use Rattle.std.specs.Prelude.{ℕ, ◌==◌, nat_lt, ◌&&◌, ◌||◌, if◌then◌else◌, Bool, List, [], ◌∷◌, ◌++◌, Option, Some, None, slice_get}
 use Rattle.c_tokens.specs.declared.token.Spot.{Spot}
 use Rattle.c_syntax.specs.Tree.{Tree}
 use Rattle.c_syntax.specs.Numbered.{TreeView, root_tree}
@@ -9,7 +9,6 @@ use Rattle.c_check.specs.declared.act.Act.{Act}
 use Rattle.c_check.specs.declared.act.Act.TheVariants.{Finish}
 use Rattle.c_check.specs.declared.role.Role.TheVariants as role
 use Rattle.c_check.specs.declared.sharing.Sharing.{Sharing}
-use Rattle.c_check.specs.declared.sharing.Sharing.TheVariants as sharing
 use Rattle.c_check.specs.Acts.{acts}
 use Rattle.c_check.specs.declared.declared.Declared.{Declared}
 use Rattle.c_check.specs.declared.declared.Named.{Named}

@@ -1,6 +1,8 @@
 pub mod Loops
 pub mod Acts
 pub mod Tasks
+pub mod Weights
+pub mod Steps
 pub mod Names
 pub mod Visible
 pub mod Constructs

@@ -13,7 +13,6 @@ use Rattle.c_check.specs.declared.act.Thing.{Thing}
 use Rattle.c_check.specs.declared.act.Thing.TheVariants as thing
 use Rattle.c_check.specs.declared.act.Usage.{Usage}
 use Rattle.c_check.specs.declared.act.Usage.TheVariants as usage
-use Rattle.c_check.specs.declared.act.DataClause.{DataClause}
 use Rattle.c_check.specs.declared.act.DataClause.TheVariants as clause
 use Rattle.c_check.specs.declared.act.Single.{Single}
 use Rattle.c_check.specs.declared.act.Single.TheVariants as single

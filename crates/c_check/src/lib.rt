@@ -33,6 +33,7 @@ mod checking;
 mod construct;
 mod constructs;
 mod declared;
+mod directive;
 mod fault;
 mod finding;
 mod inner_loops;
@@ -41,6 +42,7 @@ mod loops;
 mod mentions;
 mod names;
 mod nesting;
+mod nodes;
 mod noted;
 mod place;
 mod program;
@@ -49,6 +51,8 @@ mod shares;
 mod sharing;
 mod slots;
 mod spots;
+#[cfg(test)]
+mod tests;
 mod uses;
 mod walk;
 
