@@ -1,5 +1,6 @@
 -- A text spells a program, or is refused for one thing, and not both.
-use Rattle.std.proofs.Common.{◌≡◌, ◌≢◌, ℕ, ◌<◌, ◌≤◌, List, length, Some, Ok, refl, sym, ap, subst, ◌∙◌, arith}
+use Rattle.std.proofs.Common.{◌≡◌, ◌≢◌, ℕ, ◌<◌, ◌≤◌, List, [], ◌∷◌, ◌++◌, length, Option, Some, None, Ok, Err, refl, sym, ap, subst, ◌∙◌, arith}
+use Rattle.c_tokens.specs.declared.token.Spot.{Spot}
 use Rattle.c_tokens.specs.declared.token.Token.{Token}
 use Rattle.c_tokens.specs.declared.token.TokenFault.{TokenFault}
 use Rattle.c_tokens.specs.declared.token.TokenFault.TheVariants as fault
@@ -9,6 +10,11 @@ use Rattle.c_syntax.specs.declared.fault.SyntaxFault.TheVariants as syntax
 use Rattle.c_syntax.specs.Words.{main_of, words_of}
 use Rattle.c_syntax.specs.Tree.{Tree}
 use Rattle.c_syntax.specs.Faults.{IsFault}
+use Rattle.c_tokens.proofs.Spans.{tokens-end}
+use Rattle.c_syntax.specs.Numbered.{TreeView, root_tree}
+use Rattle.c_check.specs.Checked.{breaches_of, fault_in, fault_of, first_of}
+use Rattle.c_check.proofs.Found.{first_of_nothing}
+use Rattle.omp_model.specs.declared.blocks.Block.{Block}
 use Rattle.c_syntax.proofs.Unique.{fault-one, spells-no_fault, spells-one}
 use Rattle.c_check.specs.declared.fault.CheckFault.{CheckFault}
 use Rattle.c_check.specs.declared.fault.CheckFault.TheVariants as rule
@@ -18,7 +24,7 @@ use Rattle.ompt_cli.specs.declared.end.End.TheVariants.{Refused}
 use Rattle.ompt_cli.specs.Commands.{MayRefuse, MayRun}
 use Rattle.ompt_cli.specs.Ends.{end_of_check_fault, end_of_fault, end_of_syntax_fault}
 use Rattle.ompt_cli.specs.Form.{blocks_of}
-use Rattle.ompt_cli.specs.Text.{HasCheckFault, HasFault, HasOtherForm, HasSyntaxFault, HasTree, IsProgram, IsRefused, rule_broken}
+use Rattle.ompt_cli.specs.Text.{HasCheckFault, HasFault, HasOtherForm, HasSyntaxFault, HasTree, IsProgram, IsReadAs, IsRefused, Spells, end_at, end_of, rule_broken}
 
 refused-one : {first second : Refusal} → Refused first ≡ Refused second → first ≡ second
 refused-one same = cc
@@ -135,6 +141,13 @@ module _ (text : List ℕ) where
   pub program-not_refused : (why : Refusal) → IsProgram text → IsRefused why text → ⊥
   program-not_refused why program refused = program-no_why why program (why-of why refused)
 
+  -- so a fault that was found in the tokens is the refusal
+  pub tokens-accepted : length text ≤ 65536 → (found : TokenFault) → (found ≢ fault.Memory → tokens_of text ≡ Err found) → (why : Refusal) → IsRefused why text → MayRefuse why (end_of_fault found)
+  tokens-accepted short (fault.BadByte spot) known why refused = refusal-one (BadByte spot) why (short, known (λ same. cc)) refused
+  tokens-accepted short (fault.OpenComment spot) known why refused = refusal-one (OpenComment spot) why (short, known (λ same. cc)) refused
+  tokens-accepted short (fault.BadNumber spot) known why refused = refusal-one (BadNumber spot) why (short, known (λ same. cc)) refused
+  tokens-accepted short fault.Memory known why refused = tt
+
   -- so a fault that was found in the grammar is the refusal, if there is one, and there is none where the text runs
   module _ (list : List Token) (short : length text ≤ 65536) (are : tokens_of text ≡ Ok list) where
     pub syntax-accepted : (found : SyntaxFault) → (found ≢ syntax.Memory → IsFault (words_of text list) found) → (why : Refusal) → IsRefused why text → MayRefuse why (end_of_syntax_fault found)
@@ -151,27 +164,70 @@ module _ (text : List ℕ) where
     syntax-runs (syntax.TooDeep spot) known program = program-not_refused (TooDeep spot) program (short, (list, are, known (λ same. cc)))
     syntax-runs syntax.Memory known program = tt
 
-    -- and so is a rule that the tree breaks
-    module _ (tree : Tree) (has : HasTree text list tree) where
-      broken-so : (found : CheckFault) → (found ≢ rule.Memory → rule_broken text list tree ≡ Some found) → found ≢ rule.Memory → HasCheckFault found text
-      broken-so found known named = (short, (list, tree, has, known named))
+  -- what was read of a text
+  module _ (program : TreeView) (is : IsReadAs text program) where
+    rule-is : (known : Option CheckFault) → fault_of program ≡ known → rule_broken text is.tokens (root_tree program) ≡ known
+    rule-is known same =
+        subst (λ (end : Spot). fault_in (root_tree program) end (main_of text is.tokens) ≡ known) is.end_is
+        (subst (λ main. fault_in (root_tree program) program.end main ≡ known) is.main_is same)
 
-      pub check-accepted : (found : CheckFault) → (found ≢ rule.Memory → rule_broken text list tree ≡ Some found) → (why : Refusal) → IsRefused why text → MayRefuse why (end_of_check_fault found)
-      check-accepted (rule.UnknownName spot) known why refused = refusal-one (UnknownName spot) why (broken-so (rule.UnknownName spot) known (λ same. cc)) refused
-      check-accepted (rule.TwiceDeclared spot) known why refused = refusal-one (TwiceDeclared spot) why (broken-so (rule.TwiceDeclared spot) known (λ same. cc)) refused
-      check-accepted (rule.WrongUse spot) known why refused = refusal-one (WrongUse spot) why (broken-so (rule.WrongUse spot) known (λ same. cc)) refused
-      check-accepted (rule.BadNesting spot) known why refused = refusal-one (BadNesting spot) why (broken-so (rule.BadNesting spot) known (λ same. cc)) refused
-      check-accepted (rule.BadLoop spot) known why refused = refusal-one (BadLoop spot) why (broken-so (rule.BadLoop spot) known (λ same. cc)) refused
-      check-accepted (rule.NoMain spot) known why refused = refusal-one (NoMain spot) why (broken-so (rule.NoMain spot) known (λ same. cc)) refused
-      check-accepted (rule.NotListed spot) known why refused = refusal-one (NotListed spot) why (broken-so (rule.NotListed spot) known (λ same. cc)) refused
+    form-is : (blocks : Option (List Block)) → blocks_of program.main (root_tree program) ≡ blocks → blocks_of (main_of text is.tokens) (root_tree program) ≡ blocks
+    form-is blocks same = subst (λ main. blocks_of main (root_tree program) ≡ blocks) is.main_is same
+
+    no-fault : breaches_of program ≡ [] → fault_of program ≡ None
+    no-fault same = ap (λ faults. first_of None faults) same ∙ first_of_nothing None
+
+    pub spells-by : (blocks : List Block) → breaches_of program ≡ [] → blocks_of program.main (root_tree program) ≡ Some blocks → Spells text blocks
+    spells-by blocks keeps same = (is.tokens, root_tree program, is.has, rule-is None (no-fault keeps), form-is (Some blocks) same)
+
+    module _ (short : length text ≤ 65536) where
+      pub other-by : breaches_of program ≡ [] → blocks_of program.main (root_tree program) ≡ None → IsRefused OtherForm text
+      other-by keeps same = (short, (is.tokens, root_tree program, is.has, rule-is None (no-fault keeps), form-is None same))
+
+      pub runs-by : (blocks : List Block) → breaches_of program ≡ [] → blocks_of program.main (root_tree program) ≡ Some blocks → IsProgram text
+      runs-by blocks keeps same = (short, (blocks, spells-by blocks keeps same))
+
+      broken-by : (found : CheckFault) → fault_of program ≡ Some found → HasCheckFault found text
+      broken-by found same = (short, (is.tokens, root_tree program, is.has, rule-is (Some found) same))
+
+      pub check-refused : (found : CheckFault) → (found ≢ rule.Memory → fault_of program ≡ Some found) → (why : Refusal) → end_of_check_fault found ≡ Refused why → IsRefused why text
+      check-refused (rule.UnknownName spot) known why same = subst (λ one. IsRefused one text) (refused-one same) (broken-by (rule.UnknownName spot) (known (λ other. cc)))
+      check-refused (rule.TwiceDeclared spot) known why same = subst (λ one. IsRefused one text) (refused-one same) (broken-by (rule.TwiceDeclared spot) (known (λ other. cc)))
+      check-refused (rule.WrongUse spot) known why same = subst (λ one. IsRefused one text) (refused-one same) (broken-by (rule.WrongUse spot) (known (λ other. cc)))
+      check-refused (rule.BadNesting spot) known why same = subst (λ one. IsRefused one text) (refused-one same) (broken-by (rule.BadNesting spot) (known (λ other. cc)))
+      check-refused (rule.BadLoop spot) known why same = subst (λ one. IsRefused one text) (refused-one same) (broken-by (rule.BadLoop spot) (known (λ other. cc)))
+      check-refused (rule.NoMain spot) known why same = subst (λ one. IsRefused one text) (refused-one same) (broken-by (rule.NoMain spot) (known (λ other. cc)))
+      check-refused (rule.NotListed spot) known why same = subst (λ one. IsRefused one text) (refused-one same) (broken-by (rule.NotListed spot) (known (λ other. cc)))
+      check-refused rule.Memory known why same = absurd (cc)
+
+      pub check-accepted : (found : CheckFault) → (found ≢ rule.Memory → fault_of program ≡ Some found) → (why : Refusal) → IsRefused why text → MayRefuse why (end_of_check_fault found)
+      check-accepted (rule.UnknownName spot) known why refused = refusal-one (UnknownName spot) why (broken-by (rule.UnknownName spot) (known (λ same. cc))) refused
+      check-accepted (rule.TwiceDeclared spot) known why refused = refusal-one (TwiceDeclared spot) why (broken-by (rule.TwiceDeclared spot) (known (λ same. cc))) refused
+      check-accepted (rule.WrongUse spot) known why refused = refusal-one (WrongUse spot) why (broken-by (rule.WrongUse spot) (known (λ same. cc))) refused
+      check-accepted (rule.BadNesting spot) known why refused = refusal-one (BadNesting spot) why (broken-by (rule.BadNesting spot) (known (λ same. cc))) refused
+      check-accepted (rule.BadLoop spot) known why refused = refusal-one (BadLoop spot) why (broken-by (rule.BadLoop spot) (known (λ same. cc))) refused
+      check-accepted (rule.NoMain spot) known why refused = refusal-one (NoMain spot) why (broken-by (rule.NoMain spot) (known (λ same. cc))) refused
+      check-accepted (rule.NotListed spot) known why refused = refusal-one (NotListed spot) why (broken-by (rule.NotListed spot) (known (λ same. cc))) refused
       check-accepted rule.Memory known why refused = tt
 
-      pub check-runs : (found : CheckFault) → (found ≢ rule.Memory → rule_broken text list tree ≡ Some found) → IsProgram text → MayRun (end_of_check_fault found)
-      check-runs (rule.UnknownName spot) known program = program-not_refused (UnknownName spot) program (broken-so (rule.UnknownName spot) known (λ same. cc))
-      check-runs (rule.TwiceDeclared spot) known program = program-not_refused (TwiceDeclared spot) program (broken-so (rule.TwiceDeclared spot) known (λ same. cc))
-      check-runs (rule.WrongUse spot) known program = program-not_refused (WrongUse spot) program (broken-so (rule.WrongUse spot) known (λ same. cc))
-      check-runs (rule.BadNesting spot) known program = program-not_refused (BadNesting spot) program (broken-so (rule.BadNesting spot) known (λ same. cc))
-      check-runs (rule.BadLoop spot) known program = program-not_refused (BadLoop spot) program (broken-so (rule.BadLoop spot) known (λ same. cc))
-      check-runs (rule.NoMain spot) known program = program-not_refused (NoMain spot) program (broken-so (rule.NoMain spot) known (λ same. cc))
-      check-runs (rule.NotListed spot) known program = program-not_refused (NotListed spot) program (broken-so (rule.NotListed spot) known (λ same. cc))
-      check-runs rule.Memory known program = tt
+      pub check-runs : (found : CheckFault) → (found ≢ rule.Memory → fault_of program ≡ Some found) → IsProgram text → MayRun (end_of_check_fault found)
+      check-runs (rule.UnknownName spot) known runs = program-not_refused (UnknownName spot) runs (broken-by (rule.UnknownName spot) (known (λ same. cc)))
+      check-runs (rule.TwiceDeclared spot) known runs = program-not_refused (TwiceDeclared spot) runs (broken-by (rule.TwiceDeclared spot) (known (λ same. cc)))
+      check-runs (rule.WrongUse spot) known runs = program-not_refused (WrongUse spot) runs (broken-by (rule.WrongUse spot) (known (λ same. cc)))
+      check-runs (rule.BadNesting spot) known runs = program-not_refused (BadNesting spot) runs (broken-by (rule.BadNesting spot) (known (λ same. cc)))
+      check-runs (rule.BadLoop spot) known runs = program-not_refused (BadLoop spot) runs (broken-by (rule.BadLoop spot) (known (λ same. cc)))
+      check-runs (rule.NoMain spot) known runs = program-not_refused (NoMain spot) runs (broken-by (rule.NoMain spot) (known (λ same. cc)))
+      check-runs (rule.NotListed spot) known runs = program-not_refused (NotListed spot) runs (broken-by (rule.NotListed spot) (known (λ same. cc)))
+      check-runs rule.Memory known runs = tt
+
+-- the last token stands where the text ends
+end_at-last : (spot : Spot) (front : List Token) (last : Token) → end_at spot (front ++ last ∷ []) ≡ last.spot
+end_at-last spot [] last = refl
+end_at-last spot (first ∷ front) last = end_at-last first.spot front last
+
+-- so the place where a tree says that its text ends is that of the tokens
+pub end-is : (text : List ℕ) (tokens : List Token) (end : Spot) → tokens_of text ≡ Ok tokens → ((front : List Token) (last : Token) → tokens ≡ front ++ last ∷ [] → end ≡ last.spot) → end ≡ end_of tokens
+end-is text tokens end are at_last =
+    let ended = tokens-end text tokens are in
+    at_last ended.front ended.last ended.parts
+    ∙ sym (ap (λ list. end_of list) ended.parts ∙ end_at-last (record { line = 1; column = 1 }) ended.front ended.last)

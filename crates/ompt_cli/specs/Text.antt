@@ -11,6 +11,7 @@ use Rattle.c_syntax.specs.declared.fault.SyntaxFault.{SyntaxFault}
 use Rattle.c_syntax.specs.declared.fault.SyntaxFault.TheVariants as syntax
 use Rattle.c_syntax.specs.Words.{main_of, words_of}
 use Rattle.c_syntax.specs.Tree.{Tree}
+use Rattle.c_syntax.specs.Numbered.{TreeView, root_tree}
 use Rattle.c_syntax.specs.Derivation.{Spells as IsTreeOf}
 use Rattle.c_syntax.specs.Faults.{IsFault}
 use Rattle.c_check.specs.declared.fault.CheckFault.{CheckFault}
@@ -35,6 +36,13 @@ end_of tokens = end_at (record { line = 1; column = 1 }) tokens
 -- the rule that a text with these tokens and this tree breaks first, if it breaks one
 abbrev pub rule_broken : List ℕ → List Token → Tree → Option CheckFault
 rule_broken text tokens tree = fault_in tree (end_of tokens) (main_of text tokens)
+
+-- a tree that was read is that of the text, with its end and the number of its name `main`
+pub record IsReadAs (text : List ℕ) (program : TreeView) : Type 0 where
+  pub tokens : List Token
+  pub has : HasTree text tokens (root_tree program)
+  pub end_is : program.end ≡ end_of tokens
+  pub main_is : program.main ≡ main_of text tokens
 
 -- the text spells this program: it breaks no rule, and its tree is of the form, with these blocks
 abbrev pub Spells : List ℕ → List Block → Type 0

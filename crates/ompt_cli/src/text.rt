@@ -1,14 +1,14 @@
 //! The texts that run.
 
-ghost use Rattle.std.specs.Prelude.{◌≡◌, ◌≢◌, ◌≤◌, IfSome, IsSomeAnd, IfOk, IfErr, IsErrAnd, length};
+ghost use Rattle.std.specs.Prelude.{ℕ, ◌≡◌, ◌≢◌, ◌≤◌, List, IfSome, IsSomeAnd, IfOk, IfErr, IsErrAnd, length};
 ghost use Rattle.run_edges.specs.Edges.{Rose};
-ghost use Rattle.ompt_cli.specs.Text.{IsProgram, IsRefused, Spells};
+ghost use Rattle.ompt_cli.specs.Text.{IsProgram, IsReadAs, IsRefused, Spells};
 ghost use Rattle.ompt_cli.specs.Commands.{IsBeforeRun, MayRefuse, MayRun};
 
 use crate::end::{End, Refusal, end_of_check_fault, end_of_fault, end_of_syntax_fault};
 use crate::form::blocks_of;
 use c_check::check;
-use c_syntax::read_program;
+use c_syntax::{Tree, read_program};
 use c_tokens::tokens;
 use omp_model::Blocks;
 use run_edges::{ReadAllFault, Source, read_all};
@@ -46,14 +46,43 @@ fn program_of(alloc: Global, text: &[u8]) -> Result<Blocks, End>
     ensures runs { IsProgram text.now → IfErr result MayRun }
     ensures read { result ≢ Err End.ReadFault }
 {
+    match tree_of(alloc, text) {
+        Ok(tree) => blocks_in(alloc, tree),
+        Err(end) => Err(end),
+    }
+}
+
+/// The tree of the text, by its tokens and then by the grammar.
+fn tree_of(alloc: Global, text: &[u8]) -> Result<Tree, End>
+    requires { length text.now ≤ 65536 }
+    ensures tree { IfOk result (IsReadAs text.now) }
+    ensures before { IfErr result IsBeforeRun }
+    ensures refused { (why : Refusal) → result ≡ Err (End.Refused why) → IsRefused why text.now }
+    ensures accepted { (why : Refusal) → IsRefused why text.now → IfErr result (MayRefuse why) }
+    ensures runs { IsProgram text.now → IfErr result MayRun }
+    ensures read { result ≢ Err End.ReadFault }
+{
     let tokens = match tokens(alloc, text) {
         Ok(tokens) => tokens,
         Err(fault) => return Err(end_of_fault(fault)),
     };
-    let tree = match read_program(alloc, text, &tokens) {
-        Ok(tree) => tree,
-        Err(fault) => return Err(end_of_syntax_fault(fault)),
-    };
+    match read_program(alloc, text, &tokens) {
+        Ok(tree) => Ok(tree),
+        Err(fault) => Err(end_of_syntax_fault(fault)),
+    }
+}
+
+/// The blocks of a tree that was read, by the rules and then by the form.
+fn blocks_in(alloc: Global, tree: Tree) -> Result<Blocks, End>
+    ensures program { IfOk result (λ blocks. (text : List ℕ) → IsReadAs text tree → Spells text blocks) }
+    ensures before { IfErr result IsBeforeRun }
+    ensures refused { (why : Refusal) → result ≡ Err (End.Refused why) →
+        (text : List ℕ) → length text ≤ 65536 → IsReadAs text tree → IsRefused why text }
+    ensures accepted { (why : Refusal) (text : List ℕ) → length text ≤ 65536 → IsReadAs text tree →
+        IsRefused why text → IsErrAnd result (MayRefuse why) }
+    ensures runs { (text : List ℕ) → length text ≤ 65536 → IsReadAs text tree → IsProgram text → IfErr result MayRun }
+    ensures read { result ≢ Err End.ReadFault }
+{
     let program = match check(alloc, tree) {
         Ok(program) => program,
         Err(fault) => return Err(end_of_check_fault(fault)),
