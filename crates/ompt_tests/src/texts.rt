@@ -94,7 +94,6 @@ const OTHER_TEXTS: &[&str] = &[
     "int main(void) { { } return 0; }\n",
     "int main(void) { int a; return 0; }\n",
     "int main(void) {\nreturn 0;\n#pragma omp parallel num_threads(2)\n{ }\n}\n",
-    "int main(void) {\n#pragma omp parallel num_threads(2)\nreturn 0;\n}\n",
 ];
 
 /// What stands between the braces of a main of another form, before `return 0;`.
@@ -225,22 +224,34 @@ const RULE_TEXTS: &[Faulty] = &[
     ),
     (
         "int main(void) { return x; }\n",
-        Refusal::UnknownName(Spot { line: 1, column: 25 }),
+        Refusal::UnknownName(Spot {
+            line: 1,
+            column: 25,
+        }),
         b"refused 8 at 1:25\n",
     ),
     (
         "int main(void) {\n#pragma omp parallel num_threads(two)\n{ }\nreturn 0;\n}\n",
-        Refusal::UnknownName(Spot { line: 2, column: 34 }),
+        Refusal::UnknownName(Spot {
+            line: 2,
+            column: 34,
+        }),
         b"refused 8 at 2:34\n",
     ),
     (
         "int main(void) { int a; int a; return 0; }\n",
-        Refusal::TwiceDeclared(Spot { line: 1, column: 29 }),
+        Refusal::TwiceDeclared(Spot {
+            line: 1,
+            column: 29,
+        }),
         b"refused 9 at 1:29\n",
     ),
     (
         "int main(void) { printf(\"%d\\n\"); return 0; }\n",
-        Refusal::WrongUse(Spot { line: 1, column: 18 }),
+        Refusal::WrongUse(Spot {
+            line: 1,
+            column: 18,
+        }),
         b"refused 10 at 1:18\n",
     ),
     (
@@ -255,7 +266,10 @@ const RULE_TEXTS: &[Faulty] = &[
     ),
     (
         "int main(void) { return; }\n",
-        Refusal::WrongUse(Spot { line: 1, column: 18 }),
+        Refusal::WrongUse(Spot {
+            line: 1,
+            column: 18,
+        }),
         b"refused 10 at 1:18\n",
     ),
     (
@@ -267,6 +281,11 @@ const RULE_TEXTS: &[Faulty] = &[
         "int main(void) {\n#pragma omp parallel\n#pragma omp single\n{\n#pragma omp barrier\n}\nreturn 0;\n}\n",
         Refusal::BadNesting(Spot { line: 5, column: 1 }),
         b"refused 11 at 5:1\n",
+    ),
+    (
+        "int main(void) {\n#pragma omp parallel num_threads(2)\nreturn 0;\n}\n",
+        Refusal::BadNesting(Spot { line: 3, column: 1 }),
+        b"refused 11 at 3:1\n",
     ),
     (
         "int main(void) {\nint i;\n#pragma omp for\nfor (i = 0; i != 7; i++) ;\nreturn 0;\n}\n",
