@@ -2,7 +2,7 @@
 use Rattle.std.proofs.Common.{◌≡◌, ℕ, Bool, true, false, cond, ◌||◌, ◌&&◌, List, [], ◌∷◌, ◌++◌, refl, sym, ap, ◌∙◌, nat_eq}
 use Rattle.c_check.specs.declared.declared.LoopInside.{LoopInside}
 use Rattle.c_check.specs.Rules.{is_loop_inside}
-use Rattle.c_check.specs.InnerLoops.{same_pair}
+use Rattle.c_check.specs.Pairs.{same_pair}
 
 or_false : (test : Bool) → (test || false) ≡ test
 or_false true = refl

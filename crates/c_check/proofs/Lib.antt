@@ -2,6 +2,16 @@ mod Earliest
 pub mod Found
 mod Places
 pub mod Visible
-pub mod Mentioned
+pub mod Kept
+pub mod Listed
 pub mod InnerLoops
 pub mod Numbers
+pub mod Standing
+pub mod Behind
+pub mod Looking
+pub mod Putting
+pub mod Asking
+pub mod Weighing
+pub mod Telling
+pub mod Parts
+pub mod UnderWay

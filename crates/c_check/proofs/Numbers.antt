@@ -1,12 +1,13 @@
 -- The numbers of constructs, the innermost last or first.
-use Rattle.std.proofs.Common.{◌≡◌, ℕ, zero, suc, ◌+◌, ◌-◌, ◌<◌, true, false, cond, List, [], ◌∷◌, ◌++◌, length, reverse, take, drop, Some, refl, sym, ap, ◌∙◌, slice_get, arith}
+use Rattle.std.proofs.Common.{◌≡◌, ℕ, zero, suc, ◌+◌, ◌-◌, ◌<◌, List, [], ◌∷◌, ◌++◌, length, reverse, take, drop, Some, refl, sym, ap, ◌∙◌, slice_get, arith}
 use Rattle.std.specs.Prelude.{slice_index_or, slice_set}
-use Rattle.std.proofs.lemmas.List.{get_or_default, length-set, length_push, reverse-append}
-use Rattle.std.proofs.lemmas.Option.{same_Some, slice_get-get_or}
+use Rattle.std.proofs.lemmas.List.{get_or_default, length-set, length_push, map-append, reverse-append}
+use Rattle.std.proofs.lemmas.Option.{slice_get-get_or}
 use Rattle.c_tokens.specs.declared.token.Spot.{Spot}
 use Rattle.c_check.specs.Around.{AreBelow, AreConstructs, HaveBelow}
-use Rattle.c_check.specs.Checked.{construct_at, is_same_place}
+use Rattle.c_check.specs.declared.declared.Head.{Head}
 use Rattle.c_check.specs.Constructs.{Construct, no_construct, numbered}
+use Rattle.c_check.specs.Spots.{spots_of}
 use Rattle.c_check.proofs.Visible.{last_first}
 
 reverse_last : (numbers outer : List ℕ) (last : ℕ) → numbers ≡ outer ++ last ∷ [] → reverse numbers ≡ last ∷ reverse outer
@@ -68,42 +69,49 @@ HaveBelow-set count [] number changed have below = tt
 HaveBelow-set count (first ∷ all) zero changed have below = (below, have.1)
 HaveBelow-set count (first ∷ all) (suc number) changed have below = (have.0, HaveBelow-set count all number changed have.1 below)
 
-pub no_numbers : AreConstructs [] []
+pub no_numbers : AreConstructs [] [] []
 unfolding AreBelow HaveBelow
-no_numbers = record { here = tt; inside = tt }
+no_numbers = record { here = tt; inside = tt; stand = refl }
 
-module _ (all : List Construct) (around : List ℕ) (are : AreConstructs all around) where
-  pub without_around : AreConstructs all []
+spots_of-set : (all : List Construct) (number : ℕ) (old changed : Construct) → changed.head.spot ≡ (slice_index_or all number old).head.spot → spots_of (slice_set all number changed) ≡ spots_of all
+spots_of-set [] number old changed same = refl
+spots_of-set (first ∷ all) zero old changed same = ap (λ (it : Spot). it ∷ spots_of all) same
+spots_of-set (first ∷ all) (suc number) old changed same = ap (λ (spots : List Spot). first.head.spot ∷ spots) (spots_of-set all number old changed same)
+
+module _ (all : List Construct) (spots : List Spot) (around : List ℕ) (are : AreConstructs all spots around) where
+  pub without_around : AreConstructs all spots []
   unfolding AreBelow
-  without_around = record { here = tt; inside = are.inside }
+  without_around = record { here = tt; inside = are.inside; stand = are.stand }
 
-  pub with_next : (next : Construct) → next.around ≡ around → AreConstructs (all ++ next ∷ []) around
-  with_next next same = record {
+  pub with_next : (next : Construct) (spot : Spot) → next.around ≡ around → next.head.spot ≡ spot → AreConstructs (all ++ next ∷ []) (spots ++ spot ∷ []) around
+  with_next next spot same at = record {
     here = rw (length_push all next) (AreBelow-more (length all) around are.here);
     inside = rw (length_push all next) (HaveBelow-more (length all) all next are.inside (rw same are.here));
+    stand = rw (← at, are.stand) (sym (map-append (λ (it : Construct). it.head.spot) all (next ∷ [])));
   }
 
-  pub with_next_around : (next : Construct) → next.around ≡ around → AreConstructs (all ++ next ∷ []) (length all ∷ around)
+  pub with_next_around : (next : Construct) (spot : Spot) → next.around ≡ around → next.head.spot ≡ spot → AreConstructs (all ++ next ∷ []) (spots ++ spot ∷ []) (length all ∷ around)
   unfolding AreBelow
-  with_next_around next same =
+  with_next_around next spot same at =
       let below : length all < length (all ++ next ∷ []) = omega (arith, length_push all next) in
-      record { here = (below, (with_next next same).here); inside = (with_next next same).inside }
+      let rest = with_next next spot same at in
+      record { here = (below, rest.here); inside = rest.inside; stand = rest.stand }
 
-  pub with_changed : (number : ℕ) (old changed : Construct) → number < length all → old ≡ slice_index_or all number old → changed.around ≡ old.around
-      → AreConstructs (slice_set all number changed) around
-  with_changed number old changed within at same =
+  pub with_changed : (number : ℕ) (old changed : Construct) → number < length all → old ≡ slice_index_or all number old → changed.around ≡ old.around → changed.head ≡ old.head
+      → AreConstructs (slice_set all number changed) spots around
+  with_changed number old changed within at same heads =
       let below : AreBelow (length all) changed.around = rw (same, at) (have_at (length all) all number old are.inside within) in
-      record { here = rw (length-set all number changed) are.here; inside = rw (length-set all number changed) (HaveBelow-set (length all) all number changed are.inside below) }
+      record {
+        here = rw (length-set all number changed) are.here;
+        inside = rw (length-set all number changed) (HaveBelow-set (length all) all number changed are.inside below);
+        stand = are.stand ∙ sym (spots_of-set all number old changed (ap (λ (it : Head). it.spot) heads ∙ ap (λ (it : Construct). it.head.spot) at));
+      }
 
-pub with_fewer : (all : List Construct) (numbers : List ℕ) (shown : ℕ) → shown ≡ length numbers → AreConstructs all (reverse numbers) → AreConstructs all (reverse (take (shown - 1) numbers))
-with_fewer all numbers shown counts are = record { here = rw (reverse-rest numbers shown counts) (all_but_first (length all) (reverse numbers) are.here); inside = are.inside }
+pub with_fewer : (all : List Construct) (spots : List Spot) (numbers : List ℕ) (shown : ℕ) → shown ≡ length numbers → AreConstructs all spots (reverse numbers)
+    → AreConstructs all spots (reverse (take (shown - 1) numbers))
+with_fewer all spots numbers shown counts are =
+    record { here = rw (reverse-rest numbers shown counts) (all_but_first (length all) (reverse numbers) are.here); inside = are.inside; stand = are.stand }
 
 -- those around one that is found
-pub found_below : (count : ℕ) (all : List Construct) (spot : Spot) (found : Construct) → HaveBelow count all → construct_at all spot ≡ Some found → AreBelow count found.around
-unfolding HaveBelow construct_at
-found_below count [] spot found have is = absurd cc
-found_below count (first ∷ all) spot found have is =
-    (elim (is_same_place first.head.spot spot) as (λ here. cond here (Some first) (construct_at all spot) ≡ Some found → AreBelow count found.around) [
-      | true ↦ λ here. rw (← same_Some first found here) have.0
-      | false ↦ found_below count all spot found have.1
-    ]) is
+pub around_below : (all : List Construct) (spots : List Spot) (around : List ℕ) (number : ℕ) (other : Construct) → AreConstructs all spots around → number < length all → AreBelow (length all) (slice_index_or all number other).around
+around_below all spots around number other are within = have_at (length all) all number other are.inside within

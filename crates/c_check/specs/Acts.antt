@@ -1,6 +1,5 @@
 -- What a tree does with names, scopes and constructs, in the order of its text.
-use Rattle.std.specs.Prelude.{ℕ, ◌+◌, ◌==◌, if◌then◌else◌, Bool, true, false, List, [], ◌∷◌, ◌++◌, codes, Option, Some, None}
-use Rattle.c_tokens.specs.declared.token.Spot.{Spot}
+use Rattle.std.specs.Prelude.{ℕ, ◌+◌, ◌==◌, if◌then◌else◌, Bool, true, false, List, [], ◌∷◌, ◌++◌, Option, Some, None}
 use Rattle.c_syntax.specs.declared.node.Data.{Data}
 use Rattle.c_syntax.specs.declared.node.Data.TheVariants as data_clause
 use Rattle.c_syntax.specs.declared.node.Directive.{Directive}
@@ -240,17 +239,17 @@ unfoldable mutual
 
   -- the parts of a `for`, of which each may be absent but the last, which is its body
   pub first_part : List Act → Children → List Act
-  first_part mark Over = []
+  first_part mark Over = mark
   first_part mark (Absent rest) = second_part mark rest
   first_part mark (Child tree rest) = acts role.Plain tree ++ second_part mark rest
 
   pub second_part : List Act → Children → List Act
-  second_part mark Over = []
+  second_part mark Over = mark
   second_part mark (Absent rest) = third_part mark rest
   second_part mark (Child tree rest) = acts role.Plain tree ++ third_part mark rest
 
   pub third_part : List Act → Children → List Act
-  third_part mark Over = []
+  third_part mark Over = mark
   third_part mark (Absent rest) = mark ++ each role.Plain rest
   third_part mark (Child tree rest) = acts role.Plain tree ++ (mark ++ each role.Plain rest)
 

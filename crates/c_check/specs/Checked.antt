@@ -1,6 +1,7 @@
 -- What a program breaks, and the first of it.
-use Rattle.std.specs.Prelude.{ℕ, ◌+◌, ◌==◌, nat_lt, ◌&&◌, ◌||◌, if◌then◌else◌, Bool, true, false, List, [], ◌∷◌, ◌++◌, Option, Some, None, slice_get}
+use Rattle.std.specs.Prelude.{ℕ, ◌==◌, nat_lt, ◌&&◌, ◌||◌, if◌then◌else◌, Bool, List, [], ◌∷◌, ◌++◌, Option, Some, None, slice_get}
 use Rattle.c_tokens.specs.declared.token.Spot.{Spot}
+use Rattle.c_syntax.specs.Tree.{Tree}
 use Rattle.c_syntax.specs.Numbered.{TreeView, root_tree}
 use Rattle.c_check.specs.declared.fault.CheckFault.{CheckFault}
 use Rattle.c_check.specs.declared.fault.CheckFault.TheVariants as fault
@@ -8,7 +9,6 @@ use Rattle.c_check.specs.declared.act.Act.{Act}
 use Rattle.c_check.specs.declared.act.Act.TheVariants.{Finish}
 use Rattle.c_check.specs.declared.role.Role.TheVariants as role
 use Rattle.c_check.specs.declared.sharing.Sharing.{Sharing}
-use Rattle.c_check.specs.declared.sharing.Sharing.TheVariants as sharing
 use Rattle.c_check.specs.Acts.{acts}
 use Rattle.c_check.specs.declared.declared.Declared.{Declared}
 use Rattle.c_check.specs.declared.declared.Named.{Named}
@@ -17,9 +17,12 @@ use Rattle.c_check.specs.Here.{Here, after, before_all}
 use Rattle.c_check.specs.Rules.{broken_by, is_of_file}
 use Rattle.c_check.specs.Shares.{sharing_at}
 
--- all that a program does
+-- all that a program with this tree does, whose text ends there
+abbrev pub acts_in : Tree → Spot → List Act
+acts_in tree end = acts role.Plain tree ++ Finish end ∷ []
+
 abbrev pub acts_of : TreeView → List Act
-acts_of program = acts role.Plain (root_tree program) ++ Finish program.end ∷ []
+acts_of program = acts_in (root_tree program) program.end
 
 -- where it stands after some acts, and what these break
 unfoldable pub after_all : Here → List Act → Here
@@ -30,8 +33,12 @@ unfoldable pub broken_by_all : Here → List Act → List CheckFault
 broken_by_all here [] = []
 broken_by_all here (first ∷ rest) = broken_by here first ++ broken_by_all (after here first) rest
 
+-- what a program with this tree breaks, whose text ends there and in which the name `main` has this number, or 0
+abbrev pub breaches_in : Tree → Spot → ℕ → List CheckFault
+breaches_in tree end main = broken_by_all (before_all main) (acts_in tree end)
+
 abbrev pub breaches_of : TreeView → List CheckFault
-breaches_of program = broken_by_all (before_all program.main) (acts_of program)
+breaches_of program = breaches_in (root_tree program) program.end program.main
 
 -- the number and the place of a fault
 abbrev pub number_of : CheckFault → ℕ
@@ -75,8 +82,11 @@ first_of known [] = known
 first_of known (found ∷ rest) = first_of (sooner known found) rest
 
 -- the fault of a program, if it has one
+abbrev pub fault_in : Tree → Spot → ℕ → Option CheckFault
+fault_in tree end main = first_of None (breaches_in tree end main)
+
 abbrev pub fault_of : TreeView → Option CheckFault
-fault_of program = first_of None (breaches_of program)
+fault_of program = fault_in (root_tree program) program.end program.main
 
 -- where a program stands at its end
 abbrev pub end_of : TreeView → Here

@@ -13,7 +13,6 @@ use Rattle.c_check.specs.declared.act.Thing.{Thing}
 use Rattle.c_check.specs.declared.act.Thing.TheVariants as thing
 use Rattle.c_check.specs.declared.act.Usage.{Usage}
 use Rattle.c_check.specs.declared.act.Usage.TheVariants as usage
-use Rattle.c_check.specs.declared.act.DataClause.{DataClause}
 use Rattle.c_check.specs.declared.act.DataClause.TheVariants as clause
 use Rattle.c_check.specs.declared.act.Single.{Single}
 use Rattle.c_check.specs.declared.act.Single.TheVariants as single
@@ -68,7 +67,7 @@ wrong_function here name spot gives parameters = if_so (name == here.main && is_
 -- a void function has no value
 abbrev pub lacks_value : Returns → Value → Bool
 lacks_value returns.Void value.Used = true
-lacks_value gives used = false
+lacks_value gives other = false
 
 -- what is declared so may not be used so
 abbrev pub is_wrong : Thing → Usage → Bool
@@ -79,12 +78,12 @@ is_wrong (thing.Array size) (usage.Listed clause.Reduced) = true
 is_wrong (thing.Array size) (usage.Listed which) = false
 is_wrong thing.Lock usage.Locked = false
 is_wrong thing.Lock (usage.Listed clause.Shared) = false
-is_wrong (thing.Function gives parameters) (usage.Called arguments used) = (if arguments == parameters then false else true) || lacks_value gives used
-is_wrong what used = true
+is_wrong (thing.Function gives parameters) (usage.Called arguments value) = (if arguments == parameters then false else true) || lacks_value gives value
+is_wrong what other = true
 
 -- main is called
 abbrev pub calls_main : Usage → Bool → Bool
-calls_main (usage.Called arguments used) is_main = is_main
+calls_main (usage.Called arguments value) is_main = is_main
 calls_main other is_main = false
 
 -- a variable of the file

@@ -1,7 +1,6 @@
 //! The constructs of a program: all of them, and those around.
 
 ghost use Rattle.std.specs.Prelude.{◌≡◌, Some, OnOk};
-ghost use Rattle.std.specs.Option.{option_copied};
 ghost use Rattle.c_check.specs.Constructs.{around_of, left, no_constructs, with_clause, with_head, with_loop, with_mention, with_none_around, with_use};
 ghost use Rattle.c_check.specs.Rules.{not_listed};
 ghost use Rattle.c_check.specs.Checked.{construct_at, first_of, seen_by};
@@ -12,11 +11,11 @@ use crate::breaches::not_listed;
 use crate::construct::Construct;
 use crate::declared::{Declared, Head, Mention, Unlisted};
 use crate::fault::CheckFault;
-use crate::finding::is_same_place;
 use crate::inner_loops::InnerLoops;
 use crate::noted::{note_loop, note_use};
 use crate::shares::sharing;
 use crate::sharing::Sharing;
+use crate::spots::Spots;
 use c_syntax::Directive;
 use c_tokens::Spot;
 use std::alloc::{AllocError, Global};
@@ -28,6 +27,8 @@ pub struct Constructs {
     alloc: Global,
     /// All of them: each stands at its number.
     all: Vec<Construct>,
+    /// Where they stand, in the same order.
+    spots: Spots,
     /// The numbers of those around, the innermost last.
     around: Vec<usize>,
     /// The uses of variables that a construct with `default(none)` doesn't list.
@@ -46,7 +47,7 @@ impl Model for Constructs {
 
     ghost view = { λ them. record { all = them.all.items; around = reverse them.around.items; unlisted = them.unlisted.items; loops = them.loops } };
 
-    ghost invariant = { λ them. AreConstructs them.all.items (reverse them.around.items) };
+    ghost invariant = { λ them. AreConstructs them.all.items them.spots (reverse them.around.items) };
 }
 
 impl Constructs {
@@ -57,6 +58,7 @@ impl Constructs {
         Constructs {
             alloc,
             all: Vec::new(alloc),
+            spots: Spots::new(alloc),
             around: Vec::new(alloc),
             unlisted: Vec::new(alloc),
             loops: InnerLoops::new(alloc),
@@ -90,6 +92,8 @@ impl Constructs {
         };
         let around = Vec::from_slice(self.alloc, &self.around)?;
         let construct = Construct::new(self.alloc, head, around);
+        self.all.reserve(1)?;
+        self.spots.add(spot)?;
         self.all.push(construct)?;
         self.around.push(number)?;
         Ok(())
@@ -165,21 +169,9 @@ impl Constructs {
     pub fn sharing(&self, spot: Spot, variable: Declared) -> Option<Sharing>
         ensures { result ≡ seen_by self.now.all (construct_at self.now.all spot) (Some variable) }
     {
-        let construct = construct_at(&self.all, spot)?;
+        let number = self.spots.number(spot)?;
+        let construct = &self.all[number];
         let around = Around::new(&self.all, construct.around());
         Some(sharing(construct, around, variable.level == 0, variable.slot))
     }
-}
-
-/// The construct that stands there.
-#[tactic(auto, unfolding(crate::specs::Checked::construct_at))]
-fn construct_at(all: &[Construct], spot: Spot) -> Option<&Construct>
-    ensures { option_copied result ≡ construct_at all.now spot }
-{
-    for construct in all {
-        if is_same_place(construct.head().spot, spot) {
-            return Some(construct);
-        }
-    }
-    None
 }

@@ -39,8 +39,7 @@ fn is_earlier(first: Spot, second: Spot) -> bool
     first.line < second.line || first.line == second.line && first.column < second.column
 }
 
-/// Whether two places are one.
-pub fn is_same_place(first: Spot, second: Spot) -> bool
+fn is_same_place(first: Spot, second: Spot) -> bool
     ensures { result ≡ is_same_place first second }
 {
     first.line == second.line && first.column == second.column

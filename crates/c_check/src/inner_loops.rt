@@ -24,7 +24,7 @@ impl Model for InnerLoops {
     ghost Value = { List LoopInside };
 
     ghost use Rattle.c_check.specs.Rules.{is_loop_inside};
-    ghost use Rattle.c_check.specs.InnerLoops.{same_pair};
+    ghost use Rattle.c_check.specs.Pairs.{same_pair};
 
     ghost view = { λ loops. loops.all.items };
 

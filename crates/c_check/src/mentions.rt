@@ -3,7 +3,7 @@
 ghost use Rattle.std.specs.Prelude.{◌≡◌, ◌++◌, ◌∷◌, [], ℕ, nat_eq, OnErr, OnOk};
 ghost use Rattle.std.specs.HashMap.{get};
 ghost use Rattle.c_check.specs.Constructs.{mention};
-ghost use Rattle.c_check.specs.Mentions.{or_else};
+ghost use Rattle.std.specs.Option.{option_or};
 
 use crate::act::DataClause;
 use crate::declared::Mention;
@@ -65,7 +65,7 @@ impl Mentions {
 
 /// A variable is listed by this clause, if none listed it before.
 fn keep_first(clauses: &mut HashMap<u32, DataClause>, one: Mention) -> Result<(), AllocError>
-    ensures kept { OnOk result ((slot : ℕ) → get nat_eq clauses.new slot ≡ or_else (get nat_eq clauses.old slot) (mention (one ∷ []) slot)) }
+    ensures kept { OnOk result ((slot : ℕ) → get nat_eq clauses.new slot ≡ option_or (get nat_eq clauses.old slot) (mention (one ∷ []) slot)) }
     ensures err { OnErr result ((slot : ℕ) → get nat_eq clauses.new slot ≡ get nat_eq clauses.old slot) }
 {
     if !clauses.contains_key(&one.slot) {

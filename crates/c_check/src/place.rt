@@ -1,15 +1,25 @@
 //! Places of children.
 
+ghost use Rattle.std.specs.Prelude.{◌≡◌, ◌<◌, ◌+◌, length, IfOk};
+ghost use Rattle.c_syntax.specs.Tree.{children_of};
+ghost use Rattle.c_syntax.specs.Numbered.{tree_at};
+ghost use Rattle.c_check.specs.Acts.{count as count_of};
+
 use c_syntax::Tree;
 use std::alloc::AllocError;
 
 /// The next place. Where there is none, a node with so many children found no memory.
-pub fn next_place(place: u32) -> Result<u32, AllocError> {
+pub fn next_place(place: u32) -> Result<u32, AllocError>
+    ensures { IfOk result (λ next. next ≡ place + 1) }
+{
     place.checked_add(1).ok_or(AllocError)
 }
 
 /// How many children a node has, up to the first absent one.
-pub fn count(tree: &Tree, node: u32) -> Result<u32, AllocError> {
+pub fn count(tree: &Tree, node: u32) -> Result<u32, AllocError>
+    requires { node < length tree.now.trees }
+    ensures { IfOk result (λ n. n ≡ count_of (children_of (tree_at tree.now.trees node))) }
+{
     let mut place = 0;
     while tree.child(node, place).is_some() {
         place = next_place(place)?;

@@ -14,4 +14,4 @@ pub index_mut-innermost-requires : goal.index_mut-innermost-requires
 index_mut-innermost-requires c = omega (arith, below ((goal.at.index_mut-innermost-requires c).In-Some), c.self.inside.all.ok.0)
 
 pub invariant_of-self : goal.invariant_of-self
-invariant_of-self c = with_changed _ _ c.self.invariant _ _ _ (below ((goal.at.invariant_of-self c).In-Some)) c.index_mut-innermost.ensures.value (ap (λ (it : Construct). it.around) c.in_ok-add_mention.ensures.added)
+invariant_of-self c = with_changed _ _ _ c.self.invariant _ _ _ (below ((goal.at.invariant_of-self c).In-Some)) c.index_mut-innermost.ensures.value (ap (λ (it : Construct). it.around) c.in_ok-add_mention.ensures.added) (ap (λ (it : Construct). it.head) c.in_ok-add_mention.ensures.added)

@@ -14,4 +14,4 @@ pub index_mut-innermost-requires : goal.index_mut-innermost-requires
 index_mut-innermost-requires c = omega (arith, below ((goal.at.index_mut-innermost-requires c).In-Some), c.self.inside.all.ok.0)
 
 pub invariant_of-self-in-Some : goal.invariant_of-self-in-Some
-invariant_of-self-in-Some c = with_changed _ _ c.self.invariant _ _ _ (below ((goal.at.invariant_of-self-in-Some c).In-Some)) c.index_mut-innermost.ensures.value (ap (λ (it : Construct). it.around) c.set_loop.ensures)
+invariant_of-self-in-Some c = with_changed _ _ _ c.self.invariant _ _ _ (below ((goal.at.invariant_of-self-in-Some c).In-Some)) c.index_mut-innermost.ensures.value (ap (λ (it : Construct). it.around) c.set_loop.ensures) (ap (λ (it : Construct). it.head) c.set_loop.ensures)

@@ -1,5 +1,5 @@
 use Rattle.std.proofs.Common.{sym}
-use Rattle.c_check.proofs.Mentioned.{mention-more}
+use Rattle.c_check.proofs.Listed.{mention-more}
 use Rattle.c_check.proofs.mentions.Mentions.add.Goals as goal
 
 pub invariant_of-self-2 : goal.invariant_of-self-2

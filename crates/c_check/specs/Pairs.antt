@@ -1,4 +1,4 @@
--- The loops inside constructs, as they are kept.
+-- Pairs of numbers.
 use Rattle.std.specs.Prelude.{ℕ, Bool, ◌&&◌, nat_eq}
 
 -- two pairs are one
