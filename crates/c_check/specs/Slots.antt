@@ -1,14 +1,12 @@
 -- The slots of the code, and what they are.
-use Rattle.std.specs.Prelude.{ℕ, ◌≡◌, ◌==◌, ◌&&◌, Bool, List}
+use Rattle.std.specs.Prelude.{◌≡◌, List}
 use Rattle.std.specs.HashMap.{get}
 use Rattle.c_tokens.specs.declared.token.Spot.{Spot}
 use Rattle.c_check.specs.declared.declared.Named.{Named}
 use Rattle.c_check.specs.declared.slots.Slots.{Slots}
+use Rattle.c_check.specs.Pairs.{same_pair}
 use Rattle.c_check.specs.Checked.{slot_in}
-
-abbrev pub is_same_pair : ℕ × ℕ → ℕ × ℕ → Bool
-is_same_pair first second = first.0 == second.0 && first.1 == second.1
 
 -- these names have come, in this order
 abbrev pub AreSlots : List Named → Slots → Type 0
-AreSlots named slots = (spot : Spot) → get is_same_pair slots.slots (spot.line, spot.column) ≡ slot_in named spot
+AreSlots named slots = (spot : Spot) → get same_pair slots.slots (spot.line, spot.column) ≡ slot_in named spot

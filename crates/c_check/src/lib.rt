@@ -22,6 +22,9 @@
 //! - [`Program::slot`] and [`Program::sharing`] answer what the definitions have, where they have something.
 //!
 //! Which sentences of `docs/rules.md` the definitions stand for is to be read. The time and the memory are no clauses.
+//!
+//! Tests compare tables of texts with what was written out by hand: whether a rule is broken, which one and where; the slots of names;
+//! and how constructs see variables.
 #![tactic(auto)]
 
 mod act;

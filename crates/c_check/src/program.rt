@@ -68,8 +68,8 @@ impl Program {
         &self.tree
     }
 
-    /// The slot of the name of a node, which is the number of the declaration that it is of, from 0 in the order of the text. 0 where the
-    /// node has no name that is declared.
+    /// The slot of the name that stands where a node begins, which is the number of the declaration that it is of, from 0 in the order of
+    /// the text. 0 where no name that is declared stands there.
     pub fn slot(&self, node: u32) -> u32
         requires { node < length self.now.trees }
         ensures { (slot : ℕ) → slot_at self.now (spot_of (tree_at self.now.trees node)) ≡ Some slot → result ≡ slot }

@@ -9,7 +9,7 @@ const NOTHING_LISTED: Frame = Frame {
     behind: "\n}",
 };
 
-/// The same with a directive that begins at the row.
+/// The same names, and no directive.
 const WITH_VARIABLES: Frame = Frame {
     before: "int g; omp_lock_t k; int f(int n) { return g; }\nint main(void) {\nint x, y, a[4]; omp_lock_t l;\n",
     behind: "\n}",

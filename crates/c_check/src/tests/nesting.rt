@@ -31,7 +31,7 @@ const PARALLEL_FOR: Around = (
 
 const PARALLEL_SECTIONS: Around = ("#pragma omp parallel sections\n{ {\n", "} }\n");
 
-/// What stands inside, each behind the sign that a row has for it.
+/// What stands inside, in the order of the signs of a row.
 const INSIDE: &[&str] = &[
     "#pragma omp for\nfor (int j = 0; j < 3; j++) ;\n",
     "#pragma omp sections\n{ ; }\n",
@@ -63,7 +63,7 @@ const PAIRS: &[Pairs] = &[
     (PARALLEL_SECTIONS, "xxxxxx......"),
 ];
 
-/// What stands between a construct and what is inside, each behind the sign that a row has for it.
+/// What stands between a construct and what is inside, in the order of the signs of a row.
 const BETWEEN: &[Around] = &[
     FOR,
     SECTIONS,
