@@ -5,12 +5,12 @@ use Rattle.c_syntax.specs.declared.node.Returns.{Returns}
 use Rattle.c_syntax.specs.Tree.{Tree, Children, at_place, children_of, name_of, spot_of}
 use Rattle.c_syntax.specs.Tree.Tree.{Node}
 use Rattle.c_syntax.specs.Tree.Children.{Over, Child, Absent}
-use Rattle.c_check.specs.declared.act.Act.{Act}
-use Rattle.c_check.specs.declared.act.Act.TheVariants.{Begin, Declare, End}
-use Rattle.c_check.specs.declared.act.Thing.TheVariants as thing
-use Rattle.c_check.specs.declared.role.Role.{Role}
-use Rattle.c_check.specs.declared.role.Role.TheVariants as role
-use Rattle.c_check.specs.declared.role.Naming.TheVariants as naming
+use Rattle.c_check.specs.declared.acts.act.Act.{Act}
+use Rattle.c_check.specs.declared.acts.act.Act.TheVariants.{Begin, Declare, End}
+use Rattle.c_check.specs.declared.acts.act.Thing.TheVariants as thing
+use Rattle.c_check.specs.declared.acts.role.Role.{Role}
+use Rattle.c_check.specs.declared.acts.role.Role.TheVariants as role
+use Rattle.c_check.specs.declared.acts.role.Naming.TheVariants as naming
 use Rattle.c_check.specs.Acts.{acts, each, names, count, target, init, function, first_part, second_part, third_part, shares_loop, statement_of, statement_role, role_with, odd_with, odd_loop}
 use Rattle.c_check.specs.Loops.{loop_name}
 use Rattle.c_check.specs.Tasks.{behind}

@@ -2,7 +2,7 @@
 use Rattle.std.proofs.Common.{◌≡◌, ℕ, Bool, true, false, cond, ◌==◌, ◌&&◌, List, [], ◌∷◌, ◌++◌, Option, Some, None, refl, sym, ap, ◌∙◌, inl, inr}
 use Rattle.std.proofs.lemmas.Bool.{cases_Bool, eqb-true, false≢true}
 use Rattle.c_tokens.specs.declared.token.Spot.{Spot}
-use Rattle.c_check.specs.declared.declared.Named.{Named}
+use Rattle.c_check.specs.declared.scopes.declared.Named.{Named}
 use Rattle.c_check.specs.Checked.{is_same_place, slot_in}
 
 both : (first second : Bool) → (first && second) ≡ true → (first ≡ true) × (second ≡ true)

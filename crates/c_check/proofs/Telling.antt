@@ -4,9 +4,9 @@ use Rattle.c_syntax.specs.declared.node.NodeKind.TheVariants as node
 use Rattle.c_syntax.specs.Tree.{Tree, Children, at_place, children_of, kind_of}
 use Rattle.c_syntax.specs.Tree.Tree.{Node}
 use Rattle.c_syntax.specs.Tree.Children.{Over, Child, Absent}
-use Rattle.c_check.specs.declared.act.Act.{Act}
-use Rattle.c_check.specs.declared.role.Role.{Role}
-use Rattle.c_check.specs.declared.role.Naming.{Naming}
+use Rattle.c_check.specs.declared.acts.act.Act.{Act}
+use Rattle.c_check.specs.declared.acts.role.Role.{Role}
+use Rattle.c_check.specs.declared.acts.role.Naming.{Naming}
 use Rattle.c_check.specs.Acts.{acts, each, names, named, outside, clause_outside, inside, first_inside, clause_inside, statements, is_head}
 use Rattle.c_check.specs.Tasks.{behind}
 use Rattle.c_check.specs.Steps.{clause_in, outside_by}

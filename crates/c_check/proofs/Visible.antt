@@ -4,8 +4,8 @@ use Rattle.std.specs.Map.{update}
 use Rattle.std.proofs.lemmas.Bool.{eqb-true}
 use Rattle.std.proofs.lemmas.List.{reverse-append, take_all, take_more}
 use Rattle.std.proofs.lemmas.Option.{get_or_from_slice_get, same_Some, slice_get_within}
-use Rattle.c_check.specs.declared.declared.Declared.{Declared}
-use Rattle.c_check.specs.declared.names.Visible.{Visible}
+use Rattle.c_check.specs.declared.scopes.declared.Declared.{Declared}
+use Rattle.c_check.specs.declared.scopes.names.Visible.{Visible}
 use Rattle.c_check.specs.Names.{Names, closed, find, outside_of}
 use Rattle.c_check.specs.Visible.{AreVisible, Hide, Stand, declared_in, ends_first, slot_of, without_first}
 

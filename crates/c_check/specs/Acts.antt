@@ -12,24 +12,24 @@ use Rattle.c_syntax.specs.Tree.{Tree, Children, kind_of, name_of, spot_of}
 use Rattle.c_syntax.specs.Tree.Tree.{Node}
 use Rattle.c_syntax.specs.Tree.Children.{Over, Child, Absent}
 use Rattle.c_syntax.specs.Derivation.{nothing}
-use Rattle.c_check.specs.declared.act.Act.{Act}
-use Rattle.c_check.specs.declared.act.Act.TheVariants.{Open, Close, Begin, End, Declare, Use, Assign, Print, Return, Barrier, Enter, Clause, List as Listing, OddLoop, Loop, Leave}
-use Rattle.c_check.specs.declared.act.Thing.TheVariants as thing
-use Rattle.c_check.specs.declared.act.Usage.{Usage}
-use Rattle.c_check.specs.declared.act.Usage.TheVariants as usage
-use Rattle.c_check.specs.declared.act.DataClause.{DataClause}
-use Rattle.c_check.specs.declared.act.DataClause.TheVariants as clause
-use Rattle.c_check.specs.declared.act.Single.TheVariants as single
-use Rattle.c_check.specs.declared.act.Value.{Value}
-use Rattle.c_check.specs.declared.act.Value.TheVariants as value
-use Rattle.c_check.specs.declared.act.Returned.{Returned}
-use Rattle.c_check.specs.declared.act.Returned.TheVariants as returned
-use Rattle.c_check.specs.declared.act.Printed.{Printed}
-use Rattle.c_check.specs.declared.act.Printed.TheVariants as printed
-use Rattle.c_check.specs.declared.role.Role.{Role}
-use Rattle.c_check.specs.declared.role.Role.TheVariants as role
-use Rattle.c_check.specs.declared.role.Naming.{Naming}
-use Rattle.c_check.specs.declared.role.Naming.TheVariants as naming
+use Rattle.c_check.specs.declared.acts.act.Act.{Act}
+use Rattle.c_check.specs.declared.acts.act.Act.TheVariants.{Open, Close, Begin, End, Declare, Use, Assign, Print, Return, Barrier, Enter, Clause, List as Listing, OddLoop, Loop, Leave}
+use Rattle.c_check.specs.declared.acts.act.Thing.TheVariants as thing
+use Rattle.c_check.specs.declared.acts.act.Usage.{Usage}
+use Rattle.c_check.specs.declared.acts.act.Usage.TheVariants as usage
+use Rattle.c_check.specs.declared.acts.act.DataClause.{DataClause}
+use Rattle.c_check.specs.declared.acts.act.DataClause.TheVariants as clause
+use Rattle.c_check.specs.declared.acts.act.Single.TheVariants as single
+use Rattle.c_check.specs.declared.acts.act.Value.{Value}
+use Rattle.c_check.specs.declared.acts.act.Value.TheVariants as value
+use Rattle.c_check.specs.declared.acts.act.Returned.{Returned}
+use Rattle.c_check.specs.declared.acts.act.Returned.TheVariants as returned
+use Rattle.c_check.specs.declared.acts.act.Printed.{Printed}
+use Rattle.c_check.specs.declared.acts.act.Printed.TheVariants as printed
+use Rattle.c_check.specs.declared.acts.role.Role.{Role}
+use Rattle.c_check.specs.declared.acts.role.Role.TheVariants as role
+use Rattle.c_check.specs.declared.acts.role.Naming.{Naming}
+use Rattle.c_check.specs.declared.acts.role.Naming.TheVariants as naming
 use Rattle.c_check.specs.Loops.{loop_name}
 
 -- how many children there are, up to the first absent one

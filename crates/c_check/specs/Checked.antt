@@ -5,13 +5,13 @@ use Rattle.c_syntax.specs.Tree.{Tree}
 use Rattle.c_syntax.specs.Numbered.{TreeView, root_tree}
 use Rattle.c_check.specs.declared.fault.CheckFault.{CheckFault}
 use Rattle.c_check.specs.declared.fault.CheckFault.TheVariants as fault
-use Rattle.c_check.specs.declared.act.Act.{Act}
-use Rattle.c_check.specs.declared.act.Act.TheVariants.{Finish}
-use Rattle.c_check.specs.declared.role.Role.TheVariants as role
+use Rattle.c_check.specs.declared.acts.act.Act.{Act}
+use Rattle.c_check.specs.declared.acts.act.Act.TheVariants.{Finish}
+use Rattle.c_check.specs.declared.acts.role.Role.TheVariants as role
 use Rattle.c_check.specs.declared.sharing.Sharing.{Sharing}
 use Rattle.c_check.specs.Acts.{acts}
-use Rattle.c_check.specs.declared.declared.Declared.{Declared}
-use Rattle.c_check.specs.declared.declared.Named.{Named}
+use Rattle.c_check.specs.declared.scopes.declared.Declared.{Declared}
+use Rattle.c_check.specs.declared.scopes.declared.Named.{Named}
 use Rattle.c_check.specs.Constructs.{Construct, numbered}
 use Rattle.c_check.specs.Here.{Here, after, before_all}
 use Rattle.c_check.specs.Rules.{broken_by, is_of_file}

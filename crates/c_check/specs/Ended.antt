@@ -1,7 +1,7 @@
 -- What is kept of a program that breaks no rule.
 use Rattle.std.specs.Prelude.{◌≡◌, []}
 use Rattle.c_syntax.specs.Numbered.{TreeView}
-use Rattle.c_check.specs.declared.slots.Slots.{Slots}
+use Rattle.c_check.specs.declared.scopes.slots.Slots.{Slots}
 use Rattle.c_check.specs.Names.{Names}
 use Rattle.c_check.specs.Constructs.{Constructs}
 use Rattle.c_check.specs.Checked.{breaches_of, end_of}

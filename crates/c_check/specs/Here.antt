@@ -3,13 +3,13 @@ use Rattle.std.specs.Prelude.{ℕ, ◌+◌, ◌==◌, ◌||◌, nat_lt, if◌the
 use Rattle.c_tokens.specs.declared.token.Spot.{Spot}
 use Rattle.c_syntax.specs.declared.node.Returns.{Returns}
 use Rattle.c_syntax.specs.declared.node.Returns.TheVariants as returns
-use Rattle.c_check.specs.declared.act.Act.{Act}
-use Rattle.c_check.specs.declared.act.Act.TheVariants.{Open, Close, Begin, End, Declare, Use, Assign, Print, Return, Barrier, Enter, Clause, List as Listing, OddLoop, Loop, Leave, Finish}
-use Rattle.c_check.specs.declared.act.DataClause.{DataClause}
-use Rattle.c_check.specs.declared.act.Thing.{Thing}
-use Rattle.c_check.specs.declared.act.Thing.TheVariants as thing
-use Rattle.c_check.specs.declared.declared.Declared.{Declared}
-use Rattle.c_check.specs.declared.declared.Named.{Named}
+use Rattle.c_check.specs.declared.acts.act.Act.{Act}
+use Rattle.c_check.specs.declared.acts.act.Act.TheVariants.{Open, Close, Begin, End, Declare, Use, Assign, Print, Return, Barrier, Enter, Clause, List as Listing, OddLoop, Loop, Leave, Finish}
+use Rattle.c_check.specs.declared.acts.act.DataClause.{DataClause}
+use Rattle.c_check.specs.declared.acts.act.Thing.{Thing}
+use Rattle.c_check.specs.declared.acts.act.Thing.TheVariants as thing
+use Rattle.c_check.specs.declared.scopes.declared.Declared.{Declared}
+use Rattle.c_check.specs.declared.scopes.declared.Named.{Named}
 use Rattle.c_check.specs.Names.{Names, closed, find, no_names, opened, with_next}
 use Rattle.c_check.specs.Constructs.{Constructs, left, no_constructs, with_clause, with_head, with_loop, with_mention, with_none_around, with_use}
 

@@ -1,7 +1,7 @@
 -- The declarations of a program, and which of them are in scope.
 use Rattle.std.specs.Prelude.{ℕ, ◌+◌, ◌-◌, ◌==◌, nat_le, if◌then◌else◌, Bool, false, List, [], ◌∷◌, ◌++◌, length, Option, Some, None}
-use Rattle.c_check.specs.declared.act.Thing.{Thing}
-use Rattle.c_check.specs.declared.declared.Declared.{Declared}
+use Rattle.c_check.specs.declared.acts.act.Thing.{Thing}
+use Rattle.c_check.specs.declared.scopes.declared.Declared.{Declared}
 
 pub record Names : Type 0 where
   -- those in scope, the newest first

@@ -1,7 +1,7 @@
 -- What a checker stands for.
 use Rattle.std.specs.Prelude.{◌≡◌}
-use Rattle.c_check.specs.declared.act.Act.{Act}
-use Rattle.c_check.specs.declared.checker.Checker.{Checker}
+use Rattle.c_check.specs.declared.acts.act.Act.{Act}
+use Rattle.c_check.specs.declared.rules.checker.Checker.{Checker}
 use Rattle.c_check.specs.Here.{Here, after}
 use Rattle.c_check.specs.Rules.{broken_by}
 use Rattle.c_check.specs.Checked.{first_of}

@@ -7,14 +7,14 @@ use Rattle.c_syntax.specs.declared.node.NodeKind.{NodeKind}
 use Rattle.c_syntax.specs.declared.node.NodeKind.TheVariants as node
 use Rattle.c_syntax.specs.Tree.{Tree, Children, at_place, children_of, kind_of}
 use Rattle.c_syntax.specs.Numbered.{tree_at}
-use Rattle.c_check.specs.declared.act.Act.{Act}
-use Rattle.c_check.specs.declared.act.Act.TheVariants.{Barrier}
-use Rattle.c_check.specs.declared.act.DataClause.TheVariants as clause
-use Rattle.c_check.specs.declared.role.Naming.TheVariants as naming
-use Rattle.c_check.specs.declared.role.Role.TheVariants as role
-use Rattle.c_check.specs.declared.walk.Task.{Task}
-use Rattle.c_check.specs.declared.walk.Task.TheVariants as task
-use Rattle.c_check.specs.declared.walk.Walk.{Walk}
+use Rattle.c_check.specs.declared.acts.act.Act.{Act}
+use Rattle.c_check.specs.declared.acts.act.Act.TheVariants.{Barrier}
+use Rattle.c_check.specs.declared.acts.act.DataClause.TheVariants as clause
+use Rattle.c_check.specs.declared.acts.role.Naming.TheVariants as naming
+use Rattle.c_check.specs.declared.acts.role.Role.TheVariants as role
+use Rattle.c_check.specs.declared.acts.walk.Task.{Task}
+use Rattle.c_check.specs.declared.acts.walk.Task.TheVariants as task
+use Rattle.c_check.specs.declared.acts.walk.Walk.{Walk}
 use Rattle.c_check.specs.Acts.{acts, data_of, each, names}
 use Rattle.c_check.specs.Tasks.{children_at, left_of, told_by, AreThere}
 use Rattle.c_check.specs.Weights.{weight_among, weight_below}

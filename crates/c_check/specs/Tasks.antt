@@ -3,10 +3,10 @@ use Rattle.std.specs.Prelude.{ℕ, zero, suc, ◌<◌, List, [], ◌∷◌, ◌+
 use Rattle.c_syntax.specs.Tree.{Tree, Children, children_of}
 use Rattle.c_syntax.specs.Tree.Children.{Over, Child, Absent}
 use Rattle.c_syntax.specs.Numbered.{tree_at}
-use Rattle.c_check.specs.declared.act.Act.{Act}
-use Rattle.c_check.specs.declared.walk.Task.{Task}
-use Rattle.c_check.specs.declared.walk.Task.TheVariants as task
-use Rattle.c_check.specs.declared.walk.Walk.{Walk}
+use Rattle.c_check.specs.declared.acts.act.Act.{Act}
+use Rattle.c_check.specs.declared.acts.walk.Task.{Task}
+use Rattle.c_check.specs.declared.acts.walk.Task.TheVariants as task
+use Rattle.c_check.specs.declared.acts.walk.Walk.{Walk}
 use Rattle.c_check.specs.Acts.{acts, each, inside, names, outside, statements}
 
 -- the children from a place on

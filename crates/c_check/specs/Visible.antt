@@ -1,7 +1,7 @@
 -- How the declarations in scope are kept.
 use Rattle.std.specs.Prelude.{◌≡◌, ℕ, nat_le, Bool, false, List, [], ◌∷◌, map, drop, Option, Some, None, slice_get}
-use Rattle.c_check.specs.declared.declared.Declared.{Declared}
-use Rattle.c_check.specs.declared.names.Visible.{Visible}
+use Rattle.c_check.specs.declared.scopes.declared.Declared.{Declared}
+use Rattle.c_check.specs.declared.scopes.names.Visible.{Visible}
 use Rattle.c_check.specs.Names.{Names, find}
 
 abbrev pub declared_in : List Visible → List Declared

@@ -7,11 +7,11 @@ ghost use Rattle.c_check.specs.declared.sharing.Sharing.{Sharing as Seen};
 ghost use Rattle.c_check.specs.Checked.{breaches_of, end_of, sharing_of, slot_at};
 ghost use Rattle.c_check.specs.Standing.{Stands};
 
-use crate::checker::Checker;
-use crate::constructs::Constructs;
-use crate::names::Names;
+use crate::constructs::arena::Constructs;
+use crate::rules::checker::Checker;
+use crate::scopes::names::Names;
+use crate::scopes::slots::Slots;
 use crate::sharing::Sharing;
-use crate::slots::Slots;
 use c_syntax::Tree;
 use std::marker::Model;
 
