@@ -26,7 +26,7 @@ use Rattle.c_check.specs.declared.constructs.parts.Clauses.{Clauses}
 use Rattle.c_check.specs.declared.scopes.declared.Declared.{Declared}
 use Rattle.c_check.specs.declared.constructs.parts.LoopInside.{LoopInside}
 use Rattle.c_check.specs.declared.constructs.parts.Unlisted.{Unlisted}
-use Rattle.c_check.specs.Names.{find, is_at_level}
+use Rattle.c_check.specs.Declarations.{find, is_at_level}
 use Rattle.c_check.specs.Constructs.{Construct, around_of, is_unmentioned, mention}
 use Rattle.c_check.specs.Here.{Here, cells_of, most_cells}
 use Rattle.c_check.specs.Shares.{is_copied, is_loop_variable, is_parallel, is_task}

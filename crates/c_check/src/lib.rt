@@ -8,7 +8,7 @@
 //!
 //! - `specs/Acts.antt`: what a tree does with names, scopes and constructs, in the order of its text: its acts;
 //! - `specs/Loops.antt`: the loops that a `for` directive can share out;
-//! - `specs/Names.antt`, `specs/Constructs.antt`, `specs/Here.antt`: where a program stands after some acts. A name is searched for
+//! - `specs/Declarations.antt`, `specs/Constructs.antt`, `specs/Here.antt`: where a program stands after some acts. A name is searched for
 //!   among the declarations in scope, the newest first;
 //! - `specs/Shares.antt`: how a construct sees a variable, by the constructs around it;
 //! - `specs/Rules.antt`: which rules an act breaks where a program stands;

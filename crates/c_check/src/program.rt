@@ -9,7 +9,7 @@ ghost use Rattle.c_check.specs.Standing.{Stands};
 
 use crate::constructs::arena::Constructs;
 use crate::rules::checker::Checker;
-use crate::scopes::names::Names;
+use crate::scopes::declarations::Declarations;
 use crate::scopes::slots::Slots;
 use crate::sharing::Sharing;
 use c_syntax::Tree;
@@ -19,7 +19,7 @@ use std::marker::Model;
 #[derive(Drop)]
 pub struct Program {
     tree: Tree,
-    names: Names,
+    names: Declarations,
     constructs: Constructs,
     slots: Slots,
 }

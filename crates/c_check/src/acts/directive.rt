@@ -1,19 +1,19 @@
 //! Directives: the loop that they share out, their statement, their clauses.
 
-ghost use Rattle.std.specs.Prelude.{◌≡◌, ◌<◌, None, length, if◌then◌else◌, unwrap_or, IfOk, IfSome};
+ghost use Rattle.std.specs.Prelude.{◌≡◌, ◌<◌, ◌&&◌, None, not, length, if◌then◌else◌, unwrap_or, IfOk, IfSome};
 ghost use Rattle.std.specs.Option.{option_map};
 ghost use Rattle.c_syntax.specs.Tree.{children_of};
 ghost use Rattle.c_syntax.specs.Derivation.{nothing};
 ghost use Rattle.c_syntax.specs.Numbered.{tree_at};
 ghost use Rattle.c_check.specs.Acts as texts;
-ghost use Rattle.c_check.specs.Loops.{loop_name as loop_name_of};
+ghost use Rattle.c_check.specs.Loops.{has_form as is_of_form, loop_name as loop_name_of};
 ghost use Rattle.c_check.specs.Steps.{clause_in};
 
 use crate::acts::act::DataClause;
 use crate::acts::child_places::next_place;
 use crate::acts::node_acts::number_at;
 use crate::acts::role::Role;
-use crate::acts::shared_loops::loop_name;
+use crate::acts::shared_loops::{has_form, loop_name};
 use c_syntax::{Data, Directive, NodeKind, Tree};
 use std::alloc::{AllocError, Global};
 
@@ -24,10 +24,9 @@ pub fn shares_loop(directive: Directive) -> bool
     matches!(directive, Directive::For | Directive::ParallelFor)
 }
 
-/// The name of the variable of the loop that a directive shares out, if it does and the loop is of the form. An error means that
-/// memory ran out.
-pub fn shared_loop(
-    alloc: Global,
+/// The name of the variable of the loop that a directive shares out, if it does and the loop has one. An error means that memory ran
+/// out.
+pub fn shared_loop_name(
     tree: &Tree,
     directive: Directive,
     node: u32,
@@ -39,8 +38,27 @@ pub fn shared_loop(
         return Ok(None);
     }
     match statement_of(tree, node)? {
-        Some(statement) => loop_name(alloc, tree, statement),
+        Some(statement) => Ok(loop_name(tree, statement)),
         None => Ok(None),
+    }
+}
+
+/// Whether a directive shares out a loop and its statement is no loop of the form. An error means that memory ran out.
+pub fn has_odd_loop(
+    alloc: Global,
+    tree: &Tree,
+    directive: Directive,
+    node: u32,
+) -> Result<bool, AllocError>
+    requires { node < length tree.now.trees }
+    ensures { IfOk result (λ odd. odd ≡ (texts.shares_loop directive && not (is_of_form (texts.statement_of (children_of (tree_at tree.now.trees node)))))) }
+{
+    if !shares_loop(directive) {
+        return Ok(false);
+    }
+    match statement_of(tree, node)? {
+        Some(statement) => Ok(!has_form(alloc, tree, statement)?),
+        None => Ok(true),
     }
 }
 
@@ -80,7 +98,7 @@ pub fn is_head(kind: NodeKind) -> bool
 /// The number of the name of a critical, or 0.
 pub fn critical_name(tree: &Tree, node: u32) -> u32
     requires { node < length tree.now.trees }
-    ensures { result ≡ texts.critical_name (children_of (tree_at tree.now.trees node)) }
+    ensures { result ≡ texts.name_of_critical (children_of (tree_at tree.now.trees node)) }
 {
     match tree.child(node, 0) {
         Some(child) if tree.kind(child) == NodeKind::Name => tree.name(child),

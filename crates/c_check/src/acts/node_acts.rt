@@ -82,7 +82,7 @@ pub fn place_usage(tree: &Tree, node: u32) -> Usage
 
 /// Whether the value of a call is used.
 pub fn value_of(role: Role) -> Value
-    ensures { result ≡ texts.value_of role }
+    ensures { result ≡ texts.call_value role }
 {
     match role {
         Role::Used => Value::Used,

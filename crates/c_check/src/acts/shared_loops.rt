@@ -1,6 +1,6 @@
 //! The loops that a `for` directive can share out.
 
-ghost use Rattle.std.specs.Prelude.{◌≡◌, ◌<◌, ◌&&◌, ◌||◌, ◌==◌, length, IfOk};
+ghost use Rattle.std.specs.Prelude.{◌≡◌, ◌<◌, ◌&&◌, ◌||◌, ◌==◌, not, length, IfOk};
 ghost use Rattle.c_syntax.specs.Tree.{kind_of, name_of};
 ghost use Rattle.c_syntax.specs.Numbered.{tree_at};
 ghost use Rattle.c_check.specs.Loops as loops;
@@ -9,65 +9,122 @@ use crate::acts::child_places::next_place;
 use c_syntax::{BinaryOp, Bump, NodeKind, Setting, Tree};
 use std::alloc::{AllocError, Global};
 
-/// The name of the variable of a loop `for (i = a; i < b; i++)` or one of its kin, or `None` where the statement is no such loop
-/// (OpenMP 5.2, 4.4.1). An error means that memory ran out.
-pub fn loop_name(alloc: Global, tree: &Tree, statement: u32) -> Result<Option<u32>, AllocError>
+/// The name of the variable of a statement that is a loop: what its first part assigns or declares, without an index.
+pub fn loop_name(tree: &Tree, statement: u32) -> Option<u32>
     requires { statement < length tree.now.trees }
-    ensures { IfOk result (λ found. found ≡ loops.loop_name (tree_at tree.now.trees statement)) }
+    ensures { result ≡ loops.loop_name (tree_at tree.now.trees statement) }
 {
     if tree.kind(statement) != NodeKind::For {
-        return Ok(None);
+        return None;
     }
+    let first = tree.child(statement, 0)?;
+    assigned_by(tree, first)
+}
+
+/// The name of what the first part of a loop assigns or declares, without an index.
+fn assigned_by(tree: &Tree, first: u32) -> Option<u32>
+    requires { first < length tree.now.trees }
+    ensures { result ≡ loops.assigned_by (kind_of (tree_at tree.now.trees first)) (loops.child_at (tree_at tree.now.trees first) 0) }
+{
+    match tree.kind(first) {
+        NodeKind::Init => Some(name_at(tree, first, 0)),
+        NodeKind::Assign(_) | NodeKind::Bump(_, _) => variable_at(tree, first, 0),
+        _ => None,
+    }
+}
+
+/// The name of the child at a place, if it is a variable without an index.
+fn variable_at(tree: &Tree, node: u32, place: u32) -> Option<u32>
+    requires { node < length tree.now.trees }
+    ensures { result ≡ loops.name_if_variable (loops.child_at (tree_at tree.now.trees node) place) }
+{
+    let name = name_at(tree, node, place);
+    if is_variable_at(tree, name, node, place) {
+        Some(name)
+    } else {
+        None
+    }
+}
+
+/// Whether a statement is a loop `for (i = a; i < b; i++)` or one of its kin (OpenMP 5.2, 4.4.1). An error means that memory ran out.
+pub fn has_form(alloc: Global, tree: &Tree, statement: u32) -> Result<bool, AllocError>
+    requires { statement < length tree.now.trees }
+    ensures { IfOk result (λ holds. holds ≡ loops.has_form (tree_at tree.now.trees statement)) }
+{
+    let Some(name) = loop_name(tree, statement) else {
+        return Ok(false);
+    };
+    Ok(has_head(tree, name, statement) && is_apart(alloc, tree, name, statement)?)
+}
+
+/// Whether the head of a loop begins and goes on with the variable, as one of the form does.
+pub fn has_head(tree: &Tree, name: u32, statement: u32) -> bool
+    requires { statement < length tree.now.trees }
+    ensures { result ≡ loops.has_head name (tree_at tree.now.trees statement) }
+{
     let (Some(first), Some(second), Some(third)) = (
         tree.child(statement, 0),
         tree.child(statement, 1),
         tree.child(statement, 2),
     ) else {
-        return Ok(None);
+        return false;
     };
-    match start_of(alloc, tree, first)? {
-        Some(name) if goes_on(alloc, tree, name, second, third)? => Ok(Some(name)),
-        _ => Ok(None),
-    }
+    is_start(tree.kind(first))
+        && is_variable_at(tree, name, second, 0)
+        && is_variable_at(tree, name, third, 0)
+        && go_one_way(tree, second, third)
 }
 
-/// The name of the variable that the first part of a loop sets or declares.
-fn start_of(alloc: Global, tree: &Tree, first: u32) -> Result<Option<u32>, AllocError>
-    requires { first < length tree.now.trees }
-    ensures { IfOk result (λ found. found ≡ loops.start_of (tree_at tree.now.trees first)) }
+/// Whether the first part of a loop is `i = a` or `int i = a`.
+fn is_start(kind: NodeKind) -> bool
+    ensures { result ≡ loops.is_start kind }
 {
-    let name = name_at(tree, first, 0);
-    match tree.kind(first) {
-        NodeKind::Init => Ok(Some(name)),
-        NodeKind::Assign(Setting::Plain) => {
-            if is_variable_at(tree, name, first, 0) && !stands_at(alloc, tree, name, first, 1)? {
-                Ok(Some(name))
-            } else {
-                Ok(None)
-            }
-        }
-        _ => Ok(None),
-    }
+    matches!(kind, NodeKind::Init | NodeKind::Assign(Setting::Plain))
 }
 
-/// Whether the second and the third part of a loop go on with the variable, the same way.
-fn goes_on(
+/// Whether the variable stands neither in the start of a loop nor in its end.
+fn is_apart(alloc: Global, tree: &Tree, name: u32, statement: u32) -> Result<bool, AllocError>
+    requires { statement < length tree.now.trees }
+    ensures { IfOk result (λ holds. holds ≡ loops.is_apart name (tree_at tree.now.trees statement)) }
+{
+    Ok(
+        is_apart_from_start(alloc, tree, name, statement)?
+            && is_apart_from_end(alloc, tree, name, statement)?,
+    )
+}
+
+/// Whether the variable doesn't stand in the start of a loop. One that the loop declares may seem to.
+#[tactic(auto, unfolding(crate::specs::Loops::stands_in))]
+fn is_apart_from_start(
     alloc: Global,
     tree: &Tree,
     name: u32,
-    second: u32,
-    third: u32,
+    statement: u32,
 ) -> Result<bool, AllocError>
-    requires second { second < length tree.now.trees }
-    requires third { third < length tree.now.trees }
-    ensures { IfOk result (λ holds. holds ≡ loops.goes_on name (tree_at tree.now.trees second) (tree_at tree.now.trees third)) }
+    requires { statement < length tree.now.trees }
+    ensures { IfOk result (λ holds. holds ≡ (loops.may_have_name (kind_of (loops.child_at (tree_at tree.now.trees statement) 0)) || not (loops.stands_in name (loops.child_at (loops.child_at (tree_at tree.now.trees statement) 0) 1)))) }
 {
-    Ok(
-        is_variable_at(tree, name, second, 0)
-            && !stands_at(alloc, tree, name, second, 1)?
-            && is_variable_at(tree, name, third, 0)
-            && go_one_way(tree, second, third),
-    )
+    let Some(first) = tree.child(statement, 0) else {
+        return Ok(true);
+    };
+    Ok(tree.kind(first) == NodeKind::Init || !stands_at(alloc, tree, name, first, 1)?)
+}
+
+/// Whether the variable doesn't stand in the end of a loop.
+#[tactic(auto, unfolding(crate::specs::Loops::stands_in))]
+fn is_apart_from_end(
+    alloc: Global,
+    tree: &Tree,
+    name: u32,
+    statement: u32,
+) -> Result<bool, AllocError>
+    requires { statement < length tree.now.trees }
+    ensures { IfOk result (λ holds. holds ≡ not (loops.stands_in name (loops.child_at (loops.child_at (tree_at tree.now.trees statement) 1) 1))) }
+{
+    let Some(second) = tree.child(statement, 1) else {
+        return Ok(true);
+    };
+    Ok(!stands_at(alloc, tree, name, second, 1)?)
 }
 
 /// Whether the second part of a loop bounds the variable on the side to which the third moves it.

@@ -7,14 +7,14 @@ ghost use Rattle.std.specs.Prelude.{◌≡◌, ◌<◌, ◌≤◌, ◌+◌, [], 
 ghost use Rattle.c_syntax.specs.Tree.{Tree as Spelled, child_of, children_of, kind_of, name_of, spot_of, text_of};
 ghost use Rattle.c_syntax.specs.Numbered.{root_tree, tree_at};
 ghost use Rattle.c_check.specs.Acts as texts;
-ghost use Rattle.c_check.specs.Tasks.{AreThere, IsThere, children_at, left_of, told_by};
+ghost use Rattle.c_check.specs.Tasks.{AreThere, IsThere, children_left, left_of, told_by};
 ghost use Rattle.c_check.specs.Weights.{weight_among, weight_below, weight_if};
 ghost use Rattle.c_check.specs.Steps.{Puts, outside_by, part_of, standalone_acts, told_if, weight_by, weight_in};
 
 use crate::acts::act::{Act, DataClause, Single, Thing, Usage};
 use crate::acts::child_places::{count, next_place};
 use crate::acts::directive::{
-    chunk_of, clause_of, critical_name, data_of, is_head, role_with, shared_loop, shares_loop,
+    chunk_of, clause_of, critical_name, data_of, has_odd_loop, is_head, role_with, shared_loop_name,
 };
 use crate::acts::node_acts::{
     as_many, named, number_at, numbers_in, passes_on, place_usage, returned_of, value_of,
@@ -284,21 +284,21 @@ impl Walk {
     fn place(&mut self, tree: &Tree, role: Role, node: u32) -> Result<(), AllocError>
         requires node { node < length tree.now.trees }
         requires there { AreThere tree.now.trees self.old }
-        ensures { OnOk result (Puts tree.now.trees (Act.Use (name_of (tree_at tree.now.trees node)) (spot_of (tree_at tree.now.trees node)) (texts.place_usage (children_of (tree_at tree.now.trees node))) ∷ texts.assigned role (name_of (tree_at tree.now.trees node)) ++ texts.each (Role.Plain) (children_of (tree_at tree.now.trees node))) (weight_below (tree_at tree.now.trees node)) self.old self.new) }
+        ensures { OnOk result (Puts tree.now.trees (Act.Use (name_of (tree_at tree.now.trees node)) (spot_of (tree_at tree.now.trees node)) (texts.place_usage (children_of (tree_at tree.now.trees node))) ∷ texts.assigned role (texts.place_usage (children_of (tree_at tree.now.trees node))) (name_of (tree_at tree.now.trees node)) ++ texts.each (Role.Plain) (children_of (tree_at tree.now.trees node))) (weight_below (tree_at tree.now.trees node)) self.old self.new) }
     {
         let (name, spot) = (tree.name(node), tree.spot(node));
         let usage = place_usage(tree, node);
         self.then(Task::Each(Role::Plain, node, 0))?;
-        self.assigned(role, name)?;
+        self.assigned(role, usage, name)?;
         self.then(Task::Tell(Act::Use { name, spot, usage }))
     }
 
     /// A variable is assigned, if it is what an assignment sets.
-    fn assigned(&mut self, role: Role, name: u32) -> Result<(), AllocError>
-        ensures { OnOk result ((trees : List Spelled) → AreThere trees self.old → Puts trees (texts.assigned role name) 0 self.old self.new) }
+    fn assigned(&mut self, role: Role, usage: Usage, name: u32) -> Result<(), AllocError>
+        ensures { OnOk result ((trees : List Spelled) → AreThere trees self.old → Puts trees (texts.assigned role usage name) 0 self.old self.new) }
     {
-        match role {
-            Role::Target => self.then(Task::Tell(Act::Assign { name })),
+        match (role, usage) {
+            (Role::Target, Usage::Plain) => self.then(Task::Tell(Act::Assign { name })),
             _ => Ok(()),
         }
     }
@@ -307,7 +307,7 @@ impl Walk {
     fn call(&mut self, tree: &Tree, role: Role, node: u32) -> Result<(), AllocError>
         requires node { node < length tree.now.trees }
         requires there { AreThere tree.now.trees self.old }
-        ensures { OnOk result (Puts tree.now.trees (Act.Use (name_of (tree_at tree.now.trees node)) (spot_of (tree_at tree.now.trees node)) (Usage.Called (texts.count (children_of (tree_at tree.now.trees node))) (texts.value_of role)) ∷ texts.each (Role.Plain) (children_of (tree_at tree.now.trees node))) (weight_below (tree_at tree.now.trees node)) self.old self.new) }
+        ensures { OnOk result (Puts tree.now.trees (Act.Use (name_of (tree_at tree.now.trees node)) (spot_of (tree_at tree.now.trees node)) (Usage.Called (texts.count (children_of (tree_at tree.now.trees node))) (texts.call_value role)) ∷ texts.each (Role.Plain) (children_of (tree_at tree.now.trees node))) (weight_below (tree_at tree.now.trees node)) self.old self.new) }
     {
         let usage = Usage::Called(count(tree, node)?, value_of(role));
         let (name, spot) = (tree.name(node), tree.spot(node));
@@ -325,12 +325,13 @@ impl Walk {
     ) -> Result<(), AllocError>
         requires node { node < length tree.now.trees }
         requires there { AreThere tree.now.trees self.old }
-        ensures { OnOk result (Puts tree.now.trees (texts.outside (children_of (tree_at tree.now.trees node)) ++ Act.Enter (spot_of (tree_at tree.now.trees node)) directive (texts.critical_name (children_of (tree_at tree.now.trees node))) ∷ texts.inside (children_of (tree_at tree.now.trees node)) ++ texts.odd_loop directive (children_of (tree_at tree.now.trees node)) ++ texts.statements (texts.statement_role directive (children_of (tree_at tree.now.trees node))) (children_of (tree_at tree.now.trees node)) ++ Act.Leave ∷ []) (weight_below (tree_at tree.now.trees node)) self.old self.new) }
+        ensures { OnOk result (Puts tree.now.trees (texts.outside_acts (children_of (tree_at tree.now.trees node)) ++ Act.Enter (spot_of (tree_at tree.now.trees node)) directive (texts.name_of_critical (children_of (tree_at tree.now.trees node))) ∷ texts.inside_acts (children_of (tree_at tree.now.trees node)) ++ texts.odd_loop directive (children_of (tree_at tree.now.trees node)) ++ texts.statements (texts.statement_role directive (children_of (tree_at tree.now.trees node))) (children_of (tree_at tree.now.trees node)) ++ Act.Leave ∷ []) (weight_below (tree_at tree.now.trees node)) self.old self.new) }
     {
-        let name = shared_loop(alloc, tree, directive, node)?;
+        let name = shared_loop_name(tree, directive, node)?;
+        let odd = has_odd_loop(alloc, tree, directive, node)?;
         self.then(Task::Tell(Act::Leave))?;
         self.then(Task::Statements(role_with(name), node, 0))?;
-        self.odd_loop(directive, name)?;
+        self.odd_loop(odd)?;
         self.then(Task::Inside(node, 0))?;
         self.then(Task::Tell(Act::Enter {
             spot: tree.spot(node),
@@ -340,13 +341,14 @@ impl Walk {
         self.then(Task::Outside(node, 0))
     }
 
-    /// The loop that a directive shares out isn't of the form, if it shares out one and the loop has no such variable.
-    fn odd_loop(&mut self, directive: Directive, name: Option<u32>) -> Result<(), AllocError>
-        ensures { OnOk result ((trees : List Spelled) → AreThere trees self.old → Puts trees (if texts.shares_loop directive then texts.odd_with name else []) 0 self.old self.new) }
+    /// The statement of a construct isn't a loop of the form, if it should be and isn't.
+    fn odd_loop(&mut self, odd: bool) -> Result<(), AllocError>
+        ensures { OnOk result ((trees : List Spelled) → AreThere trees self.old → Puts trees (if odd then Act.OddLoop ∷ [] else []) 0 self.old self.new) }
     {
-        match name {
-            None if shares_loop(directive) => self.then(Task::Tell(Act::OddLoop)),
-            _ => Ok(()),
+        if odd {
+            self.then(Task::Tell(Act::OddLoop))
+        } else {
+            Ok(())
         }
     }
 
@@ -354,7 +356,7 @@ impl Walk {
     fn each(&mut self, tree: &Tree, role: Role, node: u32, place: u32) -> Result<(), AllocError>
         requires node { node < length tree.now.trees }
         requires there { AreThere tree.now.trees self.old }
-        ensures { OnOk result (Puts tree.now.trees (texts.each role (children_at tree.now.trees node place)) (weight_among (children_at tree.now.trees node place)) self.old self.new) }
+        ensures { OnOk result (Puts tree.now.trees (texts.each role (children_left tree.now.trees node place)) (weight_among (children_left tree.now.trees node place)) self.old self.new) }
     {
         let Some(child) = tree.child(node, place) else {
             return Ok(());
@@ -367,7 +369,7 @@ impl Walk {
     fn names(&mut self, tree: &Tree, why: Naming, node: u32, place: u32) -> Result<(), AllocError>
         requires node { node < length tree.now.trees }
         requires there { AreThere tree.now.trees self.old }
-        ensures { OnOk result (Puts tree.now.trees (texts.names why (children_at tree.now.trees node place)) (weight_among (children_at tree.now.trees node place)) self.old self.new) }
+        ensures { OnOk result (Puts tree.now.trees (texts.names why (children_left tree.now.trees node place)) (weight_among (children_left tree.now.trees node place)) self.old self.new) }
     {
         let Some(child) = tree.child(node, place) else {
             return Ok(());
@@ -380,7 +382,7 @@ impl Walk {
     fn outside(&mut self, tree: &Tree, node: u32, place: u32) -> Result<(), AllocError>
         requires node { node < length tree.now.trees }
         requires there { AreThere tree.now.trees self.old }
-        ensures { OnOk result (Puts tree.now.trees (texts.outside (children_at tree.now.trees node place)) (weight_among (children_at tree.now.trees node place)) self.old self.new) }
+        ensures { OnOk result (Puts tree.now.trees (texts.outside_acts (children_left tree.now.trees node place)) (weight_among (children_left tree.now.trees node place)) self.old self.new) }
     {
         let Some(child) = tree.child(node, place) else {
             return Ok(());
@@ -399,7 +401,7 @@ impl Walk {
     fn inside(&mut self, tree: &Tree, node: u32, place: u32) -> Result<(), AllocError>
         requires node { node < length tree.now.trees }
         requires there { AreThere tree.now.trees self.old }
-        ensures { OnOk result (Puts tree.now.trees (texts.inside (children_at tree.now.trees node place)) (weight_among (children_at tree.now.trees node place)) self.old self.new) }
+        ensures { OnOk result (Puts tree.now.trees (texts.inside_acts (children_left tree.now.trees node place)) (weight_among (children_left tree.now.trees node place)) self.old self.new) }
     {
         let Some(child) = tree.child(node, place) else {
             return Ok(());
@@ -424,7 +426,7 @@ impl Walk {
     ) -> Result<(), AllocError>
         requires node { node < length tree.now.trees }
         requires there { AreThere tree.now.trees self.old }
-        ensures { OnOk result (Puts tree.now.trees (texts.statements role (children_at tree.now.trees node place)) (weight_among (children_at tree.now.trees node place)) self.old self.new) }
+        ensures { OnOk result (Puts tree.now.trees (texts.statements role (children_left tree.now.trees node place)) (weight_among (children_left tree.now.trees node place)) self.old self.new) }
     {
         let Some(child) = tree.child(node, place) else {
             return Ok(());
@@ -438,7 +440,7 @@ impl Walk {
 }
 
 /// What a clause computes and mentions.
-#[tactic(auto, unfolding(crate::specs::Tasks::behind))]
+#[tactic(auto, unfolding(crate::specs::Tasks::from_place))]
 fn outside_of(tree: &Tree, clause: u32) -> Option<Task>
     requires { clause < length tree.now.trees }
     ensures told { told_if tree.now.trees result ≡ outside_by (kind_of (tree_at tree.now.trees clause)) (children_of (tree_at tree.now.trees clause)) }
@@ -455,7 +457,7 @@ fn outside_of(tree: &Tree, clause: u32) -> Option<Task>
 }
 
 /// What a clause says of the construct.
-#[tactic(auto, unfolding(crate::specs::Tasks::behind))]
+#[tactic(auto, unfolding(crate::specs::Tasks::from_place))]
 fn inside_of(tree: &Tree, clause: u32) -> Option<Task>
     requires { clause < length tree.now.trees }
     ensures told { told_if tree.now.trees result ≡ texts.clause_inside (kind_of (tree_at tree.now.trees clause)) (children_of (tree_at tree.now.trees clause)) }

@@ -3,7 +3,8 @@
 ghost use Rattle.std.specs.Prelude.{◌≡◌, Some, OnOk};
 ghost use Rattle.c_check.specs.Constructs.{around_of, left, no_constructs, with_clause, with_head, with_loop, with_mention, with_none_around, with_use};
 ghost use Rattle.c_check.specs.Rules.{not_listed};
-ghost use Rattle.c_check.specs.Checked.{construct_at, first_of, seen_by};
+ghost use Rattle.c_check.specs.Checked.{construct_at, seen_by};
+ghost use Rattle.c_check.specs.Faults.{first_of};
 
 use crate::acts::act::{DataClause, Single};
 use crate::constructs::around::Around;

@@ -4,7 +4,7 @@ ghost use Rattle.std.specs.Prelude.{◌≡◌, ◌++◌, ◌∷◌, [], ℕ, if�
 ghost use Rattle.std.specs.HashMap.{get};
 ghost use Rattle.std.specs.Option.{option_or};
 ghost use Rattle.c_check.specs.Pairs.{same_pair};
-ghost use Rattle.c_check.specs.Spots.{number_from};
+ghost use Rattle.c_check.specs.Spots.{number_of_place};
 
 use c_tokens::Spot;
 use std::alloc::{AllocError, Global};
@@ -27,11 +27,11 @@ impl Model for Spots {
     ghost Value = { List Spot };
 
     ghost use Rattle.c_check.specs.Pairs.{same_pair};
-    ghost use Rattle.c_check.specs.Spots.{number_from};
+    ghost use Rattle.c_check.specs.Spots.{number_of_place};
 
     ghost view = { λ spots. spots.all.items };
 
-    ghost invariant = { λ spots. (place : ℕ × ℕ) → get same_pair spots.numbers place ≡ number_from 0 spots.all.items place };
+    ghost invariant = { λ spots. (place : ℕ × ℕ) → get same_pair spots.numbers place ≡ number_of_place 0 spots.all.items place };
 }
 
 impl Spots {
@@ -47,7 +47,7 @@ impl Spots {
 
     /// The number of a place, if it has one. Where it has two, it is the first.
     pub fn number(&self, spot: Spot) -> Option<usize>
-        ensures { result ≡ number_from 0 self.now (spot.line, spot.column) }
+        ensures { result ≡ number_of_place 0 self.now (spot.line, spot.column) }
     {
         self.numbers.get(&(spot.line, spot.column)).copied()
     }

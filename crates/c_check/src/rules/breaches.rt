@@ -2,7 +2,7 @@
 
 ghost use Rattle.std.specs.Prelude.{◌≡◌};
 ghost use Rattle.c_check.specs.Rules.{bad_loop, has_single, is_empty_chunk, listed_again, not_listed, spoiled, wrong_clause};
-ghost use Rattle.c_check.specs.Checked.{first_of};
+ghost use Rattle.c_check.specs.Faults.{first_of};
 
 use crate::acts::act::Single;
 use crate::constructs::around::Around;
@@ -14,7 +14,7 @@ use crate::scopes::declared::Declared;
 use c_tokens::Spot;
 
 /// The first fault, with that of a clause of the innermost construct which stands twice, or has a chunk without iterations.
-#[tactic(auto, unfolding(crate::specs::Checked::first_of))]
+#[tactic(auto, unfolding(crate::specs::Faults::first_of))]
 pub fn wrong_clause(
     around: Around<'_>,
     single: Single,
@@ -53,7 +53,7 @@ fn is_empty_chunk(single: Single) -> bool
 }
 
 /// The first fault, with that of a variable that stands a second time in the data clauses of the innermost construct.
-#[tactic(auto, unfolding(crate::specs::Checked::first_of))]
+#[tactic(auto, unfolding(crate::specs::Faults::first_of))]
 pub fn listed_again(
     around: Around<'_>,
     spot: Spot,
@@ -71,7 +71,7 @@ pub fn listed_again(
 }
 
 /// The first fault, with those of the constructs around whose loop has this variable.
-#[tactic(auto, unfolding(crate::specs::Checked::first_of, crate::specs::Rules::spoiled))]
+#[tactic(auto, unfolding(crate::specs::Faults::first_of, crate::specs::Rules::spoiled))]
 pub fn spoiled(
     mut around: Around<'_>,
     slot: u32,
@@ -89,7 +89,7 @@ pub fn spoiled(
 }
 
 /// The first fault, with that of the innermost construct, whose statement is no loop that can be shared out.
-#[tactic(auto, unfolding(crate::specs::Checked::first_of))]
+#[tactic(auto, unfolding(crate::specs::Faults::first_of))]
 pub fn bad_loop(around: Around<'_>, found: Option<CheckFault>) -> Option<CheckFault>
     ensures { result ≡ first_of found (bad_loop around.entry) }
 {
@@ -100,7 +100,7 @@ pub fn bad_loop(around: Around<'_>, found: Option<CheckFault>) -> Option<CheckFa
 }
 
 /// The first fault, with those of the uses of variables that a construct doesn't list and that aren't those of loops inside it.
-#[tactic(auto, unfolding(crate::specs::Checked::first_of, crate::specs::Rules::not_listed))]
+#[tactic(auto, unfolding(crate::specs::Faults::first_of, crate::specs::Rules::not_listed))]
 pub fn not_listed(
     loops: &InnerLoops,
     unlisted: &[Unlisted],

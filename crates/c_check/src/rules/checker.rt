@@ -3,12 +3,12 @@
 
 ghost use Rattle.std.specs.Prelude.{◌≡◌, ◌==◌, ◌+◌, ◌&&◌, ◌||◌, nat_lt, None, OnOk};
 ghost use Rattle.c_check.specs.declared.acts.act.Act.TheVariants as act;
-ghost use Rattle.c_check.specs.Names.{find, is_at_level};
+ghost use Rattle.c_check.specs.Declarations.{find, is_at_level};
 ghost use Rattle.c_check.specs.Constructs.{around_of};
 ghost use Rattle.c_check.specs.Here.{Here, before_all, cells_of, declared, most_cells};
 ghost use Rattle.c_check.specs.Rules.{calls_main, copies_lock, if_so, is_wrong};
-ghost use Rattle.c_check.specs.Checked.{first_of};
-ghost use Rattle.c_check.specs.Standing.{Does, Stands};
+ghost use Rattle.c_check.specs.Faults.{first_of};
+ghost use Rattle.c_check.specs.Standing.{DoesAct, Stands};
 
 use crate::acts::act::{Act, DataClause, Printed, Returned, Single, Thing, Usage};
 use crate::constructs::arena::Constructs;
@@ -21,8 +21,8 @@ use crate::rules::uses::{
     calls_main, is_odd_main, is_odd_size, is_variable, is_wrong, is_wrong_return,
 };
 use crate::scopes::cells::CellCount;
+use crate::scopes::declarations::Declarations;
 use crate::scopes::declared::Declared;
-use crate::scopes::names::Names;
 use crate::scopes::slots::Slots;
 use c_syntax::{Directive, Returns};
 use c_tokens::Spot;
@@ -34,7 +34,7 @@ pub struct Checker {
     /// The number of the name `main`.
     main: u32,
     /// The declarations.
-    pub names: Names,
+    pub names: Declarations,
     /// How many cells the variables of the file have, up to one more than they may have.
     cells: CellCount,
     /// Whether a function main is declared.
@@ -57,7 +57,7 @@ impl Checker {
     {
         Checker {
             main,
-            names: Names::new(alloc),
+            names: Declarations::new(alloc),
             cells: CellCount::new(),
             has_main: false,
             returns: Returns::Int,
@@ -69,7 +69,7 @@ impl Checker {
 
     /// One more act.
     pub fn does(&mut self, one: Act) -> Result<(), AllocError>
-        ensures { OnOk result (Does self.old one self.new) }
+        ensures { OnOk result (DoesAct self.old one self.new) }
     {
         match one {
             Act::Open => self.open(),
@@ -132,21 +132,21 @@ impl Checker {
 
     /// A scope begins.
     fn open(&mut self) -> Result<(), AllocError>
-        ensures { OnOk result (Does self.old act.Open self.new) }
+        ensures { OnOk result (DoesAct self.old act.Open self.new) }
     {
         self.names.open()
     }
 
     /// The innermost scope ends.
     fn close(&mut self) -> Result<(), AllocError>
-        ensures { OnOk result (Does self.old act.Close self.new) }
+        ensures { OnOk result (DoesAct self.old act.Close self.new) }
     {
         self.names.close()
     }
 
     /// A function ends.
     fn end(&mut self) -> Result<(), AllocError>
-        ensures { OnOk result (Does self.old act.End self.new) }
+        ensures { OnOk result (DoesAct self.old act.End self.new) }
     {
         self.names.close()
     }
@@ -159,7 +159,7 @@ impl Checker {
         returns: Returns,
         parameters: u32,
     ) -> Result<(), AllocError>
-        ensures { OnOk result (Does self.old (act.Begin name spot returns parameters) self.new) }
+        ensures { OnOk result (DoesAct self.old (act.Begin name spot returns parameters) self.new) }
     {
         self.note_if(self.is_twice(name), CheckFault::TwiceDeclared(spot));
         self.note_if(
@@ -175,7 +175,7 @@ impl Checker {
 
     /// A name is declared.
     fn declare(&mut self, name: u32, spot: Spot, thing: Thing) -> Result<(), AllocError>
-        ensures { OnOk result (Does self.old (act.Declare name spot thing) self.new) }
+        ensures { OnOk result (DoesAct self.old (act.Declare name spot thing) self.new) }
     {
         self.note_if(self.is_twice(name), CheckFault::TwiceDeclared(spot));
         self.note_if(
@@ -194,7 +194,7 @@ impl Checker {
 
     /// A name is used.
     fn use_name(&mut self, name: u32, spot: Spot, usage: Usage) -> Result<(), AllocError>
-        ensures { OnOk result (Does self.old (act.Use name spot usage) self.new) }
+        ensures { OnOk result (DoesAct self.old (act.Use name spot usage) self.new) }
     {
         let Some(found) = self.names.find(name) else {
             self.note_if(true, CheckFault::UnknownName(spot));
@@ -231,7 +231,7 @@ impl Checker {
 
     /// A variable is assigned, which spoils the loops around that have it.
     fn assign(&mut self, name: u32) -> Result<(), AllocError>
-        ensures { OnOk result (Does self.old (act.Assign name) self.new) }
+        ensures { OnOk result (DoesAct self.old (act.Assign name) self.new) }
     {
         if let Some(found) = self.names.find(name) {
             self.found = spoiled(self.constructs.around(), found.slot, self.found);
@@ -240,14 +240,14 @@ impl Checker {
     }
 
     fn print(&mut self, spot: Spot, printed: Printed) -> Result<(), AllocError>
-        ensures { OnOk result (Does self.old (act.Print spot printed) self.new) }
+        ensures { OnOk result (DoesAct self.old (act.Print spot printed) self.new) }
     {
         self.note_if(printed == Printed::Wrong, CheckFault::WrongUse(spot));
         Ok(())
     }
 
     fn return_(&mut self, spot: Spot, returned: Returned) -> Result<(), AllocError>
-        ensures { OnOk result (Does self.old (act.Return spot returned) self.new) }
+        ensures { OnOk result (DoesAct self.old (act.Return spot returned) self.new) }
     {
         self.note_if(
             is_wrong_return(self.returns, returned),
@@ -259,7 +259,7 @@ impl Checker {
     }
 
     fn barrier(&mut self, spot: Spot) -> Result<(), AllocError>
-        ensures { OnOk result (Does self.old (act.Barrier spot) self.new) }
+        ensures { OnOk result (DoesAct self.old (act.Barrier spot) self.new) }
     {
         let misplaced = binds_badly(self.constructs.around());
         self.note_if(misplaced, CheckFault::BadNesting(spot));
@@ -268,7 +268,7 @@ impl Checker {
 
     /// A construct begins.
     fn enter(&mut self, spot: Spot, directive: Directive, critical: u32) -> Result<(), AllocError>
-        ensures { OnOk result (Does self.old (act.Enter spot directive critical) self.new) }
+        ensures { OnOk result (DoesAct self.old (act.Enter spot directive critical) self.new) }
     {
         let misplaced = nests_badly(self.constructs.around(), directive, critical);
         self.note_if(misplaced, CheckFault::BadNesting(spot));
@@ -278,7 +278,7 @@ impl Checker {
 
     /// The innermost construct has this clause.
     fn clause(&mut self, single: Single) -> Result<(), AllocError>
-        ensures { OnOk result (Does self.old (act.Clause single) self.new) }
+        ensures { OnOk result (DoesAct self.old (act.Clause single) self.new) }
     {
         self.found = wrong_clause(self.constructs.around(), single, self.found);
         self.constructs.clause(single);
@@ -287,7 +287,7 @@ impl Checker {
 
     /// A data clause of the innermost construct lists this name.
     fn list(&mut self, name: u32, spot: Spot, clause: DataClause) -> Result<(), AllocError>
-        ensures { OnOk result (Does self.old (act.List name spot clause) self.new) }
+        ensures { OnOk result (DoesAct self.old (act.List name spot clause) self.new) }
     {
         let found = self.names.find(name);
         self.found = listed_again(self.constructs.around(), spot, found, self.found);
@@ -298,7 +298,7 @@ impl Checker {
     }
 
     fn odd_loop(&mut self) -> Result<(), AllocError>
-        ensures { OnOk result (Does self.old act.OddLoop self.new) }
+        ensures { OnOk result (DoesAct self.old act.OddLoop self.new) }
     {
         self.found = bad_loop(self.constructs.around(), self.found);
         Ok(())
@@ -306,7 +306,7 @@ impl Checker {
 
     /// The body of the innermost construct's loop begins, whose variable has this name.
     fn share_loop(&mut self, name: u32) -> Result<(), AllocError>
-        ensures { OnOk result (Does self.old (act.Loop name) self.new) }
+        ensures { OnOk result (DoesAct self.old (act.Loop name) self.new) }
     {
         let found = self.names.find(name);
         if !matches!(
@@ -325,7 +325,7 @@ impl Checker {
     }
 
     fn leave(&mut self) -> Result<(), AllocError>
-        ensures { OnOk result (Does self.old act.Leave self.new) }
+        ensures { OnOk result (DoesAct self.old act.Leave self.new) }
     {
         self.constructs.leave();
         Ok(())
@@ -333,7 +333,7 @@ impl Checker {
 
     /// The text ends.
     fn finish(&mut self, spot: Spot) -> Result<(), AllocError>
-        ensures { OnOk result (Does self.old (act.Finish spot) self.new) }
+        ensures { OnOk result (DoesAct self.old (act.Finish spot) self.new) }
     {
         self.note_if(!self.has_main, CheckFault::NoMain(spot));
         self.found = self.constructs.not_listed(self.found);

@@ -1,12 +1,12 @@
 use Rattle.std.proofs.Common.{sym, ◌∙◌, arith}
 use Rattle.c_syntax.specs.Tree.{children_of}
 use Rattle.c_syntax.specs.Numbered.{tree_at}
-use Rattle.c_check.specs.Tasks.{behind}
+use Rattle.c_check.specs.Tasks.{from_place}
 use Rattle.c_check.proofs.Behind.{count_child, count_none}
 use Rattle.c_check.proofs.acts.child_places.count.Goals as goal
 
 pub loop-place-init : goal.loop-place-init
-unfolding behind
+unfolding from_place
 loop-place-init c = omega arith
 
 pub loop-place-smaller : goal.loop-place-smaller

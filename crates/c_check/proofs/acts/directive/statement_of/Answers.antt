@@ -1,12 +1,12 @@
 use Rattle.std.proofs.Common.{refl, sym, ◌∙◌}
 use Rattle.c_syntax.specs.Tree.{children_of}
 use Rattle.c_syntax.specs.Numbered.{tree_at}
-use Rattle.c_check.specs.Tasks.{behind}
+use Rattle.c_check.specs.Tasks.{from_place}
 use Rattle.c_check.proofs.Behind.{count_found, statement_none, statement_here, statement_behind}
 use Rattle.c_check.proofs.acts.directive.statement_of.Goals as goal
 
 pub loop-child-init : goal.loop-child-init
-unfolding behind
+unfolding from_place
 loop-child-init c = refl
 
 pub returns-then-not-is_head-clause-statement : goal.returns-then-not-is_head-clause-statement

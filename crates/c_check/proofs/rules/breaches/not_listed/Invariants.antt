@@ -1,6 +1,6 @@
 use Rattle.std.proofs.Common.{◌≡◌, drop}
 use Rattle.c_check.specs.Rules.{not_listed}
-use Rattle.c_check.specs.Checked.{first_of}
+use Rattle.c_check.specs.Faults.{first_of}
 use Rattle.c_check.proofs.rules.breaches.not_listed.Given as goal
 
 abbrev pub invariant-loop-used : goal.invariant-loop-used

@@ -1,6 +1,6 @@
 use Rattle.std.proofs.Common.{◌≡◌, length}
 use Rattle.c_check.specs.Rules.{spoiled}
-use Rattle.c_check.specs.Checked.{first_of}
+use Rattle.c_check.specs.Faults.{first_of}
 use Rattle.c_check.proofs.rules.breaches.spoiled.Given as goal
 
 abbrev pub invariant-loop-first : goal.invariant-loop-first

@@ -3,13 +3,13 @@ use Rattle.std.proofs.lemmas.Result.{on_ok_weaker}
 use Rattle.c_syntax.specs.Tree.{children_of}
 use Rattle.c_syntax.specs.Numbered.{tree_at}
 use Rattle.c_check.specs.Acts.{statement_role}
-use Rattle.c_check.specs.Tasks.{behind}
-use Rattle.c_check.proofs.Parts.{shared_role, shared_oddness}
+use Rattle.c_check.specs.Tasks.{from_place}
+use Rattle.c_check.proofs.Parts.{shared_role}
 use Rattle.c_check.proofs.Putting.{both, puts_as}
 use Rattle.c_check.proofs.acts.walk.Walk.construct.Goals as goal
 
 pub returns : goal.returns
-unfolding behind
+unfolding from_place
 returns c =
     let trees = c.args.tree.now.trees in
     let children = children_of (tree_at trees c.args.node) in
@@ -23,7 +23,7 @@ returns c =
     let inside = c.in_ok-then-3.ensures trees c.requires.node odd.there in
     let enter = c.in_ok-then-4.ensures trees tt inside.there in
     puts_as
-    (rw (role, shared_oddness c.args.directive children c.in_ok-name.name c.in_ok-name.ensures, c.spot.ensures, c.critical_name.ensures) (simp append_assoc refl))
+    (rw (role, c.in_ok-odd.ensures, c.spot.ensures, c.critical_name.ensures) (simp append_assoc refl))
     (omega arith)
     (both (both (both (both (both leave statements) odd) inside) enter) (put trees c.requires.node enter.there)))
     c.then-5.ensures

@@ -2,7 +2,7 @@ use Rattle.std.proofs.Common.{◌∙◌, refl, sym, arith}
 use Rattle.std.proofs.lemmas.Result.{on_ok_weaker}
 use Rattle.c_syntax.specs.Tree.{children_of}
 use Rattle.c_syntax.specs.Numbered.{tree_at}
-use Rattle.c_check.specs.Tasks.{behind}
+use Rattle.c_check.specs.Tasks.{from_place}
 use Rattle.c_check.proofs.Parts.{init_none, init_child}
 use Rattle.c_check.proofs.Putting.{both, keep_as, puts_as}
 use Rattle.c_check.proofs.Weighing.{weighs_child}
@@ -13,7 +13,7 @@ returns-in_default c =
     keep_as _ _ (init_none (children_of (tree_at c.args.tree.now.trees c.args.node)) c.in_default.ensures.child) c.requires.there
 
 pub returns : goal.returns
-unfolding behind
+unfolding from_place
 returns c =
     let trees = c.args.tree.now.trees in
     let children = children_of (tree_at trees c.args.node) in

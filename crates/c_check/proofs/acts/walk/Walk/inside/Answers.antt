@@ -3,8 +3,8 @@ use Rattle.std.proofs.lemmas.Result.{on_ok_weaker}
 use Rattle.c_syntax.specs.Tree.{children_of}
 use Rattle.c_syntax.specs.Numbered.{tree_at}
 use Rattle.c_check.specs.declared.acts.act.Act.{Act}
-use Rattle.c_check.specs.Acts.{inside}
-use Rattle.c_check.specs.Tasks.{behind}
+use Rattle.c_check.specs.Acts.{inside_acts}
+use Rattle.c_check.specs.Tasks.{from_place}
 use Rattle.c_check.proofs.Putting.{both, keep_as, puts_as}
 use Rattle.c_check.proofs.Telling.{told_inside, inside_none, inside_child}
 use Rattle.c_check.proofs.Weighing.{weighs_child, weighs_clause}
@@ -21,7 +21,7 @@ returns-in_default-clause_of c =
     let next = c.in_ok-next_place.field-0 in
     let tree = tree_at trees c.in-Some.child in
     puts_as
-    (ap (λ (told : List Act). told ++ inside (behind next children)) (ap told_inside c.in_default-clause_of.ensures.clause) ∙ sym (inside_child children c.args.place next tree c.in-Some.ensures.child c.in_ok-next_place.ensures))
+    (ap (λ (told : List Act). told ++ inside_acts (from_place next children)) (ap told_inside c.in_default-clause_of.ensures.clause) ∙ sym (inside_child children c.args.place next tree c.in-Some.ensures.child c.in_ok-next_place.ensures))
     (omega (arith, weighs_child children c.args.place next tree c.in-Some.ensures.child c.in_ok-next_place.ensures))
     (c.in_ok-then.ensures trees c.requires.node c.requires.there)
 
@@ -35,7 +35,7 @@ returns-in-Some-inside_of c =
     (λ put.
     let rest = c.in_ok-then.ensures trees c.requires.node c.requires.there in
     puts_as
-    (ap (λ (told : List Act). told ++ inside (behind next children)) (c.in-Some-inside_of.ensures.told ∙ ap told_inside c.in-Some-clause_of.ensures.clause) ∙ sym (inside_child children c.args.place next tree c.in-Some.ensures.child c.in_ok-next_place.ensures))
+    (ap (λ (told : List Act). told ++ inside_acts (from_place next children)) (c.in-Some-inside_of.ensures.told ∙ ap told_inside c.in-Some-clause_of.ensures.clause) ∙ sym (inside_child children c.args.place next tree c.in-Some.ensures.child c.in_ok-next_place.ensures))
     (omega (arith, c.in-Some-inside_of.ensures.task.1, weighs_child children c.args.place next tree c.in-Some.ensures.child c.in_ok-next_place.ensures, weighs_clause (tree_at trees c.in-Some-clause_of.clause) tree c.in-Some-clause_of.ensures.clause))
     (both rest (put trees c.in-Some-inside_of.ensures.task.0 rest.there)))
     c.then-in-Some-inside_of.ensures
@@ -47,6 +47,6 @@ returns-in-None c =
     let next = c.in_ok-next_place.field-0 in
     let tree = tree_at trees c.in-Some.child in
     puts_as
-    (ap (λ (told : List Act). told ++ inside (behind next children)) (c.in-None.ensures.told ∙ ap told_inside c.in-Some-clause_of.ensures.clause) ∙ sym (inside_child children c.args.place next tree c.in-Some.ensures.child c.in_ok-next_place.ensures))
+    (ap (λ (told : List Act). told ++ inside_acts (from_place next children)) (c.in-None.ensures.told ∙ ap told_inside c.in-Some-clause_of.ensures.clause) ∙ sym (inside_child children c.args.place next tree c.in-Some.ensures.child c.in_ok-next_place.ensures))
     (omega (arith, weighs_child children c.args.place next tree c.in-Some.ensures.child c.in_ok-next_place.ensures))
     (c.in_ok-then.ensures trees c.requires.node c.requires.there)

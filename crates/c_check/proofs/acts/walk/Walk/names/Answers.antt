@@ -4,7 +4,7 @@ use Rattle.c_syntax.specs.Tree.{children_of}
 use Rattle.c_syntax.specs.Numbered.{tree_at}
 use Rattle.c_check.specs.declared.acts.act.Act.{Act}
 use Rattle.c_check.specs.Acts.{names}
-use Rattle.c_check.specs.Tasks.{behind}
+use Rattle.c_check.specs.Tasks.{from_place}
 use Rattle.c_check.proofs.Putting.{both, keep_as, puts_as}
 use Rattle.c_check.proofs.Telling.{names_none, names_child}
 use Rattle.c_check.proofs.Weighing.{weighs_child}
@@ -23,7 +23,7 @@ returns c =
     (λ put.
     let rest = c.in_ok-then.ensures c.args.tree.now.trees c.requires.node c.requires.there in
     puts_as
-    (ap (λ (act : Act). act ∷ names c.args.why (behind next children)) c.named.ensures ∙ sym (names_child children c.args.place next tree c.in-Some.ensures.child c.in_ok-next_place.ensures c.args.why))
+    (ap (λ (act : Act). act ∷ names c.args.why (from_place next children)) c.named.ensures ∙ sym (names_child children c.args.place next tree c.in-Some.ensures.child c.in_ok-next_place.ensures c.args.why))
     (omega (arith, weighs_child children c.args.place next tree c.in-Some.ensures.child c.in_ok-next_place.ensures))
     (both rest (put c.args.tree.now.trees tt rest.there)))
     c.then-2.ensures

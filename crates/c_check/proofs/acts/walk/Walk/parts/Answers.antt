@@ -5,7 +5,7 @@ use Rattle.c_syntax.specs.Numbered.{tree_at}
 use Rattle.c_check.specs.declared.acts.act.Act.{Act}
 use Rattle.c_check.specs.declared.acts.act.Act.TheVariants.{Open, Close}
 use Rattle.c_check.specs.Acts.{looped}
-use Rattle.c_check.specs.Tasks.{behind}
+use Rattle.c_check.specs.Tasks.{from_place}
 use Rattle.c_check.proofs.Parts.{parts_are}
 use Rattle.c_check.proofs.Putting.{both, puts_as}
 use Rattle.c_check.proofs.Weighing.{weighs_parts}
@@ -19,7 +19,7 @@ part-requires-clause-there c =
     (c.in_ok-looped.ensures trees body.there).there
 
 pub returns : goal.returns
-unfolding behind
+unfolding from_place
 returns c =
     let trees = c.args.tree.now.trees in
     let children = children_of (tree_at trees c.args.node) in

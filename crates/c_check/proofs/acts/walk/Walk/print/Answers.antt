@@ -1,11 +1,11 @@
 use Rattle.std.proofs.Common.{refl, arith}
 use Rattle.std.proofs.lemmas.Result.{on_ok_weaker}
-use Rattle.c_check.specs.Tasks.{behind}
+use Rattle.c_check.specs.Tasks.{from_place}
 use Rattle.c_check.proofs.Putting.{both, puts_as}
 use Rattle.c_check.proofs.acts.walk.Walk.print.Goals as goal
 
 pub returns : goal.returns
-unfolding behind
+unfolding from_place
 returns c =
     on_ok_weaker c.then-2.result
     (λ put.

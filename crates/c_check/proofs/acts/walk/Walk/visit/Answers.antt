@@ -12,13 +12,13 @@ use Rattle.c_check.specs.declared.acts.act.Thing.TheVariants as thing
 use Rattle.c_check.specs.declared.acts.role.Role.TheVariants as role
 use Rattle.c_check.specs.declared.acts.role.Naming.TheVariants as naming
 use Rattle.c_check.specs.Acts.{acts, names, target}
-use Rattle.c_check.specs.Tasks.{behind}
+use Rattle.c_check.specs.Tasks.{from_place}
 use Rattle.c_check.specs.Steps.{passes}
 use Rattle.c_check.proofs.Putting.{acts_of, acts_passing, acts_standalone, both, keep_as, puts_as}
 use Rattle.c_check.proofs.acts.walk.Walk.visit.Goals as goal
 
 pub returns-in-Function : goal.returns-in-Function
-unfolding acts behind
+unfolding acts from_place
 returns-in-Function c =
     on_ok_weaker c.function.result
     (λ put. puts_as (acts_of c.args.role (node.Function c.in-Function.returns) (tree_at c.args.tree.now.trees c.args.node) c.in-Function.ensures) (omega arith) (put))
@@ -54,7 +54,7 @@ returns-in-GlobalArray c =
     c.declare-in-GlobalArray.ensures
 
 pub returns-in_ok-declare-in-LocalSet : goal.returns-in_ok-declare-in-LocalSet
-unfolding acts behind
+unfolding acts from_place
 returns-in_ok-declare-in-LocalSet c =
     let trees = c.args.tree.now.trees in
     on_ok_weaker c.then.result
@@ -67,42 +67,42 @@ returns-in_ok-declare-in-LocalSet c =
     c.then.ensures
 
 pub returns-in-Locks : goal.returns-in-Locks
-unfolding acts behind
+unfolding acts from_place
 returns-in-Locks c =
     on_ok_weaker c.then-in-Locks.result
     (λ put. puts_as (acts_of c.args.role node.Locks (tree_at c.args.tree.now.trees c.args.node) c.in-Locks.ensures) (omega arith) (put c.args.tree.now.trees c.requires.node c.requires.there))
     c.then-in-Locks.ensures
 
 pub returns-in-Block : goal.returns-in-Block
-unfolding acts behind
+unfolding acts from_place
 returns-in-Block c =
     on_ok_weaker c.block.result
     (λ put. puts_as (acts_of c.args.role node.Block (tree_at c.args.tree.now.trees c.args.node) c.in-Block.ensures) (omega arith) (put c.args.tree.now.trees c.requires.node c.requires.there))
     c.block.ensures
 
 pub returns-in-For : goal.returns-in-For
-unfolding acts behind
+unfolding acts from_place
 returns-in-For c =
     on_ok_weaker c.parts.result
     (λ put. puts_as (acts_of c.args.role node.For (tree_at c.args.tree.now.trees c.args.node) c.in-For.ensures) (omega arith) (put))
     c.parts.ensures
 
 pub returns-in-Init : goal.returns-in-Init
-unfolding acts behind
+unfolding acts from_place
 returns-in-Init c =
     on_ok_weaker c.init.result
     (λ put. puts_as (acts_of c.args.role node.Init (tree_at c.args.tree.now.trees c.args.node) c.in-Init.ensures) (omega arith) (put))
     c.init.ensures
 
 pub returns-in-Return : goal.returns-in-Return
-unfolding acts behind
+unfolding acts from_place
 returns-in-Return c =
     on_ok_weaker c.return_.result
     (λ put. puts_as (rw c.spot-spot.ensures (acts_of c.args.role node.Return (tree_at c.args.tree.now.trees c.args.node) c.in-Return.ensures)) (omega arith) (put))
     c.return_.ensures
 
 pub returns-in-SetCall : goal.returns-in-SetCall
-unfolding acts behind
+unfolding acts from_place
 returns-in-SetCall c =
     on_ok_weaker c.target.result
     (λ put. puts_as (acts_of c.args.role node.SetCall (tree_at c.args.tree.now.trees c.args.node) c.in-SetCall.ensures) (omega arith) (put))
@@ -120,14 +120,14 @@ returns-in-Assign c =
     on_ok_weaker c.target-in-Assign.result (λ put. puts_as same (omega arith) put) c.target-in-Assign.ensures
 
 pub returns-in-Print : goal.returns-in-Print
-unfolding acts behind
+unfolding acts from_place
 returns-in-Print c =
     on_ok_weaker c.print.result
     (λ put. puts_as (rw c.spot-spot.ensures (acts_of c.args.role node.Print (tree_at c.args.tree.now.trees c.args.node) c.in-Print.ensures)) (omega arith) (put))
     c.print.ensures
 
 pub returns-in-LockCall : goal.returns-in-LockCall
-unfolding acts behind
+unfolding acts from_place
 returns-in-LockCall c =
     let tree = tree_at c.args.tree.now.trees c.args.node in
     let same : names naming.Locked (children_of tree) ≡ acts c.args.role tree =
@@ -140,14 +140,14 @@ returns-in-LockCall c =
     c.then-in-LockCall.ensures
 
 pub returns-in-Place : goal.returns-in-Place
-unfolding acts behind
+unfolding acts from_place
 returns-in-Place c =
     on_ok_weaker c.place.result
     (λ put. puts_as (acts_of c.args.role node.Place (tree_at c.args.tree.now.trees c.args.node) c.in-Place.ensures) (omega arith) (put))
     c.place.ensures
 
 pub returns-in-Call : goal.returns-in-Call
-unfolding acts behind
+unfolding acts from_place
 returns-in-Call c =
     on_ok_weaker c.call.result
     (λ put. puts_as (acts_of c.args.role node.Call (tree_at c.args.tree.now.trees c.args.node) c.in-Call.ensures) (omega arith) (put))
@@ -160,14 +160,14 @@ returns-in-Standalone c =
     c.standalone.ensures
 
 pub returns-in-Construct : goal.returns-in-Construct
-unfolding acts behind
+unfolding acts from_place
 returns-in-Construct c =
     on_ok_weaker c.construct.result
     (λ put. puts_as (acts_of c.args.role (node.Construct c.in-Construct.directive) (tree_at c.args.tree.now.trees c.args.node) c.in-Construct.ensures) (omega arith) (put))
     c.construct.ensures
 
 pub returns-in_default : goal.returns-in_default
-unfolding behind
+unfolding from_place
 returns-in_default c =
     on_ok_weaker c.then-in_default.result
     (λ put. puts_as (acts_passing c.args.role c.kind.result (tree_at c.args.tree.now.trees c.args.node) c.kind.ensures (sym c.passes_on.ensures ∙ c.if-passes_on.true)) (omega arith) (put c.args.tree.now.trees c.requires.node c.requires.there))

@@ -1,7 +1,7 @@
 use Rattle.std.proofs.Common.{◌≡◌, ◌-◌, Some, slice_get, vec_len, arith}
 use Rattle.std.proofs.lemmas.Grind.{common_steps}
 use Rattle.c_check.proofs.Visible.{last_first, one_less_visible}
-use Rattle.c_check.proofs.scopes.names.Names.uncover.Goals as goal
+use Rattle.c_check.proofs.scopes.declarations.Declarations.uncover.Goals as goal
 
 pub invariant_of-self-2 : goal.invariant_of-self-2
 invariant_of-self-2 c =

@@ -1,8 +1,8 @@
 use Rattle.std.proofs.Common.{◌≡◌, ◌-◌, ◌∙◌, ap, sym, true}
-use Rattle.c_check.specs.Names.{Names}
+use Rattle.c_check.specs.Declarations.{Declarations}
 use Rattle.c_check.specs.Visible.{ends_first}
 use Rattle.c_check.proofs.Visible.{closed-none, closed-without_first, fewer_visible}
-use Rattle.c_check.proofs.scopes.names.Names.close.Goals as goal
+use Rattle.c_check.proofs.scopes.declarations.Declarations.close.Goals as goal
 
 ends : (c : goal.In_ok-uncover) → ends_first c.loop-self.self.level c.loop-self.self.visible ≡ true
 ends c = sym c.newest_ends.ensures ∙ c.loop-self-test.true
@@ -16,4 +16,4 @@ loop-self-preserved c = rw c.in_ok-uncover.ensures (closed-without_first c.loop-
 pub returns : goal.returns
 returns c =
     let all_left = closed-none c.loop-self.self (sym c.newest_ends.ensures ∙ c.loop-self-test.false) in
-    rw c.saturating_sub-self-inside.ensures (ap (λ (names : Names). let it : Names = record names { level = names.level - 1 } in it) c.self.view_is ∙ (sym all_left ∙ c.loop-self.invariant))
+    rw c.saturating_sub-self-inside.ensures (ap (λ (names : Declarations). let it : Declarations = record names { level = names.level - 1 } in it) c.self.view_is ∙ (sym all_left ∙ c.loop-self.invariant))

@@ -1,7 +1,7 @@
 use Rattle.std.proofs.Common.{◌≡◌, length, arith}
 use Rattle.std.proofs.lemmas.List.{reverse-append}
 use Rattle.c_check.proofs.Visible.{one_more_visible}
-use Rattle.c_check.proofs.scopes.names.Names.declare.Goals as goal
+use Rattle.c_check.proofs.scopes.declarations.Declarations.declare.Goals as goal
 
 pub invariant_of-self-2 : goal.invariant_of-self-2
 invariant_of-self-2 c =

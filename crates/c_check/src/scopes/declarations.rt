@@ -3,7 +3,7 @@
 ghost use Rattle.std.specs.Prelude.{◌≡◌, ℕ, length, slice_get, nat_eq, IfOk, OnOk, OnErr};
 ghost use Rattle.std.specs.HashMap.{get};
 ghost use Rattle.std.specs.Map.{update};
-ghost use Rattle.c_check.specs.Names.{no_names, find, with_next, opened, closed};
+ghost use Rattle.c_check.specs.Declarations.{no_names, find, with_next, scope_begun, scope_ended};
 ghost use Rattle.c_check.specs.Visible.{ends_first, without_first};
 
 use crate::acts::act::Thing;
@@ -23,7 +23,7 @@ struct Visible {
 
 /// The declarations so far. Contracts see those in scope, the newest first, all of them, and how many scopes are open.
 #[derive(Drop)]
-pub struct Names {
+pub struct Declarations {
     /// Those in scope, the newest last.
     visible: Vec<Visible>,
     /// All of them: each stands at its slot.
@@ -34,12 +34,12 @@ pub struct Names {
     innermost: HashMap<u32, u32>,
 }
 
-impl Model for Names {
+impl Model for Declarations {
     ghost use Rattle.std.specs.Prelude.{reverse, nat_eq};
     ghost use Rattle.std.specs.HashMap.{get};
-    ghost use Rattle.c_check.specs.Names.{Names};
+    ghost use Rattle.c_check.specs.Declarations.{Declarations};
 
-    ghost Value = { Names };
+    ghost Value = { Declarations };
 
     ghost use Rattle.c_check.specs.Visible.{AreVisible, declared_in};
 
@@ -48,12 +48,12 @@ impl Model for Names {
     ghost invariant = { λ names. AreVisible names.all.items (get nat_eq names.innermost) (reverse names.visible.items) };
 }
 
-impl Names {
+impl Declarations {
     /// No declarations.
-    pub fn new(alloc: Global) -> Names
+    pub fn new(alloc: Global) -> Declarations
         ensures { result ≡ no_names }
     {
-        Names {
+        Declarations {
             visible: Vec::new(alloc),
             all: Vec::new(alloc),
             level: 0,
@@ -116,7 +116,7 @@ impl Names {
 
     /// A scope begins.
     pub fn open(&mut self) -> Result<(), AllocError>
-        ensures opened { OnOk result (self.new ≡ opened self.old) }
+        ensures scope_begun { OnOk result (self.new ≡ scope_begun self.old) }
         ensures err { OnErr result (self.new ≡ self.old) }
     {
         self.level = self.level.checked_add(1).ok_or(AllocError)?;
@@ -125,7 +125,7 @@ impl Names {
 
     /// The innermost scope ends.
     pub fn close(&mut self) -> Result<(), AllocError>
-        ensures { OnOk result (self.new ≡ closed self.old) }
+        ensures { OnOk result (self.new ≡ scope_ended self.old) }
     {
         while self.newest_ends() {
             self.uncover()?;
