@@ -80,10 +80,11 @@ pub fn top<R, S: Source, O: Sink, E: Sink>(
     ensures silent_run { IfSome result.ran (λ report. report.cause ≢ Cause.Memory →
         HearsSilent (run_of report) report.history → report.history ≡ serial (run_of report)) }
 
-    // Guest t was called for what thread t heard, in its order, and for nothing else.
+    // Guest t was called for what thread t heard, in its order, and for nothing else but at most one call that found no
+    // memory. Threads without a guest stored nothing.
     ensures guests { IfSome result.ran (λ report.
-        GuestsAfter (λ guest h. (GuestTool-box guest).stands_for guest.value h) report.command (run_of report) report.history
-        guests.items report.guests.items) }
+        GuestsAfter (λ guest h. (GuestTool-box guest).stands_for guest.value h) report.command (run_of report)
+        report.cause report.history guests.items report.guests.items) }
 
     // The end is the run's, unless a write or memory fails.
     ensures done { result.end ≡ End.Done → IsSomeAnd result.ran (λ report. report.cause ≡ Cause.Done) }
