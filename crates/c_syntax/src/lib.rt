@@ -23,6 +23,8 @@
 //!   fault, by [`tree_or_fault`], and words that end with the end of the text have one or the other, by [`program_or_fault`]. So
 //!   the answer is determined but for want of memory.
 //!
+//! [`SyntaxFault::number`] and [`SyntaxFault::spot`] tell a fault, as `specs/Faults.antt` says.
+//!
 //! Which sentences of `docs/language.md` the rules stand for is to be read. The place of a fault doesn't depend on the rules' form:
 //! it is said by what can be completed to a program.
 //!

@@ -14,6 +14,8 @@
 //! - the two definitions have the same lists, by [`tokens_are_read`] and [`reading_is_tokens`], and each text has one at most, by
 //!   [`one_list_of_tokens`]. That `tokens_of` answers one list or one fault is plain, since it is a function.
 //!
+//! [`TokenFault::number`] and [`TokenFault::spot`] tell a fault, as `specs/Faults.antt` says.
+//!
 //! That the fault is the first in the text is in the definition: `scan` goes through the text, and stops at it.
 //!
 //! Time grows linearly with the text. That is no clause, and neither is where memory is wanting.
@@ -37,4 +39,4 @@ mod word;
 
 pub use laws::{one_list_of_tokens, reading_is_tokens, tokens_are_read};
 pub use scan::tokens;
-pub use token::{Spot, Token, TokenFault, TokenKind};
+pub use token::{NOWHERE, Spot, Token, TokenFault, TokenKind};

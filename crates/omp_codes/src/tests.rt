@@ -15,7 +15,8 @@ fn registrations_are_answered(rt: HostRuntime) {
         (20, 5),
         (27, 5),
         (28, 1),
-        (32, 1),
+        (31, 1),
+        (32, 5),
         (33, 5),
         (36, 5),
         (37, 1),
@@ -27,9 +28,9 @@ fn registrations_are_answered(rt: HostRuntime) {
 }
 
 #[test]
-fn sixteen_callbacks_are_the_profiles(rt: HostRuntime) {
+fn seventeen_callbacks_are_the_profiles(rt: HostRuntime) {
     let count = (0..64).filter(|number| is_profile(*number)).count();
-    assert_eq!(rt; count, 16);
+    assert_eq!(rt; count, 17);
     for number in [0, 8, 15, 18, 19, 22, 28, 33, 37] {
         assert!(rt; !is_profile(number), "at {number}");
     }
