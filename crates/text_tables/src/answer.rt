@@ -49,9 +49,10 @@ fn seen_in(alloc: Global, question: Question, text: &[u8], want: &str) -> Result
 
 /// The number of a fault, and its place.
 fn refused(alloc: Global, refusal: Refusal) -> Result<String, RowFault> {
-    let Refusal::Fault(number, spot) = refusal else {
+    let Refusal { number, spot } = refusal;
+    if number == 0 {
         return Err(RowFault::Memory);
-    };
+    }
     let mut told = format!(in alloc; "{number} at ")?;
     write_spot(&mut told, spot)?;
     Ok(told)

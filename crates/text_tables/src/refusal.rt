@@ -4,58 +4,50 @@ ghost use Rattle.std.specs.Prelude.{◌≤◌, length};
 
 use c_check::{CheckFault, Program, check};
 use c_syntax::{SyntaxFault, Tree, read_program};
-use c_tokens::{Spot, TokenFault, tokens};
+use c_tokens::{NOWHERE, Spot, TokenFault, tokens};
 use std::alloc::{AllocError, Global};
 
 /// Why a text has no tokens, no tree or no program.
 #[derive(Clone, Copy)]
-pub(crate) enum Refusal {
-    /// The fault with this number stands here.
-    Fault(u8, Spot),
-    /// No memory was left.
-    Memory,
+pub(crate) struct Refusal {
+    /// The number of the fault, or 0 where no memory was left.
+    pub number: u32,
+    /// The place of the fault.
+    pub spot: Spot,
 }
 
 impl From<AllocError> for Refusal {
     fn from(_error: AllocError) -> Refusal {
-        Refusal::Memory
+        Refusal {
+            number: 0,
+            spot: NOWHERE,
+        }
     }
 }
 
 impl From<TokenFault> for Refusal {
     fn from(fault: TokenFault) -> Refusal {
-        match fault {
-            TokenFault::BadByte(spot) => Refusal::Fault(1, spot),
-            TokenFault::OpenComment(spot) => Refusal::Fault(2, spot),
-            TokenFault::BadNumber(spot) => Refusal::Fault(3, spot),
-            TokenFault::Memory => Refusal::Memory,
+        Refusal {
+            number: fault.number(),
+            spot: fault.spot(),
         }
     }
 }
 
 impl From<SyntaxFault> for Refusal {
     fn from(fault: SyntaxFault) -> Refusal {
-        match fault {
-            SyntaxFault::Unexpected(spot) => Refusal::Fault(4, spot),
-            SyntaxFault::UnknownDirective(spot) => Refusal::Fault(5, spot),
-            SyntaxFault::OutOfProfile(spot) => Refusal::Fault(6, spot),
-            SyntaxFault::TooDeep(spot) => Refusal::Fault(7, spot),
-            SyntaxFault::Memory => Refusal::Memory,
+        Refusal {
+            number: fault.number(),
+            spot: fault.spot(),
         }
     }
 }
 
 impl From<CheckFault> for Refusal {
     fn from(fault: CheckFault) -> Refusal {
-        match fault {
-            CheckFault::UnknownName(spot) => Refusal::Fault(8, spot),
-            CheckFault::TwiceDeclared(spot) => Refusal::Fault(9, spot),
-            CheckFault::WrongUse(spot) => Refusal::Fault(10, spot),
-            CheckFault::BadNesting(spot) => Refusal::Fault(11, spot),
-            CheckFault::BadLoop(spot) => Refusal::Fault(12, spot),
-            CheckFault::NoMain(spot) => Refusal::Fault(13, spot),
-            CheckFault::NotListed(spot) => Refusal::Fault(14, spot),
-            CheckFault::Memory => Refusal::Memory,
+        Refusal {
+            number: fault.number(),
+            spot: fault.spot(),
         }
     }
 }
