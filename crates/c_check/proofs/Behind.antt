@@ -6,10 +6,10 @@ use Rattle.c_syntax.specs.Tree.Children.{Over, Child, Absent}
 use Rattle.c_syntax.specs.Derivation.{nothing}
 use Rattle.c_syntax.specs.Numbered.{tree_at}
 use Rattle.c_check.specs.Acts.{count, is_head, statement_of}
-use Rattle.c_check.specs.Tasks.{behind}
+use Rattle.c_check.specs.Tasks.{from_place}
 
-behind_this : (children : Children) (place : ℕ) (tree : Tree) → Some tree ≡ at_place children place → behind place children ≡ Child tree (behind (suc place) children)
-unfolding behind
+behind_this : (children : Children) (place : ℕ) (tree : Tree) → Some tree ≡ at_place children place → from_place place children ≡ Child tree (from_place (suc place) children)
+unfolding from_place
 behind_this Over place tree at = absurd (cc)
 behind_this (Absent rest) zero tree at = absurd (cc)
 behind_this (Child first rest) zero tree at = ap (λ (one : Tree). Child one rest) (cc)
@@ -17,12 +17,12 @@ behind_this (Absent rest) (suc place) tree at = behind_this rest place tree at
 behind_this (Child first rest) (suc place) tree at = behind_this rest place tree at
 
 -- a child at a place stands before those from the next place on
-pub behind_child : (children : Children) (place next : ℕ) (tree : Tree) → Some tree ≡ at_place children place → next ≡ place + 1 → behind place children ≡ Child tree (behind next children)
+pub behind_child : (children : Children) (place next : ℕ) (tree : Tree) → Some tree ≡ at_place children place → next ≡ place + 1 → from_place place children ≡ Child tree (from_place next children)
 behind_child children place next tree at after = rw (after, add-one) (behind_this children place tree at)
 
 -- what holds where nothing is left, holds from a place on where no child stands
-pub behind_none : {X : Type 0} (f : Children → X) (x : X) → f Over ≡ x → ((rest : Children) → f (Absent rest) ≡ x) → (children : Children) (place : ℕ) → None ≡ at_place children place → f (behind place children) ≡ x
-unfolding behind
+pub behind_none : {X : Type 0} (f : Children → X) (x : X) → f Over ≡ x → ((rest : Children) → f (Absent rest) ≡ x) → (children : Children) (place : ℕ) → None ≡ at_place children place → f (from_place place children) ≡ x
+unfolding from_place
 behind_none f x over absent Over zero at = over
 behind_none f x over absent Over (suc place) at = over
 behind_none f x over absent (Absent rest) zero at = absent rest
@@ -32,29 +32,29 @@ behind_none f x over absent (Child tree rest) (suc place) at = behind_none f x o
 
 module _ (trees : List Tree) (children : Children) (place : ℕ) where
   -- a child counts, where one is found
-  pub count_child : (next : ℕ) (found : Option ℕ) → option_map (tree_at trees) found ≡ at_place children place → is_some found ≡ true → next ≡ place + 1 → count (behind place children) ≡ count (behind next children) + 1
+  pub count_child : (next : ℕ) (found : Option ℕ) → option_map (tree_at trees) found ≡ at_place children place → is_some found ≡ true → next ≡ place + 1 → count (from_place place children) ≡ count (from_place next children) + 1
   unfolding count
   count_child next None at some after = absurd (cc)
   count_child next (Some child) at some after = ap count (behind_child children place next (tree_at trees child) at after)
 
-  pub count_none : (found : Option ℕ) → option_map (tree_at trees) found ≡ at_place children place → is_some found ≡ false → count (behind place children) ≡ 0
+  pub count_none : (found : Option ℕ) → option_map (tree_at trees) found ≡ at_place children place → is_some found ≡ false → count (from_place place children) ≡ 0
   unfolding count
   count_none None at none = behind_none count 0 refl (λ rest. refl) children place at
   count_none (Some child) at none = absurd (cc)
 
-  pub count_found : (next child : ℕ) → Some (tree_at trees child) ≡ at_place children place → next ≡ place + 1 → count (behind next children) < count (behind place children)
+  pub count_found : (next child : ℕ) → Some (tree_at trees child) ≡ at_place children place → next ≡ place + 1 → count (from_place next children) < count (from_place place children)
   unfolding count
   count_found next child at after = omega (arith, ap count (behind_child children place next (tree_at trees child) at after))
 
   -- the statement of a construct is the first child that isn't a head
-  pub statement_none : None ≡ at_place children place → statement_of (behind place children) ≡ nothing
+  pub statement_none : None ≡ at_place children place → statement_of (from_place place children) ≡ nothing
   unfolding statement_of
   statement_none at = behind_none statement_of nothing refl (λ rest. refl) children place at
 
-  pub statement_here : (child : ℕ) → Some (tree_at trees child) ≡ at_place children place → is_head (kind_of (tree_at trees child)) ≡ false → statement_of (behind place children) ≡ tree_at trees child
+  pub statement_here : (child : ℕ) → Some (tree_at trees child) ≡ at_place children place → is_head (kind_of (tree_at trees child)) ≡ false → statement_of (from_place place children) ≡ tree_at trees child
   unfolding statement_of
   statement_here child at head = ap statement_of (behind_child children place (place + 1) (tree_at trees child) at refl) ∙ rw head refl
 
-  pub statement_behind : (next child : ℕ) → Some (tree_at trees child) ≡ at_place children place → next ≡ place + 1 → is_head (kind_of (tree_at trees child)) ≡ true → statement_of (behind next children) ≡ statement_of (behind place children)
+  pub statement_behind : (next child : ℕ) → Some (tree_at trees child) ≡ at_place children place → next ≡ place + 1 → is_head (kind_of (tree_at trees child)) ≡ true → statement_of (from_place next children) ≡ statement_of (from_place place children)
   unfolding statement_of
   statement_behind next child at after head = sym (ap statement_of (behind_child children place next (tree_at trees child) at after) ∙ rw head refl)

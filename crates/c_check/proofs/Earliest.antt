@@ -6,7 +6,7 @@ use Rattle.std.proofs.lemmas.Bool.{cases_Bool}
 use Rattle.std.proofs.lemmas.List.Elements.{All-cons, All-nil}
 use Rattle.std.proofs.lemmas.Bool.Decides.{nat_tests}
 use Rattle.c_check.specs.declared.fault.CheckFault.{CheckFault}
-use Rattle.c_check.specs.Checked.{comes_first, first_of, number_of, spot_of}
+use Rattle.c_check.specs.Faults.{comes_first, first_of, fault_number, fault_spot}
 use Rattle.c_check.specs.First.{IsFirst}
 
 -- lines, columns and numbers in order
@@ -26,13 +26,13 @@ less-itself l c n = grind (arith, nat_tests)
 
 across : (a b c : CheckFault) → comes_first b a ≡ false → comes_first c b ≡ false → comes_first c a ≡ false
 across a b c first second =
-    less-across (spot_of a).line (spot_of a).column (number_of a) (spot_of b).line (spot_of b).column (number_of b) (spot_of c).line (spot_of c).column (number_of c) first second
+    less-across (fault_spot a).line (fault_spot a).column (fault_number a) (fault_spot b).line (fault_spot b).column (fault_number b) (fault_spot c).line (fault_spot c).column (fault_number c) first second
 
 not-both : (a b : CheckFault) → comes_first a b ≡ true → comes_first b a ≡ false
-not-both a b first = less-not (spot_of a).line (spot_of a).column (number_of a) (spot_of b).line (spot_of b).column (number_of b) first
+not-both a b first = less-not (fault_spot a).line (fault_spot a).column (fault_number a) (fault_spot b).line (fault_spot b).column (fault_number b) first
 
 itself : (a : CheckFault) → comes_first a a ≡ false
-itself a = less-itself (spot_of a).line (spot_of a).column (number_of a)
+itself a = less-itself (fault_spot a).line (fault_spot a).column (fault_number a)
 
 among-first : {found : CheckFault} (faults : List CheckFault) → IsAmong (found ∷ faults) found
 among-first {found} faults = (0, (omega arith, refl))

@@ -1,7 +1,7 @@
 -- The first of two lists of faults, one behind the other.
 use Rattle.std.proofs.Common.{◌≡◌, List, [], ◌∷◌, ◌++◌, Option, refl}
 use Rattle.c_check.specs.declared.fault.CheckFault.{CheckFault}
-use Rattle.c_check.specs.Checked.{first_of, sooner}
+use Rattle.c_check.specs.Faults.{first_of, sooner}
 
 pub first_of_append : (known : Option CheckFault) (front more : List CheckFault) → first_of known (front ++ more) ≡ first_of (first_of known front) more
 unfolding first_of

@@ -1,6 +1,6 @@
 -- The loops inside constructs, as they are kept.
 use Rattle.std.proofs.Common.{◌≡◌, ℕ, Bool, true, false, cond, ◌||◌, ◌&&◌, List, [], ◌∷◌, ◌++◌, refl, sym, ap, ◌∙◌, nat_eq}
-use Rattle.c_check.specs.declared.declared.LoopInside.{LoopInside}
+use Rattle.c_check.specs.declared.constructs.parts.LoopInside.{LoopInside}
 use Rattle.c_check.specs.Rules.{is_loop_inside}
 use Rattle.c_check.specs.Pairs.{same_pair}
 

@@ -1,6 +1,6 @@
 -- The variables that data clauses list, as they are kept.
 use Rattle.std.proofs.Common.{◌≡◌, ℕ, true, false, cond, List, [], ◌∷◌, ◌++◌, Some, None, refl, nat_eq}
-use Rattle.c_check.specs.declared.declared.Mention.{Mention}
+use Rattle.c_check.specs.declared.constructs.parts.Mention.{Mention}
 use Rattle.c_check.specs.Constructs.{mention}
 use Rattle.std.specs.Option.{option_or}
 

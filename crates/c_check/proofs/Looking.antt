@@ -9,7 +9,7 @@ use Rattle.c_syntax.specs.Tree.{Tree, Children, at_place, child_of, children_of,
 use Rattle.c_syntax.specs.Tree.Tree.{Node}
 use Rattle.c_syntax.specs.Numbered.{tree_at}
 use Rattle.c_check.specs.Loops.{is_place, stands_in, stands_among}
-use Rattle.c_check.specs.Tasks.{behind, children_at}
+use Rattle.c_check.specs.Tasks.{from_place, children_left}
 use Rattle.c_check.specs.Weights.{weight_among}
 use Rattle.c_check.proofs.Weighing.{weighs_child, weight_children}
 use Rattle.c_check.proofs.Behind.{behind_child, behind_none}
@@ -22,15 +22,15 @@ pub stands_named : (name : ℕ) (tree : Tree) → is_named name tree ≡ true �
 unfolding stands_in
 stands_named name (Node kind spot other number text children) named = rw named refl
 
-pub stands_unnamed : (name : ℕ) (tree : Tree) → is_named name tree ≡ false → stands_in name tree ≡ stands_among name (behind 0 (children_of tree))
-unfolding stands_in behind
+pub stands_unnamed : (name : ℕ) (tree : Tree) → is_named name tree ≡ false → stands_in name tree ≡ stands_among name (from_place 0 (children_of tree))
+unfolding stands_in from_place
 stands_unnamed name (Node kind spot other number text children) named = rw named refl
 
-stands_over : (name : ℕ) (children : Children) (place : ℕ) → None ≡ at_place children place → stands_among name (behind place children) ≡ false
+stands_over : (name : ℕ) (children : Children) (place : ℕ) → None ≡ at_place children place → stands_among name (from_place place children) ≡ false
 unfolding stands_among
 stands_over name children place at = behind_none (stands_among name) false refl (λ rest. refl) children place at
 
-stands_child : (name : ℕ) (children : Children) (place next : ℕ) (tree : Tree) → Some tree ≡ at_place children place → next ≡ place + 1 → stands_among name (behind place children) ≡ (stands_in name tree || stands_among name (behind next children))
+stands_child : (name : ℕ) (children : Children) (place next : ℕ) (tree : Tree) → Some tree ≡ at_place children place → next ≡ place + 1 → stands_among name (from_place place children) ≡ (stands_in name tree || stands_among name (from_place next children))
 unfolding stands_among
 stands_child name children place next tree at after = ap (stands_among name) (behind_child children place next tree at after)
 
@@ -47,13 +47,13 @@ sum_by-last measure items rest last ends = omega (arith, ap (sum_by measure) end
 
 module _ (trees : List Tree) (name : ℕ) where
   abbrev among : ℕ × ℕ → Bool
-  among at = stands_among name (children_at trees at.0 at.1)
+  among at = stands_among name (children_left trees at.0 at.1)
 
   abbrev IsThere : ℕ × ℕ → Type 0
   IsThere at = at.0 < length trees
 
   abbrev heavy : ℕ × ℕ → ℕ
-  heavy at = weight_among (children_at trees at.0 at.1) + 1
+  heavy at = weight_among (children_left trees at.0 at.1) + 1
 
   -- the expression itself
   pub looked-first : (expression : ℕ) (items rest : List (ℕ × ℕ)) → rest ≡ [] → items ≡ rest ++ (expression, 0) ∷ [] → is_named name (tree_at trees expression) ≡ false → list_any among items ≡ stands_in name (tree_at trees expression)

@@ -5,7 +5,7 @@ use Rattle.std.proofs.lemmas.List.{get_or_default, length-set, length_push, map-
 use Rattle.std.proofs.lemmas.Option.{slice_get-get_or}
 use Rattle.c_tokens.specs.declared.token.Spot.{Spot}
 use Rattle.c_check.specs.Around.{AreBelow, AreConstructs, HaveBelow}
-use Rattle.c_check.specs.declared.declared.Head.{Head}
+use Rattle.c_check.specs.declared.constructs.parts.Head.{Head}
 use Rattle.c_check.specs.Constructs.{Construct, no_construct, numbered}
 use Rattle.c_check.specs.Spots.{spots_of}
 use Rattle.c_check.proofs.Visible.{last_first}

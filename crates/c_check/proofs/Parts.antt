@@ -5,15 +5,15 @@ use Rattle.c_syntax.specs.declared.node.Returns.{Returns}
 use Rattle.c_syntax.specs.Tree.{Tree, Children, at_place, children_of, name_of, spot_of}
 use Rattle.c_syntax.specs.Tree.Tree.{Node}
 use Rattle.c_syntax.specs.Tree.Children.{Over, Child, Absent}
-use Rattle.c_check.specs.declared.act.Act.{Act}
-use Rattle.c_check.specs.declared.act.Act.TheVariants.{Begin, Declare, End}
-use Rattle.c_check.specs.declared.act.Thing.TheVariants as thing
-use Rattle.c_check.specs.declared.role.Role.{Role}
-use Rattle.c_check.specs.declared.role.Role.TheVariants as role
-use Rattle.c_check.specs.declared.role.Naming.TheVariants as naming
-use Rattle.c_check.specs.Acts.{acts, each, names, count, target, init, function, first_part, second_part, third_part, shares_loop, statement_of, statement_role, role_with, odd_with, odd_loop}
+use Rattle.c_check.specs.declared.acts.act.Act.{Act}
+use Rattle.c_check.specs.declared.acts.act.Act.TheVariants.{Begin, Declare, End}
+use Rattle.c_check.specs.declared.acts.act.Thing.TheVariants as thing
+use Rattle.c_check.specs.declared.acts.role.Role.{Role}
+use Rattle.c_check.specs.declared.acts.role.Role.TheVariants as role
+use Rattle.c_check.specs.declared.acts.role.Naming.TheVariants as naming
+use Rattle.c_check.specs.Acts.{acts, each, names, count, target, init, function, first_part, second_part, third_part, shares_loop, statement_of, statement_role, role_with}
 use Rattle.c_check.specs.Loops.{loop_name}
-use Rattle.c_check.specs.Tasks.{behind}
+use Rattle.c_check.specs.Tasks.{from_place}
 use Rattle.c_check.specs.Steps.{part_of}
 
 pub target_none : (around : Role) (children : Children) → None ≡ at_place children 0 → target around children ≡ []
@@ -22,8 +22,8 @@ target_none around Over at = refl
 target_none around (Absent rest) at = refl
 target_none around (Child tree rest) at = absurd (cc)
 
-pub target_child : (around : Role) (children : Children) (tree : Tree) → Some tree ≡ at_place children 0 → target around children ≡ acts role.Target tree ++ each around (behind 1 children)
-unfolding acts behind
+pub target_child : (around : Role) (children : Children) (tree : Tree) → Some tree ≡ at_place children 0 → target around children ≡ acts role.Target tree ++ each around (from_place 1 children)
+unfolding acts from_place
 target_child around Over tree at = absurd (cc)
 target_child around (Absent rest) tree at = absurd (cc)
 target_child around (Child first rest) tree at = let same : tree ≡ first = cc in rw same refl
@@ -34,28 +34,28 @@ init_none Over at = refl
 init_none (Absent rest) at = refl
 init_none (Child tree rest) at = absurd (cc)
 
-pub init_child : (children : Children) (tree : Tree) → Some tree ≡ at_place children 0 → init children ≡ each role.Plain (behind 1 children) ++ Declare (name_of tree) (spot_of tree) thing.Int ∷ []
-unfolding acts behind
+pub init_child : (children : Children) (tree : Tree) → Some tree ≡ at_place children 0 → init children ≡ each role.Plain (from_place 1 children) ++ Declare (name_of tree) (spot_of tree) thing.Int ∷ []
+unfolding acts from_place
 init_child Over tree at = absurd (cc)
 init_child (Absent rest) tree at = absurd (cc)
 init_child (Child first rest) tree at = let same : tree ≡ first = cc in rw same refl
 
 -- the parts of a `for`, and its body
 module _ (mark : List Act) where
-  thirds_are : (children : Children) → third_part mark children ≡ part_of (at_place children 0) ++ (mark ++ each role.Plain (behind 1 children))
-  unfolding acts behind
+  thirds_are : (children : Children) → third_part mark children ≡ part_of (at_place children 0) ++ (mark ++ each role.Plain (from_place 1 children))
+  unfolding acts from_place
   thirds_are Over = sym (append-nil mark)
   thirds_are (Absent rest) = refl
   thirds_are (Child tree rest) = refl
 
-  seconds_are : (children : Children) → second_part mark children ≡ part_of (at_place children 0) ++ (part_of (at_place children 1) ++ (mark ++ each role.Plain (behind 2 children)))
-  unfolding acts behind
+  seconds_are : (children : Children) → second_part mark children ≡ part_of (at_place children 0) ++ (part_of (at_place children 1) ++ (mark ++ each role.Plain (from_place 2 children)))
+  unfolding acts from_place
   seconds_are Over = sym (append-nil mark)
   seconds_are (Absent rest) = thirds_are rest
   seconds_are (Child tree rest) = ap (λ (told : List Act). acts role.Plain tree ++ told) (thirds_are rest)
 
-  pub parts_are : (children : Children) → first_part mark children ≡ part_of (at_place children 0) ++ (part_of (at_place children 1) ++ (part_of (at_place children 2) ++ (mark ++ each role.Plain (behind 3 children))))
-  unfolding acts behind
+  pub parts_are : (children : Children) → first_part mark children ≡ part_of (at_place children 0) ++ (part_of (at_place children 1) ++ (part_of (at_place children 2) ++ (mark ++ each role.Plain (from_place 3 children))))
+  unfolding acts from_place
   parts_are Over = sym (append-nil mark)
   parts_are (Absent rest) = seconds_are rest
   parts_are (Child tree rest) = ap (λ (told : List Act). acts role.Plain tree ++ told) (seconds_are rest)
@@ -107,10 +107,3 @@ module _ (which : Directive) (children : Children) (name : Option ℕ) (is : nam
       by-test : (test : Bool) (found : Option ℕ) → name ≡ (if test then found else None) → role_with name ≡ (if test then role_with found else role.Plain)
       by-test true found same = ap role_with same
       by-test false found same = ap role_with same
-
-  pub shared_oddness : (if shares_loop which then odd_with name else []) ≡ odd_loop which children
-  shared_oddness = by-test (shares_loop which) (loop_name (statement_of children)) is
-    where
-      by-test : (test : Bool) (found : Option ℕ) → name ≡ (if test then found else None) → (if test then odd_with name else []) ≡ (if test then odd_with found else [])
-      by-test true found same = ap odd_with same
-      by-test false found same = refl

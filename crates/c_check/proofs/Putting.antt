@@ -11,11 +11,11 @@ use Rattle.c_syntax.specs.declared.node.Standalone.TheVariants as standalone
 use Rattle.c_syntax.specs.declared.node.NodeKind.{NodeKind}
 use Rattle.c_syntax.specs.declared.node.NodeKind.TheVariants as node
 use Rattle.c_tokens.specs.declared.token.Spot.{Spot}
-use Rattle.c_check.specs.declared.act.Act.{Act}
-use Rattle.c_check.specs.declared.role.Role.{Role}
-use Rattle.c_check.specs.declared.role.Role.TheVariants as role
-use Rattle.c_check.specs.declared.walk.Task.{Task}
-use Rattle.c_check.specs.declared.walk.Walk.{Walk}
+use Rattle.c_check.specs.declared.acts.act.Act.{Act}
+use Rattle.c_check.specs.declared.acts.role.Role.{Role}
+use Rattle.c_check.specs.declared.acts.role.Role.TheVariants as role
+use Rattle.c_check.specs.declared.acts.walk.Task.{Task}
+use Rattle.c_check.specs.declared.acts.walk.Walk.{Walk}
 use Rattle.c_check.specs.Acts.{acts, each}
 use Rattle.c_check.specs.Tasks.{told_by, told_by_all, left_of, IsThere, AreThere}
 use Rattle.c_check.specs.Steps.{Puts, passes, standalone_acts, weight_by}

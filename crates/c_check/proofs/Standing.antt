@@ -6,49 +6,49 @@ use Rattle.c_tokens.specs.declared.token.Spot.{Spot}
 use Rattle.c_check.specs.Checked.{construct_at}
 use Rattle.c_check.specs.Constructs.{Construct}
 use Rattle.c_check.specs.Pairs.{same_pair}
-use Rattle.c_check.specs.Spots.{number_from, spots_of}
+use Rattle.c_check.specs.Spots.{number_of_place, spots_of}
 
 -- with one more
 pub number_from-more : (next : ℕ) (spots : List Spot) (spot : Spot) (number : ℕ) (place : ℕ × ℕ) → number ≡ next + length spots
-    → number_from next (spots ++ spot ∷ []) place ≡ option_or (number_from next spots place) (cond (same_pair (spot.line, spot.column) place) (Some number) None)
-unfolding number_from
+    → number_of_place next (spots ++ spot ∷ []) place ≡ option_or (number_of_place next spots place) (cond (same_pair (spot.line, spot.column) place) (Some number) None)
+unfolding number_of_place
 number_from-more next [] spot number place is =
     let same : next ≡ number = omega arith in
     ap (λ (it : ℕ). cond (same_pair (spot.line, spot.column) place) (Some it) None) same
 number_from-more next (first ∷ spots) spot number place is =
-    elim (same_pair (first.line, first.column) place) as (λ here. cond here (Some next) (number_from (next + 1) (spots ++ spot ∷ []) place) ≡ option_or (cond here (Some next) (number_from (next + 1) spots place)) (cond (same_pair (spot.line, spot.column) place) (Some number) None)) [
+    elim (same_pair (first.line, first.column) place) as (λ here. cond here (Some next) (number_of_place (next + 1) (spots ++ spot ∷ []) place) ≡ option_or (cond here (Some next) (number_of_place (next + 1) spots place)) (cond (same_pair (spot.line, spot.column) place) (Some number) None)) [
       | true ↦ refl
       | false ↦ number_from-more (next + 1) spots spot number place (omega arith)
     ]
 
 module _ (spot : Spot) where
-  at_number : (next : ℕ) (all : List Construct) (number : ℕ) → number_from next (spots_of all) (spot.line, spot.column) ≡ Some number
+  at_number : (next : ℕ) (all : List Construct) (number : ℕ) → number_of_place next (spots_of all) (spot.line, spot.column) ≡ Some number
       → (index : ℕ) × (number ≡ next + index) × (index < length all) × ((other : Construct) → construct_at all spot ≡ Some (get_or all index other))
-  unfolding number_from construct_at
+  unfolding number_of_place construct_at
   at_number next [] number is = absurd cc
   at_number next (first ∷ all) number is =
-      (elim (same_pair (first.head.spot.line, first.head.spot.column) (spot.line, spot.column)) as (λ here. cond here (Some next) (number_from (next + 1) (spots_of all) (spot.line, spot.column)) ≡ Some number
+      (elim (same_pair (first.head.spot.line, first.head.spot.column) (spot.line, spot.column)) as (λ here. cond here (Some next) (number_of_place (next + 1) (spots_of all) (spot.line, spot.column)) ≡ Some number
       → (index : ℕ) × (number ≡ next + index) × (index < length (first ∷ all)) × ((other : Construct) → cond here (Some first) (construct_at all spot) ≡ Some (get_or (first ∷ all) index other))) [
         | true ↦ λ found. (0, omega (arith, same_Some next number found), omega arith, λ other. refl)
         | false ↦ λ found. let at = at_number (next + 1) all number found in (suc at.0, omega (arith, at.1), omega (arith, at.2), at.3)
       ]) is
 
-  at_no_number : (next : ℕ) (all : List Construct) → number_from next (spots_of all) (spot.line, spot.column) ≡ None → construct_at all spot ≡ None
-  unfolding number_from construct_at
+  at_no_number : (next : ℕ) (all : List Construct) → number_of_place next (spots_of all) (spot.line, spot.column) ≡ None → construct_at all spot ≡ None
+  unfolding number_of_place construct_at
   at_no_number next [] is = refl
   at_no_number next (first ∷ all) is =
-      (elim (same_pair (first.head.spot.line, first.head.spot.column) (spot.line, spot.column)) as (λ here. cond here (Some next) (number_from (next + 1) (spots_of all) (spot.line, spot.column)) ≡ None → cond here (Some first) (construct_at all spot) ≡ None) [
+      (elim (same_pair (first.head.spot.line, first.head.spot.column) (spot.line, spot.column)) as (λ here. cond here (Some next) (number_of_place (next + 1) (spots_of all) (spot.line, spot.column)) ≡ None → cond here (Some first) (construct_at all spot) ≡ None) [
         | true ↦ λ none. absurd cc
         | false ↦ at_no_number (next + 1) all
       ]) is
 
 module _ (all : List Construct) (spots : List Spot) (spot : Spot) (stand : spots ≡ spots_of all) where
   -- the construct with the number of a place stands there
-  pub found_at : (number : ℕ) → Some number ≡ number_from 0 spots (spot.line, spot.column) → (number < length all) × ((other : Construct) → construct_at all spot ≡ Some (get_or all number other))
+  pub found_at : (number : ℕ) → Some number ≡ number_of_place 0 spots (spot.line, spot.column) → (number < length all) × ((other : Construct) → construct_at all spot ≡ Some (get_or all number other))
   found_at number is =
       let at = at_number spot 0 all number (sym (rw stand at is)) in
       let same : at.0 ≡ number = omega (arith, at.1) in
       rw (← same) (at.2, at.3)
 
-  pub none_at : None ≡ number_from 0 spots (spot.line, spot.column) → construct_at all spot ≡ None
+  pub none_at : None ≡ number_of_place 0 spots (spot.line, spot.column) → construct_at all spot ≡ None
   none_at is = at_no_number spot 0 all (sym (rw stand at is))

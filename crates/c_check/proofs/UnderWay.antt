@@ -1,17 +1,18 @@
 -- A check under way goes on with each act, and ends where none is left.
 use Rattle.std.proofs.Common.{◌≡◌, List, [], ◌∷◌, Option, sym, ap, subst, ◌∙◌}
 use Rattle.c_syntax.specs.Numbered.{TreeView}
-use Rattle.c_check.specs.declared.act.Act.{Act}
-use Rattle.c_check.specs.declared.checker.Checker.{Checker}
+use Rattle.c_check.specs.declared.acts.act.Act.{Act}
+use Rattle.c_check.specs.declared.rules.checker.Checker.{Checker}
 use Rattle.c_check.specs.declared.fault.CheckFault.{CheckFault}
 use Rattle.c_check.specs.Here.{Here, after}
 use Rattle.c_check.specs.Rules.{broken_by}
-use Rattle.c_check.specs.Checked.{after_all, broken_by_all, end_of, fault_of, first_of}
-use Rattle.c_check.specs.Standing.{Does, Stands}
+use Rattle.c_check.specs.Checked.{after_all, broken_by_all, end_of, fault_of}
+use Rattle.c_check.specs.Faults.{first_of}
+use Rattle.c_check.specs.Standing.{DoesAct, Stands}
 use Rattle.c_check.specs.Under.{IsUnderWay}
 use Rattle.c_check.proofs.Found.{first_of_append, first_of_nothing}
 
-pub under-more : (program : TreeView) (old new : Checker) (one : Act) (left : List Act) → IsUnderWay program old (one ∷ left) → Does old one new → IsUnderWay program new left
+pub under-more : (program : TreeView) (old new : Checker) (one : Act) (left : List Act) → IsUnderWay program old (one ∷ left) → DoesAct old one new → IsUnderWay program new left
 unfolding after_all broken_by_all
 under-more program old new one left under does = record {
   here = after under.here one;

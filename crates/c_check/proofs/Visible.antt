@@ -4,9 +4,9 @@ use Rattle.std.specs.Map.{update}
 use Rattle.std.proofs.lemmas.Bool.{eqb-true}
 use Rattle.std.proofs.lemmas.List.{reverse-append, take_all, take_more}
 use Rattle.std.proofs.lemmas.Option.{get_or_from_slice_get, same_Some, slice_get_within}
-use Rattle.c_check.specs.declared.declared.Declared.{Declared}
-use Rattle.c_check.specs.declared.names.Visible.{Visible}
-use Rattle.c_check.specs.Names.{Names, closed, find, outside_of}
+use Rattle.c_check.specs.declared.scopes.declared.Declared.{Declared}
+use Rattle.c_check.specs.declared.scopes.declarations.Visible.{Visible}
+use Rattle.c_check.specs.Declarations.{Declarations, scope_ended, find, still_in_scope}
 use Rattle.c_check.specs.Visible.{AreVisible, Hide, Stand, declared_in, ends_first, slot_of, without_first}
 
 -- at the start
@@ -91,21 +91,21 @@ pub same_visible : (all : List Declared) (innermost others : ℕ → Option ℕ)
 same_visible all innermost others visible same are = record { stand = are.stand; hide = are.hide; found = λ name. same name ∙ are.found name }
 
 -- a scope ends declaration by declaration
-outside-first : (level : ℕ) (visible : List Declared) → ends_first level visible ≡ true → outside_of level (drop 1 visible) ≡ outside_of level visible
-unfolding outside_of
+outside-first : (level : ℕ) (visible : List Declared) → ends_first level visible ≡ true → still_in_scope level (drop 1 visible) ≡ still_in_scope level visible
+unfolding still_in_scope
 outside-first level [] ends = absurd cc
 outside-first level (first ∷ visible) ends = rw ends refl
 
-outside-none : (level : ℕ) (visible : List Declared) → ends_first level visible ≡ false → outside_of level visible ≡ visible
-unfolding outside_of
+outside-none : (level : ℕ) (visible : List Declared) → ends_first level visible ≡ false → still_in_scope level visible ≡ visible
+unfolding still_in_scope
 outside-none level [] ends = refl
 outside-none level (first ∷ visible) ends = rw ends refl
 
-pub closed-without_first : (names : Names) → ends_first names.level names.visible ≡ true → closed (without_first names) ≡ closed names
-closed-without_first names ends = ap (λ (visible : List Declared). let it : Names = record { visible = visible; all = names.all; level = names.level - 1 } in it) (outside-first names.level names.visible ends)
+pub closed-without_first : (names : Declarations) → ends_first names.level names.visible ≡ true → scope_ended (without_first names) ≡ scope_ended names
+closed-without_first names ends = ap (λ (visible : List Declared). let it : Declarations = record { visible = visible; all = names.all; level = names.level - 1 } in it) (outside-first names.level names.visible ends)
 
-pub closed-none : (names : Names) → ends_first names.level names.visible ≡ false → closed names ≡ record names { level = names.level - 1 }
-closed-none names ends = ap (λ (visible : List Declared). let it : Names = record { visible = visible; all = names.all; level = names.level - 1 } in it) (outside-none names.level names.visible ends)
+pub closed-none : (names : Declarations) → ends_first names.level names.visible ≡ false → scope_ended names ≡ record names { level = names.level - 1 }
+closed-none names ends = ap (λ (visible : List Declared). let it : Declarations = record { visible = visible; all = names.all; level = names.level - 1 } in it) (outside-none names.level names.visible ends)
 
 pub fewer_visible : (level : ℕ) (visible : List Declared) → ends_first level visible ≡ true → length (drop 1 visible) < length visible
 fewer_visible level [] ends = absurd cc

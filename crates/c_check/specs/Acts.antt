@@ -1,5 +1,5 @@
 -- What a tree does with names, scopes and constructs, in the order of its text.
-use Rattle.std.specs.Prelude.{ℕ, ◌+◌, ◌==◌, if◌then◌else◌, Bool, true, false, List, [], ◌∷◌, ◌++◌, Option, Some, None}
+use Rattle.std.specs.Prelude.{ℕ, ◌+◌, ◌==◌, if◌then◌else◌, Bool, true, false, not, ◌&&◌, List, [], ◌∷◌, ◌++◌, Option, Some, None}
 use Rattle.c_syntax.specs.declared.node.Data.{Data}
 use Rattle.c_syntax.specs.declared.node.Data.TheVariants as data_clause
 use Rattle.c_syntax.specs.declared.node.Directive.{Directive}
@@ -12,25 +12,25 @@ use Rattle.c_syntax.specs.Tree.{Tree, Children, kind_of, name_of, spot_of}
 use Rattle.c_syntax.specs.Tree.Tree.{Node}
 use Rattle.c_syntax.specs.Tree.Children.{Over, Child, Absent}
 use Rattle.c_syntax.specs.Derivation.{nothing}
-use Rattle.c_check.specs.declared.act.Act.{Act}
-use Rattle.c_check.specs.declared.act.Act.TheVariants.{Open, Close, Begin, End, Declare, Use, Assign, Print, Return, Barrier, Enter, Clause, List as Listing, OddLoop, Loop, Leave}
-use Rattle.c_check.specs.declared.act.Thing.TheVariants as thing
-use Rattle.c_check.specs.declared.act.Usage.{Usage}
-use Rattle.c_check.specs.declared.act.Usage.TheVariants as usage
-use Rattle.c_check.specs.declared.act.DataClause.{DataClause}
-use Rattle.c_check.specs.declared.act.DataClause.TheVariants as clause
-use Rattle.c_check.specs.declared.act.Single.TheVariants as single
-use Rattle.c_check.specs.declared.act.Value.{Value}
-use Rattle.c_check.specs.declared.act.Value.TheVariants as value
-use Rattle.c_check.specs.declared.act.Returned.{Returned}
-use Rattle.c_check.specs.declared.act.Returned.TheVariants as returned
-use Rattle.c_check.specs.declared.act.Printed.{Printed}
-use Rattle.c_check.specs.declared.act.Printed.TheVariants as printed
-use Rattle.c_check.specs.declared.role.Role.{Role}
-use Rattle.c_check.specs.declared.role.Role.TheVariants as role
-use Rattle.c_check.specs.declared.role.Naming.{Naming}
-use Rattle.c_check.specs.declared.role.Naming.TheVariants as naming
-use Rattle.c_check.specs.Loops.{loop_name}
+use Rattle.c_check.specs.declared.acts.act.Act.{Act}
+use Rattle.c_check.specs.declared.acts.act.Act.TheVariants.{Open, Close, Begin, End, Declare, Use, Assign, Print, Return, Barrier, Enter, Clause, List as Listing, OddLoop, Loop, Leave}
+use Rattle.c_check.specs.declared.acts.act.Thing.TheVariants as thing
+use Rattle.c_check.specs.declared.acts.act.Usage.{Usage}
+use Rattle.c_check.specs.declared.acts.act.Usage.TheVariants as usage
+use Rattle.c_check.specs.declared.acts.act.DataClause.{DataClause}
+use Rattle.c_check.specs.declared.acts.act.DataClause.TheVariants as clause
+use Rattle.c_check.specs.declared.acts.act.Single.TheVariants as single
+use Rattle.c_check.specs.declared.acts.act.Value.{Value}
+use Rattle.c_check.specs.declared.acts.act.Value.TheVariants as value
+use Rattle.c_check.specs.declared.acts.act.Returned.{Returned}
+use Rattle.c_check.specs.declared.acts.act.Returned.TheVariants as returned
+use Rattle.c_check.specs.declared.acts.act.Printed.{Printed}
+use Rattle.c_check.specs.declared.acts.act.Printed.TheVariants as printed
+use Rattle.c_check.specs.declared.acts.role.Role.{Role}
+use Rattle.c_check.specs.declared.acts.role.Role.TheVariants as role
+use Rattle.c_check.specs.declared.acts.role.Naming.{Naming}
+use Rattle.c_check.specs.declared.acts.role.Naming.TheVariants as naming
+use Rattle.c_check.specs.Loops.{has_form, loop_name}
 
 -- how many children there are, up to the first absent one
 unfoldable pub count : Children → ℕ
@@ -85,13 +85,14 @@ abbrev pub place_usage : Children → Usage
 place_usage (Child tree rest) = usage.Indexed
 place_usage other = usage.Plain
 
-abbrev pub value_of : Role → Value
-value_of role.Used = value.Used
-value_of other = value.Dropped
+abbrev pub call_value : Role → Value
+call_value role.Used = value.Used
+call_value other = value.Dropped
 
-abbrev pub assigned : Role → ℕ → List Act
-assigned role.Target name = Assign name ∷ []
-assigned other name = []
+-- a place with an index assigns no variable
+abbrev pub assigned : Role → Usage → ℕ → List Act
+assigned role.Target usage.Plain name = Assign name ∷ []
+assigned other used name = []
 
 abbrev pub returned_of : Children → Returned
 returned_of (Child tree rest) = returned.Something
@@ -127,16 +128,16 @@ abbrev pub first_inside : Children → List Act
 first_inside (Child (Node kind spot name number text children) rest) = clause_inside kind children
 first_inside other = []
 
-unfoldable pub inside : Children → List Act
-inside Over = []
-inside (Absent rest) = []
-inside (Child (Node (node.Clause lead) spot name number text children) rest) = first_inside children ++ inside rest
-inside (Child other rest) = inside rest
+unfoldable pub inside_acts : Children → List Act
+inside_acts Over = []
+inside_acts (Absent rest) = []
+inside_acts (Child (Node (node.Clause lead) spot name number text children) rest) = first_inside children ++ inside_acts rest
+inside_acts (Child other rest) = inside_acts rest
 
 -- the number of the name of a critical, or 0
-abbrev pub critical_name : Children → ℕ
-critical_name (Child (Node node.Name spot name number text children) rest) = name
-critical_name other = 0
+abbrev pub name_of_critical : Children → ℕ
+name_of_critical (Child (Node node.Name spot name number text children) rest) = name
+name_of_critical other = 0
 
 -- the statement of a construct, which stands behind its clauses and the name of a critical
 abbrev pub is_head : NodeKind → Bool
@@ -162,12 +163,9 @@ shares_loop other = false
 abbrev pub statement_role : Directive → Children → Role
 statement_role which children = if shares_loop which then role_with (loop_name (statement_of children)) else role.Plain
 
-abbrev pub odd_with : Option ℕ → List Act
-odd_with None = OddLoop ∷ []
-odd_with (Some name) = []
-
+-- a directive that shares out a loop has a statement that is no loop of the form
 abbrev pub odd_loop : Directive → Children → List Act
-odd_loop which children = if shares_loop which then odd_with (loop_name (statement_of children)) else []
+odd_loop which children = if shares_loop which && not (has_form (statement_of children)) then OddLoop ∷ [] else []
 
 unfoldable mutual
   -- what a node does, by what stands around it
@@ -200,8 +198,8 @@ unfoldable mutual
   acts around (Node (node.LockCall which) spot name number text children) = names naming.Locked children
   acts around (Node (node.Assign setting) spot name number text children) = target role.Plain children
   acts around (Node (node.Bump which side) spot name number text children) = target role.Plain children
-  acts around (Node node.Place spot name number text children) = Use name spot (place_usage children) ∷ assigned around name ++ each role.Plain children
-  acts around (Node node.Call spot name number text children) = Use name spot (usage.Called (count children) (value_of around)) ∷ each role.Plain children
+  acts around (Node node.Place spot name number text children) = Use name spot (place_usage children) ∷ assigned around (place_usage children) name ++ each role.Plain children
+  acts around (Node node.Call spot name number text children) = Use name spot (usage.Called (count children) (call_value around)) ∷ each role.Plain children
   acts around (Node node.TestLock spot name number text children) = names naming.Locked children
   acts around (Node (node.Binary operator) spot name number text children) = each role.Plain children
   acts around (Node (node.Unary operator) spot name number text children) = each role.Plain children
@@ -210,7 +208,7 @@ unfoldable mutual
   acts around (Node (node.Getter which) spot name number text children) = []
   acts around (Node (node.Standalone standalone.Barrier) spot name number text children) = Barrier spot ∷ []
   acts around (Node (node.Standalone standalone.Taskwait) spot name number text children) = []
-  acts around (Node (node.Construct which) spot name number text children) = outside children ++ Enter spot which (critical_name children) ∷ inside children ++ odd_loop which children ++ statements (statement_role which children) children ++ Leave ∷ []
+  acts around (Node (node.Construct which) spot name number text children) = outside_acts children ++ Enter spot which (name_of_critical children) ∷ inside_acts children ++ odd_loop which children ++ statements (statement_role which children) children ++ Leave ∷ []
   acts around (Node node.Section spot name number text children) = each role.Plain children
   acts around (Node other spot name number text children) = []
 
@@ -254,11 +252,11 @@ unfoldable mutual
   third_part mark (Child tree rest) = acts role.Plain tree ++ (mark ++ each role.Plain rest)
 
   -- what the clauses of a construct compute and mention, which is done before it begins
-  pub outside : Children → List Act
-  outside Over = []
-  outside (Absent rest) = []
-  outside (Child (Node (node.Clause lead) spot name number text children) rest) = clause_outside children ++ outside rest
-  outside (Child other rest) = outside rest
+  pub outside_acts : Children → List Act
+  outside_acts Over = []
+  outside_acts (Absent rest) = []
+  outside_acts (Child (Node (node.Clause lead) spot name number text children) rest) = clause_outside children ++ outside_acts rest
+  outside_acts (Child other rest) = outside_acts rest
 
   pub clause_outside : Children → List Act
   clause_outside (Child (Node node.NumThreads spot name number text children) rest) = each role.Plain children

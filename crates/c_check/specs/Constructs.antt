@@ -4,14 +4,14 @@ use Rattle.c_tokens.specs.declared.token.Spot.{Spot}
 use Rattle.c_syntax.specs.declared.node.Default.TheVariants as default
 use Rattle.c_syntax.specs.declared.node.Directive.{Directive}
 use Rattle.c_syntax.specs.declared.node.Directive.TheVariants as directive
-use Rattle.c_check.specs.declared.act.DataClause.{DataClause}
-use Rattle.c_check.specs.declared.act.Single.{Single}
-use Rattle.c_check.specs.declared.act.Single.TheVariants as single
-use Rattle.c_check.specs.declared.declared.Clauses.{Clauses}
-use Rattle.c_check.specs.declared.declared.Head.{Head}
-use Rattle.c_check.specs.declared.declared.LoopInside.{LoopInside}
-use Rattle.c_check.specs.declared.declared.Mention.{Mention}
-use Rattle.c_check.specs.declared.declared.Unlisted.{Unlisted}
+use Rattle.c_check.specs.declared.acts.act.DataClause.{DataClause}
+use Rattle.c_check.specs.declared.acts.act.Single.{Single}
+use Rattle.c_check.specs.declared.acts.act.Single.TheVariants as single
+use Rattle.c_check.specs.declared.constructs.parts.Clauses.{Clauses}
+use Rattle.c_check.specs.declared.constructs.parts.Head.{Head}
+use Rattle.c_check.specs.declared.constructs.parts.LoopInside.{LoopInside}
+use Rattle.c_check.specs.declared.constructs.parts.Mention.{Mention}
+use Rattle.c_check.specs.declared.constructs.parts.Unlisted.{Unlisted}
 
 -- a construct: the numbers of those around it, the innermost first, its clauses, the variables that its data clauses list, and the slot of
 -- its loop's variable

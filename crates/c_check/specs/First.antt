@@ -2,7 +2,7 @@
 use Rattle.std.specs.Prelude.{◌≡◌, false, List, All}
 use Rattle.std.specs.List.{IsAmong}
 use Rattle.c_check.specs.declared.fault.CheckFault.{CheckFault}
-use Rattle.c_check.specs.Checked.{comes_first}
+use Rattle.c_check.specs.Faults.{comes_first}
 
 -- it is one of them, and none of them comes before it
 pub record IsFirst (faults : List CheckFault) (found : CheckFault) : Type 0 where

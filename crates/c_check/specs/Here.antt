@@ -3,20 +3,20 @@ use Rattle.std.specs.Prelude.{ℕ, ◌+◌, ◌==◌, ◌||◌, nat_lt, if◌the
 use Rattle.c_tokens.specs.declared.token.Spot.{Spot}
 use Rattle.c_syntax.specs.declared.node.Returns.{Returns}
 use Rattle.c_syntax.specs.declared.node.Returns.TheVariants as returns
-use Rattle.c_check.specs.declared.act.Act.{Act}
-use Rattle.c_check.specs.declared.act.Act.TheVariants.{Open, Close, Begin, End, Declare, Use, Assign, Print, Return, Barrier, Enter, Clause, List as Listing, OddLoop, Loop, Leave, Finish}
-use Rattle.c_check.specs.declared.act.DataClause.{DataClause}
-use Rattle.c_check.specs.declared.act.Thing.{Thing}
-use Rattle.c_check.specs.declared.act.Thing.TheVariants as thing
-use Rattle.c_check.specs.declared.declared.Declared.{Declared}
-use Rattle.c_check.specs.declared.declared.Named.{Named}
-use Rattle.c_check.specs.Names.{Names, closed, find, no_names, opened, with_next}
+use Rattle.c_check.specs.declared.acts.act.Act.{Act}
+use Rattle.c_check.specs.declared.acts.act.Act.TheVariants.{Open, Close, Begin, End, Declare, Use, Assign, Print, Return, Barrier, Enter, Clause, List as Listing, OddLoop, Loop, Leave, Finish}
+use Rattle.c_check.specs.declared.acts.act.DataClause.{DataClause}
+use Rattle.c_check.specs.declared.acts.act.Thing.{Thing}
+use Rattle.c_check.specs.declared.acts.act.Thing.TheVariants as thing
+use Rattle.c_check.specs.declared.scopes.declared.Declared.{Declared}
+use Rattle.c_check.specs.declared.scopes.declared.Named.{Named}
+use Rattle.c_check.specs.Declarations.{Declarations, scope_ended, find, no_names, scope_begun, with_next}
 use Rattle.c_check.specs.Constructs.{Constructs, left, no_constructs, with_clause, with_head, with_loop, with_mention, with_none_around, with_use}
 
 pub record Here : Type 0 where
   -- the number of the name `main`
   pub main : ℕ
-  pub names : Names
+  pub names : Declarations
   -- how many cells the variables of the file have, counted up to one more than they may have
   pub cells : ℕ
   -- a function main is declared
@@ -66,7 +66,7 @@ declared here name spot what = record here {
 abbrev pub begun : Here → ℕ → Spot → Returns → ℕ → Here
 begun here name spot gives parameters =
     let after = declared here name spot (thing.Function gives parameters) in
-    record after { names = opened after.names; has_main = here.has_main || name == here.main; returns = gives; constructs = with_none_around here.constructs }
+    record after { names = scope_begun after.names; has_main = here.has_main || name == here.main; returns = gives; constructs = with_none_around here.constructs }
 
 abbrev pub used_in : Constructs → Spot → Declared → Constructs
 used_in constructs spot it = if is_variable it.thing then with_use constructs spot it.slot else constructs
@@ -85,10 +85,10 @@ looped constructs (Some it) = with_loop constructs it.slot
 
 -- where a program stands after one more act
 unfoldable pub after : Here → Act → Here
-after here Open = record here { names = opened here.names }
-after here Close = record here { names = closed here.names }
+after here Open = record here { names = scope_begun here.names }
+after here Close = record here { names = scope_ended here.names }
 after here (Begin name spot gives parameters) = begun here name spot gives parameters
-after here End = record here { names = closed here.names }
+after here End = record here { names = scope_ended here.names }
 after here (Declare name spot what) = declared here name spot what
 after here (Use name spot usage) = used here spot (find here.names.visible name)
 after here (Assign name) = here

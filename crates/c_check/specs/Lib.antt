@@ -3,7 +3,7 @@ pub mod Acts
 pub mod Tasks
 pub mod Weights
 pub mod Steps
-pub mod Names
+pub mod Declarations
 pub mod Visible
 pub mod Constructs
 pub mod Pairs
@@ -11,6 +11,7 @@ pub mod Spots
 pub mod Around
 pub mod Here
 pub mod Shares
+pub mod Faults
 pub mod Rules
 pub mod Checked
 pub mod Slots

@@ -1,5 +1,5 @@
 -- The loops that a `for` directive can share out: `for (i = a; i < b; i++)` and its kin.
-use Rattle.std.specs.Prelude.{ℕ, ◌==◌, nat_le, ◌||◌, ◌&&◌, Bool, true, false, if◌then◌else◌, Option, Some, None, is_none, unwrap_or}
+use Rattle.std.specs.Prelude.{ℕ, ◌==◌, nat_le, ◌||◌, ◌&&◌, Bool, true, false, not, if◌then◌else◌, Option, Some, None, is_none, unwrap_or}
 use Rattle.c_syntax.specs.declared.node.BinaryOp.TheVariants as binary
 use Rattle.c_syntax.specs.declared.node.Bump.TheVariants as bump
 use Rattle.c_syntax.specs.declared.node.Setting.TheVariants as setting
@@ -32,15 +32,34 @@ unfoldable mutual
   stands_among name (Absent rest) = false
   stands_among name (Child tree rest) = stands_in name tree || stands_among name rest
 
--- The first part of a loop: the name of its variable, where it has one. The start of a variable that the loop doesn't declare
--- may not have the variable in it.
-abbrev pub start_with : NodeKind → Tree → Tree → Option ℕ
-start_with node.Init variable start = Some (name_of variable)
-start_with (node.Assign setting.Plain) variable start = if is_variable (name_of variable) variable && (if stands_in (name_of variable) start then false else true) then Some (name_of variable) else None
-start_with kind variable start = None
+-- the variable of a loop is what its first part assigns or declares: a name without an index
+abbrev pub name_if_variable : Tree → Option ℕ
+name_if_variable place = if is_variable (name_of place) place then Some (name_of place) else None
 
-abbrev pub start_of : Tree → Option ℕ
-start_of first = start_with (kind_of first) (child_at first 0) (child_at first 1)
+abbrev pub assigned_by : NodeKind → Tree → Option ℕ
+assigned_by node.Init variable = Some (name_of variable)
+assigned_by (node.Assign setting) place = name_if_variable place
+assigned_by (node.Bump which side) place = name_if_variable place
+assigned_by other place = None
+
+abbrev pub loop_name_by : NodeKind → Tree → Option ℕ
+loop_name_by node.For first = assigned_by (kind_of first) (child_at first 0)
+loop_name_by other first = None
+
+-- the name of the variable of a statement that is a loop, whether or not the rest of the loop is of the form
+abbrev pub loop_name : Tree → Option ℕ
+loop_name statement = loop_name_by (kind_of statement) (child_at statement 0)
+
+-- The form. Its first part is `i = a` or `int i = a`.
+abbrev pub is_start : NodeKind → Bool
+is_start node.Init = true
+is_start (node.Assign setting.Plain) = true
+is_start other = false
+
+-- in the start of a variable that the loop declares, the name is another variable's
+abbrev pub may_have_name : NodeKind → Bool
+may_have_name node.Init = true
+may_have_name other = false
 
 -- which way a loop goes
 abbrev pub goes_up : NodeKind → Bool
@@ -53,17 +72,13 @@ goes_down (node.Binary binary.Greater) = true
 goes_down (node.Binary binary.GreaterEqual) = true
 goes_down other = false
 
--- the second part of a loop is the variable, the sign and an end, in which the variable doesn't stand
-abbrev pub is_bound : ℕ → Tree → Bool
-is_bound name second = is_variable name (child_at second 0) && (if stands_in name (child_at second 1) then false else true)
-
-abbrev pub is_number : NodeKind → Bool
-is_number node.Number = true
-is_number other = false
+abbrev pub is_literal : NodeKind → Bool
+is_literal node.Number = true
+is_literal other = false
 
 -- a number from 1 on
 abbrev pub is_stride : Tree → Bool
-is_stride tree = is_number (kind_of tree) && nat_le 1 (number_of tree)
+is_stride tree = is_literal (kind_of tree) && nat_le 1 (number_of tree)
 
 -- the third part of a loop adds to what it has as first child, or takes from it
 abbrev pub adds : NodeKind → Tree → Bool
@@ -82,20 +97,25 @@ is_step_up third = adds (kind_of third) (child_at third 1)
 abbrev pub is_step_down : Tree → Bool
 is_step_down third = takes (kind_of third) (child_at third 1)
 
--- the second and the third part go on with the variable, the same way
-abbrev pub goes_on : ℕ → Tree → Tree → Bool
-goes_on name second third =
-    is_bound name second && is_variable name (child_at third 0)
+-- the second part is `i`, a sign and an end, and the third part moves `i` towards it
+abbrev pub continues : ℕ → Tree → Tree → Bool
+continues name second third =
+    is_variable name (child_at second 0) && is_variable name (child_at third 0)
     && (goes_up (kind_of second) && is_step_up third || goes_down (kind_of second) && is_step_down third)
 
-abbrev pub name_where : Tree → Tree → Option ℕ → Option ℕ
-name_where second third None = None
-name_where second third (Some name) = if goes_on name second third then Some name else None
+abbrev pub has_head : ℕ → Tree → Bool
+has_head name statement = is_start (kind_of (child_at statement 0)) && continues name (child_at statement 1) (child_at statement 2)
 
-abbrev pub loop_name_of : NodeKind → Tree → Option ℕ
-loop_name_of node.For statement = name_where (child_at statement 1) (child_at statement 2) (start_of (child_at statement 0))
-loop_name_of other statement = None
+-- `i` doesn't stand in the start or in the end
+abbrev pub is_apart : ℕ → Tree → Bool
+is_apart name statement =
+    (may_have_name (kind_of (child_at statement 0)) || not (stands_in name (child_at (child_at statement 0) 1)))
+    && not (stands_in name (child_at (child_at statement 1) 1))
 
--- the name of the variable of a loop of that form; none where the statement is no such loop
-abbrev pub loop_name : Tree → Option ℕ
-loop_name statement = loop_name_of (kind_of statement) statement
+abbrev pub has_form_with : Option ℕ → Tree → Bool
+has_form_with None statement = false
+has_form_with (Some name) statement = has_head name statement && is_apart name statement
+
+-- a statement is a loop of the form
+abbrev pub has_form : Tree → Bool
+has_form statement = has_form_with (loop_name statement) statement

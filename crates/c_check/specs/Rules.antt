@@ -7,26 +7,26 @@ use Rattle.c_syntax.specs.declared.node.Returns.{Returns}
 use Rattle.c_syntax.specs.declared.node.Returns.TheVariants as returns
 use Rattle.c_check.specs.declared.fault.CheckFault.{CheckFault}
 use Rattle.c_check.specs.declared.fault.CheckFault.TheVariants as fault
-use Rattle.c_check.specs.declared.act.Act.{Act}
-use Rattle.c_check.specs.declared.act.Act.TheVariants.{Open, Close, Begin, End, Declare, Use, Assign, Print, Return, Barrier, Enter, Clause, List as Listing, OddLoop, Loop, Leave, Finish}
-use Rattle.c_check.specs.declared.act.Thing.{Thing}
-use Rattle.c_check.specs.declared.act.Thing.TheVariants as thing
-use Rattle.c_check.specs.declared.act.Usage.{Usage}
-use Rattle.c_check.specs.declared.act.Usage.TheVariants as usage
-use Rattle.c_check.specs.declared.act.DataClause.TheVariants as clause
-use Rattle.c_check.specs.declared.act.Single.{Single}
-use Rattle.c_check.specs.declared.act.Single.TheVariants as single
-use Rattle.c_check.specs.declared.act.Value.{Value}
-use Rattle.c_check.specs.declared.act.Value.TheVariants as value
-use Rattle.c_check.specs.declared.act.Returned.{Returned}
-use Rattle.c_check.specs.declared.act.Returned.TheVariants as returned
-use Rattle.c_check.specs.declared.act.Printed.{Printed}
-use Rattle.c_check.specs.declared.act.Printed.TheVariants as printed
-use Rattle.c_check.specs.declared.declared.Clauses.{Clauses}
-use Rattle.c_check.specs.declared.declared.Declared.{Declared}
-use Rattle.c_check.specs.declared.declared.LoopInside.{LoopInside}
-use Rattle.c_check.specs.declared.declared.Unlisted.{Unlisted}
-use Rattle.c_check.specs.Names.{find, is_at_level}
+use Rattle.c_check.specs.declared.acts.act.Act.{Act}
+use Rattle.c_check.specs.declared.acts.act.Act.TheVariants.{Open, Close, Begin, End, Declare, Use, Assign, Print, Return, Barrier, Enter, Clause, List as Listing, OddLoop, Loop, Leave, Finish}
+use Rattle.c_check.specs.declared.acts.act.Thing.{Thing}
+use Rattle.c_check.specs.declared.acts.act.Thing.TheVariants as thing
+use Rattle.c_check.specs.declared.acts.act.Usage.{Usage}
+use Rattle.c_check.specs.declared.acts.act.Usage.TheVariants as usage
+use Rattle.c_check.specs.declared.acts.act.DataClause.TheVariants as clause
+use Rattle.c_check.specs.declared.acts.act.Single.{Single}
+use Rattle.c_check.specs.declared.acts.act.Single.TheVariants as single
+use Rattle.c_check.specs.declared.acts.act.Value.{Value}
+use Rattle.c_check.specs.declared.acts.act.Value.TheVariants as value
+use Rattle.c_check.specs.declared.acts.act.Returned.{Returned}
+use Rattle.c_check.specs.declared.acts.act.Returned.TheVariants as returned
+use Rattle.c_check.specs.declared.acts.act.Printed.{Printed}
+use Rattle.c_check.specs.declared.acts.act.Printed.TheVariants as printed
+use Rattle.c_check.specs.declared.constructs.parts.Clauses.{Clauses}
+use Rattle.c_check.specs.declared.scopes.declared.Declared.{Declared}
+use Rattle.c_check.specs.declared.constructs.parts.LoopInside.{LoopInside}
+use Rattle.c_check.specs.declared.constructs.parts.Unlisted.{Unlisted}
+use Rattle.c_check.specs.Declarations.{find, is_at_level}
 use Rattle.c_check.specs.Constructs.{Construct, around_of, is_unmentioned, mention}
 use Rattle.c_check.specs.Here.{Here, cells_of, most_cells}
 use Rattle.c_check.specs.Shares.{is_copied, is_loop_variable, is_parallel, is_task}

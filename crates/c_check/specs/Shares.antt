@@ -2,8 +2,8 @@
 use Rattle.std.specs.Prelude.{ℕ, ◌==◌, ◌&&◌, ◌||◌, if◌then◌else◌, Bool, true, false, List, [], ◌∷◌, Option, Some, None}
 use Rattle.c_syntax.specs.declared.node.Directive.{Directive}
 use Rattle.c_syntax.specs.declared.node.Directive.TheVariants as directive
-use Rattle.c_check.specs.declared.act.DataClause.{DataClause}
-use Rattle.c_check.specs.declared.act.DataClause.TheVariants as clause
+use Rattle.c_check.specs.declared.acts.act.DataClause.{DataClause}
+use Rattle.c_check.specs.declared.acts.act.DataClause.TheVariants as clause
 use Rattle.c_check.specs.declared.sharing.Sharing.{Sharing}
 use Rattle.c_check.specs.declared.sharing.Sharing.TheVariants as sharing
 use Rattle.c_check.specs.Constructs.{Construct, is_inside, mention}

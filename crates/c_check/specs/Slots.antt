@@ -2,8 +2,8 @@
 use Rattle.std.specs.Prelude.{◌≡◌, List}
 use Rattle.std.specs.HashMap.{get}
 use Rattle.c_tokens.specs.declared.token.Spot.{Spot}
-use Rattle.c_check.specs.declared.declared.Named.{Named}
-use Rattle.c_check.specs.declared.slots.Slots.{Slots}
+use Rattle.c_check.specs.declared.scopes.declared.Named.{Named}
+use Rattle.c_check.specs.declared.scopes.slots.Slots.{Slots}
 use Rattle.c_check.specs.Pairs.{same_pair}
 use Rattle.c_check.specs.Checked.{slot_in}
 

@@ -5,9 +5,9 @@ use Rattle.c_check.specs.Constructs.{Construct}
 use Rattle.c_check.specs.Pairs.{same_pair}
 
 -- the number of the first of some places that has this line and this column, where they have the numbers from this one on
-unfoldable pub number_from : ℕ → List Spot → ℕ × ℕ → Option ℕ
-number_from next [] place = None
-number_from next (first ∷ spots) place = if same_pair (first.line, first.column) place then Some next else number_from (next + 1) spots place
+unfoldable pub number_of_place : ℕ → List Spot → ℕ × ℕ → Option ℕ
+number_of_place next [] place = None
+number_of_place next (first ∷ spots) place = if same_pair (first.line, first.column) place then Some next else number_of_place (next + 1) spots place
 
 abbrev pub spots_of : List Construct → List Spot
 spots_of all = map (λ (it : Construct). it.head.spot) all

@@ -1,10 +1,10 @@
 -- What a checker stands for.
 use Rattle.std.specs.Prelude.{◌≡◌}
-use Rattle.c_check.specs.declared.act.Act.{Act}
-use Rattle.c_check.specs.declared.checker.Checker.{Checker}
+use Rattle.c_check.specs.declared.acts.act.Act.{Act}
+use Rattle.c_check.specs.declared.rules.checker.Checker.{Checker}
 use Rattle.c_check.specs.Here.{Here, after}
 use Rattle.c_check.specs.Rules.{broken_by}
-use Rattle.c_check.specs.Checked.{first_of}
+use Rattle.c_check.specs.Faults.{first_of}
 use Rattle.c_check.specs.Slots.{AreSlots}
 
 -- a checker stands where a program does
@@ -18,6 +18,6 @@ pub record Stands (checker : Checker) (here : Here) : Type 0 where
   pub slots : AreSlots here.named checker.slots
 
 -- it did this act: it stands where the program does after it, and knows the first fault with what it breaks
-pub record Does (old : Checker) (act : Act) (new : Checker) : Type 0 where
+pub record DoesAct (old : Checker) (act : Act) (new : Checker) : Type 0 where
   pub stands : (here : Here) → Stands old here → Stands new (after here act)
   pub found : (here : Here) → Stands old here → new.found ≡ first_of old.found (broken_by here act)

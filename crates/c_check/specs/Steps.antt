@@ -7,27 +7,27 @@ use Rattle.c_syntax.specs.declared.node.NodeKind.{NodeKind}
 use Rattle.c_syntax.specs.declared.node.NodeKind.TheVariants as node
 use Rattle.c_syntax.specs.Tree.{Tree, Children, at_place, children_of, kind_of}
 use Rattle.c_syntax.specs.Numbered.{tree_at}
-use Rattle.c_check.specs.declared.act.Act.{Act}
-use Rattle.c_check.specs.declared.act.Act.TheVariants.{Barrier}
-use Rattle.c_check.specs.declared.act.DataClause.TheVariants as clause
-use Rattle.c_check.specs.declared.role.Naming.TheVariants as naming
-use Rattle.c_check.specs.declared.role.Role.TheVariants as role
-use Rattle.c_check.specs.declared.walk.Task.{Task}
-use Rattle.c_check.specs.declared.walk.Task.TheVariants as task
-use Rattle.c_check.specs.declared.walk.Walk.{Walk}
+use Rattle.c_check.specs.declared.acts.act.Act.{Act}
+use Rattle.c_check.specs.declared.acts.act.Act.TheVariants.{Barrier}
+use Rattle.c_check.specs.declared.acts.act.DataClause.TheVariants as clause
+use Rattle.c_check.specs.declared.acts.role.Naming.TheVariants as naming
+use Rattle.c_check.specs.declared.acts.role.Role.TheVariants as role
+use Rattle.c_check.specs.declared.acts.walk.Task.{Task}
+use Rattle.c_check.specs.declared.acts.walk.Task.TheVariants as task
+use Rattle.c_check.specs.declared.acts.walk.Walk.{Walk}
 use Rattle.c_check.specs.Acts.{acts, data_of, each, names}
-use Rattle.c_check.specs.Tasks.{children_at, left_of, told_by, AreThere}
+use Rattle.c_check.specs.Tasks.{children_left, left_of, told_by, AreThere}
 use Rattle.c_check.specs.Weights.{weight_among, weight_below}
 
 -- what a task consists of weighs at most
 abbrev pub weight_in : List Tree → Task → ℕ
 weight_in trees (task.Tell act) = 0
 weight_in trees (task.Visit around node) = weight_below (tree_at trees node)
-weight_in trees (task.Each around node place) = weight_among (children_at trees node place)
-weight_in trees (task.Names why node place) = weight_among (children_at trees node place)
-weight_in trees (task.Outside node place) = weight_among (children_at trees node place)
-weight_in trees (task.Inside node place) = weight_among (children_at trees node place)
-weight_in trees (task.Statements around node place) = weight_among (children_at trees node place)
+weight_in trees (task.Each around node place) = weight_among (children_left trees node place)
+weight_in trees (task.Names why node place) = weight_among (children_left trees node place)
+weight_in trees (task.Outside node place) = weight_among (children_left trees node place)
+weight_in trees (task.Inside node place) = weight_among (children_left trees node place)
+weight_in trees (task.Statements around node place) = weight_among (children_left trees node place)
 
 -- a task is heavier than what it consists of, but for an act, which is told
 abbrev pub weight_by : List Tree → Task → ℕ

@@ -3,31 +3,31 @@ use Rattle.std.specs.Prelude.{ℕ, zero, suc, ◌<◌, List, [], ◌∷◌, ◌+
 use Rattle.c_syntax.specs.Tree.{Tree, Children, children_of}
 use Rattle.c_syntax.specs.Tree.Children.{Over, Child, Absent}
 use Rattle.c_syntax.specs.Numbered.{tree_at}
-use Rattle.c_check.specs.declared.act.Act.{Act}
-use Rattle.c_check.specs.declared.walk.Task.{Task}
-use Rattle.c_check.specs.declared.walk.Task.TheVariants as task
-use Rattle.c_check.specs.declared.walk.Walk.{Walk}
-use Rattle.c_check.specs.Acts.{acts, each, inside, names, outside, statements}
+use Rattle.c_check.specs.declared.acts.act.Act.{Act}
+use Rattle.c_check.specs.declared.acts.walk.Task.{Task}
+use Rattle.c_check.specs.declared.acts.walk.Task.TheVariants as task
+use Rattle.c_check.specs.declared.acts.walk.Walk.{Walk}
+use Rattle.c_check.specs.Acts.{acts, each, inside_acts, names, outside_acts, statements}
 
 -- the children from a place on
-unfoldable pub behind : ℕ → Children → Children
-behind zero children = children
-behind (suc place) Over = Over
-behind (suc place) (Absent rest) = behind place rest
-behind (suc place) (Child tree rest) = behind place rest
+unfoldable pub from_place : ℕ → Children → Children
+from_place zero children = children
+from_place (suc place) Over = Over
+from_place (suc place) (Absent rest) = from_place place rest
+from_place (suc place) (Child tree rest) = from_place place rest
 
 -- the children of a node, from a place on
-abbrev pub children_at : List Tree → ℕ → ℕ → Children
-children_at trees node place = behind place (children_of (tree_at trees node))
+abbrev pub children_left : List Tree → ℕ → ℕ → Children
+children_left trees node place = from_place place (children_of (tree_at trees node))
 
 abbrev pub told_by : List Tree → Task → List Act
 told_by trees (task.Tell act) = act ∷ []
 told_by trees (task.Visit around node) = acts around (tree_at trees node)
-told_by trees (task.Each around node place) = each around (children_at trees node place)
-told_by trees (task.Names why node place) = names why (children_at trees node place)
-told_by trees (task.Outside node place) = outside (children_at trees node place)
-told_by trees (task.Inside node place) = inside (children_at trees node place)
-told_by trees (task.Statements around node place) = statements around (children_at trees node place)
+told_by trees (task.Each around node place) = each around (children_left trees node place)
+told_by trees (task.Names why node place) = names why (children_left trees node place)
+told_by trees (task.Outside node place) = outside_acts (children_left trees node place)
+told_by trees (task.Inside node place) = inside_acts (children_left trees node place)
+told_by trees (task.Statements around node place) = statements around (children_left trees node place)
 
 -- what tasks tell, the next one first
 unfoldable pub told_by_all : List Tree → List Task → List Act

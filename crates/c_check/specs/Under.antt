@@ -1,10 +1,11 @@
 -- A check under way.
 use Rattle.std.specs.Prelude.{◌≡◌, List}
 use Rattle.c_syntax.specs.Numbered.{TreeView}
-use Rattle.c_check.specs.declared.act.Act.{Act}
-use Rattle.c_check.specs.declared.checker.Checker.{Checker}
+use Rattle.c_check.specs.declared.acts.act.Act.{Act}
+use Rattle.c_check.specs.declared.rules.checker.Checker.{Checker}
 use Rattle.c_check.specs.Here.{Here}
-use Rattle.c_check.specs.Checked.{after_all, broken_by_all, end_of, fault_of, first_of}
+use Rattle.c_check.specs.Checked.{after_all, broken_by_all, end_of, fault_of}
+use Rattle.c_check.specs.Faults.{first_of}
 use Rattle.c_check.specs.Standing.{Stands}
 
 -- the acts that are left take a checker to the end of a program, and to its fault

@@ -1,8 +1,8 @@
 -- How the declarations in scope are kept.
 use Rattle.std.specs.Prelude.{◌≡◌, ℕ, nat_le, Bool, false, List, [], ◌∷◌, map, drop, Option, Some, None, slice_get}
-use Rattle.c_check.specs.declared.declared.Declared.{Declared}
-use Rattle.c_check.specs.declared.names.Visible.{Visible}
-use Rattle.c_check.specs.Names.{Names, find}
+use Rattle.c_check.specs.declared.scopes.declared.Declared.{Declared}
+use Rattle.c_check.specs.declared.scopes.declarations.Visible.{Visible}
+use Rattle.c_check.specs.Declarations.{Declarations, find}
 
 abbrev pub declared_in : List Visible → List Declared
 declared_in visible = map (λ (one : Visible). one.declared) visible
@@ -33,5 +33,5 @@ ends_first level [] = false
 ends_first level (first ∷ older) = nat_le level first.level
 
 -- the newest declaration is in scope no more
-abbrev pub without_first : Names → Names
+abbrev pub without_first : Declarations → Declarations
 without_first names = record names { visible = drop 1 names.visible }

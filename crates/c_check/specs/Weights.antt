@@ -5,13 +5,13 @@ use Rattle.c_syntax.specs.Tree.Tree.{Node}
 use Rattle.c_syntax.specs.Tree.Children.{Over, Child, Absent}
 
 unfoldable mutual
-  pub weight : Tree → ℕ
-  weight (Node kind spot name number text children) = 3 * weight_among children + 4
+  pub walk_weight : Tree → ℕ
+  walk_weight (Node kind spot name number text children) = 3 * weight_among children + 4
 
   pub weight_among : Children → ℕ
   weight_among Over = 0
   weight_among (Absent rest) = weight_among rest
-  weight_among (Child tree rest) = weight tree + weight_among rest + 1
+  weight_among (Child tree rest) = walk_weight tree + weight_among rest + 1
 
 -- what takes the place of a node weighs at most
 abbrev pub weight_below : Tree → ℕ
@@ -19,4 +19,4 @@ weight_below tree = 3 * weight_among (children_of tree) + 3
 
 abbrev pub weight_if : Option Tree → ℕ
 weight_if None = 0
-weight_if (Some tree) = weight tree
+weight_if (Some tree) = walk_weight tree

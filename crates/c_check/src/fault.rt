@@ -1,5 +1,8 @@
 //! Why a program is refused.
 
+ghost use Rattle.std.specs.Prelude.{◌≡◌};
+ghost use Rattle.c_check.specs.Faults.{fault_number, fault_spot};
+
 use c_tokens::Spot;
 use thiserror::Error;
 
@@ -30,4 +33,38 @@ pub enum CheckFault {
     /// No memory was left.
     #[error("memory")]
     Memory,
+}
+
+impl CheckFault {
+    /// The number of the rule, 8 to 14; 0 for want of memory.
+    pub fn number(&self) -> u32
+        ensures { result ≡ fault_number self.now }
+    {
+        match self {
+            CheckFault::UnknownName(_) => 8,
+            CheckFault::TwiceDeclared(_) => 9,
+            CheckFault::WrongUse(_) => 10,
+            CheckFault::BadNesting(_) => 11,
+            CheckFault::BadLoop(_) => 12,
+            CheckFault::NoMain(_) => 13,
+            CheckFault::NotListed(_) => 14,
+            CheckFault::Memory => 0,
+        }
+    }
+
+    /// The place of what breaks the rule; line 0 and column 0 for want of memory.
+    pub fn spot(&self) -> Spot
+        ensures { result ≡ fault_spot self.now }
+    {
+        match self {
+            CheckFault::UnknownName(spot)
+            | CheckFault::TwiceDeclared(spot)
+            | CheckFault::WrongUse(spot)
+            | CheckFault::BadNesting(spot)
+            | CheckFault::BadLoop(spot)
+            | CheckFault::NoMain(spot)
+            | CheckFault::NotListed(spot) => *spot,
+            CheckFault::Memory => Spot { line: 0, column: 0 },
+        }
+    }
 }

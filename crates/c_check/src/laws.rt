@@ -2,7 +2,7 @@
 
 ghost use Rattle.std.specs.Prelude.{◌≡◌, List, [], Some, None};
 ghost use Rattle.c_check.specs.declared.fault.CheckFault.{CheckFault};
-ghost use Rattle.c_check.specs.Checked.{first_of};
+ghost use Rattle.c_check.specs.Faults.{first_of};
 ghost use Rattle.c_check.specs.First.{IsFirst};
 
 /// Of some faults the one that is told is among them, and none of them comes before it. Where none is told there is none.

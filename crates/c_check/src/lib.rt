@@ -8,7 +8,7 @@
 //!
 //! - `specs/Acts.antt`: what a tree does with names, scopes and constructs, in the order of its text: its acts;
 //! - `specs/Loops.antt`: the loops that a `for` directive can share out;
-//! - `specs/Names.antt`, `specs/Constructs.antt`, `specs/Here.antt`: where a program stands after some acts. A name is searched for
+//! - `specs/Declarations.antt`, `specs/Constructs.antt`, `specs/Here.antt`: where a program stands after some acts. A name is searched for
 //!   among the declarations in scope, the newest first;
 //! - `specs/Shares.antt`: how a construct sees a variable, by the constructs around it;
 //! - `specs/Rules.antt`: which rules an act breaks where a program stands;
@@ -22,45 +22,19 @@
 //! - [`Program::slot`] and [`Program::sharing`] answer what the definitions have, where they have something.
 //!
 //! Which sentences of `docs/rules.md` the definitions stand for is to be read. The time and the memory are no clauses.
-//!
-//! Tests compare tables of texts with what was written out by hand: whether a rule is broken, which one and where; the slots of names;
-//! and how constructs see variables.
 #![tactic(auto)]
 
-mod act;
-mod around;
-mod breaches;
-mod cells;
-mod checker;
-mod checking;
-mod construct;
+mod acts;
 mod constructs;
-mod declared;
-mod directive;
 mod fault;
-mod finding;
-mod inner_loops;
 mod laws;
-mod loops;
-mod mentions;
-mod names;
-mod nesting;
-mod nodes;
-mod noted;
-mod place;
 mod program;
-mod role;
-mod shares;
+mod rules;
+mod scopes;
 mod sharing;
-mod slots;
-mod spots;
-#[cfg(test)]
-mod tests;
-mod uses;
-mod walk;
 
-pub use checking::check;
 pub use fault::CheckFault;
 pub use laws::first_fault;
 pub use program::Program;
+pub use rules::checking::check;
 pub use sharing::Sharing;

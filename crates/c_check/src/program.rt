@@ -7,11 +7,11 @@ ghost use Rattle.c_check.specs.declared.sharing.Sharing.{Sharing as Seen};
 ghost use Rattle.c_check.specs.Checked.{breaches_of, end_of, sharing_of, slot_at};
 ghost use Rattle.c_check.specs.Standing.{Stands};
 
-use crate::checker::Checker;
-use crate::constructs::Constructs;
-use crate::names::Names;
+use crate::constructs::arena::Constructs;
+use crate::rules::checker::Checker;
+use crate::scopes::declarations::Declarations;
+use crate::scopes::slots::Slots;
 use crate::sharing::Sharing;
-use crate::slots::Slots;
 use c_syntax::Tree;
 use std::marker::Model;
 
@@ -19,7 +19,7 @@ use std::marker::Model;
 #[derive(Drop)]
 pub struct Program {
     tree: Tree,
-    names: Names,
+    names: Declarations,
     constructs: Constructs,
     slots: Slots,
 }

@@ -33,6 +33,7 @@ pub(crate) fn list<O: Sink>(
 ) -> Ended
     ensures end { IsAfterRun result.end }
     ensures write { result.end ≡ End.WriteFault → Rose (O.faults out.old) (O.faults out.new) }
+    ensures steady { result.end ≢ End.WriteFault → O.faults out.new ≡ O.faults out.old }
     ensures ran { IfSome result.ran (λ report.
         (report.command ≡ Command.List) × (report.blocks ≡ job.blocks) × (report.threads ≡ job.threads)) }
     ensures guests { IfSome result.ran (λ report. report.guests ≡ guests) }
@@ -104,6 +105,7 @@ fn write_run<O: Sink>(alloc: Global, cause: Cause, parts: &[Lister], out: &mut O
     ensures part { (events : List EventRecord) → AreShared events parts.now → result ≡ End.WriteFault →
         AppendsFront (O.held out.old) (O.held out.new) (unless_memory cause (lines_of events)) }
     ensures write { result ≡ End.WriteFault → Rose (O.faults out.old) (O.faults out.new) }
+    ensures steady { result ≢ End.WriteFault → O.faults out.new ≡ O.faults out.old }
     ensures kept { result ≡ End.Memory → Keeps (O.held out.old) (O.held out.new) }
 {
     match cause {
@@ -124,6 +126,7 @@ fn write_lines<O: Sink>(alloc: Global, whole: End, parts: &[Lister], out: &mut O
     ensures part { (events : List EventRecord) → AreShared events parts.now → result ≡ End.WriteFault →
         AppendsFront (O.held out.old) (O.held out.new) (lines_of events) }
     ensures write { result ≡ End.WriteFault → Rose (O.faults out.old) (O.faults out.new) }
+    ensures steady { result ≢ End.WriteFault → O.faults out.new ≡ O.faults out.old }
     ensures kept { result ≡ End.Memory → Keeps (O.held out.old) (O.held out.new) }
 {
     let Ok(lines) = lines_text(alloc, parts) else {

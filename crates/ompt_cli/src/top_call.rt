@@ -1,13 +1,13 @@
 //! The call that does all: a command from bytes to bytes.
 
-ghost use Rattle.std.specs.Prelude.{ℕ, ◌≡◌, ◌≢◌, IfSome, IsSomeAnd, IsNone, Some, ◌↔◌, ◌⊎◌, []};
+ghost use Rattle.std.specs.Prelude.{ℕ, ◌≡◌, ◌≢◌, ◌<◌, IfSome, IsSomeAnd, IsNone, Some, ◌↔◌, ◌⊎◌, []};
 ghost use Rattle.std.specs.Io.KnownBytes.{Appends, Keeps};
 ghost use Rattle.omp_model.specs.Serial.{Serial, serial};
 ghost use Rattle.omp_model.specs.Cause.{cause_of};
 ghost use Rattle.run_edges.specs.Edges.{Rose, AppendsFront};
 ghost use Rattle.ompt_cli.specs.Words.{InForm, InFormWith, texts};
 ghost use Rattle.ompt_cli.specs.Text.{IsProgram, IsRefused, Spells};
-ghost use Rattle.ompt_cli.specs.Ends.{IsLost, IsTold};
+ghost use Rattle.ompt_cli.specs.Ends.{IsLost, IsTold, status_of_lost};
 ghost use Rattle.team_run.specs.Standing.{HearsSilent};
 ghost use Rattle.ompt_cli.specs.Commands.{EndsAs, MayRefuse, MayRun, out_of, run_of};
 ghost use Rattle.ompt_cli.specs.Guests.{GuestsAfter};
@@ -58,9 +58,12 @@ pub fn top<R, S: Source, O: Sink, E: Sink>(
     ensures accepted { InForm (texts words.now) → (why : Refusal) →
         IsSomeAnd (S.left source.old) (IsRefused why) → MayRefuse why result.end }
 
-    // Each fault was counted.
+    // Each fault was counted, and a count that is greater than before shows in how the command ended.
     ensures read { result.end ≡ End.ReadFault → Rose (S.faults source.old) (S.faults source.new) }
     ensures write { result.end ≡ End.WriteFault → Rose (O.faults out.old) (O.faults out.new) }
+    ensures unread { S.faults source.old < S.faults source.new → result.end ≡ End.ReadFault }
+    ensures lost { O.faults out.old < O.faults out.new → result.end ≡ End.WriteFault }
+    ensures untold { E.faults err.old < E.faults err.new → result.status ≡ status_of_lost result.end }
 
     // What ran is one serial run of the program, with as many threads as the words ask for.
     ensures asked { IfSome result.ran (λ report. InFormWith (texts words.now) report.command report.threads) }
@@ -120,6 +123,7 @@ fn tell<E: Sink>(ended: Ended, err: &mut E) -> Top
     ensures ran { result.ran ≡ ended.ran }
     ensures told { IsTold result.status ended.end (E.held err.old) (E.held err.new)
         ⊎ IsLost result.status ended.end (E.held err.old) (E.held err.new) (E.faults err.old) (E.faults err.new) }
+    ensures untold { E.faults err.old < E.faults err.new → result.status ≡ status_of_lost ended.end }
     ensures zero { (result.status ≡ 0) ↔ (ended.end ≡ End.Done) }
     ensures silent { ended.end ≡ End.Done → err.new ≡ err.old }
 {

@@ -1,0 +1,13 @@
+use Rattle.std.proofs.Common.{◌≡◌}
+use Rattle.c_syntax.specs.Tree.{children_of}
+use Rattle.c_syntax.specs.Numbered.{tree_at}
+use Rattle.c_check.specs.Acts.{count as count_of, statement_of}
+use Rattle.c_check.specs.Tasks.{children_left}
+use Rattle.c_check.proofs.acts.directive.statement_of.Given as goal
+
+-- the statement is among the children that are left
+abbrev pub invariant-loop-child : goal.invariant-loop-child
+invariant-loop-child l = statement_of (children_left l.tree.trees l.node l.place) ≡ statement_of (children_of (tree_at l.tree.trees l.node))
+
+abbrev pub decreases-loop-child : goal.decreases-loop-child
+decreases-loop-child l = count_of (children_left l.tree.trees l.node l.place)

@@ -1,7 +1,0 @@
-use Rattle.std.proofs.Common.{refl}
-use Rattle.c_check.specs.Checked.{slot_in}
-use Rattle.c_check.proofs.slots.Slots.new.Goals as goal
-
-pub returns : goal.returns
-unfolding slot_in
-returns c = λ spot. rw c.new.ensures.empty refl

@@ -1,7 +1,0 @@
-use Rattle.std.proofs.Common.{refl}
-use Rattle.c_check.specs.Spots.{number_from}
-use Rattle.c_check.proofs.spots.Spots.new.Goals as goal
-
-pub invariant_of-result : goal.invariant_of-result
-unfolding number_from
-invariant_of-result c = λ place. rw (c.new.ensures.items, c.new-2.ensures.empty) refl
