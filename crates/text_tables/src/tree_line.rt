@@ -1,19 +1,21 @@
 //! A tree as a line of text.
+//!
+//! A node is written as its kind, `@` and its place, `#` and its name, `=` and its number, its text in quotes, and in brackets its
+//! children, with `-` for one that is absent. A name and a number that are 0, a text without a byte and no children at all aren't shown. Of
+//! an `if` three children are shown and of a `for` four, and of other nodes those up to the last that is there.
 
 ghost use Rattle.std.specs.Prelude.{◌<◌, length};
 
-use crate::node::NodeKind;
-use crate::tree::Tree;
-use c_tokens::Spot;
+use crate::place::write_spot;
+use c_syntax::{NodeKind, Tree};
+use std::alloc::AllocError;
 use std::str::from_utf8;
-use std::test::Fail;
 
 /// More children than a node of the tables has.
-const MANY: u32 = 32;
+const MANY: u32 = 64;
 
-/// Writes a node and all below it: its kind, its place, `#` and its name, `=` and its number, its text in quotes, and in brackets its
-/// children, with `-` for one that is absent. A name or a number that is 0, a text without a byte and no children at all aren't shown.
-pub(super) fn write_node(line: &mut String, tree: &Tree, node: u32) -> Result<(), Fail>
+/// Writes a node and all below it.
+pub(crate) fn write_node(line: &mut String, tree: &Tree, node: u32) -> Result<(), AllocError>
     requires { node < length tree.now.trees }
 {
     write_label(line, tree, node)?;
@@ -32,12 +34,12 @@ pub(super) fn write_node(line: &mut String, tree: &Tree, node: u32) -> Result<()
 }
 
 /// Writes what a node says of itself.
-fn write_label(line: &mut String, tree: &Tree, node: u32) -> Result<(), Fail>
+fn write_label(line: &mut String, tree: &Tree, node: u32) -> Result<(), AllocError>
     requires { node < length tree.now.trees }
 {
     let kind = tree.kind(node);
-    let Spot { line: row, column } = tree.spot(node);
-    write!(line, "{kind:?}@{row}:{column}")?;
+    write!(line, "{kind:?}@")?;
+    write_spot(line, tree.spot(node))?;
     let name = tree.name(node);
     if name != 0 {
         write!(line, "#{name}")?;
@@ -47,14 +49,14 @@ fn write_label(line: &mut String, tree: &Tree, node: u32) -> Result<(), Fail>
         write!(line, "={number}")?;
     }
     let text = tree.text(node);
-    if !text.is_empty() {
-        let text = from_utf8(text)?;
-        write!(line, "\"{text}\"")?;
+    if text.is_empty() {
+        return Ok(());
     }
-    Ok(())
+    let text = from_utf8(text).unwrap_or("bytes");
+    write!(line, "\"{text}\"")
 }
 
-/// How many places of children are shown: up to the last that is there, and all of an `if` and of a `for`.
+/// How many places of children are shown.
 fn count_of(tree: &Tree, node: u32) -> u32
     requires { node < length tree.now.trees }
 {

@@ -1,13 +1,14 @@
-//! Answers and states against values written out by hand.
+//! The answers to registrations, and the states, against values written out by hand.
 
-use crate::{is_profile, next_state, set_answer};
+use omp_codes::callbacks::{DISPATCH, IMPLICIT_TASK};
+use omp_codes::{PROFILE, is_profile, next_state, set_answer};
+use tool_api::Registrar;
 
 #[test]
 fn registrations_are_answered(rt: HostRuntime) {
     for (number, answer) in [
         (0, 0),
         (1, 5),
-        (7, 5),
         (8, 5),
         (17, 5),
         (18, 1),
@@ -31,9 +32,40 @@ fn registrations_are_answered(rt: HostRuntime) {
 fn seventeen_callbacks_are_the_profiles(rt: HostRuntime) {
     let count = (0..64).filter(|number| is_profile(*number)).count();
     assert_eq!(rt; count, 17);
+    for number in PROFILE {
+        assert!(rt; is_profile(number), "at {number}");
+    }
     for number in [0, 8, 15, 18, 19, 22, 28, 33, 37] {
         assert!(rt; !is_profile(number), "at {number}");
     }
+}
+
+#[test]
+fn registrations_are_kept(rt: HostRuntime) {
+    let mut registrar = Registrar::new();
+    for (number, answer) in [
+        (0, 0),
+        (IMPLICIT_TASK, 5),
+        (8, 5),
+        (31, 1),
+        (DISPATCH, 5),
+        (38, 0),
+        (IMPLICIT_TASK, 5),
+    ] {
+        assert_eq!(rt; registrar.set(number), answer, "at {number}");
+    }
+    for (number, answer) in [
+        (0, 0),
+        (IMPLICIT_TASK, 1),
+        (8, 1),
+        (31, 0),
+        (DISPATCH, 1),
+        (38, 0),
+        (64, 0),
+    ] {
+        assert_eq!(rt; registrar.get(number), answer, "at {number}");
+    }
+    assert_eq!(rt; registrar.mask(), 0x1_0000_0180);
 }
 
 #[test]

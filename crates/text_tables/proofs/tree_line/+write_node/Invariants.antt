@@ -1,4 +1,4 @@
-use Rattle.c_syntax.proofs.tests.line.+write_node.Given as goal
+use Rattle.text_tables.proofs.tree_line.+write_node.Given as goal
 
 -- a child has a smaller number
 abbrev pub decreases-write_node : goal.decreases-write_node
