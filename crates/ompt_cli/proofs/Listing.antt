@@ -6,7 +6,8 @@ use Rattle.ompt_calls.specs.declared.snapshot.Snapshot.{Snapshot}
 use Rattle.ompt_calls.specs.Item.{Item}
 use Rattle.ompt_calls.specs.Number.{number_of, is_registered}
 use Rattle.tool_api.specs.Record.{Record, StartedWith, initialized, StoresNothing}
-use Rattle.tool_report.specs.Lister.{ListerFor, all_callbacks}
+use Rattle.omp_codes.specs.declared.callbacks.TheConstants.{PROFILE_MASK}
+use Rattle.tool_report.specs.Lister.{ListerFor}
 use Rattle.tool_report.specs.Order.{AreFrom, AreRising, AreShared}
 use Rattle.omp_model.specs.declared.cause.Cause.{Cause}
 use Rattle.omp_model.specs.declared.history.Entry.{Entry}
@@ -89,7 +90,7 @@ fresh-lister = record { started = λ k d below. absurd (omega (arith, below)); s
 same-lister : (kept : List EventRecord) (g h : Record) → SameCalls g h → ListerFor kept g → ListerFor kept h
 same-lister kept g h same for =
     record {
-      started = subst (λ starts. StartedWith 1 all_callbacks starts) same.started for.started;
+      started = subst (λ starts. StartedWith 1 PROFILE_MASK starts) same.started for.started;
       silent = subst StoresNothing same.calls for.silent;
       events = subst (λ calls. kept ≡ map record_of calls) same.calls for.events;
       alone = subst (λ within. within ≡ []) same.within for.alone;
@@ -135,7 +136,7 @@ module _ (run : Run) (cause : Cause) (H : List Entry) (threads : ℕ) (parts : L
   lists-silent same = λ k below. (keeps k [] (subst (λ n. k < n) same below)).silent
 
   -- and all callbacks of the profile were registered
-  pub lists-all : run.mask ≡ all_callbacks
+  pub lists-all : run.mask ≡ PROFILE_MASK
   lists-all =
       let started = (first-lister []).started 0 (record { answer = 0; mask = 0 }) (omega arith) in
       runs.mask_is ∙ ap (λ answer. mask_of answer runs.registered) started.0 ∙ started.1

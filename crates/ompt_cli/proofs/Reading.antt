@@ -12,7 +12,8 @@ use Rattle.c_syntax.specs.Tree.{Tree}
 use Rattle.c_syntax.specs.Faults.{IsFault}
 use Rattle.c_tokens.proofs.Spans.{tokens-end}
 use Rattle.c_syntax.specs.Numbered.{TreeView, root_tree}
-use Rattle.c_check.specs.Checked.{breaches_of, fault_in, fault_of, first_of}
+use Rattle.c_check.specs.Checked.{breaches_of, fault_in, fault_of}
+use Rattle.c_check.specs.Faults.{first_of}
 use Rattle.c_check.proofs.Found.{first_of_nothing}
 use Rattle.omp_model.specs.declared.blocks.Block.{Block}
 use Rattle.c_syntax.proofs.Unique.{fault-one, spells-no_fault, spells-one}

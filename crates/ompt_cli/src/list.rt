@@ -15,8 +15,9 @@ use crate::end::End;
 use crate::ended::{Ended, without_run};
 use crate::job::Job;
 use crate::program::copied;
-use crate::report::{ALL_CALLBACKS, Report, SILENT_STEPS};
+use crate::report::{Report, SILENT_STEPS};
 use crate::words::Command;
+use omp_codes::PROFILE_MASK;
 use omp_model::Cause;
 use run_edges::{Sink, write_all};
 use std::alloc::{AllocError, Global};
@@ -37,7 +38,7 @@ pub(crate) fn list<O: Sink>(
     ensures ran { IfSome result.ran (λ report.
         (report.command ≡ Command.List) × (report.blocks ≡ job.blocks) × (report.threads ≡ job.threads)) }
     ensures guests { IfSome result.ran (λ report. report.guests ≡ guests) }
-    ensures mask { IfSome result.ran (λ report. report.mask ≡ ALL_CALLBACKS) }
+    ensures mask { IfSome result.ran (λ report. report.mask ≡ PROFILE_MASK) }
     ensures serial { IfSome result.ran (λ report. Serial (run_of report) report.history) }
     ensures cause { IfSome result.ran (λ report. report.cause ≢ Cause.Memory →
         cause_of (run_of report) report.history ≡ Some report.cause) }

@@ -16,10 +16,11 @@ use crate::end::{End, Refusal};
 use crate::ended::{Ended, without_run};
 use crate::job::Job;
 use crate::list::list;
-use crate::report::{ALL_CALLBACKS, Top};
+use crate::report::Top;
 use crate::run::run;
 use crate::text::read_blocks;
 use crate::words::{Asked, Command, asked_of};
+use omp_codes::PROFILE_MASK;
 use omp_model::Cause;
 use run_edges::{Sink, Source, write_all};
 use std::alloc::Global;
@@ -69,7 +70,7 @@ pub fn top<R, S: Source, O: Sink, E: Sink>(
     ensures asked { IfSome result.ran (λ report. InFormWith (texts words.now) report.command report.threads) }
     ensures spelled { IfSome result.ran (λ report.
         IfSome (S.left source.old) (λ text. Spells text report.blocks)) }
-    ensures mask { IfSome result.ran (λ report. report.command ≡ Command.List → report.mask ≡ ALL_CALLBACKS) }
+    ensures mask { IfSome result.ran (λ report. report.command ≡ Command.List → report.mask ≡ PROFILE_MASK) }
     ensures serial { IfSome result.ran (λ report. Serial (run_of report) report.history) }
     ensures cause { IfSome result.ran (λ report. report.cause ≢ Cause.Memory →
         cause_of (run_of report) report.history ≡ Some report.cause) }

@@ -3,6 +3,7 @@
 use crate::fixture::*;
 use c_check::CheckFault;
 use c_tokens::Spot;
+use omp_codes::PROFILE_MASK;
 use omp_model::{Block, Cause, Entry, What};
 use ompt_cli::{Command, End, Refusal};
 use run_edges::{MemSink, ReadAllFault, WriteFault, read_all, write_all};
@@ -56,7 +57,7 @@ fn lists_four_lines(rt: &impl Abort, told: &Told, threads: u8) {
     let ran = ran_in(rt, told);
     assert_eq!(rt; ran.command, Command::List);
     assert_eq!(rt; ran.cause, Cause::Done);
-    assert_eq!(rt; ran.mask, 0x0FB3_00FE);
+    assert_eq!(rt; ran.mask, PROFILE_MASK);
     assert_eq!(rt; ran.threads, threads);
     assert_eq!(rt; ran.history.entries(), HISTORY.as_slice());
 }

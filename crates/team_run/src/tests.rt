@@ -1,15 +1,13 @@
 //! Serial runs with small tools, against values written out by hand.
 
 use super::*;
+use omp_codes::PROFILE_MASK;
 use omp_model::{Block, Blocks, Cause, Entry, What};
 use ompt_calls::{
     Call, Frame, RegionLevel, Reply, Snapshot, Store, Target, TaskLevel, Word, WordAt,
 };
 use std::alloc::AllocError;
 use tool_api::{Registrar, ToolPart};
-
-/// Each callback that a tool of the profile registers.
-const ALL: u64 = 0x0FB3_00FE;
 
 /// The begin of parallel regions, and implicit tasks.
 const REGIONS_AND_TASKS: u64 = 0x88;
@@ -182,7 +180,10 @@ fn a_tool_stores(rt: HostRuntime) -> Result<(), Memory> {
 /// A tool that registers and answers 0 hears nothing and isn't finished. Two threads run as they would without it.
 #[test]
 fn an_inactive_tool_hears_nothing(rt: HostRuntime) -> Result<(), Memory> {
-    let parts = Vec::from_array(rt.alloc(), [new_part(&rt, TASKS, 0), new_part(&rt, ALL, 1)])?;
+    let parts = Vec::from_array(
+        rt.alloc(),
+        [new_part(&rt, TASKS, 0), new_part(&rt, PROFILE_MASK, 1)],
+    )?;
     let blocks = Blocks(Vec::from_array(rt.alloc(), [two_threads()])?);
     let ran = run_serial(rt.alloc(), blocks, 2, 1_000_000, parts)?;
     assert_eq!(rt; ran.cause, Cause::Done);
@@ -201,7 +202,7 @@ fn an_inactive_tool_hears_nothing(rt: HostRuntime) -> Result<(), Memory> {
 /// A tool that finds no memory at its third call ends the run there, after the Go of that event, and is finished.
 #[test]
 fn a_tool_finds_no_memory(rt: HostRuntime) -> Result<(), Memory> {
-    let mut part = new_part(&rt, ALL, 1);
+    let mut part = new_part(&rt, PROFILE_MASK, 1);
     part.fails = 3;
     let parts = Vec::from_array(rt.alloc(), [part])?;
     let blocks = Blocks(Vec::from_array(rt.alloc(), [two_threads()])?);
@@ -226,11 +227,14 @@ fn a_tool_finds_no_memory(rt: HostRuntime) -> Result<(), Memory> {
 /// Each of two parts hears what its own thread comes to.
 #[test]
 fn two_parts_hear_their_own(rt: HostRuntime) -> Result<(), Memory> {
-    let parts = Vec::from_array(rt.alloc(), [new_part(&rt, ALL, 1), new_part(&rt, 0, 0)])?;
+    let parts = Vec::from_array(
+        rt.alloc(),
+        [new_part(&rt, PROFILE_MASK, 1), new_part(&rt, 0, 0)],
+    )?;
     let blocks = Blocks(Vec::from_array(rt.alloc(), [two_threads()])?);
     let ran = run_serial(rt.alloc(), blocks, 2, 1_000_000, parts)?;
     assert_eq!(rt; ran.cause, Cause::Done);
-    assert_eq!(rt; ran.mask, ALL);
+    assert_eq!(rt; ran.mask, PROFILE_MASK);
     let [first, second] = ran.parts.as_slice() else {
         panic!(rt; "there are two parts");
     };
@@ -246,7 +250,7 @@ fn two_parts_hear_their_own(rt: HostRuntime) -> Result<(), Memory> {
 /// Three stores of one reply take effect in their order, and of three others the one whose place is there.
 #[test]
 fn a_reply_stores_thrice(rt: HostRuntime) -> Result<(), Memory> {
-    let mut part = new_part(&rt, ALL, 1);
+    let mut part = new_part(&rt, PROFILE_MASK, 1);
     // The member's task begins.
     let thrice = Reply {
         first: store(WordAt::Thread, 11),

@@ -28,6 +28,7 @@
 //! - [`Registrar::new`] has nothing registered;
 //! - [`Registrar::set`] answers what `omp_codes` says, and registers the callback exactly where that is 5; all others
 //!   stay as they were;
+//! - [`Registrar::set_profile`] registers the callbacks of the profile, where nothing is registered yet;
 //! - [`Registrar::get`] answers 1 exactly where the callback is registered, and else 0.
 //!
 //! Tests run a small tool in a box, and compare its answers with values written out by hand. The must-fail edits try wrong

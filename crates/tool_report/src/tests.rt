@@ -1,6 +1,7 @@
 //! Two listers, against a mask, records and lines written out by hand.
 
 use super::*;
+use omp_codes::PROFILE_MASK;
 use omp_model::EventRecord;
 use ompt_calls::{Call, Frame, RegionLevels, Reply, Snapshot, TaskLevels, Word};
 use std::process::Abort;
@@ -84,7 +85,7 @@ fn a_lister_registers_the_profile(rt: HostRuntime) {
     let mut registrar = Registrar::new();
     let mut lister = Lister::new(rt.alloc());
     assert_eq!(rt; lister.initialize(&mut registrar), 1);
-    assert_eq!(rt; registrar.mask(), 0x0FB300FE);
+    assert_eq!(rt; registrar.mask(), PROFILE_MASK);
     assert_eq!(rt; lister.events().len(), 0);
 }
 
