@@ -1,7 +1,6 @@
 //! Serial runs with parts of a tool that no guest is: what each part hears, and replies with several stores.
 
 use crate::listening::{Heard, ONE, TWO, heard_of};
-use omp_codes::PROFILE;
 use omp_model::{Block, Blocks, Cause, Entry, What};
 use ompt_calls::{Call, Reply, Snapshot, Store, Target, Word, WordAt};
 use std::process::Abort;
@@ -29,9 +28,7 @@ impl ToolPart for Keeping {
     ghost kind = { λ part. 0 };
 
     fn initialize(&mut self, registrar: &mut Registrar) -> u32 {
-        for number in PROFILE {
-            registrar.set(number);
-        }
+        registrar.set_profile();
         1
     }
 
