@@ -97,8 +97,12 @@ fn words_are_there_once_they_are_made(rt: HostRuntime) -> Result<(), Memory> {
 #[test]
 fn a_worker_has_levels(rt: HostRuntime) -> Result<(), Memory> {
     let mut machine = Machine::new(rt.alloc(), two_threads(&rt)?, TASKS, 2, 1_000_000)?;
-    let (Some(begun), Some(ended)) = worker_snapshots(&mut machine)? else {
-        panic!(rt; "no worker was told");
+    let (begun, ended) = worker_snapshots(&mut machine)?;
+    let Some(begun) = begun else {
+        panic!(rt; "the worker's begin was not told");
+    };
+    let Some(ended) = ended else {
+        panic!(rt; "the worker's end was not told");
     };
     assert_eq!(rt; begun.get_state(), (0x001, 0));
     assert_eq!(rt; begun.get_thread_data(), TWO);
