@@ -1,5 +1,7 @@
--- The first fault of words that are no program.
+-- The first fault of words that are no program, and the number and the place that tell it.
 use Rattle.std.specs.Prelude.{ℕ, ◌≡◌, ◌⊎◌, Bool, true, false, ◌||◌, ◌&&◌, if◌then◌else◌, List, [], ◌∷◌, ◌++◌}
+use Rattle.c_tokens.specs.declared.token.Spot.{Spot}
+use Rattle.c_tokens.specs.Faults.{nowhere}
 use Rattle.c_syntax.specs.declared.fault.SyntaxFault.{SyntaxFault}
 use Rattle.c_syntax.specs.declared.fault.SyntaxFault.TheVariants as fault
 use Rattle.c_syntax.specs.declared.head.Head.{Head}
@@ -79,3 +81,18 @@ IsFault words found = (before : List Word) × (word : Word) × (after : List Wor
 -- the words are a program, or have a fault
 abbrev pub IsAnswered : List Word → Type 0
 IsAnswered words = ((tree : Tree) × Spells words tree) ⊎ ((found : SyntaxFault) × IsFault words found)
+
+-- want of memory has no number and no place
+abbrev pub fault_number : SyntaxFault → ℕ
+fault_number (fault.Unexpected spot) = 4
+fault_number (fault.UnknownDirective spot) = 5
+fault_number (fault.OutOfProfile spot) = 6
+fault_number (fault.TooDeep spot) = 7
+fault_number fault.Memory = 0
+
+abbrev pub fault_spot : SyntaxFault → Spot
+fault_spot (fault.Unexpected spot) = spot
+fault_spot (fault.UnknownDirective spot) = spot
+fault_spot (fault.OutOfProfile spot) = spot
+fault_spot (fault.TooDeep spot) = spot
+fault_spot fault.Memory = nowhere

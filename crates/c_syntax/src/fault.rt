@@ -2,11 +2,11 @@
 
 ghost use Rattle.std.specs.Prelude.{◌≡◌, ◌≢◌};
 ghost use Rattle.c_syntax.specs.Words.{Word};
-ghost use Rattle.c_syntax.specs.Faults.{fault_of, is_construct, is_odd_at, is_unknown_at};
+ghost use Rattle.c_syntax.specs.Faults.{fault_number, fault_of, fault_spot, is_construct, is_odd_at, is_unknown_at};
 
 use crate::head::Head;
 use crate::term::Term;
-use c_tokens::Spot;
+use c_tokens::{NOWHERE, Spot};
 use thiserror::Error;
 
 /// Why a text is no program. The place is that of the first token at which no program goes on.
@@ -41,6 +41,32 @@ impl SyntaxFault {
             SyntaxFault::UnknownDirective(spot)
         } else {
             SyntaxFault::Unexpected(spot)
+        }
+    }
+
+    /// The number that tells the fault: 4 to 7, in the order above, and 0 for want of memory.
+    pub fn number(&self) -> u32
+        ensures { result ≡ fault_number self.now }
+    {
+        match self {
+            SyntaxFault::Unexpected(_) => 4,
+            SyntaxFault::UnknownDirective(_) => 5,
+            SyntaxFault::OutOfProfile(_) => 6,
+            SyntaxFault::TooDeep(_) => 7,
+            SyntaxFault::Memory => 0,
+        }
+    }
+
+    /// The place of the fault: 0:0 for want of memory.
+    pub fn spot(&self) -> Spot
+        ensures { result ≡ fault_spot self.now }
+    {
+        match self {
+            SyntaxFault::Unexpected(spot)
+            | SyntaxFault::UnknownDirective(spot)
+            | SyntaxFault::OutOfProfile(spot)
+            | SyntaxFault::TooDeep(spot) => *spot,
+            SyntaxFault::Memory => NOWHERE,
         }
     }
 }

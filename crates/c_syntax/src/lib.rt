@@ -23,14 +23,16 @@
 //!   fault, by [`tree_or_fault`], and words that end with the end of the text have one or the other, by [`program_or_fault`]. So
 //!   the answer is determined but for want of memory.
 //!
+//! [`SyntaxFault::number`] and [`SyntaxFault::spot`] tell a fault, as `specs/Faults.antt` says.
+//!
 //! Which sentences of `docs/language.md` the rules stand for is to be read. The place of a fault doesn't depend on the rules' form:
 //! it is said by what can be completed to a program.
 //!
 //! No function calls itself as deep as the text nests, and each word takes a bounded number of steps. The time and the memory
 //! are no clauses.
 //!
-//! Tests compare tables of texts with what was written out by hand: that a text is a program, or the number and place of its
-//! fault; and the trees of programs, node by node, with their kinds, places, names, numbers and texts.
+//! The program `text_tables` compares texts with what was written out by hand: that a text is a program, or the number and place of
+//! its fault; and the trees of programs, node by node, with their kinds, places, names, numbers and texts.
 #![tactic(auto)]
 
 mod fault;
@@ -47,8 +49,6 @@ mod program;
 mod reader;
 mod rules;
 mod term;
-#[cfg(test)]
-mod tests;
 mod tree;
 mod word;
 mod words;

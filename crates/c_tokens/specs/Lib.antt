@@ -9,3 +9,4 @@ pub mod Tails
 pub mod Items
 pub mod Tokens
 pub mod Pieces
+pub mod Faults

@@ -1,5 +1,8 @@
 //! Tokens, their places, and the faults of a text.
 
+ghost use Rattle.std.specs.Prelude.{◌≡◌};
+ghost use Rattle.c_tokens.specs.Faults.{fault_number, fault_spot};
+
 use thiserror::Error;
 
 /// A place in a text. Both numbers count from 1, and a column counts bytes.
@@ -10,6 +13,9 @@ pub struct Spot {
     /// The column of the byte in its line.
     pub column: u32,
 }
+
+/// The place of what stands nowhere in a text.
+pub const NOWHERE: Spot = Spot { line: 0, column: 0 };
 
 /// What a token is.
 #[derive(Clone, Copy, Debug, PartialEq, Eq)]
@@ -63,4 +69,30 @@ pub enum TokenFault {
     /// No memory was left for the tokens.
     #[error("memory")]
     Memory,
+}
+
+impl TokenFault {
+    /// The number that tells the fault: 1 to 3, in the order above, and 0 for want of memory.
+    pub fn number(&self) -> u32
+        ensures { result ≡ fault_number self.now }
+    {
+        match self {
+            TokenFault::BadByte(_) => 1,
+            TokenFault::OpenComment(_) => 2,
+            TokenFault::BadNumber(_) => 3,
+            TokenFault::Memory => 0,
+        }
+    }
+
+    /// The place of the fault: 0:0 for want of memory.
+    pub fn spot(&self) -> Spot
+        ensures { result ≡ fault_spot self.now }
+    {
+        match self {
+            TokenFault::BadByte(spot)
+            | TokenFault::OpenComment(spot)
+            | TokenFault::BadNumber(spot) => *spot,
+            TokenFault::Memory => NOWHERE,
+        }
+    }
 }

@@ -1,17 +1,17 @@
 -- What a registration is answered, and the callbacks of the profile. The numbers are those of `ompt_callbacks_t`
 -- (OpenMP 5.2, 19.4.2).
-use Rattle.std.specs.Prelude.{ℕ, Bool, ◌&&◌, ◌||◌, nat_le, if◌then◌else◌}
+use Rattle.std.specs.Prelude.{ℕ, ◌+◌, ◌^◌, Bool, ◌&&◌, ◌||◌, nat_le, if◌then◌else◌, List, [], ◌∷◌}
 
 abbrev pub within : ℕ → ℕ → ℕ → Bool
 within first last number = nat_le first number && nat_le number last
 
 -- these are called at each of their events. Those of devices have none in a program that runs here
 abbrev pub is_always : ℕ → Bool
-is_always number = within 1 17 number || within 20 27 number || within 33 36 number
+is_always number = within 1 17 number || within 20 27 number || within 32 36 number
 
--- these are callbacks, and are never called: dependences, nested locks, flush, cancel, reduction, dispatch, error
+-- these are callbacks, and are never called: dependences, nested locks, flush, cancel, reduction, error
 abbrev pub is_never : ℕ → Bool
-is_never number = within 18 19 number || within 28 32 number || within 37 37 number
+is_never number = within 18 19 number || within 28 31 number || within 37 37 number
 
 -- `ompt_set_always`, `ompt_set_never`, and `ompt_set_error` for what is no callback
 abbrev pub answer_of : ℕ → ℕ
@@ -19,4 +19,9 @@ answer_of number = if is_always number then 5 else if is_never number then 1 els
 
 -- the callbacks whose events a program may have
 abbrev pub in_profile : ℕ → Bool
-in_profile number = within 1 7 number || within 16 17 number || within 20 21 number || within 23 27 number
+in_profile number = within 1 7 number || within 16 17 number || within 20 21 number || within 23 27 number || within 32 32 number
+
+-- the mask with these callbacks: bit n for number n
+abbrev pub mask_of : List ℕ → ℕ
+mask_of [] = 0
+mask_of (number ∷ numbers) = 2 ^ number + mask_of numbers

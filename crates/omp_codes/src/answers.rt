@@ -1,7 +1,7 @@
 //! What a registration is answered.
 
 ghost use Rattle.std.specs.Prelude.{◌≡◌};
-ghost use Rattle.omp_codes.specs.Answers.{answer_of, in_profile};
+ghost use Rattle.omp_codes.specs.Answers.{answer_of};
 
 /// `ompt_set_error` of `ompt_set_result_t` (OpenMP 5.2, 19.4.4): the number is no callback's.
 const ERROR: u8 = 0;
@@ -20,15 +20,8 @@ pub fn set_answer(number: u32) -> u8
     ensures { result ≡ answer_of number }
 {
     match number {
-        1..=17 | 20..=27 | 33..=36 => ALWAYS,
-        18 | 19 | 28..=32 | 37 => NEVER,
+        1..=17 | 20..=27 | 32..=36 => ALWAYS,
+        18 | 19 | 28..=31 | 37 => NEVER,
         _ => ERROR,
     }
-}
-
-/// Whether a program may have events of the callback with this number.
-pub fn is_profile(number: u32) -> bool
-    ensures { result ≡ in_profile number }
-{
-    matches!(number, 1..=7 | 16 | 17 | 20 | 21 | 23..=27)
 }

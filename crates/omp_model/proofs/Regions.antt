@@ -1,5 +1,6 @@
 -- The runs of one region of two, and of two of them, computed: entries, threads, positions and records.
 use Rattle.std.proofs.Common.{ℕ, ◌+◌, ◌*◌, ◌≡◌, List, [], ◌∷◌, length, Some, refl, take, drop}
+use Rattle.omp_codes.specs.declared.callbacks.TheConstants.{PROFILE_MASK}
 use Rattle.ompt_calls.specs.declared.call.Call.{Call}
 use Rattle.ompt_calls.specs.declared.call.Call.TheVariants as call
 use Rattle.omp_model.specs.declared.cause.Cause.TheVariants as cause
@@ -33,7 +34,7 @@ abbrev pub two_at : ℕ → Block
 two_at line = record { requested = 2; codeptr = line * 65536 + 1 }
 
 abbrev pub on_two : List Block → Run
-on_two blocks = run_of_blocks blocks 0x0FB300FE 2 1000000
+on_two blocks = run_of_blocks blocks PROFILE_MASK 2 1000000
 
 -- the quiet turn of thread 0 is entry 34
 abbrev pub region_of_two : List Entry

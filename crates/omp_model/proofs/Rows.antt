@@ -1,6 +1,7 @@
 -- The run of the empty program, computed: its entries, threads, positions, records and cause.
 use Rattle.std.proofs.Common.{ℕ, zero, suc, ◌≡◌, ◌≤◌, [], ◌∷◌, Some, refl, subst, inl, inr, arith}
 use Rattle.std.proofs.lemmas.Bool.{cases_eq}
+use Rattle.omp_codes.specs.declared.callbacks.TheConstants.{PROFILE_MASK}
 use Rattle.omp_model.specs.declared.cause.Cause.TheVariants as cause
 use Rattle.omp_model.specs.State.{Run}
 use Rattle.omp_model.specs.Silent.{silent}
@@ -14,7 +15,7 @@ use Rattle.omp_model.specs.Program.{empty_run, go_zero, back_zero, empty_history
 
 -- the run with all callbacks and a million silent steps
 abbrev pub on : ℕ → Run
-on threads = empty_run 0x0FB300FE threads 1000000
+on threads = empty_run PROFILE_MASK threads 1000000
 
 -- what is so at each number from 1 to this one
 abbrev Each : (ℕ → Type 0) → ℕ → Type 0
@@ -47,12 +48,12 @@ unfolding silent event walk unlimited turn enabled enabled_among serial_from
 legal = (refl, (refl, (refl, (refl, (refl, (refl, (refl, (refl, tt))))))))
 
 -- with one silent step, the turn that would make the second one meets the limit
-pub limited : serial (empty_run 0x0FB300FE 1 1) ≡ go_zero ∷ back_zero ∷ go_zero ∷ back_zero ∷ go_zero ∷ []
+pub limited : serial (empty_run PROFILE_MASK 1 1) ≡ go_zero ∷ back_zero ∷ go_zero ∷ back_zero ∷ go_zero ∷ []
 unfolding silent event walk unlimited turn enabled enabled_among serial_from
 limited = refl
 
 -- and it ends because of that limit
-pub ends-limited : cause_of (empty_run 0x0FB300FE 1 1) (serial (empty_run 0x0FB300FE 1 1)) ≡ Some (cause.Limit 1)
+pub ends-limited : cause_of (empty_run PROFILE_MASK 1 1) (serial (empty_run PROFILE_MASK 1 1)) ≡ Some (cause.Limit 1)
 unfolding silent event walk unlimited turn enabled enabled_among serial_from
 ends-limited = refl
 

@@ -1,6 +1,7 @@
 //! What follows from the definitions alone: each law is the contract of a function with an empty body.
 
 ghost use Rattle.std.specs.Prelude.{◌≡◌, ℕ, ◌≤◌, List, Some};
+ghost use Rattle.omp_codes.specs.declared.callbacks.TheConstants.{PROFILE_MASK};
 ghost use Rattle.omp_model.specs.declared.history.Entry.{Entry};
 ghost use Rattle.omp_model.specs.State.{Run};
 ghost use Rattle.omp_model.specs.Cause.{cause_of};
@@ -17,10 +18,10 @@ pub fn serial_history_is_one()
     ensures named { (run : Run) (history : List Entry) → WholeSerial run history → StoresNothing history → serial run ≡ history }
 {}
 
-/// With all callbacks registered, a million silent steps and 1 to 16 threads, the serial run of the empty program has
+/// With all callbacks of the profile registered, a million silent steps and 1 to 16 threads, the serial run of the empty program has
 /// eight entries and four records, and ends because all is done.
 pub fn empty_program_ends()
-    ensures entries { (n : ℕ) → 1 ≤ n → n ≤ 16 → serial (empty_run 0x0FB300FE n 1000000) ≡ empty_history }
-    ensures records { (n : ℕ) → 1 ≤ n → n ≤ 16 → records_of (empty_run 0x0FB300FE n 1000000) (serial (empty_run 0x0FB300FE n 1000000)) ≡ empty_records }
-    ensures cause { (n : ℕ) → 1 ≤ n → n ≤ 16 → cause_of (empty_run 0x0FB300FE n 1000000) (serial (empty_run 0x0FB300FE n 1000000)) ≡ Some Cause.Done }
+    ensures entries { (n : ℕ) → 1 ≤ n → n ≤ 16 → serial (empty_run PROFILE_MASK n 1000000) ≡ empty_history }
+    ensures records { (n : ℕ) → 1 ≤ n → n ≤ 16 → records_of (empty_run PROFILE_MASK n 1000000) (serial (empty_run PROFILE_MASK n 1000000)) ≡ empty_records }
+    ensures cause { (n : ℕ) → 1 ≤ n → n ≤ 16 → cause_of (empty_run PROFILE_MASK n 1000000) (serial (empty_run PROFILE_MASK n 1000000)) ≡ Some Cause.Done }
 {}

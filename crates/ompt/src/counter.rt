@@ -7,9 +7,6 @@ ghost use Rattle.ompt.specs.Counting.{CountsCalls};
 use ompt_calls::{Call, Reply, Snapshot};
 use tool_api::{GuestTool, Memory, Registrar};
 
-/// The callbacks of the profile, by number.
-const PROFILE: [u32; 16] = [1, 2, 3, 4, 5, 6, 7, 16, 17, 20, 21, 23, 24, 25, 26, 27];
-
 /// A tool that registers each callback of the profile, counts the calls that it gets, and stores nothing.
 #[derive(Drop)]
 pub(crate) struct Counter {
@@ -30,9 +27,7 @@ impl GuestTool for Counter {
     ghost stands_for = { λ tool h. CountsCalls tool.calls h };
 
     fn initialize(&mut self, registrar: &mut Registrar) -> u32 {
-        for number in PROFILE {
-            registrar.set(number);
-        }
+        registrar.set_profile();
         1
     }
 

@@ -3,6 +3,8 @@
 ghost use Rattle.std.specs.Prelude.{◌≡◌};
 ghost use Rattle.ompt_calls.specs.Number.{number_of};
 
+use omp_codes::callbacks;
+
 /// A data word of a tool: `ompt_data_t` (OpenMP 5.2, 19.4.4.4), named by a number in place of an address.
 #[derive(Clone, Copy, Debug, PartialEq, Eq)]
 pub struct Word {
@@ -82,13 +84,13 @@ impl Call {
         ensures { result ≡ number_of self.now }
     {
         match self {
-            Call::ThreadBegin { .. } => 1,
-            Call::ThreadEnd { .. } => 2,
-            Call::ParallelBegin { .. } => 3,
-            Call::ParallelEnd { .. } => 4,
-            Call::ImplicitTask { .. } => 7,
-            Call::SyncRegionWait { .. } => 16,
-            Call::SyncRegion { .. } => 23,
+            Call::ThreadBegin { .. } => callbacks::THREAD_BEGIN,
+            Call::ThreadEnd { .. } => callbacks::THREAD_END,
+            Call::ParallelBegin { .. } => callbacks::PARALLEL_BEGIN,
+            Call::ParallelEnd { .. } => callbacks::PARALLEL_END,
+            Call::ImplicitTask { .. } => callbacks::IMPLICIT_TASK,
+            Call::SyncRegionWait { .. } => callbacks::SYNC_REGION_WAIT,
+            Call::SyncRegion { .. } => callbacks::SYNC_REGION,
         }
     }
 }

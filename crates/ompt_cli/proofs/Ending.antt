@@ -13,7 +13,7 @@ longer xs given rest same = omega (arith, ap length same, length-append given re
 pub program-not_long : (old new : Option (List ℕ)) → IsSomeAnd old IsProgram → ConsumesMore old new 65536 → ⊥
 program-not_long None new program more = program
 program-not_long (Some text) None program more = more.2
-program-not_long (Some text) (Some rest) program more = absurd (omega (arith, longer text more.0 rest more.2, more.1, program.0))
+program-not_long (Some text) (Some rest) program more = absurd (omega (arith, longer text more.0 rest more.2, more.1, program.1.short))
 
 -- nothing is written of nothing, whatever the cause
 pub nothing-of : (c : Cause) → unless_memory c [] ≡ []

@@ -1,17 +1,21 @@
 -- Guests are handed out to threads, and taken back.
-use Rattle.std.proofs.Common.{◌≡◌, ℕ, zero, suc, ◌<◌, ◌≤◌, ◌==◌, Bool, true, false, if◌then◌else◌, List, [], ◌∷◌, ◌++◌, length, slice_index_or, refl, sym, ap, subst, arith}
+use Rattle.std.proofs.Common.{◌≡◌, ℕ, zero, suc, ◌<◌, ◌≤◌, List, [], ◌∷◌, ◌++◌, length, slice_index_or, refl, sym, ap, subst, ◌∙◌, arith}
 use Rattle.std.proofs.lemmas.List.{nil_from_length}
-use Rattle.tool_api.specs.Record.{Record, QuietFor, StartedWith, initialized, finalized}
+use Rattle.tool_api.specs.Record.{Record, QuietFor, StartedWith, StoresNothing}
 use Rattle.tool_api.specs.declared.quiet.Quiet.{Quiet}
 use Rattle.tool_api.specs.Handed.{HandedFor, kind_of}
 use Rattle.tool_api.specs.declared.handed.Handed.{Handed}
 use Rattle.tool_api.specs.declared.handed.Handed.TheVariants as held
+use Rattle.omp_model.specs.declared.cause.Cause.{Cause}
 use Rattle.omp_model.specs.declared.history.Entry.{Entry}
 use Rattle.omp_model.specs.State.{Run}
 use Rattle.omp_model.specs.Heard.{heard_of}
-use Rattle.team_run.specs.Serving.{served, finished_by, first_record, RunsFor, SameKinds}
+use Rattle.team_run.specs.Serving.{served, first_record, RunsFor, SameKinds}
+use Rattle.team_run.specs.Standing.{AreSilent}
+use Rattle.team_run.specs.Unheard.{unheard_on}
 use Rattle.ompt_cli.specs.Guests.{GuestsServe, HandOut, guests_of}
-use Rattle.ompt_cli.proofs.Listing.{nothing_called}
+use Rattle.ompt_cli.proofs.Calls.{SameCalls, same-first, same-unheard}
+use Rattle.ompt_cli.proofs.Listing.{nothing_called, silent-each}
 
 module _ {G : Type 0} {B : Type 0} (box : G → B) where
   -- one part more
@@ -88,41 +92,74 @@ module _ {G : Type 0} {B : Type 0} (box : G → B) (stands : B → Record → Ty
   guest-past (b ∷ guests) (held.Quiet q ∷ parts) (a ∷ after) rest out same kinds (suc k) d past = absurd out
 
   -- a part without a guest answers 0
-  quiet-answer : (answer registered : ℕ) (h : Record) (quiet : Quiet) → h.started ≡ record { answer = answer; mask = registered } ∷ [] → QuietFor quiet (finished_by answer h) → answer ≡ 0
-  quiet-answer answer registered h quiet started for =
-      let each : StartedWith 0 0 (record { answer = answer; mask = registered } ∷ []) = subst (λ starts. StartedWith 0 0 starts) started (unfinished (answer == 0) for) in
+  quiet-answer : (answer registered : ℕ) (g h : Record) (quiet : Quiet) → SameCalls g h → h.started ≡ record { answer = answer; mask = registered } ∷ [] → QuietFor quiet g → answer ≡ 0
+  quiet-answer answer registered g h quiet same started for =
+      let each : StartedWith 0 0 (record { answer = answer; mask = registered } ∷ []) = subst (λ starts. StartedWith 0 0 starts) (same.started ∙ started) for.started in
       (each 0 (record { answer = 0; mask = 0 }) (omega arith)).0
-    where
-      unfinished : (b : Bool) → QuietFor quiet (if b then h else finalized h) → StartedWith 0 0 h.started
-      unfinished true for = for.started
-      unfinished false for = for.started
 
-  first-answer : (run : Run) (H : List Entry) (parts after : List (Handed G)) (rest : List B) → 1 ≤ length parts → HandOut box [] parts rest → length after ≡ length parts → SameKinds kind_of parts after → (runs : RunsFor For run H parts after) → runs.answer ≡ 0
-  first-answer run H [] after rest some out same kinds runs = absurd (omega (arith, some))
-  first-answer run H (p ∷ parts) [] rest some out same kinds runs = absurd (omega (arith, same))
-  first-answer run H (held.Guest g ∷ parts) (a ∷ after) rest some out same kinds runs = absurd out
-  first-answer run H (held.Quiet q ∷ parts) (held.Guest a ∷ after) rest some out same kinds runs = absurd (omega (arith, kinds-head kind_of (held.Quiet q) (held.Guest a) parts after kinds))
-  first-answer run H (held.Quiet q ∷ parts) (held.Quiet a ∷ after) rest some out same kinds runs =
-      quiet-answer runs.answer runs.registered (served (initialized nothing_called runs.answer runs.registered) (heard_of run H 0)) a refl (runs.first (held.Quiet q) nothing_called fresh-quiet)
-    where
-      fresh-quiet : QuietFor q nothing_called
-      fresh-quiet = record { started = λ k d below. absurd (omega (arith, below)); silent = λ k d below. absurd (omega (arith, below)); alone = refl }
+  fresh-quiet : (quiet : Quiet) → QuietFor quiet nothing_called
+  fresh-quiet quiet = record { started = λ k d below. absurd (omega (arith, below)); silent = λ k d below. absurd (omega (arith, below)); heard = refl; alone = refl }
+
+  first-answer : (run : Run) (cause : Cause) (H : List Entry) (parts after : List (Handed G)) (rest : List B) → 1 ≤ length parts → HandOut box [] parts rest → length after ≡ length parts → SameKinds kind_of parts after → (runs : RunsFor For run cause H parts after) → runs.answer ≡ 0
+  first-answer run cause H [] after rest some out same kinds runs = absurd (omega (arith, some))
+  first-answer run cause H (p ∷ parts) [] rest some out same kinds runs = absurd (omega (arith, same))
+  first-answer run cause H (held.Guest g ∷ parts) (a ∷ after) rest some out same kinds runs = absurd out
+  first-answer run cause H (held.Quiet q ∷ parts) (held.Guest a ∷ after) rest some out same kinds runs = absurd (omega (arith, kinds-head kind_of (held.Quiet q) (held.Guest a) parts after kinds))
+  first-answer run cause H (held.Quiet q ∷ parts) (held.Quiet a ∷ after) rest some out same kinds runs =
+      quiet-answer runs.answer runs.registered _ _ a (same-first runs.answer runs.registered (heard_of run H 0) runs.unheard nothing_called) refl (runs.first (held.Quiet q) nothing_called (fresh-quiet q))
+
+  -- the part of a thread past the guests is none
+  none-in : (guests : List B) (parts : List (Handed G)) (rest : List B) → HandOut box guests parts rest → (k : ℕ) (e : Handed G) → length guests ≤ k → k < length parts → For (slice_index_or parts k e) nothing_called
+  none-in guests [] rest out k e past below = absurd (omega (arith, below))
+  none-in [] (held.Guest g ∷ parts) rest out k e past below = absurd out
+  none-in [] (held.Quiet q ∷ parts) rest out zero e past below = fresh-quiet q
+  none-in [] (held.Quiet q ∷ parts) rest out (suc k) e past below = none-in [] parts rest out k e (omega arith) (omega (arith, below))
+  none-in (b ∷ guests) (held.Guest g ∷ parts) rest out zero e past below = absurd (omega (arith, past))
+  none-in (b ∷ guests) (held.Guest g ∷ parts) rest out (suc k) e past below = none-in guests parts rest out.1 k e (omega (arith, past)) (omega (arith, below))
+  none-in (b ∷ guests) (held.Quiet q ∷ parts) rest out k e past below = absurd out
+
+  -- and afterwards it stands for calls alone that stored nothing
+  none-out : (guests : List B) (parts after : List (Handed G)) (rest : List B) → HandOut box guests parts rest → length after ≡ length parts → SameKinds kind_of parts after → (k : ℕ) (e : Handed G) (h : Record) → length guests ≤ k → k < length parts → For (slice_index_or after k e) h → StoresNothing h.calls
+  none-out guests [] after rest out same kinds k e h past below for = absurd (omega (arith, below))
+  none-out guests (p ∷ parts) [] rest out same kinds k e h past below for = absurd (omega (arith, same))
+  none-out [] (held.Guest g ∷ parts) (a ∷ after) rest out same kinds k e h past below for = absurd out
+  none-out [] (held.Quiet q ∷ parts) (held.Guest a ∷ after) rest out same kinds k e h past below for = absurd (omega (arith, kinds-head kind_of (held.Quiet q) (held.Guest a) parts after kinds))
+  none-out [] (held.Quiet q ∷ parts) (held.Quiet a ∷ after) rest out same kinds zero e h past below for = for.silent
+  none-out [] (held.Quiet q ∷ parts) (held.Quiet a ∷ after) rest out same kinds (suc k) e h past below for =
+      none-out [] parts after rest out (omega (arith, same)) (kinds-tail kind_of (held.Quiet q) (held.Quiet a) parts after kinds) k e h (omega arith) (omega (arith, below)) for
+  none-out (b ∷ guests) (held.Guest g ∷ parts) (a ∷ after) rest out same kinds zero e h past below for = absurd (omega (arith, past))
+  none-out (b ∷ guests) (held.Guest g ∷ parts) (a ∷ after) rest out same kinds (suc k) e h past below for =
+      none-out guests parts after rest out.1 (omega (arith, same)) (kinds-tail kind_of (held.Guest g) a parts after kinds) k e h (omega (arith, past)) (omega (arith, below)) for
+  none-out (b ∷ guests) (held.Quiet q ∷ parts) (a ∷ after) rest out same kinds k e h past below for = absurd out
+
+  -- so nothing is stored on a thread without a guest
+  without-guest : (run : Run) (cause : Cause) (H : List Entry) (guests : List B) (parts after : List (Handed G)) (rest : List B) → HandOut box guests parts rest → SameKinds kind_of parts after → RunsFor For run cause H parts after → (k : ℕ) (e : Handed G) → length guests ≤ k → k < length parts → AreSilent (heard_of run H k)
+  without-guest run cause H guests parts after rest out kinds runs zero e past below =
+      silent-each (heard_of run H 0) (subst StoresNothing (same-first runs.answer runs.registered (heard_of run H 0) runs.unheard nothing_called).calls
+      (none-out guests parts after rest out runs.as_many kinds 0 e _ past below (runs.first e nothing_called (none-in guests parts rest out 0 e past below))))
+  without-guest run cause H guests parts after rest out kinds runs (suc k) e past below =
+      silent-each (heard_of run H (suc k)) (subst StoresNothing (same-unheard runs.unheard (suc k) (served nothing_called (heard_of run H (suc k)))).calls
+      (none-out guests parts after rest out runs.as_many kinds (suc k) e _ past below (runs.others (suc k) e nothing_called (omega arith) below (none-in guests parts rest out (suc k) e past below))))
 
   -- so the guests stand for what their threads heard
-  pub guests-serve : (run : Run) (H : List Entry) (guests : List B) (parts after : List (Handed G)) (rest : List B) → 1 ≤ run.threads → length parts ≡ run.threads → HandOut box guests parts rest → SameKinds kind_of parts after → RunsFor For run H parts after → GuestsServe stands run H guests (guests_of box after ++ rest)
-  guests-serve run H guests [] after rest some each out kinds runs = absurd (omega (arith, some, each))
-  guests-serve run H guests (p ∷ parts) after rest some each out kinds runs =
+  pub guests-serve : (run : Run) (cause : Cause) (H : List Entry) (guests : List B) (parts after : List (Handed G)) (rest : List B) → 1 ≤ run.threads → length parts ≡ run.threads → HandOut box guests parts rest → SameKinds kind_of parts after → RunsFor For run cause H parts after → GuestsServe stands run cause H guests (guests_of box after ++ rest)
+  guests-serve run cause H guests [] after rest some each out kinds runs = absurd (omega (arith, some, each))
+  guests-serve run cause H guests (p ∷ parts) after rest some each out kinds runs =
       record {
         as_many = as-many guests (p ∷ parts) after rest out runs.as_many kinds;
         answer = runs.answer;
         registered = runs.registered;
         mask_is = runs.mask_is;
-        nobody = λ none. first-answer run H (p ∷ parts) after rest (omega arith) (subst (λ guests. HandOut box guests (p ∷ parts) rest) (nil_from_length guests none) out) runs.as_many kinds runs;
+        nobody = λ none. first-answer run cause H (p ∷ parts) after rest (omega arith) (subst (λ guests. HandOut box guests (p ∷ parts) rest) (nil_from_length guests none) out) runs.as_many kinds runs;
         first = λ d h more for.
-            guest-out guests (p ∷ parts) after rest out runs.as_many kinds 0 d p (first_record runs.answer runs.registered (heard_of run H 0) h) (omega arith) more
+            guest-out guests (p ∷ parts) after rest out runs.as_many kinds 0 d p (first_record runs.answer runs.registered (heard_of run H 0) runs.unheard h) (omega arith) more
             (runs.first p h (guest-in guests (p ∷ parts) rest out 0 d p h (omega arith) more for));
         others = λ k d h past below more for.
-            guest-out guests (p ∷ parts) after rest out runs.as_many kinds k d p (served h (heard_of run H k)) (omega (arith, below, each)) more
+            guest-out guests (p ∷ parts) after rest out runs.as_many kinds k d p (unheard_on runs.unheard k (served h (heard_of run H k))) (omega (arith, below, each)) more
             (runs.others k p h past (omega (arith, below, each)) (guest-in guests (p ∷ parts) rest out k d p h (omega (arith, below, each)) more for));
+        unheard = runs.unheard;
+        is_unheard = runs.is_unheard;
+        all_heard = runs.all_heard;
+        guestless = λ k past below. without-guest run cause H guests (p ∷ parts) after rest out kinds runs k p past (omega (arith, below, each));
         rest = λ k d past. guest-past guests (p ∷ parts) after rest out runs.as_many kinds k d (omega (arith, past, each));
       }

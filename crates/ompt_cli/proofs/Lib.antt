@@ -1,6 +1,7 @@
 pub mod Decimal
 pub mod Behind
 pub mod Items
+pub mod Calls
 pub mod Handing
 pub mod Listing
 pub mod Ending

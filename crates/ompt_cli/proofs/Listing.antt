@@ -1,13 +1,15 @@
 -- The listers of a run: what they kept is what is recorded of the run.
-use Rattle.std.proofs.Common.{◌≡◌, ℕ, ◌+◌, ◌<◌, ◌≤◌, ◌==◌, ◌&&◌, Bool, true, false, if◌then◌else◌, List, [], ◌∷◌, ◌++◌, map, length, replicate, slice_index_or, refl, sym, ap, subst, ◌∙◌, zero, suc, arith}
+use Rattle.std.proofs.Common.{◌≡◌, ℕ, ◌+◌, ◌<◌, ◌≤◌, ◌&&◌, Bool, true, false, if◌then◌else◌, List, [], ◌∷◌, ◌++◌, map, length, replicate, slice_index_or, refl, sym, ap, subst, ◌∙◌, zero, suc, arith}
 use Rattle.std.proofs.lemmas.List.{get_or-replicate, length-replicate}
 use Rattle.ompt_calls.specs.declared.call.Call.{Call}
 use Rattle.ompt_calls.specs.declared.snapshot.Snapshot.{Snapshot}
 use Rattle.ompt_calls.specs.Item.{Item}
 use Rattle.ompt_calls.specs.Number.{number_of, is_registered}
-use Rattle.tool_api.specs.Record.{Record, initialized, finalized, StoresNothing}
-use Rattle.tool_report.specs.Lister.{ListerFor, all_callbacks}
+use Rattle.tool_api.specs.Record.{Record, StartedWith, initialized, StoresNothing}
+use Rattle.omp_codes.specs.declared.callbacks.TheConstants.{PROFILE_MASK}
+use Rattle.tool_report.specs.Lister.{ListerFor}
 use Rattle.tool_report.specs.Order.{AreFrom, AreRising, AreShared}
+use Rattle.omp_model.specs.declared.cause.Cause.{Cause}
 use Rattle.omp_model.specs.declared.history.Entry.{Entry}
 use Rattle.omp_model.specs.declared.history.EventRecord.{EventRecord}
 use Rattle.omp_model.specs.declared.history.What.{What}
@@ -22,8 +24,9 @@ use Rattle.omp_model.specs.Legal.{entered}
 use Rattle.omp_model.specs.Heard.{has_back, stores_in, heard_call, heard_outcome, heard_at, heard_from, heard, heard_of}
 use Rattle.omp_model.specs.Records.{record_of, records_of}
 use Rattle.omp_model.proofs.Recording.{records-by_thread}
-use Rattle.team_run.specs.Serving.{served, mask_of, finished_by, RunsFor}
+use Rattle.team_run.specs.Serving.{served, mask_of, RunsFor}
 use Rattle.team_run.specs.Standing.{AreSilent, HearsOwn, HearsSilent}
+use Rattle.ompt_cli.proofs.Calls.{SameCalls, same-first, same-unheard}
 
 -- at most one item, of this position
 abbrev OneAt : ℕ → List Item → Type 0
@@ -78,21 +81,23 @@ rising-from run S position (entry ∷ rest) =
 
 -- no calls so far
 abbrev pub nothing_called : Record
-nothing_called = record { started = []; calls = []; finished = 0; within = [] }
+nothing_called = record { started = []; calls = []; finished = []; unheard = 0; within = [] }
 
 fresh-lister : ListerFor [] nothing_called
 fresh-lister = record { started = λ k d below. absurd (omega (arith, below)); silent = λ k d below. absurd (omega (arith, below)); events = refl; alone = refl }
 
--- a lister's record doesn't count how often it was finished
-unfinished : (answer : ℕ) (kept : List EventRecord) (h : Record) → ListerFor kept (finished_by answer h) → ListerFor kept h
-unfinished answer kept h = by (answer == 0)
-  where
-    by : (b : Bool) → ListerFor kept (if b then h else finalized h) → ListerFor kept h
-    by true for = for
-    by false for = record { started = for.started; silent = for.silent; events = for.events; alone = for.alone }
+-- a lister stands for its starts and calls alone
+same-lister : (kept : List EventRecord) (g h : Record) → SameCalls g h → ListerFor kept g → ListerFor kept h
+same-lister kept g h same for =
+    record {
+      started = subst (λ starts. StartedWith 1 PROFILE_MASK starts) same.started for.started;
+      silent = subst StoresNothing same.calls for.silent;
+      events = subst (λ calls. kept ≡ map record_of calls) same.calls for.events;
+      alone = subst (λ within. within ≡ []) same.within for.alone;
+    }
 
 -- calls of which none stored anything
-silent-each : (items : List Item) → StoresNothing items → AreSilent items
+pub silent-each : (items : List Item) → StoresNothing items → AreSilent items
 silent-each [] all = tt
 silent-each (item ∷ rest) all = (all 0 item (omega arith), silent-each rest (λ k d below. all (suc k) d (omega (arith, below))))
 
@@ -106,7 +111,7 @@ keeps-of kept h none items for =
     let calls : h.calls ++ items ≡ items = ap (λ calls. calls ++ items) none in
     record { events = subst (λ calls. kept ≡ map record_of calls) calls for.events; silent = silent-each items (subst StoresNothing calls for.silent) }
 
-module _ (run : Run) (H : List Entry) (threads : ℕ) (parts : List (List EventRecord)) (some : 1 ≤ threads) (runs : RunsFor ListerFor run H (replicate threads []) parts) where
+module _ (run : Run) (cause : Cause) (H : List Entry) (threads : ℕ) (parts : List (List EventRecord)) (some : 1 ≤ threads) (runs : RunsFor ListerFor run cause H (replicate threads []) parts) where
   pub as_many : length parts ≡ threads
   as_many = runs.as_many ∙ length-replicate threads []
 
@@ -117,20 +122,21 @@ module _ (run : Run) (H : List Entry) (threads : ℕ) (parts : List (List EventR
   -- the first lister, after its start
   first-lister : (d : List EventRecord) → ListerFor (slice_index_or parts 0 d) (served (initialized nothing_called runs.answer runs.registered) (heard_of run H 0))
   first-lister d =
-      unfinished runs.answer (slice_index_or parts 0 d) (served (initialized nothing_called runs.answer runs.registered) (heard_of run H 0)) (runs.first d nothing_called (fresh-at 0 d (omega (arith, some))))
+      same-lister (slice_index_or parts 0 d) _ _ (same-first runs.answer runs.registered (heard_of run H 0) runs.unheard nothing_called)
+      (runs.first d nothing_called (fresh-at 0 d (omega (arith, some))))
 
   -- each lister kept what its thread heard
   keeps : (k : ℕ) (d : List EventRecord) → k < threads → KeepsOf (slice_index_or parts k d) (heard_of run H k)
   keeps zero d below = keeps-of (slice_index_or parts 0 d) (initialized nothing_called runs.answer runs.registered) refl (heard_of run H 0) (first-lister d)
   keeps (suc k) d below =
-      keeps-of (slice_index_or parts (suc k) d) nothing_called refl (heard_of run H (suc k)) (runs.others (suc k) d nothing_called (omega arith) (subst (λ n. suc k < n) (sym (length-replicate threads [])) below) (fresh-at (suc k) d below))
+      keeps-of (slice_index_or parts (suc k) d) nothing_called refl (heard_of run H (suc k)) (same-lister (slice_index_or parts (suc k) d) _ _ (same-unheard runs.unheard (suc k) (served nothing_called (heard_of run H (suc k)))) (runs.others (suc k) d nothing_called (omega arith) (subst (λ n. suc k < n) (sym (length-replicate threads [])) below) (fresh-at (suc k) d below)))
 
   -- so nothing was stored
   pub lists-silent : run.threads ≡ threads → HearsSilent run H
   lists-silent same = λ k below. (keeps k [] (subst (λ n. k < n) same below)).silent
 
   -- and all callbacks of the profile were registered
-  pub lists-all : run.mask ≡ all_callbacks
+  pub lists-all : run.mask ≡ PROFILE_MASK
   lists-all =
       let started = (first-lister []).started 0 (record { answer = 0; mask = 0 }) (omega arith) in
       runs.mask_is ∙ ap (λ answer. mask_of answer runs.registered) started.0 ∙ started.1

@@ -12,22 +12,21 @@ use Rattle.c_syntax.specs.Tree.{Tree}
 use Rattle.c_syntax.specs.Faults.{IsFault}
 use Rattle.c_tokens.proofs.Spans.{tokens-end}
 use Rattle.c_syntax.specs.Numbered.{TreeView, root_tree}
-use Rattle.c_check.specs.Checked.{breaches_of, fault_in, fault_of, first_of}
+use Rattle.c_check.specs.Checked.{breaches_of, fault_in, fault_of}
+use Rattle.c_check.specs.Faults.{first_of}
 use Rattle.c_check.proofs.Found.{first_of_nothing}
 use Rattle.omp_model.specs.declared.blocks.Block.{Block}
 use Rattle.c_syntax.proofs.Unique.{fault-one, spells-no_fault, spells-one}
 use Rattle.c_check.specs.declared.fault.CheckFault.{CheckFault}
 use Rattle.c_check.specs.declared.fault.CheckFault.TheVariants as rule
 use Rattle.ompt_cli.specs.declared.end.Refusal.{Refusal}
-use Rattle.ompt_cli.specs.declared.end.Refusal.TheVariants.{BadByte, OpenComment, BadNumber, Unexpected, UnknownDirective, OutOfProfile, TooDeep, UnknownName, TwiceDeclared, WrongUse, BadNesting, BadLoop, NoMain, NotListed, TooLong, OtherForm}
-use Rattle.ompt_cli.specs.declared.end.End.TheVariants.{Refused}
+use Rattle.ompt_cli.specs.declared.end.Refusal.TheVariants.{Tokens, Syntax, Rule, TooLong, OtherForm}
+use Rattle.ompt_cli.specs.declared.end.End.{End}
+use Rattle.ompt_cli.specs.declared.end.End.TheVariants.{Refused, Memory}
 use Rattle.ompt_cli.specs.Commands.{MayRefuse, MayRun}
 use Rattle.ompt_cli.specs.Ends.{end_of_check_fault, end_of_fault, end_of_syntax_fault}
 use Rattle.ompt_cli.specs.Form.{blocks_of}
 use Rattle.ompt_cli.specs.Text.{HasCheckFault, HasFault, HasOtherForm, HasSyntaxFault, HasTree, IsProgram, IsReadAs, IsRefused, Spells, end_at, end_of, rule_broken}
-
-refused-one : {first second : Refusal} → Refused first ≡ Refused second → first ≡ second
-refused-one same = cc
 
 module _ (text : List ℕ) where
   -- a text has one list of tokens, with one tree
@@ -50,119 +49,86 @@ module _ (text : List ℕ) where
       let same = tokens-one tokens others are are_too in
       fault-one (words_of text others) first second (subst (λ list. IsFault (words_of text list) first) same one) other
 
-  -- why a text is refused
-  data Why (why : Refusal) : Type 0 where
-    by_tokens : (found : TokenFault) → end_of_fault found ≡ Refused why → HasFault found text → Why why
-    by_grammar : (found : SyntaxFault) → end_of_syntax_fault found ≡ Refused why → HasSyntaxFault found text → Why why
-    by_length : TooLong ≡ why → 65536 < length text → Why why
-    by_rule : (found : CheckFault) → end_of_check_fault found ≡ Refused why → HasCheckFault found text → Why why
-    by_form : OtherForm ≡ why → HasOtherForm text → Why why
-
-  why-of : (why : Refusal) → IsRefused why text → Why why
-  why-of (BadByte spot) refused = Why.by_tokens (fault.BadByte spot) refl refused
-  why-of (OpenComment spot) refused = Why.by_tokens (fault.OpenComment spot) refl refused
-  why-of (BadNumber spot) refused = Why.by_tokens (fault.BadNumber spot) refl refused
-  why-of (Unexpected spot) refused = Why.by_grammar (syntax.Unexpected spot) refl refused
-  why-of (UnknownDirective spot) refused = Why.by_grammar (syntax.UnknownDirective spot) refl refused
-  why-of (OutOfProfile spot) refused = Why.by_grammar (syntax.OutOfProfile spot) refl refused
-  why-of (TooDeep spot) refused = Why.by_grammar (syntax.TooDeep spot) refl refused
-  why-of (UnknownName spot) refused = Why.by_rule (rule.UnknownName spot) refl refused
-  why-of (TwiceDeclared spot) refused = Why.by_rule (rule.TwiceDeclared spot) refl refused
-  why-of (WrongUse spot) refused = Why.by_rule (rule.WrongUse spot) refl refused
-  why-of (BadNesting spot) refused = Why.by_rule (rule.BadNesting spot) refl refused
-  why-of (BadLoop spot) refused = Why.by_rule (rule.BadLoop spot) refl refused
-  why-of (NoMain spot) refused = Why.by_rule (rule.NoMain spot) refl refused
-  why-of (NotListed spot) refused = Why.by_rule (rule.NotListed spot) refl refused
-  why-of TooLong refused = Why.by_length refl refused
-  why-of OtherForm refused = Why.by_form refl refused
-
   -- it is refused for one thing
-  why-one : (first second : Refusal) → Why first → Why second → first ≡ second
-  why-one first second (Why.by_tokens found told has) (Why.by_tokens other told_too has_too) =
-      let same : found ≡ other = let one = has.1 in let two = has_too.1 in cc in
-      refused-one (sym told ∙ ap end_of_fault same ∙ told_too)
-  why-one first second (Why.by_tokens found told has) (Why.by_grammar other told_too has_too) = let one = has.1 in let two = has_too.1.1 in cc
-  why-one first second (Why.by_tokens found told has) (Why.by_length told_too over) = absurd (omega (arith, has.0, over))
-  why-one first second (Why.by_tokens found told has) (Why.by_rule other told_too has_too) = let one = has.1 in let two = has_too.1.2.tokens_are in cc
-  why-one first second (Why.by_tokens found told has) (Why.by_form told_too has_too) = let one = has.1 in let two = has_too.1.2.tokens_are in cc
-  why-one first second (Why.by_grammar found told has) (Why.by_tokens other told_too has_too) = let one = has.1.1 in let two = has_too.1 in cc
-  why-one first second (Why.by_grammar found told has) (Why.by_grammar other told_too has_too) =
-      let same = syntax-one has.1.0 has_too.1.0 found other has.1.1 has.1.2 has_too.1.1 has_too.1.2 in
-      refused-one (sym told ∙ ap end_of_syntax_fault same ∙ told_too)
-  why-one first second (Why.by_grammar found told has) (Why.by_length told_too over) = absurd (omega (arith, has.0, over))
-  why-one first second (Why.by_grammar found told has) (Why.by_rule other told_too has_too) = absurd (no-tree has_too.1.0 has.1.0 has_too.1.1 found has_too.1.2 has.1.1 has.1.2)
-  why-one first second (Why.by_grammar found told has) (Why.by_form told_too has_too) = absurd (no-tree has_too.1.0 has.1.0 has_too.1.1 found has_too.1.2 has.1.1 has.1.2)
-  why-one first second (Why.by_length told over) (Why.by_tokens other told_too has_too) = absurd (omega (arith, has_too.0, over))
-  why-one first second (Why.by_length told over) (Why.by_grammar other told_too has_too) = absurd (omega (arith, has_too.0, over))
-  why-one first second (Why.by_length told over) (Why.by_length told_too too) = sym told ∙ told_too
-  why-one first second (Why.by_length told over) (Why.by_rule other told_too has_too) = absurd (omega (arith, has_too.0, over))
-  why-one first second (Why.by_length told over) (Why.by_form told_too has_too) = absurd (omega (arith, has_too.0, over))
-  why-one first second (Why.by_form told has) (Why.by_tokens other told_too has_too) = let one = has.1.2.tokens_are in let two = has_too.1 in cc
-  why-one first second (Why.by_form told has) (Why.by_grammar other told_too has_too) = absurd (no-tree has.1.0 has_too.1.0 has.1.1 other has.1.2 has_too.1.1 has_too.1.2)
-  why-one first second (Why.by_form told has) (Why.by_length told_too over) = absurd (omega (arith, has.0, over))
-  why-one first second (Why.by_form told has) (Why.by_rule other told_too has_too) =
-      let same = (tree-one has.1.0 has_too.1.0 has.1.1 has_too.1.1 has.1.2 has_too.1.2).1 in
-      let none = has.1.3 in
-      let some = has_too.1.3 in
-      cc
-  why-one first second (Why.by_form told has) (Why.by_form told_too has_too) = sym told ∙ told_too
-  why-one first second (Why.by_rule found told has) (Why.by_tokens other told_too has_too) = let one = has.1.2.tokens_are in let two = has_too.1 in cc
-  why-one first second (Why.by_rule found told has) (Why.by_grammar other told_too has_too) = absurd (no-tree has.1.0 has_too.1.0 has.1.1 other has.1.2 has_too.1.1 has_too.1.2)
-  why-one first second (Why.by_rule found told has) (Why.by_length told_too over) = absurd (omega (arith, has.0, over))
-  why-one first second (Why.by_rule found told has) (Why.by_rule other told_too has_too) =
-      let same = (tree-one has.1.0 has_too.1.0 has.1.1 has_too.1.1 has.1.2 has_too.1.2).1 in
-      let one = has.1.3 in
-      let two = has_too.1.3 in
-      let faults : found ≡ other = cc in
-      refused-one (sym told ∙ ap end_of_check_fault faults ∙ told_too)
-  why-one first second (Why.by_rule found told has) (Why.by_form told_too has_too) =
-      let same = (tree-one has.1.0 has_too.1.0 has.1.1 has_too.1.1 has.1.2 has_too.1.2).1 in
-      let one = has.1.3 in
-      let none = has_too.1.3 in
-      cc
-
   pub refusal-one : (first second : Refusal) → IsRefused first text → IsRefused second text → first ≡ second
-  refusal-one first second one other = why-one first second (why-of first one) (why-of second other)
+  refusal-one (Tokens found) (Tokens other) has too = let one = has.1 in let two = too.1 in cc
+  refusal-one (Tokens found) (Syntax other) has too = let one = has.1 in let two = too.1.1 in cc
+  refusal-one (Tokens found) (Rule other) has too = let one = has.1 in let two = too.1.2.tokens_are in cc
+  refusal-one (Tokens found) TooLong has over = absurd (omega (arith, has.0, over))
+  refusal-one (Tokens found) OtherForm has too = let one = has.1 in let two = too.1.2.tokens_are in cc
+  refusal-one (Syntax found) (Tokens other) has too = let one = has.1.1 in let two = too.1 in cc
+  refusal-one (Syntax found) (Syntax other) has too = ap Syntax (syntax-one has.1.0 too.1.0 found other has.1.1 has.1.2 too.1.1 too.1.2)
+  refusal-one (Syntax found) (Rule other) has too = absurd (no-tree too.1.0 has.1.0 too.1.1 found too.1.2 has.1.1 has.1.2)
+  refusal-one (Syntax found) TooLong has over = absurd (omega (arith, has.0, over))
+  refusal-one (Syntax found) OtherForm has too = absurd (no-tree too.1.0 has.1.0 too.1.1 found too.1.2 has.1.1 has.1.2)
+  refusal-one (Rule found) (Tokens other) has too = let one = has.1.2.tokens_are in let two = too.1 in cc
+  refusal-one (Rule found) (Syntax other) has too = absurd (no-tree has.1.0 too.1.0 has.1.1 other has.1.2 too.1.1 too.1.2)
+  refusal-one (Rule found) (Rule other) has too =
+      let same = (tree-one has.1.0 too.1.0 has.1.1 too.1.1 has.1.2 too.1.2).1 in
+      let one = has.1.3 in
+      let two = too.1.3 in
+      cc
+  refusal-one (Rule found) TooLong has over = absurd (omega (arith, has.0, over))
+  refusal-one (Rule found) OtherForm has too =
+      let same = (tree-one has.1.0 too.1.0 has.1.1 too.1.1 has.1.2 too.1.2).1 in
+      let one = has.1.3 in
+      let none = too.1.3 in
+      cc
+  refusal-one TooLong (Tokens other) over too = absurd (omega (arith, too.0, over))
+  refusal-one TooLong (Syntax other) over too = absurd (omega (arith, too.0, over))
+  refusal-one TooLong (Rule other) over too = absurd (omega (arith, too.0, over))
+  refusal-one TooLong TooLong over too = refl
+  refusal-one TooLong OtherForm over too = absurd (omega (arith, too.0, over))
+  refusal-one OtherForm (Tokens other) has too = let one = has.1.2.tokens_are in let two = too.1 in cc
+  refusal-one OtherForm (Syntax other) has too = absurd (no-tree has.1.0 too.1.0 has.1.1 other has.1.2 too.1.1 too.1.2)
+  refusal-one OtherForm (Rule other) has too =
+      let same = (tree-one has.1.0 too.1.0 has.1.1 too.1.1 has.1.2 too.1.2).1 in
+      let none = has.1.3 in
+      let some = too.1.3 in
+      cc
+  refusal-one OtherForm TooLong has over = absurd (omega (arith, has.0, over))
+  refusal-one OtherForm OtherForm has too = refl
 
   -- and for nothing where it spells a program that runs
-  program-no_why : (why : Refusal) → IsProgram text → Why why → ⊥
-  program-no_why why (short, (blocks, (tokens, tree, has, keeps, same))) (Why.by_tokens found told other) = let one = has.tokens_are in let two = other.1 in cc
-  program-no_why why (short, (blocks, (tokens, tree, has, keeps, same))) (Why.by_grammar found told other) = no-tree tokens other.1.0 tree found has other.1.1 other.1.2
-  program-no_why why (short, (blocks, (tokens, tree, has, keeps, same))) (Why.by_length told over) = absurd (omega (arith, short, over))
-  program-no_why why (short, (blocks, (tokens, tree, has, keeps, same))) (Why.by_rule found told other) =
-      let one = (tree-one tokens other.1.0 tree other.1.1 has other.1.2).1 in
+  pub program-not_refused : (why : Refusal) → IsProgram text → IsRefused why text → ⊥
+  program-not_refused (Tokens found) program other = let one = program.1.has.tokens_are in let two = other.1 in cc
+  program-not_refused (Syntax found) program other = no-tree program.1.tokens other.1.0 program.1.tree found program.1.has other.1.1 other.1.2
+  program-not_refused (Rule found) program other =
+      let same = (tree-one program.1.tokens other.1.0 program.1.tree other.1.1 program.1.has other.1.2).1 in
+      let one = program.1.keeps in
       let two = other.1.3 in
       cc
-  program-no_why why (short, (blocks, (tokens, tree, has, keeps, same))) (Why.by_form told other) =
-      let one = (tree-one tokens other.1.0 tree other.1.1 has other.1.2).0 in
+  program-not_refused TooLong program over = absurd (omega (arith, program.1.short, over))
+  program-not_refused OtherForm program other =
+      let same = (tree-one program.1.tokens other.1.0 program.1.tree other.1.1 program.1.has other.1.2).0 in
+      let one = program.1.form in
       let two = other.1.4 in
       cc
 
-  pub program-not_refused : (why : Refusal) → IsProgram text → IsRefused why text → ⊥
-  program-not_refused why program refused = program-no_why why program (why-of why refused)
+  -- so a refusal that was found is the one, and there is none where the text runs
+  found-accepted : (found why : Refusal) → IsRefused found text → IsRefused why text → MayRefuse why (Refused found)
+  found-accepted found why has refused = refusal-one found why has refused
 
-  -- so a fault that was found in the tokens is the refusal
   pub tokens-accepted : length text ≤ 65536 → (found : TokenFault) → (found ≢ fault.Memory → tokens_of text ≡ Err found) → (why : Refusal) → IsRefused why text → MayRefuse why (end_of_fault found)
-  tokens-accepted short (fault.BadByte spot) known why refused = refusal-one (BadByte spot) why (short, known (λ same. cc)) refused
-  tokens-accepted short (fault.OpenComment spot) known why refused = refusal-one (OpenComment spot) why (short, known (λ same. cc)) refused
-  tokens-accepted short (fault.BadNumber spot) known why refused = refusal-one (BadNumber spot) why (short, known (λ same. cc)) refused
   tokens-accepted short fault.Memory known why refused = tt
+  tokens-accepted short (fault.BadByte spot) known why refused = found-accepted _ why (short, known (λ same. cc)) refused
+  tokens-accepted short (fault.OpenComment spot) known why refused = found-accepted _ why (short, known (λ same. cc)) refused
+  tokens-accepted short (fault.BadNumber spot) known why refused = found-accepted _ why (short, known (λ same. cc)) refused
 
-  -- so a fault that was found in the grammar is the refusal, if there is one, and there is none where the text runs
+  -- what is refused for this fault of the grammar, if it is one
   module _ (list : List Token) (short : length text ≤ 65536) (are : tokens_of text ≡ Ok list) where
+    syntax-ends : (P : End → Type 0) → P Memory → ((found : SyntaxFault) → IsRefused (Syntax found) text → P (Refused (Syntax found))) → (found : SyntaxFault) → (found ≢ syntax.Memory → IsFault (words_of text list) found) → P (end_of_syntax_fault found)
+    syntax-ends P memory other syntax.Memory known = memory
+    syntax-ends P memory other (syntax.Unexpected spot) known = other _ (short, (list, are, known (λ same. cc)))
+    syntax-ends P memory other (syntax.UnknownDirective spot) known = other _ (short, (list, are, known (λ same. cc)))
+    syntax-ends P memory other (syntax.OutOfProfile spot) known = other _ (short, (list, are, known (λ same. cc)))
+    syntax-ends P memory other (syntax.TooDeep spot) known = other _ (short, (list, are, known (λ same. cc)))
+
     pub syntax-accepted : (found : SyntaxFault) → (found ≢ syntax.Memory → IsFault (words_of text list) found) → (why : Refusal) → IsRefused why text → MayRefuse why (end_of_syntax_fault found)
-    syntax-accepted (syntax.Unexpected spot) known why refused = refusal-one (Unexpected spot) why (short, (list, are, known (λ same. cc))) refused
-    syntax-accepted (syntax.UnknownDirective spot) known why refused = refusal-one (UnknownDirective spot) why (short, (list, are, known (λ same. cc))) refused
-    syntax-accepted (syntax.OutOfProfile spot) known why refused = refusal-one (OutOfProfile spot) why (short, (list, are, known (λ same. cc))) refused
-    syntax-accepted (syntax.TooDeep spot) known why refused = refusal-one (TooDeep spot) why (short, (list, are, known (λ same. cc))) refused
-    syntax-accepted syntax.Memory known why refused = tt
+    syntax-accepted found known why refused = syntax-ends (MayRefuse why) tt (λ one has. found-accepted (Syntax one) why has refused) found known
 
     pub syntax-runs : (found : SyntaxFault) → (found ≢ syntax.Memory → IsFault (words_of text list) found) → IsProgram text → MayRun (end_of_syntax_fault found)
-    syntax-runs (syntax.Unexpected spot) known program = program-not_refused (Unexpected spot) program (short, (list, are, known (λ same. cc)))
-    syntax-runs (syntax.UnknownDirective spot) known program = program-not_refused (UnknownDirective spot) program (short, (list, are, known (λ same. cc)))
-    syntax-runs (syntax.OutOfProfile spot) known program = program-not_refused (OutOfProfile spot) program (short, (list, are, known (λ same. cc)))
-    syntax-runs (syntax.TooDeep spot) known program = program-not_refused (TooDeep spot) program (short, (list, are, known (λ same. cc)))
-    syntax-runs syntax.Memory known program = tt
+    syntax-runs found known program = syntax-ends MayRun tt (λ one has. program-not_refused (Syntax one) program has) found known
 
   -- what was read of a text
   module _ (program : TreeView) (is : IsReadAs text program) where
@@ -177,48 +143,42 @@ module _ (text : List ℕ) where
     no-fault : breaches_of program ≡ [] → fault_of program ≡ None
     no-fault same = ap (λ faults. first_of None faults) same ∙ first_of_nothing None
 
-    pub spells-by : (blocks : List Block) → breaches_of program ≡ [] → blocks_of program.main (root_tree program) ≡ Some blocks → Spells text blocks
-    spells-by blocks keeps same = (is.tokens, root_tree program, is.has, rule-is None (no-fault keeps), form-is (Some blocks) same)
-
     module _ (short : length text ≤ 65536) where
+      pub spells-by : (blocks : List Block) → breaches_of program ≡ [] → blocks_of program.main (root_tree program) ≡ Some blocks → Spells text blocks
+      spells-by blocks keeps same = record {
+        short = short;
+        tokens = is.tokens;
+        tree = root_tree program;
+        has = is.has;
+        keeps = rule-is None (no-fault keeps);
+        form = form-is (Some blocks) same;
+      }
+
       pub other-by : breaches_of program ≡ [] → blocks_of program.main (root_tree program) ≡ None → IsRefused OtherForm text
       other-by keeps same = (short, (is.tokens, root_tree program, is.has, rule-is None (no-fault keeps), form-is None same))
 
       pub runs-by : (blocks : List Block) → breaches_of program ≡ [] → blocks_of program.main (root_tree program) ≡ Some blocks → IsProgram text
-      runs-by blocks keeps same = (short, (blocks, spells-by blocks keeps same))
+      runs-by blocks keeps same = (blocks, spells-by blocks keeps same)
 
       broken-by : (found : CheckFault) → fault_of program ≡ Some found → HasCheckFault found text
       broken-by found same = (short, (is.tokens, root_tree program, is.has, rule-is (Some found) same))
 
-      pub check-refused : (found : CheckFault) → (found ≢ rule.Memory → fault_of program ≡ Some found) → (why : Refusal) → end_of_check_fault found ≡ Refused why → IsRefused why text
-      check-refused (rule.UnknownName spot) known why same = subst (λ one. IsRefused one text) (refused-one same) (broken-by (rule.UnknownName spot) (known (λ other. cc)))
-      check-refused (rule.TwiceDeclared spot) known why same = subst (λ one. IsRefused one text) (refused-one same) (broken-by (rule.TwiceDeclared spot) (known (λ other. cc)))
-      check-refused (rule.WrongUse spot) known why same = subst (λ one. IsRefused one text) (refused-one same) (broken-by (rule.WrongUse spot) (known (λ other. cc)))
-      check-refused (rule.BadNesting spot) known why same = subst (λ one. IsRefused one text) (refused-one same) (broken-by (rule.BadNesting spot) (known (λ other. cc)))
-      check-refused (rule.BadLoop spot) known why same = subst (λ one. IsRefused one text) (refused-one same) (broken-by (rule.BadLoop spot) (known (λ other. cc)))
-      check-refused (rule.NoMain spot) known why same = subst (λ one. IsRefused one text) (refused-one same) (broken-by (rule.NoMain spot) (known (λ other. cc)))
-      check-refused (rule.NotListed spot) known why same = subst (λ one. IsRefused one text) (refused-one same) (broken-by (rule.NotListed spot) (known (λ other. cc)))
-      check-refused rule.Memory known why same = absurd (cc)
+      -- what is refused for this broken rule, if it is one
+      check-ends : (P : End → Type 0) → P Memory → ((found : CheckFault) → IsRefused (Rule found) text → P (Refused (Rule found))) → (found : CheckFault) → (found ≢ rule.Memory → fault_of program ≡ Some found) → P (end_of_check_fault found)
+      check-ends P memory other rule.Memory known = memory
+      check-ends P memory other (rule.UnknownName spot) known = other _ (broken-by _ (known (λ same. cc)))
+      check-ends P memory other (rule.TwiceDeclared spot) known = other _ (broken-by _ (known (λ same. cc)))
+      check-ends P memory other (rule.WrongUse spot) known = other _ (broken-by _ (known (λ same. cc)))
+      check-ends P memory other (rule.BadNesting spot) known = other _ (broken-by _ (known (λ same. cc)))
+      check-ends P memory other (rule.BadLoop spot) known = other _ (broken-by _ (known (λ same. cc)))
+      check-ends P memory other (rule.NoMain spot) known = other _ (broken-by _ (known (λ same. cc)))
+      check-ends P memory other (rule.NotListed spot) known = other _ (broken-by _ (known (λ same. cc)))
 
       pub check-accepted : (found : CheckFault) → (found ≢ rule.Memory → fault_of program ≡ Some found) → (why : Refusal) → IsRefused why text → MayRefuse why (end_of_check_fault found)
-      check-accepted (rule.UnknownName spot) known why refused = refusal-one (UnknownName spot) why (broken-by (rule.UnknownName spot) (known (λ same. cc))) refused
-      check-accepted (rule.TwiceDeclared spot) known why refused = refusal-one (TwiceDeclared spot) why (broken-by (rule.TwiceDeclared spot) (known (λ same. cc))) refused
-      check-accepted (rule.WrongUse spot) known why refused = refusal-one (WrongUse spot) why (broken-by (rule.WrongUse spot) (known (λ same. cc))) refused
-      check-accepted (rule.BadNesting spot) known why refused = refusal-one (BadNesting spot) why (broken-by (rule.BadNesting spot) (known (λ same. cc))) refused
-      check-accepted (rule.BadLoop spot) known why refused = refusal-one (BadLoop spot) why (broken-by (rule.BadLoop spot) (known (λ same. cc))) refused
-      check-accepted (rule.NoMain spot) known why refused = refusal-one (NoMain spot) why (broken-by (rule.NoMain spot) (known (λ same. cc))) refused
-      check-accepted (rule.NotListed spot) known why refused = refusal-one (NotListed spot) why (broken-by (rule.NotListed spot) (known (λ same. cc))) refused
-      check-accepted rule.Memory known why refused = tt
+      check-accepted found known why refused = check-ends (MayRefuse why) tt (λ one has. found-accepted (Rule one) why has refused) found known
 
       pub check-runs : (found : CheckFault) → (found ≢ rule.Memory → fault_of program ≡ Some found) → IsProgram text → MayRun (end_of_check_fault found)
-      check-runs (rule.UnknownName spot) known runs = program-not_refused (UnknownName spot) runs (broken-by (rule.UnknownName spot) (known (λ same. cc)))
-      check-runs (rule.TwiceDeclared spot) known runs = program-not_refused (TwiceDeclared spot) runs (broken-by (rule.TwiceDeclared spot) (known (λ same. cc)))
-      check-runs (rule.WrongUse spot) known runs = program-not_refused (WrongUse spot) runs (broken-by (rule.WrongUse spot) (known (λ same. cc)))
-      check-runs (rule.BadNesting spot) known runs = program-not_refused (BadNesting spot) runs (broken-by (rule.BadNesting spot) (known (λ same. cc)))
-      check-runs (rule.BadLoop spot) known runs = program-not_refused (BadLoop spot) runs (broken-by (rule.BadLoop spot) (known (λ same. cc)))
-      check-runs (rule.NoMain spot) known runs = program-not_refused (NoMain spot) runs (broken-by (rule.NoMain spot) (known (λ same. cc)))
-      check-runs (rule.NotListed spot) known runs = program-not_refused (NotListed spot) runs (broken-by (rule.NotListed spot) (known (λ same. cc)))
-      check-runs rule.Memory known runs = tt
+      check-runs found known program = check-ends MayRun tt (λ one has. program-not_refused (Rule one) program has) found known
 
 -- the last token stands where the text ends
 end_at-last : (spot : Spot) (front : List Token) (last : Token) → end_at spot (front ++ last ∷ []) ≡ last.spot

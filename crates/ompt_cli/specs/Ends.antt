@@ -3,14 +3,17 @@ use Rattle.std.specs.Prelude.{ℕ, if◌then◌else◌, ◌==◌, ◌≡◌, Lis
 use Rattle.std.specs.Io.KnownBytes.{Appends}
 use Rattle.run_edges.specs.Edges.{Rose, AppendsFront}
 use Rattle.ompt_cli.specs.declared.end.Refusal.{Refusal}
-use Rattle.ompt_cli.specs.declared.end.Refusal.TheVariants.{BadByte, OpenComment, BadNumber, Unexpected, UnknownDirective, OutOfProfile, TooDeep, UnknownName, TwiceDeclared, WrongUse, BadNesting, BadLoop, NoMain, NotListed, TooLong, OtherForm}
+use Rattle.ompt_cli.specs.declared.end.Refusal.TheVariants.{Tokens, Syntax, Rule, TooLong, OtherForm}
 use Rattle.c_tokens.specs.declared.token.Spot.{Spot}
 use Rattle.c_tokens.specs.declared.token.TokenFault.{TokenFault}
-use Rattle.c_tokens.specs.declared.token.TokenFault.TheVariants as fault
+use Rattle.c_tokens.specs.declared.token.TokenFault.TheVariants as token
+use Rattle.c_tokens.specs.Faults.{nowhere, fault_number as token_number, fault_spot as token_spot}
 use Rattle.c_syntax.specs.declared.fault.SyntaxFault.{SyntaxFault}
 use Rattle.c_syntax.specs.declared.fault.SyntaxFault.TheVariants as syntax
+use Rattle.c_syntax.specs.Faults.{fault_number as syntax_number, fault_spot as syntax_spot}
 use Rattle.c_check.specs.declared.fault.CheckFault.{CheckFault}
 use Rattle.c_check.specs.declared.fault.CheckFault.TheVariants as rule
+use Rattle.c_check.specs.Faults.{fault_number as rule_number, fault_spot as rule_spot}
 use Rattle.std.specs.Fmt.{decimal}
 use Rattle.ompt_cli.specs.declared.end.End.{End}
 use Rattle.ompt_cli.specs.declared.end.End.TheVariants.{Done, Usage, Refused, Deadlock, Limit, ReadFault, WriteFault, Memory}
@@ -27,68 +30,32 @@ status_of Memory = 10
 
 -- the number of a refusal, and its place, which is 0:0 where it is of the whole text
 abbrev pub refusal_number : Refusal → ℕ
-refusal_number (BadByte spot) = 1
-refusal_number (OpenComment spot) = 2
-refusal_number (BadNumber spot) = 3
-refusal_number (Unexpected spot) = 4
-refusal_number (UnknownDirective spot) = 5
-refusal_number (OutOfProfile spot) = 6
-refusal_number (TooDeep spot) = 7
-refusal_number (UnknownName spot) = 8
-refusal_number (TwiceDeclared spot) = 9
-refusal_number (WrongUse spot) = 10
-refusal_number (BadNesting spot) = 11
-refusal_number (BadLoop spot) = 12
-refusal_number (NoMain spot) = 13
-refusal_number (NotListed spot) = 14
+refusal_number (Tokens found) = token_number found
+refusal_number (Syntax found) = syntax_number found
+refusal_number (Rule found) = rule_number found
 refusal_number TooLong = 15
 refusal_number OtherForm = 16
 
-abbrev pub nowhere : Spot
-nowhere = record { line = 0; column = 0 }
-
 abbrev pub refusal_spot : Refusal → Spot
-refusal_spot (BadByte spot) = spot
-refusal_spot (OpenComment spot) = spot
-refusal_spot (BadNumber spot) = spot
-refusal_spot (Unexpected spot) = spot
-refusal_spot (UnknownDirective spot) = spot
-refusal_spot (OutOfProfile spot) = spot
-refusal_spot (TooDeep spot) = spot
-refusal_spot (UnknownName spot) = spot
-refusal_spot (TwiceDeclared spot) = spot
-refusal_spot (WrongUse spot) = spot
-refusal_spot (BadNesting spot) = spot
-refusal_spot (BadLoop spot) = spot
-refusal_spot (NoMain spot) = spot
-refusal_spot (NotListed spot) = spot
+refusal_spot (Tokens found) = token_spot found
+refusal_spot (Syntax found) = syntax_spot found
+refusal_spot (Rule found) = rule_spot found
 refusal_spot TooLong = nowhere
 refusal_spot OtherForm = nowhere
 
 -- the end of a command whose text has this fault in its tokens, of one whose tokens are no program for this fault, and of one whose
 -- program breaks a rule so
 abbrev pub end_of_fault : TokenFault → End
-end_of_fault (fault.BadByte spot) = Refused (BadByte spot)
-end_of_fault (fault.OpenComment spot) = Refused (OpenComment spot)
-end_of_fault (fault.BadNumber spot) = Refused (BadNumber spot)
-end_of_fault fault.Memory = Memory
+end_of_fault token.Memory = Memory
+end_of_fault found = Refused (Tokens found)
 
 abbrev pub end_of_syntax_fault : SyntaxFault → End
-end_of_syntax_fault (syntax.Unexpected spot) = Refused (Unexpected spot)
-end_of_syntax_fault (syntax.UnknownDirective spot) = Refused (UnknownDirective spot)
-end_of_syntax_fault (syntax.OutOfProfile spot) = Refused (OutOfProfile spot)
-end_of_syntax_fault (syntax.TooDeep spot) = Refused (TooDeep spot)
 end_of_syntax_fault syntax.Memory = Memory
+end_of_syntax_fault found = Refused (Syntax found)
 
 abbrev pub end_of_check_fault : CheckFault → End
-end_of_check_fault (rule.UnknownName spot) = Refused (UnknownName spot)
-end_of_check_fault (rule.TwiceDeclared spot) = Refused (TwiceDeclared spot)
-end_of_check_fault (rule.WrongUse spot) = Refused (WrongUse spot)
-end_of_check_fault (rule.BadNesting spot) = Refused (BadNesting spot)
-end_of_check_fault (rule.BadLoop spot) = Refused (BadLoop spot)
-end_of_check_fault (rule.NoMain spot) = Refused (NoMain spot)
-end_of_check_fault (rule.NotListed spot) = Refused (NotListed spot)
 end_of_check_fault rule.Memory = Memory
+end_of_check_fault found = Refused (Rule found)
 
 -- the line on standard error that tells a refusal, without its newline
 abbrev pub refusal_at : ℕ → Spot → List ℕ

@@ -1,32 +1,41 @@
 -- What guests stand for after a run: guest t was the part of thread t.
-use Rattle.std.specs.Prelude.{ℕ, ◌≡◌, ◌<◌, ◌≤◌, List, [], ◌∷◌, length, slice_index_or}
+use Rattle.std.specs.Prelude.{ℕ, ◌≡◌, ◌≢◌, ◌<◌, ◌≤◌, List, [], ◌∷◌, length, slice_index_or, Option, None}
 use Rattle.tool_api.specs.Record.{Record}
 use Rattle.tool_api.specs.declared.handed.Handed.{Handed}
 use Rattle.tool_api.specs.declared.handed.Handed.TheVariants as held
+use Rattle.omp_model.specs.declared.cause.Cause.{Cause}
+use Rattle.omp_model.specs.declared.cause.Cause.TheVariants as causes
 use Rattle.omp_model.specs.declared.history.Entry.{Entry}
 use Rattle.omp_model.specs.State.{Run}
 use Rattle.omp_model.specs.Heard.{heard_of}
 use Rattle.team_run.specs.Serving.{served, mask_of, first_record}
+use Rattle.team_run.specs.Standing.{AreSilent}
+use Rattle.team_run.specs.Unheard.{IsUnheard, unheard_on}
 use Rattle.ompt_cli.specs.declared.words.Command.{Command}
 use Rattle.ompt_cli.specs.declared.words.Command.TheVariants.{List as Listing, Run as Running}
 
--- guest 0 was started, with this answer and these callbacks registered, called for what thread 0 heard, and finished where it is
--- active; guest t was called for what thread t heard; those past the threads are as they were. Where there is no guest, nothing is
--- registered
-pub record GuestsServe {B : Type 0} (stands_for : B → Record → Type 0) (run : Run) (history : List Entry) (guests after : List B) : Type 0 where
+-- guest 0 was started, with this answer and these callbacks registered, called for what thread 0 heard, and finished after all
+-- that where it is active; guest t was called for what thread t heard; those past the threads are as they were. Beside that only
+-- one call more was made, where one found no memory. Where there is no guest, nothing is registered, and nothing is stored on a
+-- thread without a guest
+pub record GuestsServe {B : Type 0} (stands_for : B → Record → Type 0) (run : Run) (cause : Cause) (history : List Entry) (guests after : List B) : Type 0 where
   pub as_many : length after ≡ length guests
   pub answer : ℕ
   pub registered : ℕ
   pub mask_is : run.mask ≡ mask_of answer registered
   pub nobody : length guests ≡ 0 → answer ≡ 0
-  pub first : (d : B) (h : Record) → 0 < length guests → stands_for (slice_index_or guests 0 d) h → stands_for (slice_index_or after 0 d) (first_record answer registered (heard_of run history 0) h)
-  pub others : (k : ℕ) (d : B) (h : Record) → 0 < k → k < run.threads → k < length guests → stands_for (slice_index_or guests k d) h → stands_for (slice_index_or after k d) (served h (heard_of run history k))
+  pub unheard : Option ℕ
+  pub is_unheard : IsUnheard run history unheard
+  pub all_heard : cause ≢ causes.Memory → unheard ≡ None
+  pub first : (d : B) (h : Record) → 0 < length guests → stands_for (slice_index_or guests 0 d) h → stands_for (slice_index_or after 0 d) (first_record answer registered (heard_of run history 0) unheard h)
+  pub others : (k : ℕ) (d : B) (h : Record) → 0 < k → k < run.threads → k < length guests → stands_for (slice_index_or guests k d) h → stands_for (slice_index_or after k d) (unheard_on unheard k (served h (heard_of run history k)))
   pub rest : (k : ℕ) (d : B) → run.threads ≤ k → slice_index_or after k d ≡ slice_index_or guests k d
+  pub guestless : (k : ℕ) → length guests ≤ k → k < run.threads → AreSilent (heard_of run history k)
 
 -- what guests stand for after a command: a listing leaves them as they were
-abbrev pub GuestsAfter : {B : Type 0} → (B → Record → Type 0) → Command → Run → List Entry → List B → List B → Type 0
-GuestsAfter stands_for Listing run history guests after = after ≡ guests
-GuestsAfter stands_for Running run history guests after = GuestsServe stands_for run history guests after
+abbrev pub GuestsAfter : {B : Type 0} → (B → Record → Type 0) → Command → Run → Cause → List Entry → List B → List B → Type 0
+GuestsAfter stands_for Listing run cause history guests after = after ≡ guests
+GuestsAfter stands_for Running run cause history guests after = GuestsServe stands_for run cause history guests after
 
 -- the guests that these parts hold, in order
 abbrev pub guests_of : {G : Type 0} {B : Type 0} → (G → B) → List (Handed G) → List B

@@ -1,21 +1,18 @@
 -- The texts that run, with their programs, and the refusals of all others.
 use Rattle.std.specs.Prelude.{ℕ, ◌≡◌, ◌<◌, ◌≤◌, List, [], ◌∷◌, length, Option, Some, None, Ok, Err}
 use Rattle.ompt_cli.specs.declared.end.Refusal.{Refusal}
-use Rattle.ompt_cli.specs.declared.end.Refusal.TheVariants.{BadByte, OpenComment, BadNumber, Unexpected, UnknownDirective, OutOfProfile, TooDeep, UnknownName, TwiceDeclared, WrongUse, BadNesting, BadLoop, NoMain, NotListed, TooLong, OtherForm}
+use Rattle.ompt_cli.specs.declared.end.Refusal.TheVariants.{Tokens, Syntax, Rule, TooLong, OtherForm}
 use Rattle.c_tokens.specs.declared.token.Spot.{Spot}
 use Rattle.c_tokens.specs.declared.token.Token.{Token}
 use Rattle.c_tokens.specs.declared.token.TokenFault.{TokenFault}
-use Rattle.c_tokens.specs.declared.token.TokenFault.TheVariants as fault
 use Rattle.c_tokens.specs.Tokens.{tokens_of}
 use Rattle.c_syntax.specs.declared.fault.SyntaxFault.{SyntaxFault}
-use Rattle.c_syntax.specs.declared.fault.SyntaxFault.TheVariants as syntax
 use Rattle.c_syntax.specs.Words.{main_of, words_of}
 use Rattle.c_syntax.specs.Tree.{Tree}
 use Rattle.c_syntax.specs.Numbered.{TreeView, root_tree}
 use Rattle.c_syntax.specs.Derivation.{Spells as IsTreeOf}
 use Rattle.c_syntax.specs.Faults.{IsFault}
 use Rattle.c_check.specs.declared.fault.CheckFault.{CheckFault}
-use Rattle.c_check.specs.declared.fault.CheckFault.TheVariants as rule
 use Rattle.c_check.specs.Checked.{fault_in}
 use Rattle.omp_model.specs.declared.blocks.Block.{Block}
 use Rattle.ompt_cli.specs.Form.{blocks_of}
@@ -44,10 +41,14 @@ pub record IsReadAs (text : List ℕ) (program : TreeView) : Type 0 where
   pub end_is : program.end ≡ end_of tokens
   pub main_is : program.main ≡ main_of text tokens
 
--- the text spells this program: it breaks no rule, and its tree is of the form, with these blocks
-abbrev pub Spells : List ℕ → List Block → Type 0
-Spells text blocks =
-    (tokens : List Token) × (tree : Tree) × HasTree text tokens tree × (rule_broken text tokens tree ≡ None) × (blocks_of (main_of text tokens) tree ≡ Some blocks)
+-- the text spells this program: it isn't too long, its tree breaks no rule, and the tree is of the form, with these blocks
+pub record Spells (text : List ℕ) (blocks : List Block) : Type 0 where
+  pub short : length text ≤ 65536
+  pub tokens : List Token
+  pub tree : Tree
+  pub has : HasTree text tokens tree
+  pub keeps : rule_broken text tokens tree ≡ None
+  pub form : blocks_of (main_of text tokens) tree ≡ Some blocks
 
 -- the text isn't too long, and the first fault of its tokens is this one
 abbrev pub HasFault : TokenFault → List ℕ → Type 0
@@ -70,23 +71,12 @@ HasOtherForm text =
 -- the text is refused for this: it is too long, or else its tokens have a fault, or else it is no program, or else it breaks a rule, or
 -- else it is of another form
 abbrev pub IsRefused : Refusal → List ℕ → Type 0
-IsRefused (BadByte spot) text = HasFault (fault.BadByte spot) text
-IsRefused (OpenComment spot) text = HasFault (fault.OpenComment spot) text
-IsRefused (BadNumber spot) text = HasFault (fault.BadNumber spot) text
-IsRefused (Unexpected spot) text = HasSyntaxFault (syntax.Unexpected spot) text
-IsRefused (UnknownDirective spot) text = HasSyntaxFault (syntax.UnknownDirective spot) text
-IsRefused (OutOfProfile spot) text = HasSyntaxFault (syntax.OutOfProfile spot) text
-IsRefused (TooDeep spot) text = HasSyntaxFault (syntax.TooDeep spot) text
-IsRefused (UnknownName spot) text = HasCheckFault (rule.UnknownName spot) text
-IsRefused (TwiceDeclared spot) text = HasCheckFault (rule.TwiceDeclared spot) text
-IsRefused (WrongUse spot) text = HasCheckFault (rule.WrongUse spot) text
-IsRefused (BadNesting spot) text = HasCheckFault (rule.BadNesting spot) text
-IsRefused (BadLoop spot) text = HasCheckFault (rule.BadLoop spot) text
-IsRefused (NoMain spot) text = HasCheckFault (rule.NoMain spot) text
-IsRefused (NotListed spot) text = HasCheckFault (rule.NotListed spot) text
+IsRefused (Tokens found) text = HasFault found text
+IsRefused (Syntax found) text = HasSyntaxFault found text
+IsRefused (Rule found) text = HasCheckFault found text
 IsRefused TooLong text = 65536 < length text
 IsRefused OtherForm text = HasOtherForm text
 
--- the text runs: it isn't too long, and spells a program
+-- the text runs
 abbrev pub IsProgram : List ℕ → Type 0
-IsProgram text = (length text ≤ 65536) × ((blocks : List Block) × Spells text blocks)
+IsProgram text = (blocks : List Block) × Spells text blocks

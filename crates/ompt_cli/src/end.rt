@@ -8,43 +8,21 @@ ghost use Rattle.ompt_cli.specs.Ends.{end_of_check_fault, end_of_fault, end_of_s
 use arrayvec::ArrayString;
 use c_check::CheckFault;
 use c_syntax::SyntaxFault;
-use c_tokens::{Spot, TokenFault};
+use c_tokens::{NOWHERE, Spot, TokenFault};
 use itoa::Buffer;
 
 /// Why a text is refused.
 #[derive(Clone, Copy, Debug, PartialEq, Eq)]
 pub enum Refusal {
-    /// Number 1: a byte that begins no token, or may not stand where it stands.
-    BadByte(Spot),
-    /// Number 2: a comment without end.
-    OpenComment(Spot),
-    /// Number 3: digits that are no number.
-    BadNumber(Spot),
-    /// Number 4: a token with which no program goes on.
-    Unexpected(Spot),
-    /// Number 5: a word that should be a directive, and is none.
-    UnknownDirective(Spot),
-    /// Number 6: a part of C or of OpenMP that is out of the language.
-    OutOfProfile(Spot),
-    /// Number 7: the program would be deeper than the limit.
-    TooDeep(Spot),
-    /// Number 8: a name that nothing in scope declares.
-    UnknownName(Spot),
-    /// Number 9: a name that its scope declares already.
-    TwiceDeclared(Spot),
-    /// Number 10: something that is not used as what it is.
-    WrongUse(Spot),
-    /// Number 11: a directive or a `return` inside a construct where it may not stand.
-    BadNesting(Spot),
-    /// Number 12: a loop under a directive that can't be shared out.
-    BadLoop(Spot),
-    /// Number 13: no function main.
-    NoMain(Spot),
-    /// Number 14: a variable that `default(none)` wants listed.
-    NotListed(Spot),
-    /// Number 15: the text is longer than 65,536 bytes.
+    /// The first fault of its tokens: number 1, 2 or 3.
+    Tokens(TokenFault),
+    /// Its fault by the grammar: number 4, 5, 6 or 7.
+    Syntax(SyntaxFault),
+    /// The first rule that it breaks: a number from 8 to 14.
+    Rule(CheckFault),
+    /// Number 15: it is longer than 65,536 bytes.
     TooLong,
-    /// Number 16: the text is a program, and isn't of the form that runs.
+    /// Number 16: it is a program, and isn't of the form that runs.
     OtherForm,
 }
 
@@ -114,24 +92,13 @@ impl End {
 
 impl Refusal {
     /// The number by which it is told.
-    fn number(self) -> u8
+    fn number(self) -> u32
         ensures { result ≡ refusal_number self }
     {
         match self {
-            Refusal::BadByte(_) => 1,
-            Refusal::OpenComment(_) => 2,
-            Refusal::BadNumber(_) => 3,
-            Refusal::Unexpected(_) => 4,
-            Refusal::UnknownDirective(_) => 5,
-            Refusal::OutOfProfile(_) => 6,
-            Refusal::TooDeep(_) => 7,
-            Refusal::UnknownName(_) => 8,
-            Refusal::TwiceDeclared(_) => 9,
-            Refusal::WrongUse(_) => 10,
-            Refusal::BadNesting(_) => 11,
-            Refusal::BadLoop(_) => 12,
-            Refusal::NoMain(_) => 13,
-            Refusal::NotListed(_) => 14,
+            Refusal::Tokens(fault) => fault.number(),
+            Refusal::Syntax(fault) => fault.number(),
+            Refusal::Rule(fault) => fault.number(),
             Refusal::TooLong => 15,
             Refusal::OtherForm => 16,
         }
@@ -142,21 +109,10 @@ impl Refusal {
         ensures { result ≡ refusal_spot self }
     {
         match self {
-            Refusal::BadByte(spot)
-            | Refusal::OpenComment(spot)
-            | Refusal::BadNumber(spot)
-            | Refusal::Unexpected(spot)
-            | Refusal::UnknownDirective(spot)
-            | Refusal::OutOfProfile(spot)
-            | Refusal::TooDeep(spot)
-            | Refusal::UnknownName(spot)
-            | Refusal::TwiceDeclared(spot)
-            | Refusal::WrongUse(spot)
-            | Refusal::BadNesting(spot)
-            | Refusal::BadLoop(spot)
-            | Refusal::NoMain(spot)
-            | Refusal::NotListed(spot) => spot,
-            Refusal::TooLong | Refusal::OtherForm => Spot { line: 0, column: 0 },
+            Refusal::Tokens(fault) => fault.spot(),
+            Refusal::Syntax(fault) => fault.spot(),
+            Refusal::Rule(fault) => fault.spot(),
+            Refusal::TooLong | Refusal::OtherForm => NOWHERE,
         }
     }
 
@@ -167,7 +123,7 @@ impl Refusal {
         let spot = self.spot();
         let mut line = ArrayString::new();
         line.push_str("refused ");
-        push_number(&mut line, u32::from(self.number()));
+        push_number(&mut line, self.number());
         line.push_str(" at ");
         push_number(&mut line, spot.line);
         line.push_str(":");
@@ -182,10 +138,8 @@ pub(crate) fn end_of_fault(fault: TokenFault) -> End
     ensures { result ≡ end_of_fault fault }
 {
     match fault {
-        TokenFault::BadByte(spot) => End::Refused(Refusal::BadByte(spot)),
-        TokenFault::OpenComment(spot) => End::Refused(Refusal::OpenComment(spot)),
-        TokenFault::BadNumber(spot) => End::Refused(Refusal::BadNumber(spot)),
         TokenFault::Memory => End::Memory,
+        _ => End::Refused(Refusal::Tokens(fault)),
     }
 }
 
@@ -194,11 +148,8 @@ pub(crate) fn end_of_syntax_fault(fault: SyntaxFault) -> End
     ensures { result ≡ end_of_syntax_fault fault }
 {
     match fault {
-        SyntaxFault::Unexpected(spot) => End::Refused(Refusal::Unexpected(spot)),
-        SyntaxFault::UnknownDirective(spot) => End::Refused(Refusal::UnknownDirective(spot)),
-        SyntaxFault::OutOfProfile(spot) => End::Refused(Refusal::OutOfProfile(spot)),
-        SyntaxFault::TooDeep(spot) => End::Refused(Refusal::TooDeep(spot)),
         SyntaxFault::Memory => End::Memory,
+        _ => End::Refused(Refusal::Syntax(fault)),
     }
 }
 
@@ -207,14 +158,8 @@ pub(crate) fn end_of_check_fault(fault: CheckFault) -> End
     ensures { result ≡ end_of_check_fault fault }
 {
     match fault {
-        CheckFault::UnknownName(spot) => End::Refused(Refusal::UnknownName(spot)),
-        CheckFault::TwiceDeclared(spot) => End::Refused(Refusal::TwiceDeclared(spot)),
-        CheckFault::WrongUse(spot) => End::Refused(Refusal::WrongUse(spot)),
-        CheckFault::BadNesting(spot) => End::Refused(Refusal::BadNesting(spot)),
-        CheckFault::BadLoop(spot) => End::Refused(Refusal::BadLoop(spot)),
-        CheckFault::NoMain(spot) => End::Refused(Refusal::NoMain(spot)),
-        CheckFault::NotListed(spot) => End::Refused(Refusal::NotListed(spot)),
         CheckFault::Memory => End::Memory,
+        _ => End::Refused(Refusal::Rule(fault)),
     }
 }
 

@@ -28,6 +28,6 @@ mod top_call;
 mod words;
 
 pub use end::{End, Refusal};
-pub use report::{ALL_CALLBACKS, Report, SILENT_STEPS, Top};
+pub use report::{Report, SILENT_STEPS, Top};
 pub use top_call::top;
 pub use words::Command;

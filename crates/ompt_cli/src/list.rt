@@ -15,8 +15,9 @@ use crate::end::End;
 use crate::ended::{Ended, without_run};
 use crate::job::Job;
 use crate::program::copied;
-use crate::report::{ALL_CALLBACKS, Report, SILENT_STEPS};
+use crate::report::{Report, SILENT_STEPS};
 use crate::words::Command;
+use omp_codes::PROFILE_MASK;
 use omp_model::Cause;
 use run_edges::{Sink, write_all};
 use std::alloc::{AllocError, Global};
@@ -33,10 +34,11 @@ pub(crate) fn list<O: Sink>(
 ) -> Ended
     ensures end { IsAfterRun result.end }
     ensures write { result.end ≡ End.WriteFault → Rose (O.faults out.old) (O.faults out.new) }
+    ensures steady { result.end ≢ End.WriteFault → O.faults out.new ≡ O.faults out.old }
     ensures ran { IfSome result.ran (λ report.
         (report.command ≡ Command.List) × (report.blocks ≡ job.blocks) × (report.threads ≡ job.threads)) }
     ensures guests { IfSome result.ran (λ report. report.guests ≡ guests) }
-    ensures mask { IfSome result.ran (λ report. report.mask ≡ ALL_CALLBACKS) }
+    ensures mask { IfSome result.ran (λ report. report.mask ≡ PROFILE_MASK) }
     ensures serial { IfSome result.ran (λ report. Serial (run_of report) report.history) }
     ensures cause { IfSome result.ran (λ report. report.cause ≢ Cause.Memory →
         cause_of (run_of report) report.history ≡ Some report.cause) }
@@ -104,6 +106,7 @@ fn write_run<O: Sink>(alloc: Global, cause: Cause, parts: &[Lister], out: &mut O
     ensures part { (events : List EventRecord) → AreShared events parts.now → result ≡ End.WriteFault →
         AppendsFront (O.held out.old) (O.held out.new) (unless_memory cause (lines_of events)) }
     ensures write { result ≡ End.WriteFault → Rose (O.faults out.old) (O.faults out.new) }
+    ensures steady { result ≢ End.WriteFault → O.faults out.new ≡ O.faults out.old }
     ensures kept { result ≡ End.Memory → Keeps (O.held out.old) (O.held out.new) }
 {
     match cause {
@@ -124,6 +127,7 @@ fn write_lines<O: Sink>(alloc: Global, whole: End, parts: &[Lister], out: &mut O
     ensures part { (events : List EventRecord) → AreShared events parts.now → result ≡ End.WriteFault →
         AppendsFront (O.held out.old) (O.held out.new) (lines_of events) }
     ensures write { result ≡ End.WriteFault → Rose (O.faults out.old) (O.faults out.new) }
+    ensures steady { result ≢ End.WriteFault → O.faults out.new ≡ O.faults out.old }
     ensures kept { result ≡ End.Memory → Keeps (O.held out.old) (O.held out.new) }
 {
     let Ok(lines) = lines_text(alloc, parts) else {

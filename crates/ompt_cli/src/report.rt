@@ -5,9 +5,6 @@ use crate::words::Command;
 use omp_model::{Blocks, Cause, History};
 use tool_api::GuestTool;
 
-/// The callbacks that a listing registers: all sixteen of the profile, bit n for number n.
-pub const ALL_CALLBACKS: u64 = 0x0FB3_00FE;
-
 /// How many silent steps a run may have where the words don't say.
 pub const SILENT_STEPS: u32 = 1_000_000;
 
@@ -20,7 +17,7 @@ pub struct Report {
     pub cause: Cause,
     /// The program: its parallel blocks.
     pub blocks: Blocks,
-    /// The callbacks that were registered: bit n for number n.
+    /// The callbacks that were registered, bit n for number n: for a listing [`PROFILE_MASK`](omp_codes::PROFILE_MASK).
     pub mask: u64,
     /// How many threads there might be.
     pub threads: u8,

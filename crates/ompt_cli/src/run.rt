@@ -27,7 +27,8 @@ pub(crate) fn run(alloc: Global, job: Job, guests: Vec<Box<dyn GuestTool>>) -> E
     ensures ran { IfSome result.ran (λ report.
         (report.command ≡ Command.Run) × (report.blocks ≡ job.blocks) × (report.threads ≡ job.threads)) }
     ensures guests { IfSome result.ran (λ report.
-        GuestsServe (λ guest h. (GuestTool-box guest).stands_for guest.value h) (run_of report) report.history guests.items report.guests.items) }
+        GuestsServe (λ guest h. (GuestTool-box guest).stands_for guest.value h) (run_of report) report.cause report.history
+        guests.items report.guests.items) }
     ensures serial { IfSome result.ran (λ report. Serial (run_of report) report.history) }
     ensures cause { IfSome result.ran (λ report. report.cause ≢ Cause.Memory →
         cause_of (run_of report) report.history ≡ Some report.cause) }

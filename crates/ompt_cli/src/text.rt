@@ -27,6 +27,7 @@ pub(crate) fn read_blocks<S: Source>(alloc: Global, source: &mut S) -> Result<Bl
         IsErrAnd result (MayRefuse why) }
     ensures runs { IsSomeAnd (S.left source.old) IsProgram → IfErr result MayRun }
     ensures read { result ≡ Err End.ReadFault → Rose (S.faults source.old) (S.faults source.new) }
+    ensures steady { result ≢ Err End.ReadFault → S.faults source.new ≡ S.faults source.old }
 {
     match read_all(alloc, source, TEXT_LIMIT) {
         Ok(text) => program_of(alloc, &text),
@@ -74,7 +75,7 @@ fn tree_of(alloc: Global, text: &[u8]) -> Result<Tree, End>
 
 /// The blocks of a tree that was read, by the rules and then by the form.
 fn blocks_in(alloc: Global, tree: Tree) -> Result<Blocks, End>
-    ensures program { IfOk result (λ blocks. (text : List ℕ) → IsReadAs text tree → Spells text blocks) }
+    ensures program { IfOk result (λ blocks. (text : List ℕ) → length text ≤ 65536 → IsReadAs text tree → Spells text blocks) }
     ensures before { IfErr result IsBeforeRun }
     ensures refused { (why : Refusal) → result ≡ Err (End.Refused why) →
         (text : List ℕ) → length text ≤ 65536 → IsReadAs text tree → IsRefused why text }

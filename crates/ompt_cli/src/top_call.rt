@@ -1,13 +1,13 @@
 //! The call that does all: a command from bytes to bytes.
 
-ghost use Rattle.std.specs.Prelude.{ℕ, ◌≡◌, ◌≢◌, IfSome, IsSomeAnd, IsNone, Some, ◌↔◌, ◌⊎◌, []};
+ghost use Rattle.std.specs.Prelude.{ℕ, ◌≡◌, ◌≢◌, ◌<◌, IfSome, IsSomeAnd, IsNone, Some, ◌↔◌, ◌⊎◌, []};
 ghost use Rattle.std.specs.Io.KnownBytes.{Appends, Keeps};
 ghost use Rattle.omp_model.specs.Serial.{Serial, serial};
 ghost use Rattle.omp_model.specs.Cause.{cause_of};
 ghost use Rattle.run_edges.specs.Edges.{Rose, AppendsFront};
 ghost use Rattle.ompt_cli.specs.Words.{InForm, InFormWith, texts};
 ghost use Rattle.ompt_cli.specs.Text.{IsProgram, IsRefused, Spells};
-ghost use Rattle.ompt_cli.specs.Ends.{IsLost, IsTold};
+ghost use Rattle.ompt_cli.specs.Ends.{IsLost, IsTold, status_of_lost};
 ghost use Rattle.team_run.specs.Standing.{HearsSilent};
 ghost use Rattle.ompt_cli.specs.Commands.{EndsAs, MayRefuse, MayRun, out_of, run_of};
 ghost use Rattle.ompt_cli.specs.Guests.{GuestsAfter};
@@ -16,10 +16,11 @@ use crate::end::{End, Refusal};
 use crate::ended::{Ended, without_run};
 use crate::job::Job;
 use crate::list::list;
-use crate::report::{ALL_CALLBACKS, Top};
+use crate::report::Top;
 use crate::run::run;
 use crate::text::read_blocks;
 use crate::words::{Asked, Command, asked_of};
+use omp_codes::PROFILE_MASK;
 use omp_model::Cause;
 use run_edges::{Sink, Source, write_all};
 use std::alloc::Global;
@@ -58,15 +59,18 @@ pub fn top<R, S: Source, O: Sink, E: Sink>(
     ensures accepted { InForm (texts words.now) → (why : Refusal) →
         IsSomeAnd (S.left source.old) (IsRefused why) → MayRefuse why result.end }
 
-    // Each fault was counted.
+    // Each fault was counted, and a count that is greater than before shows in how the command ended.
     ensures read { result.end ≡ End.ReadFault → Rose (S.faults source.old) (S.faults source.new) }
     ensures write { result.end ≡ End.WriteFault → Rose (O.faults out.old) (O.faults out.new) }
+    ensures unread { S.faults source.old < S.faults source.new → result.end ≡ End.ReadFault }
+    ensures lost { O.faults out.old < O.faults out.new → result.end ≡ End.WriteFault }
+    ensures untold { E.faults err.old < E.faults err.new → result.status ≡ status_of_lost result.end }
 
     // What ran is one serial run of the program, with as many threads as the words ask for.
     ensures asked { IfSome result.ran (λ report. InFormWith (texts words.now) report.command report.threads) }
     ensures spelled { IfSome result.ran (λ report.
         IfSome (S.left source.old) (λ text. Spells text report.blocks)) }
-    ensures mask { IfSome result.ran (λ report. report.command ≡ Command.List → report.mask ≡ ALL_CALLBACKS) }
+    ensures mask { IfSome result.ran (λ report. report.command ≡ Command.List → report.mask ≡ PROFILE_MASK) }
     ensures serial { IfSome result.ran (λ report. Serial (run_of report) report.history) }
     ensures cause { IfSome result.ran (λ report. report.cause ≢ Cause.Memory →
         cause_of (run_of report) report.history ≡ Some report.cause) }
@@ -77,10 +81,11 @@ pub fn top<R, S: Source, O: Sink, E: Sink>(
     ensures silent_run { IfSome result.ran (λ report. report.cause ≢ Cause.Memory →
         HearsSilent (run_of report) report.history → report.history ≡ serial (run_of report)) }
 
-    // Guest t was called for what thread t heard, in its order, and for nothing else.
+    // Guest t was called for what thread t heard, in its order, and for nothing else but at most one call that found no
+    // memory. Threads without a guest stored nothing.
     ensures guests { IfSome result.ran (λ report.
-        GuestsAfter (λ guest h. (GuestTool-box guest).stands_for guest.value h) report.command (run_of report) report.history
-        guests.items report.guests.items) }
+        GuestsAfter (λ guest h. (GuestTool-box guest).stands_for guest.value h) report.command (run_of report)
+        report.cause report.history guests.items report.guests.items) }
 
     // The end is the run's, unless a write or memory fails.
     ensures done { result.end ≡ End.Done → IsSomeAnd result.ran (λ report. report.cause ≡ Cause.Done) }
@@ -119,6 +124,7 @@ fn tell<E: Sink>(ended: Ended, err: &mut E) -> Top
     ensures ran { result.ran ≡ ended.ran }
     ensures told { IsTold result.status ended.end (E.held err.old) (E.held err.new)
         ⊎ IsLost result.status ended.end (E.held err.old) (E.held err.new) (E.faults err.old) (E.faults err.new) }
+    ensures untold { E.faults err.old < E.faults err.new → result.status ≡ status_of_lost ended.end }
     ensures zero { (result.status ≡ 0) ↔ (ended.end ≡ End.Done) }
     ensures silent { ended.end ≡ End.Done → err.new ≡ err.old }
 {

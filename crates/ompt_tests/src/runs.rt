@@ -2,6 +2,7 @@
 
 use crate::fixture::*;
 use crate::listening::{Listening, NULL, ONE, STORED, TWO, answers_of};
+use omp_codes::PROFILE_MASK;
 use omp_model::{Block, Blocks, Cause, Entry, What};
 use ompt_calls::{Call, Frame, Target, Word};
 use ompt_cli::{Command, End};
@@ -16,9 +17,6 @@ const RUN_ON_ONE: &[&str] = &["run", "--serial", "--threads", "1"];
 
 /// Words of a run with two threads.
 const RUN_ON_TWO: &[&str] = &["run", "--serial", "--threads", "2"];
-
-/// Each callback that a tool of the profile registers.
-const ALL: u64 = 0x0FB3_00FE;
 
 /// The begin of parallel regions, and implicit tasks.
 const REGIONS_AND_TASKS: u64 = 0x88;
@@ -121,15 +119,28 @@ fn guests_past_the_threads_hear_nothing(rt: HostRuntime) -> Result<(), Fail> {
     Ok(())
 }
 
+/// One active guest on two threads hears the twelve events of its own thread. Those of the other thread have no part that could
+/// store, so the history is the one of 41 entries without a store.
+#[test]
+fn one_guest_runs_on_two_threads(rt: HostRuntime) -> Result<(), Fail> {
+    let guests = listening(&rt, 1, PROFILE_MASK, 1)?;
+    let told = tell_guests(&rt, RUN_ON_TWO, guests, &[])?;
+    ended(&rt, &told, End::Done, 0, b"", b"", 0);
+    let ran = ran_in(&rt, &told);
+    went(&rt, ran, Command::Run, Cause::Done, PROFILE_MASK, 41, 0);
+    heard(&rt, ran, &[[12, 1, 1]]);
+    Ok(())
+}
+
 /// A guest that finds no memory at its third call ends the run there, after the Go of that event, and is finished.
 #[test]
 fn a_guest_finds_no_memory(rt: HostRuntime) -> Result<(), Fail> {
-    let mut guest = Listening::new(&rt, ALL, 1);
+    let mut guest = Listening::new(&rt, PROFILE_MASK, 1);
     guest.fails = 3;
     let told = tell_guests(&rt, RUN_ON_ONE, Vec::from_array(rt.alloc(), [guest])?, &[])?;
     ended(&rt, &told, End::Memory, 10, b"", b"memory\n", 0);
     let ran = ran_in(&rt, &told);
-    went(&rt, ran, Command::Run, Cause::Memory, ALL, 5, 0);
+    went(&rt, ran, Command::Run, Cause::Memory, PROFILE_MASK, 5, 0);
     heard(&rt, ran, &[[2, 1, 1]]);
     Ok(())
 }
@@ -137,11 +148,11 @@ fn a_guest_finds_no_memory(rt: HostRuntime) -> Result<(), Fail> {
 /// A listing gives its guests back, and calls none. In its history thread 0 has a turn without an event.
 #[test]
 fn a_region_of_two_lists_twenty_lines(rt: HostRuntime) -> Result<(), Fail> {
-    let guests = listening(&rt, 2, ALL, 1)?;
+    let guests = listening(&rt, 2, PROFILE_MASK, 1)?;
     let told = tell_guests(&rt, LIST_ON_TWO, guests, &[])?;
     ended(&rt, &told, End::Done, 0, REGION_LISTING, b"", 0);
     let ran = ran_in(&rt, &told);
-    went(&rt, ran, Command::List, Cause::Done, ALL, 41, 0);
+    went(&rt, ran, Command::List, Cause::Done, PROFILE_MASK, 41, 0);
     let block = Block {
         requested: 2,
         codeptr: 131_073,
@@ -156,7 +167,7 @@ fn a_region_of_two_lists_twenty_lines(rt: HostRuntime) -> Result<(), Fail> {
 /// A run of the empty program that may take one silent step ends at that limit, in its third turn.
 #[test]
 fn a_run_meets_its_limit(rt: HostRuntime) -> Result<(), Fail> {
-    let guest = Guest(Box::new(rt.alloc(), Listening::new(&rt, ALL, 1))?);
+    let guest = Guest(Box::new(rt.alloc(), Listening::new(&rt, PROFILE_MASK, 1))?);
     let parts = Vec::from_array(rt.alloc(), [guest])?;
     let mut ran = run_serial(rt.alloc(), Blocks(Vec::new(rt.alloc())), 1, 1, parts)?;
     assert_eq!(rt; ran.cause, Cause::Limit(1));

@@ -1,5 +1,5 @@
 //! A sink in memory that obeys a script.
-ghost use Rattle.std.specs.Prelude.{◌≡◌, ◌<◌, ◌≤◌, [], length, Some, IfOk, IsOk};
+ghost use Rattle.std.specs.Prelude.{◌≡◌, ◌≢◌, ◌<◌, ◌≤◌, [], length, Some, IfOk, IsOk};
 ghost use Rattle.run_edges.specs.Edges.{Rose, Takes};
 ghost use Rattle.run_edges.specs.MemSink.{WriteObeys};
 
@@ -71,6 +71,7 @@ impl Sink for MemSink {
         ensures takes { Takes (Some self.old.held) (Some self.new.held) result piece.now }
         ensures failed { result ≡ Took.Failed → Rose self.old.faults self.new.faults }
         ensures counted { self.old.faults ≤ self.new.faults }
+        ensures steady { result ≢ Took.Failed → self.new.faults ≡ self.old.faults }
         ensures obeys { WriteObeys self.old self.new result piece.now }
     {
         match self.steps.next(piece.len().min(self.room)) {

@@ -1,5 +1,5 @@
 //! A source in memory that obeys a script.
-ghost use Rattle.std.specs.Prelude.{◌≡◌, ◌<◌, ◌≤◌, length, Some};
+ghost use Rattle.std.specs.Prelude.{◌≡◌, ◌≢◌, ◌<◌, ◌≤◌, length, Some};
 ghost use Rattle.run_edges.specs.Edges.{Rose, Gives};
 ghost use Rattle.run_edges.specs.MemSource.{ReadObeys};
 
@@ -52,6 +52,7 @@ impl Source for MemSource {
         ensures gives { Gives (Some self.old.left) (Some self.new.left) result buf.new }
         ensures failed { result ≡ Got.Failed → Rose self.old.faults self.new.faults }
         ensures counted { self.old.faults ≤ self.new.faults }
+        ensures steady { result ≢ Got.Failed → self.new.faults ≡ self.old.faults }
         ensures obeys { ReadObeys self.old self.new result (length buf.old) }
     {
         match self.steps.next(buf.len()) {

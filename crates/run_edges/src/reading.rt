@@ -43,10 +43,11 @@ pub fn read_all<S: Source>(
     ensures held_back { result ≢ Err ReadAllFault.TooLong →
         ConsumesAtMost (S.left source.old) (S.left source.new) limit }
 
-    // A fault that is answered was counted, and the count never falls.
+    // A read that failed was counted and is answered, and the count never falls.
     ensures fault { result ≡ Err ReadAllFault.ReadFault →
         Rose (S.faults source.old) (S.faults source.new) }
     ensures counted { S.faults source.old ≤ S.faults source.new }
+    ensures steady { result ≢ Err ReadAllFault.ReadFault → S.faults source.new ≡ S.faults source.old }
 {
     let mut bytes = Vec::new(alloc);
     let mut buf = [0; CHUNK];

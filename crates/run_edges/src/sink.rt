@@ -11,7 +11,7 @@ pub enum Took {
 
 /// Where bytes go.
 pub trait Sink {
-    ghost use Rattle.std.specs.Prelude.{ℕ, ◌<◌, ◌≤◌, ◌≡◌, List, Option, length};
+    ghost use Rattle.std.specs.Prelude.{ℕ, ◌<◌, ◌≤◌, ◌≡◌, ◌≢◌, List, Option, length};
     ghost use Rattle.run_edges.specs.Edges.{Rose, Takes};
 
     ghost held: { Self → Option (List ℕ) };
@@ -25,5 +25,7 @@ pub trait Sink {
         requires { 0 < length piece.now }
         ensures takes { Takes (held self.old) (held self.new) result piece.now }
         ensures failed { result ≡ Took.Failed → Rose (faults self.old) (faults self.new) }
-        ensures counted { faults self.old ≤ faults self.new };
+        ensures counted { faults self.old ≤ faults self.new }
+        // A write that doesn't fail isn't counted.
+        ensures steady { result ≢ Took.Failed → faults self.new ≡ faults self.old };
 }

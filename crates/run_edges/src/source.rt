@@ -13,7 +13,7 @@ pub enum Got {
 
 /// Where bytes come from.
 pub trait Source {
-    ghost use Rattle.std.specs.Prelude.{ℕ, ◌<◌, ◌≤◌, ◌≡◌, List, Option, length};
+    ghost use Rattle.std.specs.Prelude.{ℕ, ◌<◌, ◌≤◌, ◌≡◌, ◌≢◌, List, Option, length};
     ghost use Rattle.run_edges.specs.Edges.{Rose, Gives};
 
     ghost left: { Self → Option (List ℕ) };
@@ -27,5 +27,7 @@ pub trait Source {
         requires { 0 < length buf.old }
         ensures gives { Gives (left self.old) (left self.new) result buf.new }
         ensures failed { result ≡ Got.Failed → Rose (faults self.old) (faults self.new) }
-        ensures counted { faults self.old ≤ faults self.new };
+        ensures counted { faults self.old ≤ faults self.new }
+        // A read that doesn't fail isn't counted.
+        ensures steady { result ≢ Got.Failed → faults self.new ≡ faults self.old };
 }

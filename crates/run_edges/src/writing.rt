@@ -17,6 +17,7 @@ pub fn write_all<O: Sink>(sink: &mut O, piece: &[u8]) -> Result<(), WriteFault>
     ensures fault { OnErr result (Rose (O.faults sink.old) (O.faults sink.new)) }
     ensures part { OnErr result (AppendsFront (O.held sink.old) (O.held sink.new) piece.now) }
     ensures counted { O.faults sink.old ≤ O.faults sink.new }
+    ensures steady { OnOk result (O.faults sink.new ≡ O.faults sink.old) }
     ensures idle { piece.now ≡ [] → IsOk result × (sink.new ≡ sink.old) }
 {
     let mut taken = 0;

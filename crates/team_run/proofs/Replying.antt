@@ -1,15 +1,16 @@
 -- What the three stores of a reply come to, one after another.
-use Rattle.std.proofs.Common.{◌≡◌, ℕ, ◌<◌, List, [], ◌∷◌, ◌++◌, length, slice_index_or, slice_set, sym, ap, subst, ◌∙◌, append_assoc, inl, inr}
+use Rattle.std.proofs.Common.{◌≡◌, ℕ, ◌<◌, List, [], ◌∷◌, ◌++◌, length, slice_index_or, slice_set, sym, ap, subst, ◌∙◌, append_assoc, Some, inl, inr}
 use Rattle.std.proofs.lemmas.List.{map-append, get_or_default, get_or-set_same, get_or-set_other}
 use Rattle.std.proofs.lemmas.Bool.Decides.{eqb_tells}
 use Rattle.ompt_calls.specs.Snapshot.{Stored}
 use Rattle.ompt_calls.specs.Item.{Item}
-use Rattle.tool_api.specs.Record.{Record, told}
+use Rattle.tool_api.specs.Record.{Record, told, one_unheard}
 use Rattle.omp_model.specs.declared.history.Entry.{Entry}
 use Rattle.omp_model.specs.State.{State}
 use Rattle.omp_model.specs.Storing.{put_all, put_at, puts_at, back_at, event_reply}
 use Rattle.omp_model.proofs.Targets.{put_all-append}
 use Rattle.team_run.specs.Serving.{told_on}
+use Rattle.team_run.specs.Unheard.{unheard_on}
 
 -- the state after them
 pub reply-state : (S : State) (t : ℕ) (xs ys zs : List Stored) → put_all (put_all (put_all S t xs) t ys) t zs ≡ put_all S t (xs ++ ys ++ zs)
@@ -38,11 +39,11 @@ module _ {P : Type 0} (stands_for : P → Record → Type 0) (parts : List P) (t
     | inr different ↦ rw (different.0, get_or-set_other parts t k part d (λ same. different.1 (sym same))) stands
   ]
 
-  -- the part of the thread stands for what it stood for, and so do the others
-  pub kept-at :
-      ((h : Record) → stands_for found h → stands_for part h)
-      → (k : ℕ) (d : P) (h : Record) → k < length parts → stands_for (slice_index_or parts k d) h → stands_for (slice_index_or (slice_set parts t part) k d) h
-  kept-at keeps k d h below stands = elim (eqb_tells t k) [
-    | inl same ↦ rw (← same.1, get_or-set_same parts t part d within) (keeps h (found-at k d h same.1 stands))
-    | inr different ↦ rw (get_or-set_other parts t k part d (λ same. different.1 (sym same))) stands
+  -- the part of the thread found no memory, and the others are as they were
+  pub unheard-at :
+      ((h : Record) → stands_for found h → stands_for part (one_unheard h))
+      → (k : ℕ) (d : P) (h : Record) → k < length parts → stands_for (slice_index_or parts k d) h → stands_for (slice_index_or (slice_set parts t part) k d) (unheard_on (Some t) k h)
+  unheard-at keeps k d h below stands = elim (eqb_tells t k) [
+    | inl same ↦ rw (same.0, ← same.1, get_or-set_same parts t part d within) (keeps h (found-at k d h same.1 stands))
+    | inr different ↦ rw (different.0, get_or-set_other parts t k part d (λ same. different.1 (sym same))) stands
   ]

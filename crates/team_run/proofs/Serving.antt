@@ -1,14 +1,17 @@
 -- What parts stand for after what their threads hear.
-use Rattle.std.proofs.Common.{◌≡◌, ℕ, ◌<◌, ◌==◌, Bool, true, false, if◌then◌else◌, cond, List, [], ◌∷◌, ◌++◌, filter, length, take, drop, slice_index_or, refl, sym, ap, subst, ◌∙◌, append_assoc, append-nil, eq-eqb, arith, inl, inr}
+use Rattle.std.proofs.Common.{◌≡◌, ◌≢◌, ℕ, ◌<◌, ◌==◌, Bool, true, false, if◌then◌else◌, cond, List, [], ◌∷◌, ◌++◌, filter, length, take, drop, slice_index_or, Option, None, refl, sym, ap, subst, ◌∙◌, append_assoc, append-nil, eq-eqb, arith, inl, inr}
 use Rattle.std.proofs.lemmas.List.{take_all, drop_all}
 use Rattle.std.proofs.lemmas.List.Elements.{filter-append}
 use Rattle.std.proofs.lemmas.Bool.Decides.{eqb_tells}
 use Rattle.ompt_calls.specs.Item.{Item}
 use Rattle.tool_api.specs.Record.{Record, initialized, told}
+use Rattle.omp_model.specs.declared.cause.Cause.{Cause}
+use Rattle.omp_model.specs.declared.cause.Cause.TheVariants as causes
 use Rattle.omp_model.specs.declared.history.Entry.{Entry}
 use Rattle.omp_model.specs.State.{Run}
 use Rattle.omp_model.specs.Heard.{heard, heard_of}
-use Rattle.team_run.specs.Serving.{served, Serves, told_on, SameServed, mask_of, finished_by, RunsFor, SameKinds}
+use Rattle.team_run.specs.Serving.{served, Serves, ServesTo, told_on, mask_of, finished_by, RunsFor, SameKinds}
+use Rattle.team_run.specs.Unheard.{OnlyUnheard, unheard_on}
 use Rattle.team_run.specs.Standing.{AreSilent, HearsSilent, HearsOwn}
 
 -- the items of one thread
@@ -44,29 +47,29 @@ told_on-served t k h items item is =
 
 module _ {P : Type 0} (stands_for : P → Record → Type 0) (run : Run) where
   -- where nothing changes
-  pub serves-same : (parts : List P) (H : List Entry) → Serves stands_for run parts H parts H
+  pub serves-same : (parts : List P) (H : List Entry) → Serves stands_for run parts H None parts H
   serves-same parts H = record { as_many = refl; each = λ k d h below stands. stands }
 
   -- one step after another
-  pub serves-then : (parts between after : List P) (H K L : List Entry) → Serves stands_for run parts H between K → Serves stands_for run between K after L → Serves stands_for run parts H after L
-  serves-then parts between after H K L first second =
+  pub serves-then : (parts between after : List P) (H K L : List Entry) (unheard : Option ℕ) → Serves stands_for run parts H None between K → Serves stands_for run between K unheard after L → Serves stands_for run parts H unheard after L
+  serves-then parts between after H K L unheard first second =
       record {
         as_many = second.as_many ∙ first.as_many;
         each = λ k d h below stands. second.each k d h (subst (λ n. k < n) (sym first.as_many) below) (first.each k d h below stands);
       }
 
-  -- where nothing more is heard, and the parts stand for what they stood for
-  pub serves-unheard : (parts others : List P) (H K : List Entry) → heard run K ≡ heard run H → SameServed stands_for parts others → Serves stands_for run parts H others K
-  serves-unheard parts others H K same kept =
+  -- where nothing more is heard, and the parts stand for what they stood for, but for a call that found no memory
+  pub serves-unheard : (parts others : List P) (H K : List Entry) (unheard : Option ℕ) → heard run K ≡ heard run H → OnlyUnheard stands_for unheard parts others → Serves stands_for run parts H unheard others K
+  serves-unheard parts others H K unheard same kept =
       record {
         as_many = kept.as_many;
-        each = λ k d h below stands. subst (λ items. stands_for (slice_index_or others k d) (served h items)) (sym (heard_of-same run H K k same)) (kept.each k d (served h (heard_of run H k)) below stands);
+        each = λ k d h below stands. subst (λ items. stands_for (slice_index_or others k d) (unheard_on unheard k (served h items))) (sym (heard_of-same run H K k same)) (kept.each k d (served h (heard_of run H k)) below stands);
       }
 
   -- where one item more is heard, and the part of its thread was told of it
   pub serves-told :
       (parts others : List P) (H K : List Entry) (t : ℕ) (item : Item) → item.thread ≡ t → heard run K ≡ heard run H ++ item ∷ [] → length others ≡ length parts
-      → ((k : ℕ) (d : P) (h : Record) → k < length parts → stands_for (slice_index_or parts k d) h → stands_for (slice_index_or others k d) (told_on t k item h)) → Serves stands_for run parts H others K
+      → ((k : ℕ) (d : P) (h : Record) → k < length parts → stands_for (slice_index_or parts k d) h → stands_for (slice_index_or others k d) (told_on t k item h)) → Serves stands_for run parts H None others K
   serves-told parts others H K t item is more as_many each =
       record {
         as_many = as_many;
@@ -123,23 +126,31 @@ written-back new items len same all =
 
 -- the first part was started, all were called, and the first was finished
 pub runs-whole :
-    {P : Type 0} (stands_for : P → Record → Type 0) (run : Run) (H : List Entry) (parts started between after : List P) (answer registered : ℕ) → run.mask ≡ mask_of answer registered → 0 < length parts
+    {P : Type 0} (stands_for : P → Record → Type 0) (run : Run) (cause : Cause) (H : List Entry) (parts started between after : List P) (answer registered : ℕ) → run.mask ≡ mask_of answer registered → 0 < length parts
     → length started ≡ length parts → ((d : P) (h : Record) → stands_for (slice_index_or parts 0 d) h → stands_for (slice_index_or started 0 d) (initialized h answer registered))
-    → ((k : ℕ) (d : P) → 0 < k → slice_index_or started k d ≡ slice_index_or parts k d) → Serves stands_for run started [] between H
+    → ((k : ℕ) (d : P) → 0 < k → slice_index_or started k d ≡ slice_index_or parts k d) → (served_to : ServesTo stands_for run started [] between H) → (cause ≢ causes.Memory → served_to.unheard ≡ None)
     → length after ≡ length between → ((d : P) (h : Record) → stands_for (slice_index_or between 0 d) h → stands_for (slice_index_or after 0 d) (finished_by answer h))
-    → ((k : ℕ) (d : P) → 0 < k → slice_index_or after k d ≡ slice_index_or between k d) → RunsFor stands_for run H parts after
-runs-whole {P} stands_for run H parts started between after answer registered mask_is some as_many first others serves as_many_too last others_too =
+    → ((k : ℕ) (d : P) → 0 < k → slice_index_or after k d ≡ slice_index_or between k d) → RunsFor stands_for run cause H parts after
+runs-whole {P} stands_for run cause H parts started between after answer registered mask_is some as_many first others served_to all_heard as_many_too last others_too =
     record {
       as_many = as_many_too ∙ serves.as_many ∙ as_many;
       answer = answer;
       registered = registered;
       mask_is = mask_is;
-      first = λ d h stands. last d (served (initialized h answer registered) (heard_of run H 0)) (serves.each 0 d (initialized h answer registered) (omega (arith, some, as_many)) (from-nothing 0 d (initialized h answer registered) (first d h stands)));
+      unheard = served_to.unheard;
+      is_unheard = served_to.is_unheard;
+      all_heard = all_heard;
+      first = λ d h stands.
+          last d (unheard_on served_to.unheard 0 (served (initialized h answer registered) (heard_of run H 0)))
+          (serves.each 0 d (initialized h answer registered) (omega (arith, some, as_many)) (from-nothing 0 d (initialized h answer registered) (first d h stands)));
       others = λ k d h past below stands.
-          subst (λ (part : P). stands_for part (served h (heard_of run H k))) (sym (others_too k d past))
+          subst (λ (part : P). stands_for part (unheard_on served_to.unheard k (served h (heard_of run H k)))) (sym (others_too k d past))
           (serves.each k d h (omega (arith, below, as_many)) (from-nothing k d h (subst (λ (part : P). stands_for part h) (sym (others k d past)) stands)));
     }
   where
+    serves : Serves stands_for run started [] served_to.unheard between H
+    serves = served_to.serves
+
     from-nothing : (k : ℕ) (d : P) (h : Record) → stands_for (slice_index_or started k d) h → stands_for (slice_index_or started k d) (served h (heard_of run [] k))
     from-nothing k d h stands = subst (λ (h : Record). stands_for (slice_index_or started k d) h) (sym (served-nil h)) stands
 

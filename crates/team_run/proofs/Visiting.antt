@@ -22,21 +22,22 @@ use Rattle.omp_model.specs.State.{Run, State, first, pending_at}
 use Rattle.omp_model.specs.Calls.{call_of}
 use Rattle.omp_model.specs.Snapshots.{snap_of}
 use Rattle.omp_model.specs.Turn.{turn, called}
-use Rattle.omp_model.specs.Legal.{put_from, put, back_from, back}
+use Rattle.omp_model.specs.Legal.{after, is_told, put_from, put, back_from, back}
 use Rattle.omp_model.specs.Heard.{heard}
 use Rattle.omp_model.specs.Serial.{first_enabled, enabled_among, inside_after, StoresNothing}
 use Rattle.omp_model.specs.Storing.{put_all, MayStore, go_at, event_reply}
 use Rattle.omp_model.specs.Cause.{none_pending, whole_value, is_stuck, cause_of_whole, cause_by_halt, cause_in}
 use Rattle.omp_model.specs.Tame.{IsTame}
 use Rattle.omp_model.proofs.Turns.{Leaves, leaves-turn, turn-pending, turns-rise, back-turns}
-use Rattle.omp_model.proofs.Recording.{HasRun-start, HasRun-alone, HasRun-event, HasRun-serial, HasRun-pending, heard-alone, heard-event, heard-pending, event_at, first_enabled-below, first_enabled-enabled, first_enabled-none, put_all-turns, StoresNothing-append}
+use Rattle.omp_model.proofs.Recording.{HasRun-start, HasRun-after, HasRun-alone, HasRun-event, HasRun-serial, HasRun-pending, heard-alone, heard-event, heard-pending, event_at, first_enabled-below, first_enabled-enabled, first_enabled-none, put_all-turns, StoresNothing-append}
 use Rattle.omp_model.proofs.Tame.{tame-turn, tame-back, tame-put-all}
 use Rattle.omp_model.proofs.Made.{made-first, made-turn, made-back}
 use Rattle.omp_model.proofs.Targets.{made-put_all, may-store, pending-put_all}
 use Rattle.team_run.specs.Standing.{AreSilent, StandsAt, StopsAt}
 use Rattle.omp_machine.proofs.Telling.{IsTold}
 use Rattle.tool_api.specs.Record.{Record}
-use Rattle.team_run.specs.Serving.{Serves, SameServed, Answers}
+use Rattle.team_run.specs.Serving.{Serves, ServesTo, Answers}
+use Rattle.team_run.specs.Unheard.{IsUnheard, OnlyUnheard}
 use Rattle.team_run.proofs.Serving.{serves-told, serves-unheard, hears-front, item-silent, own-told, own-unheard, heard_of-same}
 
 abbrev all_none : List (Option Callback) → Bool
@@ -156,7 +157,7 @@ module _ (run : Run) (S : State) (from : ℕ) (H : List Entry) (t : ℕ) (stands
       ]
 
   -- it is inside this one
-  inside-event : pending_at between t ≡ Some (called e)
+  pub inside-event : pending_at between t ≡ Some (called e)
   inside-event =
       ap (λ pending. slice_index_or pending t None) (turn-pending run S t e happens) ∙ get_or-set_same S.pending t (Some (called e)) None within-pending
 
@@ -248,9 +249,33 @@ pub caused : (run : Run) (S : State) (from : ℕ) (H : List Entry) → StandsAt 
 caused run S from H stands over no_cause =
     caused-halt run S S.halt refl (first_enabled-none run S from stands.within over) stands.nobody no_cause
 
+-- where nobody is inside a callback, each thread is in none
+all_none-at : (pending : List (Option Callback)) (t : ℕ) → all_none pending ≡ true → slice_index_or pending t None ≡ None
+all_none-at [] t all = refl
+all_none-at (None ∷ xs) zero all = refl
+all_none-at (Some callback ∷ xs) zero all = absurd (true≢false (sym all))
+all_none-at (x ∷ xs) (suc t) all = all_none-at xs t (all_none-tail x xs all)
+
+-- so each call was heard where a run stands
+pub unheard-none : (run : Run) (S : State) (from : ℕ) (H : List Entry) (unheard : Option ℕ) → StandsAt run S from H → IsUnheard run H unheard → unheard ≡ None
+unheard-none run S from H None stands is = refl
+unheard-none run S from H (Some t) stands is =
+    let none : pending_at (after run H) t ≡ None = ap (λ (S : State). pending_at S t) (HasRun-after stands.has_run) ∙ all_none-at S.pending t stands.nobody in
+    cc
+
+module _ (run : Run) (S : State) (from : ℕ) (H K : List Entry) (stands : StandsAt run S from K) {P : Type 0} (stands_for : P → Record → Type 0) (parts others : List P) where
+  -- a run that stands has served all that was called
+  pub serves-to : Serves stands_for run parts H None others K → ServesTo stands_for run parts H others K
+  serves-to serves =
+      record { unheard = None; is_unheard = ap none_pending (HasRun-after stands.has_run) ∙ stands.nobody; serves = serves }
+
+  pub serves-all : ServesTo stands_for run parts H others K → Serves stands_for run parts H None others K
+  serves-all served =
+      subst (λ unheard. Serves stands_for run parts H unheard others K) (unheard-none run S from K served.unheard stands served.is_unheard) served.serves
+
 -- after a turn whose event was told, answered and returned from
 pub record Visited {P : Type 0} (stands_for : P → Record → Type 0) (run : Run) (S : State) (H : List Entry) (t : ℕ) (parts : List P) (after : State) (others : List P) (longer : List Entry) : Type 0 where
-  pub serves : Serves stands_for run parts H others longer
+  pub serves : Serves stands_for run parts H None others longer
   pub stands : StandsAt run after (t + 1) longer
   pub turns : after.turns ≡ S.turns + 1
 
@@ -277,21 +302,34 @@ module _ (run : Run) (S : State) (from : ℕ) (H : List Entry) (t : ℕ) (stands
   pub visited-untold : is_registered run.mask (number_of (call_of inner.world t e)) ≡ false → Visited stands_for run S H t parts (back inner t) parts (H ++ event_at t [])
   visited-untold unregistered =
       record {
-        serves = serves-unheard stands_for run parts parts H (H ++ event_at t []) (untold-heard run S from H t stands turns e happens waits unregistered) (record { as_many = refl; each = λ k d h below stands. stands });
+        serves = serves-unheard stands_for run parts parts H (H ++ event_at t []) None (untold-heard run S from H t stands turns e happens waits unregistered) (record { as_many = refl; each = λ k d h below stands. stands });
         stands = stands-untold run S from H t stands turns e happens waits unregistered;
         turns = back-turns inner t ∙ rises;
       }
 
-  -- where the part found no memory, nothing more was heard
-  pub serves-inside : (others : List P) → SameServed stands_for parts others → Serves stands_for run parts H others (H ++ go_at t ∷ [])
-  serves-inside others kept = serves-unheard stands_for run parts others H (H ++ go_at t ∷ []) (heard-pending t e stands.has_run happens) kept
+  -- where the part found no memory, nothing more was heard, and the history ends inside its callback
+  pub serves-inside : is_registered run.mask (number_of (call_of inner.world t e)) ≡ true → (others : List P) → OnlyUnheard stands_for (Some t) parts others → ServesTo stands_for run parts H others (H ++ go_at t ∷ [])
+  serves-inside registered others kept =
+      let reached : after run (H ++ go_at t ∷ []) ≡ inner = stands.has_run.reached (go_at t ∷ []) in
+      record {
+        unheard = Some t;
+        is_unheard =
+            record {
+              before = H;
+              last = refl;
+              callback = called e;
+              inside = ap (λ (S : State). pending_at S t) reached ∙ inside-event run S from H t stands turns e happens waits;
+              registered = ap (λ (S : State). is_told run S t (called e)) reached ∙ registered;
+            };
+        serves = serves-unheard stands_for run parts others H (H ++ go_at t ∷ []) (Some t) (heard-pending t e stands.has_run happens) kept;
+      }
 
 module _ (run : Run) (S : State) (from : ℕ) (H : List Entry) (t : ℕ) (stands : StandsAt run S from H) (turns : first_enabled run S from ≡ Some t) {P : Type 0} (stands_for : P → Record → Type 0) (parts : List P) where
   -- after a turn with no event
   pub visited-alone : inside_after (turn run S t).outcome t ≡ None → Visited stands_for run S H t parts (turn run S t).state parts (H ++ go_at t ∷ [])
   visited-alone none =
       record {
-        serves = serves-unheard stands_for run parts parts H (H ++ go_at t ∷ []) (heard-alone t stands.has_run none) (record { as_many = refl; each = λ k d h below stands. stands });
+        serves = serves-unheard stands_for run parts parts H (H ++ go_at t ∷ []) None (heard-alone t stands.has_run none) (record { as_many = refl; each = λ k d h below stands. stands });
         stands = stands-alone run S from H t stands turns none;
         turns = turns-rise run S t (first_enabled-enabled run S from t turns);
       }
@@ -323,8 +361,8 @@ module _ (run : Run) (S : State) (from : ℕ) (H : List Entry) (t : ℕ) (stands
         visited-told run S from H t stands turns said.event said.happens waits stands_for parts said.registered after others longer five
 
     -- where it found no memory
-    pub serves-said : SameServed stands_for parts others → Serves stands_for run parts H others (H ++ go_at t ∷ [])
-    serves-said kept = serves-inside run S from H t stands turns said.event said.happens waits stands_for parts others kept
+    pub serves-said : OnlyUnheard stands_for (Some t) parts others → ServesTo stands_for run parts H others (H ++ go_at t ∷ [])
+    serves-said kept = serves-inside run S from H t stands turns said.event said.happens waits stands_for parts said.registered others kept
 
 -- what follows from either answer
 pub from_either : {X E : Type 0} (r : Result X E) {A B C : Type 0} → OnOk r A → OnErr r B → (A → C) → (B → C) → C

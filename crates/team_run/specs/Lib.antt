@@ -1,3 +1,4 @@
 pub mod Entries
 pub mod Serving
 pub mod Standing
+pub mod Unheard

@@ -1,26 +1,36 @@
 -- What the parts of a run are called for: each registered event of its thread, and the first of them also for the start and the
 -- end of the run.
-use Rattle.std.specs.Prelude.{ℕ, ◌≡◌, ◌<◌, ◌==◌, if◌then◌else◌, List, ◌++◌, length, slice_index_or}
+use Rattle.std.specs.Prelude.{ℕ, ◌≡◌, ◌≢◌, ◌<◌, ◌==◌, if◌then◌else◌, List, ◌++◌, length, slice_index_or, Option, None}
 use Rattle.ompt_calls.specs.declared.call.Call.{Call}
 use Rattle.ompt_calls.specs.declared.snapshot.Snapshot.{Snapshot}
 use Rattle.ompt_calls.specs.declared.reply.Reply.{Reply}
 use Rattle.ompt_calls.specs.Item.{Item, item_of}
 use Rattle.ompt_calls.specs.Snapshot.{stores_of}
 use Rattle.tool_api.specs.Record.{Record, initialized, told, finalized}
+use Rattle.omp_model.specs.declared.cause.Cause.{Cause}
+use Rattle.omp_model.specs.declared.cause.Cause.TheVariants as causes
 use Rattle.omp_model.specs.declared.history.Entry.{Entry}
 use Rattle.omp_model.specs.State.{Run, State}
 use Rattle.omp_model.specs.Legal.{back}
 use Rattle.omp_model.specs.Heard.{heard_of}
+use Rattle.team_run.specs.Unheard.{IsUnheard, unheard_on}
 use Rattle.omp_model.specs.Storing.{put_all, event_reply}
 
 -- the record after the calls of these items
 abbrev pub served : Record → List Item → Record
 served h items = record h { calls = h.calls ++ items }
 
--- each part that stood for what its thread had heard of one history stands for what it has heard of the other
-pub record Serves {P : Type 0} (stands_for : P → Record → Type 0) (run : Run) (parts : List P) (history : List Entry) (after : List P) (longer : List Entry) : Type 0 where
+-- each part that stood for what its thread had heard of one history stands for what it has heard of the other, and this
+-- thread's, if any, found no memory in one call
+pub record Serves {P : Type 0} (stands_for : P → Record → Type 0) (run : Run) (parts : List P) (history : List Entry) (unheard : Option ℕ) (after : List P) (longer : List Entry) : Type 0 where
   pub as_many : length after ≡ length parts
-  pub each : (k : ℕ) (d : P) (h : Record) → k < length parts → stands_for (slice_index_or parts k d) (served h (heard_of run history k)) → stands_for (slice_index_or after k d) (served h (heard_of run longer k))
+  pub each : (k : ℕ) (d : P) (h : Record) → k < length parts → stands_for (slice_index_or parts k d) (served h (heard_of run history k)) → stands_for (slice_index_or after k d) (unheard_on unheard k (served h (heard_of run longer k)))
+
+-- the same, where the longer history says which thread's part found no memory
+pub record ServesTo {P : Type 0} (stands_for : P → Record → Type 0) (run : Run) (parts : List P) (history : List Entry) (after : List P) (longer : List Entry) : Type 0 where
+  pub unheard : Option ℕ
+  pub is_unheard : IsUnheard run longer unheard
+  pub serves : Serves stands_for run parts history unheard after longer
 
 -- the record of part k where the part of thread t was called for this item
 abbrev pub told_on : ℕ → ℕ → Item → Record → Record
@@ -38,11 +48,6 @@ pub record Answers {P : Type 0} (stands_for : P → Record → Type 0) (seq t : 
 pub record SameKinds {P : Type 0} (kind : P → ℕ) (parts others : List P) : Type 0 where
   pub each : (k : ℕ) (d : P) → k < length parts → kind (slice_index_or others k d) ≡ kind (slice_index_or parts k d)
 
--- each part stands for what it stood for
-pub record SameServed {P : Type 0} (stands_for : P → Record → Type 0) (parts others : List P) : Type 0 where
-  pub as_many : length others ≡ length parts
-  pub each : (k : ℕ) (d : P) (h : Record) → k < length parts → stands_for (slice_index_or parts k d) h → stands_for (slice_index_or others k d) h
-
 -- the mask of a run whose first part answered this and registered these
 abbrev pub mask_of : ℕ → ℕ → ℕ
 mask_of answer registered = if answer == 0 then 0 else registered
@@ -51,17 +56,21 @@ mask_of answer registered = if answer == 0 then 0 else registered
 abbrev pub finished_by : ℕ → Record → Record
 finished_by answer h = if answer == 0 then h else finalized h
 
--- the first part's record after a run: it was started with this answer and this registered, called for these items, and finished
--- where it is active
-abbrev pub first_record : ℕ → ℕ → List Item → Record → Record
-first_record answer registered items h = finished_by answer (served (initialized h answer registered) items)
+-- the first part's record after a run: it was started with this answer and this registered, called for these items, found no memory
+-- in one call more if it is this thread's part, and was finished after all these calls where it is active
+abbrev pub first_record : ℕ → ℕ → List Item → Option ℕ → Record → Record
+first_record answer registered items unheard h =
+    finished_by answer (unheard_on unheard 0 (served (initialized h answer registered) items))
 
--- the parts of a run with this history: the first was started and finished, and each was called for what its thread heard, in
--- order, and for nothing else
-pub record RunsFor {P : Type 0} (stands_for : P → Record → Type 0) (run : Run) (history : List Entry) (parts after : List P) : Type 0 where
+-- the parts of a run that ended in this cause with this history: the first was started, and at the end finished, and each was
+-- called for what its thread heard, in order. Beside that only one call more was made, where one found no memory
+pub record RunsFor {P : Type 0} (stands_for : P → Record → Type 0) (run : Run) (cause : Cause) (history : List Entry) (parts after : List P) : Type 0 where
   pub as_many : length after ≡ length parts
   pub answer : ℕ
   pub registered : ℕ
   pub mask_is : run.mask ≡ mask_of answer registered
-  pub first : (d : P) (h : Record) → stands_for (slice_index_or parts 0 d) h → stands_for (slice_index_or after 0 d) (first_record answer registered (heard_of run history 0) h)
-  pub others : (k : ℕ) (d : P) (h : Record) → 0 < k → k < length parts → stands_for (slice_index_or parts k d) h → stands_for (slice_index_or after k d) (served h (heard_of run history k))
+  pub unheard : Option ℕ
+  pub is_unheard : IsUnheard run history unheard
+  pub all_heard : cause ≢ causes.Memory → unheard ≡ None
+  pub first : (d : P) (h : Record) → stands_for (slice_index_or parts 0 d) h → stands_for (slice_index_or after 0 d) (first_record answer registered (heard_of run history 0) unheard h)
+  pub others : (k : ℕ) (d : P) (h : Record) → 0 < k → k < length parts → stands_for (slice_index_or parts k d) h → stands_for (slice_index_or after k d) (unheard_on unheard k (served h (heard_of run history k)))

@@ -22,18 +22,20 @@
 //! - `serial`: the history is legal for the run, and in the serial order: each Go is of the first enabled thread after the
 //!   one before, and an event's stores and its Back follow its Go directly;
 //! - `parts`: part 0 was started once, and the mask is what it then registered, or 0 where it answered 0. It was finished
-//!   once where it answered another number, and else not at all. No other part was started or finished. Each part was
-//!   called for what its thread hears of the history, in order, and for nothing else: the position of the event, its call,
-//!   its snapshot, and the stores that took effect;
+//!   once and after all its calls where it answered another number, and else not at all. No other part was started or
+//!   finished. Each part was called for what its thread hears of the history, in order: the position of the event, its
+//!   call, its snapshot, and the stores that took effect. Where the history ends inside the callback of a thread, which is
+//!   then registered, that thread's part was called once more and found no memory. That is so only where the cause is
+//!   [`Memory`](omp_model::Cause::Memory). For nothing else was a part called;
 //! - `kinds`: each part is of the kind that it was;
 //! - `own`: nothing is heard on a thread that the run doesn't have. So nothing is heard for which no part was called;
 //! - `cause`: the cause is the one in which the history ends;
 //! - `whole`: where no store took effect, the history is `serial` of the run, the one list;
 //! - `tame`: the cause is [`Done`](omp_model::Cause::Done), [`Deadlock`](omp_model::Cause::Deadlock) or a limit;
-//! - `begun`: where the cause is [`Memory`](omp_model::Cause::Memory), the history has an entry.
+//! - `begun`: where the cause is `Memory`, the history has an entry.
 //!
-//! `cause`, `whole` and `tame` say nothing where the cause is `Memory`. The history then stops at some entry, and the
-//! event whose Go stands last wasn't heard if its Back is missing. What a part "was called for" is said by `stands_for` of
+//! `cause`, `whole` and `tame` say nothing where the cause is `Memory`. The history then stops between two turns, or after
+//! the Go of the event whose callback found no memory. What a part "was called for" is said by `stands_for` of
 //! its kind: a part that stood for a record of calls stands afterwards for the record with these calls. So a kind that
 //! stands for everything tells nothing.
 //!
@@ -43,21 +45,19 @@
 //!   error. They are gone, and part 0 was started but isn't finished;
 //! - that a tool returns from a call;
 //! - that a run ends in `Done`: neither `Deadlock` nor a limit is ruled out;
-//! - when the calls come. A record has the starts, the calls and the finishes apart, and the records of two parts have no
-//!   order between them. That part 0 is started first and finished last, and that parts are called in the order of the
-//!   positions, is to be read in `src/`.
+//! - all of the order in which calls come. A record doesn't say how many calls came before a start, and the records of two
+//!   parts have no order between them. That part 0 is started first, and that parts are called in the order of the
+//!   positions and none after part 0 is finished, is to be read in `src/`.
 //!
-//! Tests run a region of two on one and two threads. They have a tool that stores and finds the word at a later call, one
-//! that stores several words at once, one that answers 0, one that finds no memory, and one of two parts, and compare what
-//! these heard with values written out by hand. The must-fail edits try wrong bodies.
+//! Tests in `ompt_tests` run a region of two on one and two threads. They have a tool that stores and finds the word at a
+//! later call, one that stores several words at once, one that answers 0, one that finds no memory, and one of two parts, and
+//! compare what these heard with values written out by hand. The must-fail edits try wrong bodies.
 #![tactic(auto)]
 
 mod entries;
 mod ran;
 mod serial;
 mod serial_run;
-#[cfg(test)]
-mod tests;
 
 pub use ran::{Memory, Ran};
 pub use serial::run_serial;

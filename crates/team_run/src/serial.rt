@@ -36,7 +36,7 @@ pub fn run_serial<P: ToolPart>(
     requires bounded { steps ≤ 30000000 }
     requires parts { length parts.items ≡ threads }
     ensures serial { IfOk result (λ ran. Serial (run_of_blocks blocks ran.mask threads steps) ran.history) }
-    ensures parts { IfOk result (λ ran. RunsFor P.stands_for (run_of_blocks blocks ran.mask threads steps) ran.history parts.items ran.parts.items) }
+    ensures parts { IfOk result (λ ran. RunsFor P.stands_for (run_of_blocks blocks ran.mask threads steps) ran.cause ran.history parts.items ran.parts.items) }
     ensures kinds { IfOk result (λ ran. SameKinds P.kind parts.items ran.parts.items) }
     ensures own { IfOk result (λ ran. HearsOwn (run_of_blocks blocks ran.mask threads steps) ran.history) }
     ensures cause { IfOk result (λ ran. ran.cause ≢ Cause.Memory → cause_of (run_of_blocks blocks ran.mask threads steps) ran.history ≡ Some ran.cause) }

@@ -9,8 +9,9 @@ ghost use Rattle.omp_model.specs.Cause.{cause_in};
 ghost use Rattle.omp_model.specs.Storing.{MayStore, back_at, put_all, puts_at};
 ghost use Rattle.omp_model.specs.Tame.{TameCause};
 ghost use Rattle.omp_model.specs.Program.{run_of_blocks};
-ghost use Rattle.team_run.specs.Serving.{Answers, SameKinds, SameServed, Serves};
+ghost use Rattle.team_run.specs.Serving.{Answers, SameKinds, ServesTo};
 ghost use Rattle.team_run.specs.Standing.{StandsAt, StopsAt};
+ghost use Rattle.team_run.specs.Unheard.{OnlyUnheard};
 
 use crate::entries::Entries;
 use crate::ran::Memory;
@@ -68,7 +69,7 @@ impl<P: ToolPart> SerialRun<P> {
         requires stands { StandsAt self.old.machine.run self.old.machine.state self.old.next self.old.history.entries }
         requires parts { length self.old.parts.items ≡ self.old.machine.run.threads }
         ensures run { self.new.machine.run ≡ self.old.machine.run }
-        ensures serves { Serves P.stands_for self.old.machine.run self.old.parts.items self.old.history.entries self.new.parts.items self.new.history.entries }
+        ensures serves { ServesTo P.stands_for self.old.machine.run self.old.parts.items self.old.history.entries self.new.parts.items self.new.history.entries }
         ensures kinds { SameKinds P.kind self.old.parts.items self.new.parts.items }
         ensures stops { StopsAt self.old.machine.run self.new.history.entries }
         ensures stands { result ≢ Cause.Memory → StandsAt self.new.machine.run self.new.machine.state self.new.next self.new.history.entries }
@@ -94,7 +95,7 @@ impl<P: ToolPart> SerialRun<P> {
         requires turn { first_enabled self.old.machine.run self.old.machine.state self.old.next ≡ Some thread }
         requires parts { length self.old.parts.items ≡ self.old.machine.run.threads }
         ensures run { self.new.machine.run ≡ self.old.machine.run }
-        ensures serves { Serves P.stands_for self.old.machine.run self.old.parts.items self.old.history.entries self.new.parts.items self.new.history.entries }
+        ensures serves { ServesTo P.stands_for self.old.machine.run self.old.parts.items self.old.history.entries self.new.parts.items self.new.history.entries }
         ensures kinds { SameKinds P.kind self.old.parts.items self.new.parts.items }
         ensures stops { StopsAt self.old.machine.run self.new.history.entries }
         ensures stands { OnOk result (StandsAt self.new.machine.run self.new.machine.state self.new.next self.new.history.entries) }
@@ -134,7 +135,7 @@ impl<P: ToolPart> SerialRun<P> {
         ensures next { self.new.next ≡ self.old.next }
         ensures kinds { SameKinds P.kind self.old.parts.items self.new.parts.items }
         ensures answers { OnOk result (Answers P.stands_for seq thread call.now snapshot.now self.old.machine.state self.old.parts.items self.old.history.entries self.new.machine.state self.new.parts.items self.new.history.entries) }
-        ensures memory { OnErr result ((self.new.history.entries ≡ self.old.history.entries) × SameServed P.stands_for self.old.parts.items self.new.parts.items) }
+        ensures memory { OnErr result ((self.new.history.entries ≡ self.old.history.entries) × OnlyUnheard P.stands_for (Some thread) self.old.parts.items self.new.parts.items) }
     {
         let reply = self.parts[thread as usize].callback(seq, thread, call, snapshot)?;
         self.store(thread, reply.first, snapshot);

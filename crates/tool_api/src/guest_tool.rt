@@ -2,7 +2,7 @@
 
 ghost use Rattle.std.specs.Prelude.{◌≡◌, IfOk, OnErr};
 ghost use Rattle.ompt_calls.specs.Item.{item_of};
-ghost use Rattle.tool_api.specs.Record.{Record, initialized, told, finalized};
+ghost use Rattle.tool_api.specs.Record.{Record, initialized, told, one_unheard, finalized};
 
 use crate::part::Memory;
 use crate::registrar::Registrar;
@@ -30,7 +30,7 @@ pub trait GuestTool: Drop + Send {
         snapshot: &Snapshot,
     ) -> Result<Reply, Memory>
         ensures heard { IfOk result (λ reply. (h : Record) → stands_for self.old h → stands_for self.new (told h (item_of seq thread call.now snapshot.now reply))) }
-        ensures memory { OnErr result ((h : Record) → stands_for self.old h → stands_for self.new h) };
+        ensures memory { OnErr result ((h : Record) → stands_for self.old h → stands_for self.new (one_unheard h)) };
 
     /// Finishes the tool, as `ompt_finalize_t` does (OpenMP 5.2, 19.5.1.2).
     fn finalize(&mut self)

@@ -2,13 +2,14 @@
 //!
 //! A runtime calls a tool as a [`ToolPart`]: [`ToolPart::initialize`], [`ToolPart::callback`] for each event that the
 //! tool has registered, and [`ToolPart::finalize`]. A part keeps a relation, `stands_for`, between itself and a record of
-//! its calls: what each call of `initialize` answered and left registered, what each call of `callback` told and which of
-//! its stores took effect, and how many calls of `finalize` there were. Each kind of part defines the relation for itself.
+//! its calls: what each call of `initialize` answered and left registered; what each call of `callback` told and which of
+//! its stores took effect; for each call of `finalize`, how many calls of `callback` came before it; and how many calls of
+//! `callback` found no memory. Each kind of part defines the relation for itself.
 //!
 //! Every part promises, for every record that it stands for:
 //!
 //! - after `initialize`, `callback` and `finalize` it stands for the record with that call at its end;
-//! - after a `callback` that found no memory it stands for the same record;
+//! - after a `callback` that found no memory it stands for the record with one more such call, and nothing else changed;
 //! - no call changes its `kind`, a number by which a part that may be of several kinds is told again.
 //!
 //! In return it is promised that nothing is registered yet when `initialize` is called. What a part does with a call, and
@@ -18,8 +19,8 @@
 //!
 //! - [`Guest`] hands each call on to the [`GuestTool`] in its box, and stands for what that tool stands for. So a call
 //!   that is left out, doubled or answered otherwise isn't proved;
-//! - [`Quiet`] leaves nothing registered, answers 0 to `initialize`, and stores nothing: that is `QuietFor`. Its
-//!   `callback` is never an error;
+//! - [`Quiet`] leaves nothing registered, answers 0 to `initialize`, stores nothing, and finds memory in each call: that is
+//!   `QuietFor`. Its `callback` is never an error;
 //! - [`Handed`] stands for what the part that it holds stands for: that is `HandedFor`.
 //!
 //! Proved for every number, by the contracts of [`Registrar`]:
@@ -27,10 +28,10 @@
 //! - [`Registrar::new`] has nothing registered;
 //! - [`Registrar::set`] answers what `omp_codes` says, and registers the callback exactly where that is 5; all others
 //!   stay as they were;
+//! - [`Registrar::set_profile`] registers the callbacks of the profile, where nothing is registered yet;
 //! - [`Registrar::get`] answers 1 exactly where the callback is registered, and else 0.
 //!
-//! Tests run a small tool in a box, and compare its answers with values written out by hand. The must-fail edits try wrong
-//! bodies.
+//! Tests in `ompt_tests` register callbacks, and run tools in boxes. The must-fail edits try wrong bodies.
 #![tactic(auto)]
 
 mod guest;
@@ -39,8 +40,6 @@ mod handed;
 mod part;
 mod quiet;
 mod registrar;
-#[cfg(test)]
-mod tests;
 
 pub use guest::Guest;
 pub use guest_tool::GuestTool;

@@ -2,7 +2,7 @@
 
 ghost use Rattle.std.specs.Prelude.{ℕ, ◌≡◌, IfOk, OnErr};
 ghost use Rattle.ompt_calls.specs.Item.{item_of};
-ghost use Rattle.tool_api.specs.Record.{Record, initialized, told, finalized};
+ghost use Rattle.tool_api.specs.Record.{Record, initialized, told, one_unheard, finalized};
 
 use crate::registrar::Registrar;
 use ompt_calls::{Call, Reply, Snapshot};
@@ -13,8 +13,8 @@ pub type Memory = std::alloc::AllocError;
 /// A tool, or a part of one, as a runtime calls it.
 ///
 /// `stands_for` says which records a part may have behind it. Each call keeps this: a part that stands for a record stands
-/// afterwards for the record with that call, and after an error for the same record. `kind` is a number that no call
-/// changes, by which a part that may be of several kinds is told again.
+/// afterwards for the record with that call, and after an error for the record with one more call that found no memory.
+/// `kind` is a number that no call changes, by which a part that may be of several kinds is told again.
 pub trait ToolPart: Drop + Send {
     ghost stands_for: { Self → Record → Type 0 };
 
@@ -38,7 +38,7 @@ pub trait ToolPart: Drop + Send {
         snapshot: &Snapshot,
     ) -> Result<Reply, Memory>
         ensures heard { IfOk result (λ reply. (h : Record) → stands_for self.old h → stands_for self.new (told h (item_of seq thread call.now snapshot.now reply))) }
-        ensures memory { OnErr result ((h : Record) → stands_for self.old h → stands_for self.new h) }
+        ensures memory { OnErr result ((h : Record) → stands_for self.old h → stands_for self.new (one_unheard h)) }
         ensures kept { kind self.new ≡ kind self.old };
 
     /// Finishes the part, as `ompt_finalize_t` does (OpenMP 5.2, 19.5.1.2).

@@ -2,7 +2,7 @@
 
 ghost use Rattle.std.specs.Prelude.{◌≡◌, IfOk, OnErr, IsOk};
 ghost use Rattle.ompt_calls.specs.Item.{item_of};
-ghost use Rattle.tool_api.specs.Record.{Record, QuietFor, quiet_kind, told};
+ghost use Rattle.tool_api.specs.Record.{Record, QuietFor, quiet_kind, told, one_unheard};
 
 use crate::part::{Memory, ToolPart};
 use crate::registrar::Registrar;
@@ -29,7 +29,7 @@ impl ToolPart for Quiet {
         snapshot: &Snapshot,
     ) -> Result<Reply, Memory>
         ensures heard { IfOk result (λ reply. (h : Record) → QuietFor self.old h → QuietFor self.new (told h (item_of seq thread call.now snapshot.now reply))) }
-        ensures memory { OnErr result ((h : Record) → QuietFor self.old h → QuietFor self.new h) }
+        ensures memory { OnErr result ((h : Record) → QuietFor self.old h → QuietFor self.new (one_unheard h)) }
         ensures kept { quiet_kind self.new ≡ quiet_kind self.old }
 
         // It takes no memory.

@@ -5,7 +5,7 @@ ghost use Rattle.omp_codes.specs.Answers.{answer_of};
 ghost use Rattle.ompt_calls.specs.Number.{is_registered};
 ghost use Rattle.tool_api.specs.Registering.{is_registered_after, get_answer};
 
-use omp_codes::set_answer;
+use omp_codes::{PROFILE, PROFILE_MASK, set_answer};
 use ompt_calls::is_registered;
 use std::marker::Model;
 
@@ -54,6 +54,17 @@ impl Registrar {
             self.mask |= bit(number);
         }
         answer
+    }
+
+    /// Registers each callback of the profile.
+    pub fn set_profile(&mut self)
+        // Nothing is registered yet.
+        requires { self.old ≡ 0 }
+        ensures { self.new ≡ PROFILE_MASK }
+    {
+        for number in PROFILE {
+            self.set(number);
+        }
     }
 
     /// Whether the callback with this number is registered, as `ompt_get_callback` answers (OpenMP 5.2, 19.5.1): 1 where

@@ -1,4 +1,3 @@
 pub mod Gathering
-pub mod Registering
 pub mod Rising
 pub mod Standing

@@ -12,9 +12,6 @@ use tool_api::{Memory, Registrar, ToolPart};
 /// What a lister answers to `initialize`: it is active.
 const ACTIVE: u32 = 1;
 
-/// The callbacks of the profile, by their numbers in `ompt_callbacks_t` (OpenMP 5.2, 19.4.2).
-const CALLBACKS: [u32; 16] = [1, 2, 3, 4, 5, 6, 7, 16, 17, 20, 21, 23, 24, 25, 26, 27];
-
 /// The reply that stores nothing.
 const NOTHING: Reply = Reply {
     first: None,
@@ -62,9 +59,7 @@ impl ToolPart for Lister {
     ghost kind = { λ lister. 0 };
 
     fn initialize(&mut self, registrar: &mut Registrar) -> u32 {
-        for number in CALLBACKS {
-            registrar.set(number);
-        }
+        registrar.set_profile();
         ACTIVE
     }
 

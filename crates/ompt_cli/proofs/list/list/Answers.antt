@@ -14,14 +14,14 @@ pub returns-clause-mask : goal.returns-clause-mask
 returns-clause-mask g c =
     let ran = c.in-Ok-run_serial.ran in
     let runs = rw c.in-Ok-listers.ensures at c.in-Ok-run_serial.ensures.parts in
-    lists-all (run_of_blocks c.in-Ok.program ran.mask c.job.inside.threads SILENT_STEPS) ran.history c.job.inside.threads ran.parts.items c.job.invariant.0 runs
+    lists-all (run_of_blocks c.in-Ok.program ran.mask c.job.inside.threads SILENT_STEPS) ran.cause ran.history c.job.inside.threads ran.parts.items c.job.invariant.0 runs
 
 pub returns-clause-whole : goal.returns-clause-whole
 returns-clause-whole g c = λ found.
     let ran = c.in-Ok-run_serial.ran in
     let run : Run = run_of_blocks c.in-Ok.program ran.mask c.job.inside.threads SILENT_STEPS in
     let runs = rw c.in-Ok-listers.ensures at c.in-Ok-run_serial.ensures.parts in
-    let silent : HearsSilent run ran.history = lists-silent run ran.history c.job.inside.threads ran.parts.items c.job.invariant.0 runs refl in
+    let silent : HearsSilent run ran.history = lists-silent run ran.cause ran.history c.job.inside.threads ran.parts.items c.job.invariant.0 runs refl in
     let whole : ran.history ≡ serial run = c.in-Ok-run_serial.ensures.whole found silent in
     subst (λ (blocks : List Block). ran.history ≡ serial (run_of_blocks blocks ran.mask c.job.inside.threads SILENT_STEPS)) c.in-Ok.ensures whole
 
@@ -30,7 +30,7 @@ returns-clause-listed g c =
     let ran = c.in-Ok-run_serial.ran in
     let run : Run = run_of_blocks c.in-Ok.program ran.mask c.job.inside.threads SILENT_STEPS in
     let runs = rw c.in-Ok-listers.ensures at c.in-Ok-run_serial.ensures.parts in
-    let shared : AreShared (records_of run ran.history) ran.parts.items = lists-shared run ran.history c.job.inside.threads ran.parts.items c.job.invariant.0 runs refl c.in-Ok-run_serial.ensures.own in
+    let shared : AreShared (records_of run ran.history) ran.parts.items = lists-shared run ran.cause ran.history c.job.inside.threads ran.parts.items c.job.invariant.0 runs refl c.in-Ok-run_serial.ensures.own in
     let of_program : AreShared (records_of (run_of_blocks c.job.inside.blocks ran.mask c.job.inside.threads SILENT_STEPS) ran.history) ran.parts.items =
     subst (λ (blocks : List Block). AreShared (records_of (run_of_blocks blocks ran.mask c.job.inside.threads SILENT_STEPS) ran.history) ran.parts.items) c.in-Ok.ensures shared in
     c.write_run-end.ensures.listed _ (rw c.deref.ensures.value of_program)
@@ -40,7 +40,7 @@ returns-clause-part g c =
     let ran = c.in-Ok-run_serial.ran in
     let run : Run = run_of_blocks c.in-Ok.program ran.mask c.job.inside.threads SILENT_STEPS in
     let runs = rw c.in-Ok-listers.ensures at c.in-Ok-run_serial.ensures.parts in
-    let shared : AreShared (records_of run ran.history) ran.parts.items = lists-shared run ran.history c.job.inside.threads ran.parts.items c.job.invariant.0 runs refl c.in-Ok-run_serial.ensures.own in
+    let shared : AreShared (records_of run ran.history) ran.parts.items = lists-shared run ran.cause ran.history c.job.inside.threads ran.parts.items c.job.invariant.0 runs refl c.in-Ok-run_serial.ensures.own in
     let of_program : AreShared (records_of (run_of_blocks c.job.inside.blocks ran.mask c.job.inside.threads SILENT_STEPS) ran.history) ran.parts.items =
     subst (λ (blocks : List Block). AreShared (records_of (run_of_blocks blocks ran.mask c.job.inside.threads SILENT_STEPS) ran.history) ran.parts.items) c.in-Ok.ensures shared in
     c.write_run-end.ensures.part _ (rw c.deref.ensures.value of_program)

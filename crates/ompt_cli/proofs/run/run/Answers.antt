@@ -17,7 +17,7 @@ returns-clause-guests g c =
     let waiting : c.reverse-2.new.self.items ≡ guests_of (λ guest. guest.0) ran.parts.items ++ rest =
     c.reverse-2.ensures.items ∙ c.take_back.ensures ∙ ap (λ items. guests_of (λ guest. guest.0) ran.parts.items ++ reverse items) c.in-Ok-reserve.ensures.items in
     let runs = rw c.in-Ok.ensures at c.in-Ok-run_serial.ensures.parts in
-    rw waiting (guests-serve (λ guest. guest.0) _ (run_of_blocks c.job.inside.blocks ran.mask c.job.inside.threads SILENT_STEPS) ran.history c.args.guests.items parts ran.parts.items rest c.job.invariant.0 c.in-Ok-hand_out.ensures.each out c.in-Ok-run_serial.ensures.kinds runs)
+    rw waiting (guests-serve (λ guest. guest.0) _ (run_of_blocks c.job.inside.blocks ran.mask c.job.inside.threads SILENT_STEPS) ran.cause ran.history c.args.guests.items parts ran.parts.items rest c.job.invariant.0 c.in-Ok-hand_out.ensures.each out c.in-Ok-run_serial.ensures.kinds runs)
 
 pub returns-clause-nothing : goal.returns-clause-nothing
 returns-clause-nothing g c = nothing-of c.in-Ok-run_serial.ran.cause

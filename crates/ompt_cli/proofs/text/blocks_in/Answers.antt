@@ -4,7 +4,7 @@ use Rattle.omp_model.specs.declared.blocks.Block.{Block}
 use Rattle.ompt_cli.specs.declared.end.Refusal.TheVariants.{OtherForm}
 use Rattle.ompt_cli.specs.Form.{blocks_of}
 use Rattle.ompt_cli.specs.Text.{IsRefused}
-use Rattle.ompt_cli.proofs.Reading.{check-accepted, check-refused, check-runs, other-by, program-not_refused, refusal-one, runs-by, spells-by}
+use Rattle.ompt_cli.proofs.Reading.{check-accepted, check-runs, other-by, program-not_refused, refusal-one, runs-by, spells-by}
 use Rattle.ompt_cli.proofs.text.blocks_in.Goals as goal
 
 -- what was found in the program's tree was found in the tree
@@ -20,8 +20,8 @@ returns-in-Err-clause-runs c = λ text short is runs.
     rw c.end_of_check_fault.ensures (check-runs text c.args.tree is short c.in-Err.fault c.in-Err.ensures.fault runs)
 
 pub returns-in-Ok-Some-clause-program : goal.returns-in-Ok-Some-clause-program
-returns-in-Ok-Some-clause-program c = λ text is.
-    spells-by text c.args.tree is _ c.in-Ok.ensures.checked
+returns-in-Ok-Some-clause-program c = λ text short is.
+    spells-by text c.args.tree is short _ c.in-Ok.ensures.checked
     (found-in c.tree.result.now c.args.tree _ (c.tree.ensures ∙ c.in-Ok.ensures.tree) c.in-Ok-Some.ensures ∙ c.in-Ok-Some.field-0-is)
 
 pub returns-in-Ok-Some-clause-accepted : goal.returns-in-Ok-Some-clause-accepted

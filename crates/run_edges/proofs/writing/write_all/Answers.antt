@@ -1,4 +1,4 @@
-use Rattle.std.proofs.Common.{◌-◌, ◌≡◌, length, take, drop, ap, arith, length-drop, take_all}
+use Rattle.std.proofs.Common.{rules, ◌-◌, ◌≡◌, length, take, drop, ap, arith, length-drop, take_all, ◌∙◌}
 use Rattle.std.proofs.Math.Seq.{take-add}
 use Rattle.std.proofs.KnownBytes.{Appends-trans}
 use Rattle.run_edges.proofs.writing.write_all.Goals as goal
@@ -13,6 +13,6 @@ loop-taken-preserved g c =
     record {
       within = omega (arith, left, taken.1);
       appended = rw take-add (Appends-trans _ _ _ _ _ c.loop-taken.invariant.appended taken.2);
-      counted = omega arith;
+      steady = c.in-Bytes.ensures.steady (search rules) ∙ c.loop-taken.invariant.steady;
       idle = λ none. absurd (omega (arith, ap length none));
     }

@@ -6,7 +6,7 @@ abbrev pub invariant-loop-taken : goal.invariant-loop-taken
 invariant-loop-taken g l = record {
   within : l.taken ≤ length l.piece;
   appended : Appends (g.O.Sink.held l.initial.sink) (g.O.Sink.held l.sink) (take l.taken l.piece);
-  counted : g.O.Sink.faults l.initial.sink ≤ g.O.Sink.faults l.sink;
+  steady : g.O.Sink.faults l.sink ≡ g.O.Sink.faults l.initial.sink;
   idle : l.piece ≡ [] → l.sink ≡ l.initial.sink;
 }
 

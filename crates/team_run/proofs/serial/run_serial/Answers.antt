@@ -1,13 +1,15 @@
-use Rattle.std.proofs.Common.{◌≡◌, ◌∙◌, Some, sym, ap, subst, [], length, arith}
+use Rattle.std.proofs.Common.{◌≡◌, ◌≢◌, ◌∙◌, Some, sym, ap, subst, [], length, arith}
+use Rattle.omp_model.specs.declared.cause.Cause.TheVariants as causes
 use Rattle.omp_model.specs.State.{Run}
 use Rattle.omp_model.specs.Cause.{cause_in, cause_of}
 use Rattle.omp_model.specs.Serial.{serial}
 use Rattle.omp_model.specs.Program.{run_of_blocks}
 use Rattle.omp_model.proofs.Recording.{HasRun-after, HasRun-whole}
 use Rattle.omp_model.proofs.SerialLaws.{serial-whole}
-use Rattle.team_run.specs.Standing.{HearsOwn, HearsSilent}
-use Rattle.team_run.specs.Serving.{RunsFor, SameKinds, Serves}
+use Rattle.team_run.specs.Standing.{HearsOwn, HearsSilent, StandsAt}
+use Rattle.team_run.specs.Serving.{RunsFor, SameKinds, ServesTo}
 use Rattle.team_run.proofs.Serving.{kinds-then, runs-whole, written-back}
+use Rattle.team_run.proofs.Visiting.{unheard-none}
 use Rattle.team_run.proofs.serial.run_serial.Goals as goal
 
 pub returns-clause-parts : goal.returns-clause-parts
@@ -18,25 +20,28 @@ returns-clause-parts g c =
     let started = c.initialize_first-start.new.parts in
     let begun = c.in_ok-run.run' in
     let ended = c.finish-cause.new.self in
+    let cause = c.finish-cause.result in
     let between = c.deref_mut-2.result.now in
     let after = c.finalize_first.new.parts in
     let started_is : begun.parts.items ≡ started =
     ap (λ parts. parts.items) c.in_ok-run.ensures.parts ∙ written-back started c.args.parts.items c.args.parts.len (c.initialize_first-start.ensures.as_many ∙ ap length c.deref_mut.ensures.value) (sym c.args.parts.ok.0) in
-    let from_nothing : Serves stands_for begun.machine.run begun.parts.items [] ended.parts.items ended.history.entries =
-    subst (λ history. Serves stands_for begun.machine.run begun.parts.items history ended.parts.items ended.history.entries) c.in_ok-run.ensures.fresh c.finish-cause.ensures.serves in
-    let from_start : Serves stands_for begun.machine.run started [] ended.parts.items ended.history.entries =
-    subst (λ started. Serves stands_for begun.machine.run started [] ended.parts.items ended.history.entries) started_is from_nothing in
-    let serves : Serves stands_for begun.machine.run started [] between ended.history.entries =
-    subst (λ between. Serves stands_for begun.machine.run started [] between ended.history.entries) (sym c.deref_mut-2.ensures.value) from_start in
-    let whole : RunsFor stands_for begun.machine.run ended.history.entries parts after =
-    runs-whole stands_for begun.machine.run ended.history.entries parts started between after first.answer first.registered (ap (λ (run : Run). run.mask) c.in_ok-run.ensures.run ∙ c.mask_of-mask.ensures) (omega (arith, c.requires.some, c.requires.parts, ap length c.deref_mut.ensures.value)) c.initialize_first-start.ensures.as_many c.initialize_first-start.ensures.first c.initialize_first-start.ensures.others serves c.finalize_first.ensures.as_many c.finalize_first.ensures.first c.finalize_first.ensures.others in
-    let of_items : RunsFor stands_for begun.machine.run ended.history.entries c.args.parts.items after =
-    subst (λ parts. RunsFor stands_for begun.machine.run ended.history.entries parts after) c.deref_mut.ensures.value whole in
-    let of_run : RunsFor stands_for (run_of_blocks c.args.blocks c.mask_of-mask.result c.args.threads c.args.steps) ended.history.entries c.args.parts.items after =
-    subst (λ (run : Run). RunsFor stands_for run ended.history.entries c.args.parts.items after) c.in_ok-run.ensures.run of_items in
-    let of_history : RunsFor stands_for (run_of_blocks c.args.blocks c.mask_of-mask.result c.args.threads c.args.steps) c.into_history.result c.args.parts.items after =
-    subst (λ history. RunsFor stands_for (run_of_blocks c.args.blocks c.mask_of-mask.result c.args.threads c.args.steps) history c.args.parts.items after) (sym c.into_history.ensures) of_run in
-    subst (λ after. RunsFor stands_for (run_of_blocks c.args.blocks c.mask_of-mask.result c.args.threads c.args.steps) c.into_history.result c.args.parts.items after) (sym (written-back after ended.parts.items ended.parts.len (c.finalize_first.ensures.as_many ∙ ap length c.deref_mut-2.ensures.value) (sym ended.parts.ok.0))) of_history
+    let from_nothing : ServesTo stands_for begun.machine.run begun.parts.items [] ended.parts.items ended.history.entries =
+    subst (λ history. ServesTo stands_for begun.machine.run begun.parts.items history ended.parts.items ended.history.entries) c.in_ok-run.ensures.fresh c.finish-cause.ensures.serves in
+    let from_start : ServesTo stands_for begun.machine.run started [] ended.parts.items ended.history.entries =
+    subst (λ started. ServesTo stands_for begun.machine.run started [] ended.parts.items ended.history.entries) started_is from_nothing in
+    let serves : ServesTo stands_for begun.machine.run started [] between ended.history.entries =
+    subst (λ between. ServesTo stands_for begun.machine.run started [] between ended.history.entries) (sym c.deref_mut-2.ensures.value) from_start in
+    let stands : cause ≢ causes.Memory → StandsAt begun.machine.run ended.machine.state ended.next ended.history.entries =
+    λ found. subst (λ (run : Run). StandsAt run ended.machine.state ended.next ended.history.entries) c.finish-cause.ensures.run (c.finish-cause.ensures.stands found) in
+    let whole : RunsFor stands_for begun.machine.run cause ended.history.entries parts after =
+    runs-whole stands_for begun.machine.run cause ended.history.entries parts started between after first.answer first.registered (ap (λ (run : Run). run.mask) c.in_ok-run.ensures.run ∙ c.mask_of-mask.ensures) (omega (arith, c.requires.some, c.requires.parts, ap length c.deref_mut.ensures.value)) c.initialize_first-start.ensures.as_many c.initialize_first-start.ensures.first c.initialize_first-start.ensures.others serves (λ found. unheard-none begun.machine.run _ _ _ serves.unheard (stands found) serves.is_unheard) c.finalize_first.ensures.as_many c.finalize_first.ensures.first c.finalize_first.ensures.others in
+    let of_items : RunsFor stands_for begun.machine.run cause ended.history.entries c.args.parts.items after =
+    subst (λ parts. RunsFor stands_for begun.machine.run cause ended.history.entries parts after) c.deref_mut.ensures.value whole in
+    let of_run : RunsFor stands_for (run_of_blocks c.args.blocks c.mask_of-mask.result c.args.threads c.args.steps) cause ended.history.entries c.args.parts.items after =
+    subst (λ (run : Run). RunsFor stands_for run cause ended.history.entries c.args.parts.items after) c.in_ok-run.ensures.run of_items in
+    let of_history : RunsFor stands_for (run_of_blocks c.args.blocks c.mask_of-mask.result c.args.threads c.args.steps) cause c.into_history.result c.args.parts.items after =
+    subst (λ history. RunsFor stands_for (run_of_blocks c.args.blocks c.mask_of-mask.result c.args.threads c.args.steps) cause history c.args.parts.items after) (sym c.into_history.ensures) of_run in
+    subst (λ after. RunsFor stands_for (run_of_blocks c.args.blocks c.mask_of-mask.result c.args.threads c.args.steps) cause c.into_history.result c.args.parts.items after) (sym (written-back after ended.parts.items ended.parts.len (c.finalize_first.ensures.as_many ∙ ap length c.deref_mut-2.ensures.value) (sym ended.parts.ok.0))) of_history
 
 pub returns-clause-cause : goal.returns-clause-cause
 returns-clause-cause g c = λ found.
@@ -65,7 +70,7 @@ returns-clause-kinds g c =
     let third : SameKinds kind ended.items after = subst (λ between. SameKinds kind between after) c.deref_mut-2.ensures.value c.finalize_first.ensures.kinds in
     let as_many : length started ≡ length items = c.initialize_first-start.ensures.as_many ∙ ap length c.deref_mut.ensures.value in
     let whole : SameKinds kind items after =
-    kinds-then kind items ended.items after (c.finish-cause.ensures.serves.as_many ∙ ap length started_is ∙ as_many) (kinds-then kind items started ended.items as_many first second) third in
+    kinds-then kind items ended.items after (c.finish-cause.ensures.serves.serves.as_many ∙ ap length started_is ∙ as_many) (kinds-then kind items started ended.items as_many first second) third in
     subst (λ after. SameKinds kind items after) (sym (written-back after ended.items ended.len (c.finalize_first.ensures.as_many ∙ ap length c.deref_mut-2.ensures.value) (sym ended.ok.0))) whole
 
 pub returns-clause-own : goal.returns-clause-own

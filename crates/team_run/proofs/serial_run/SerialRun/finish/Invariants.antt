@@ -1,4 +1,4 @@
-use Rattle.std.proofs.Common.{◌≡◌, ◌-◌}
+use Rattle.std.proofs.Common.{◌≡◌, ◌-◌, None}
 use Rattle.omp_model.specs.declared.limits.TheConstants.{TURN_LIMIT}
 use Rattle.team_run.specs.Serving.{Serves, SameKinds}
 use Rattle.team_run.specs.Standing.{StandsAt}
@@ -10,7 +10,7 @@ invariant-loop-thread g l =
     record {
       run : l.self.machine.run ≡ l.initial.self.machine.run;
       stands : StandsAt l.self.machine.run l.self.machine.state l.self.next l.self.history.entries;
-      serves : Serves g.P.ToolPart.stands_for l.initial.self.machine.run l.initial.self.parts.items l.initial.self.history.entries l.self.parts.items l.self.history.entries;
+      serves : Serves g.P.ToolPart.stands_for l.initial.self.machine.run l.initial.self.parts.items l.initial.self.history.entries None l.self.parts.items l.self.history.entries;
       kinds : SameKinds g.P.ToolPart.kind l.initial.self.parts.items l.self.parts.items;
     }
 

@@ -9,12 +9,16 @@ use Rattle.omp_machine.specs.Standing.{went_of, is_call}
 use Rattle.omp_machine.proofs.Telling.{told-by, untold-by, alone-by}
 use Rattle.ompt_calls.specs.Snapshot.{stores_of}
 use Rattle.omp_model.specs.Legal.{back}
-use Rattle.team_run.proofs.Serving.{kinds-same}
-use Rattle.team_run.proofs.Visiting.{stops-here, may-said, inside-said, stops-said, visited-said, serves-said, visited-untold, visited-alone, from_either, from_ok}
+use Rattle.team_run.proofs.Serving.{kinds-same, serves-same}
+use Rattle.team_run.proofs.Visiting.{stops-here, may-said, inside-said, stops-said, visited-said, serves-said, serves-to, visited-untold, visited-alone, from_either, from_ok}
 use Rattle.team_run.proofs.serial_run.SerialRun.visit.Goals as goal
 
 pub returns-in_err-reserve-clause-stops : goal.returns-in_err-reserve-clause-stops
 returns-in_err-reserve-clause-stops g c = rw c.in_err-reserve.ensures.entries (stops-here _ _ _ _ c.requires.stands)
+
+pub returns-in_err-reserve-clause-serves : goal.returns-in_err-reserve-clause-serves
+returns-in_err-reserve-clause-serves g c =
+    rw c.in_err-reserve.ensures.entries (serves-to _ _ _ _ _ c.requires.stands g.P.ToolPart.stands_for _ _ (serves-same g.P.ToolPart.stands_for _ c.args.self.now.parts.items c.args.self.now.history.entries))
 
 pub overflow_cast-seq : goal.overflow_cast-seq
 overflow_cast-seq g c =
@@ -27,6 +31,10 @@ go-requires g c = first_enabled-enabled _ _ _ _ c.requires.turn
 
 pub returns-in_err-went-clause-stops : goal.returns-in_err-went-clause-stops
 returns-in_err-went-clause-stops g c = rw c.in_ok-reserve.ensures.entries (stops-here _ _ _ _ c.requires.stands)
+
+pub returns-in_err-went-clause-serves : goal.returns-in_err-went-clause-serves
+returns-in_err-went-clause-serves g c =
+    rw c.in_ok-reserve.ensures.entries (serves-to _ _ _ _ _ c.requires.stands g.P.ToolPart.stands_for _ _ (serves-same g.P.ToolPart.stands_for _ c.args.self.now.parts.items c.args.self.now.history.entries))
 
 pub overflow_add-self : goal.overflow_add-self
 overflow_add-self g c =
@@ -67,7 +75,7 @@ returns-in-Told-clause-serves g c =
     let before_is : c.push.new.self.entries ≡ c.args.self.now.history.entries ++ go_at t ∷ [] = rw (c.push.ensures.entries, c.in_ok-reserve.ensures.entries) refl in
     let seq_is : c.len-seq.result ≡ length c.args.self.now.history.entries = c.len-seq.ensures ∙ ap length c.in_ok-reserve.ensures.entries in
     from_either c.serve.result c.serve.ensures.answers c.serve.ensures.memory
-    (λ answered. (visited-said run S _ _ t c.requires.stands c.requires.turn waits _ _ said g.P.ToolPart.stands_for c.args.self.now.parts.items _ _ _ _ seq_is state_is before_is _ _ answered).serves)
+    (λ answered. let visited = visited-said run S _ _ t c.requires.stands c.requires.turn waits _ _ said g.P.ToolPart.stands_for c.args.self.now.parts.items _ _ _ _ seq_is state_is before_is _ _ answered in serves-to _ _ _ _ _ visited.stands g.P.ToolPart.stands_for _ _ visited.serves)
     (λ kept. rw (kept.0, before_is) (serves-said run S _ _ t c.requires.stands c.requires.turn waits _ _ said g.P.ToolPart.stands_for _ _ kept.1))
 
 pub returns-in-Told-clause-stops : goal.returns-in-Told-clause-stops
@@ -110,6 +118,19 @@ returns-in-Told-clause-turns g c =
     let before_is : c.push.new.self.entries ≡ c.args.self.now.history.entries ++ go_at t ∷ [] = rw (c.push.ensures.entries, c.in_ok-reserve.ensures.entries) refl in
     let seq_is : c.len-seq.result ≡ length c.args.self.now.history.entries = c.len-seq.ensures ∙ ap length c.in_ok-reserve.ensures.entries in
     from_ok c.serve.result c.serve.ensures.answers (λ answered. (visited-said run S _ _ t c.requires.stands c.requires.turn waits _ _ said g.P.ToolPart.stands_for c.args.self.now.parts.items _ _ _ _ seq_is state_is before_is _ _ answered).turns)
+
+pub returns-in-Untold-clause-serves : goal.returns-in-Untold-clause-serves
+returns-in-Untold-clause-serves g c =
+    let run : Run = c.args.self.now.machine.run in
+    let S : State = c.args.self.now.machine.state in
+    let t = c.args.thread in
+    let unsaid = untold-by run (turn run S t).state t (turn run S t).outcome (sym c.in_ok-went.ensures.went ∙ c.in-Untold.is) in
+    let called : is_call c.in_ok-went.went ≡ true = rw c.in-Untold.is refl in
+    let waits : IsSome (pending_at (turn run S t).state t) = rw c.in_ok-went.ensures.turn at (c.in_ok-went.ensures.waits called) in
+    let visited = visited-untold run S _ _ t c.requires.stands c.requires.turn unsaid.event unsaid.happens waits g.P.ToolPart.stands_for c.args.self.now.parts.items unsaid.unregistered in
+    let history : c.back.new.self.history.entries ≡ c.args.self.now.history.entries ++ event_at t [] = rw (c.back.ensures.history, c.push.ensures.entries, c.in_ok-reserve.ensures.entries) (append_assoc c.args.self.now.history.entries (go_at t ∷ []) (back_at t ∷ [])) in
+    let state : c.back.new.self.machine.state ≡ back (turn run S t).state t = rw (c.back.ensures.state, c.in_ok-went.ensures.turn) refl in
+    rw (c.back.ensures.parts, history) (serves-to _ _ _ _ _ visited.stands g.P.ToolPart.stands_for _ _ visited.serves)
 
 pub returns-in-Untold-clause-stops : goal.returns-in-Untold-clause-stops
 returns-in-Untold-clause-stops g c =
@@ -161,7 +182,7 @@ returns-in-Quiet g c =
     let before_is : c.push.new.self.entries ≡ c.args.self.now.history.entries ++ go_at t ∷ [] = rw (c.push.ensures.entries, c.in_ok-reserve.ensures.entries) refl in
     record {
       run = rw c.in_ok-went.ensures.turn refl;
-      serves = rw before_is visited.serves;
+      serves = rw before_is (serves-to _ _ _ _ _ visited.stands g.P.ToolPart.stands_for _ _ visited.serves);
       kinds = kinds-same g.P.ToolPart.kind c.args.self.now.parts.items;
       stops = rw before_is (stops-here _ _ _ _ visited.stands);
       stands = rw (c.in_ok-went.ensures.turn, before_is) visited.stands;

@@ -1,0 +1,110 @@
+//! The callbacks of the profile: those whose events a program may have.
+
+ghost use Rattle.std.specs.Prelude.{◌≡◌};
+ghost use Rattle.omp_codes.specs.Answers.{in_profile, mask_of};
+
+/// `ompt_callback_thread_begin` of `ompt_callbacks_t` (OpenMP 5.2, 19.4.2), as all that follow.
+pub const THREAD_BEGIN: u32 = 1;
+
+/// `ompt_callback_thread_end`.
+pub const THREAD_END: u32 = 2;
+
+/// `ompt_callback_parallel_begin`.
+pub const PARALLEL_BEGIN: u32 = 3;
+
+/// `ompt_callback_parallel_end`.
+pub const PARALLEL_END: u32 = 4;
+
+/// `ompt_callback_task_create`.
+pub const TASK_CREATE: u32 = 5;
+
+/// `ompt_callback_task_schedule`.
+pub const TASK_SCHEDULE: u32 = 6;
+
+/// `ompt_callback_implicit_task`.
+pub const IMPLICIT_TASK: u32 = 7;
+
+/// `ompt_callback_sync_region_wait`.
+pub const SYNC_REGION_WAIT: u32 = 16;
+
+/// `ompt_callback_mutex_released`.
+pub const MUTEX_RELEASED: u32 = 17;
+
+/// `ompt_callback_work`.
+pub const WORK: u32 = 20;
+
+/// `ompt_callback_masked`.
+pub const MASKED: u32 = 21;
+
+/// `ompt_callback_sync_region`.
+pub const SYNC_REGION: u32 = 23;
+
+/// `ompt_callback_lock_init`.
+pub const LOCK_INIT: u32 = 24;
+
+/// `ompt_callback_lock_destroy`.
+pub const LOCK_DESTROY: u32 = 25;
+
+/// `ompt_callback_mutex_acquire`.
+pub const MUTEX_ACQUIRE: u32 = 26;
+
+/// `ompt_callback_mutex_acquired`.
+pub const MUTEX_ACQUIRED: u32 = 27;
+
+/// `ompt_callback_dispatch`.
+pub const DISPATCH: u32 = 32;
+
+/// The callbacks of the profile, by rising numbers.
+pub const PROFILE: [u32; 17] = [
+    THREAD_BEGIN,
+    THREAD_END,
+    PARALLEL_BEGIN,
+    PARALLEL_END,
+    TASK_CREATE,
+    TASK_SCHEDULE,
+    IMPLICIT_TASK,
+    SYNC_REGION_WAIT,
+    MUTEX_RELEASED,
+    WORK,
+    MASKED,
+    SYNC_REGION,
+    LOCK_INIT,
+    LOCK_DESTROY,
+    MUTEX_ACQUIRE,
+    MUTEX_ACQUIRED,
+    DISPATCH,
+];
+
+/// The mask of the profile: bit n for number n.
+pub const PROFILE_MASK: u64 = 0x1_0FB3_00FE;
+
+/// Whether a program may have events of the callback with this number.
+pub fn is_profile(number: u32) -> bool
+    ensures { result ≡ in_profile number }
+{
+    matches!(
+        number,
+        THREAD_BEGIN
+            | THREAD_END
+            | PARALLEL_BEGIN
+            | PARALLEL_END
+            | TASK_CREATE
+            | TASK_SCHEDULE
+            | IMPLICIT_TASK
+            | SYNC_REGION_WAIT
+            | MUTEX_RELEASED
+            | WORK
+            | MASKED
+            | SYNC_REGION
+            | LOCK_INIT
+            | LOCK_DESTROY
+            | MUTEX_ACQUIRE
+            | MUTEX_ACQUIRED
+            | DISPATCH
+    )
+}
+
+/// A law: the mask of the profile has the callbacks of the profile, and no others.
+pub fn profile_has_its_mask()
+    ensures { PROFILE_MASK ≡ mask_of PROFILE }
+{}
