@@ -1,7 +1,7 @@
 -- The steps that a node is opened for, which keep a name or read the `#` of a directive, stand directly behind its opening. So the node
 -- stands where the word stands that they read.
 use Rattle.std.proofs.Common.{◌≡◌, Bool, true, false, ◌&&◌, ◌||◌, IsTrue, List, [], ◌∷◌, ◌++◌, Option, Some, None, refl, subst}
-use Rattle.std.proofs.lemmas.Bool.{false≢true}
+use Rattle.std.proofs.lemmas.Bool.{and_from, false≢true}
 use Rattle.c_syntax.specs.declared.node.Getter.TheVariants as getter
 use Rattle.c_syntax.specs.declared.node.Directive.TheVariants as directive
 use Rattle.c_syntax.specs.declared.term.Term.{Term}
@@ -15,11 +15,7 @@ use Rattle.c_syntax.specs.declared.grammar.Step.TheVariants.{Expect, Deepen, Tak
 use Rattle.c_syntax.specs.Words.{Word}
 use Rattle.c_syntax.specs.Grammar.{choice}
 use Rattle.c_syntax.specs.Derivation.{Opened}
-use Rattle.c_syntax.proofs.Terms.{all_terms, among-all, every, every-among, both-left, both-right}
-
-abbrev negated : Bool → Bool
-negated true = false
-negated false = true
+use Rattle.c_syntax.proofs.Terms.{all_terms, among-all, every, every-among, negated, both-left, both-right}
 
 abbrev pub is_pragma : Term → Bool
 is_pragma term.Pragma = true
@@ -58,15 +54,11 @@ fresh-by false false holds fails = absurd (false≢true fails)
 pub led-fresh : (fresh : Bool) (step : Step) (steps : List Step) → IsTrue (is_led fresh (step ∷ steps)) → is_first step ≡ true → fresh ≡ true
 led-fresh fresh step steps led first = fresh-by fresh (is_first step) (both-left (fresh || negated (is_first step)) (is_led (is_open step) steps) led) first
 
-both : (first second : Bool) → IsTrue first → IsTrue second → IsTrue (first && second)
-both true second holds also = also
-both false second fails also = absurd (false≢true fails)
-
 pub led-append : (fresh : Bool) (front steps : List Step) → IsTrue (is_led fresh front) → IsTrue (is_led false steps) → IsTrue (is_led fresh (front ++ steps))
 led-append true [] steps fails led = absurd (false≢true fails)
 led-append false [] steps holds led = led
 led-append fresh (step ∷ front) steps holds led =
-    both (fresh || negated (is_first step)) (is_led (is_open step) (front ++ steps)) (both-left (fresh || negated (is_first step)) (is_led (is_open step) front) holds) (led-append (is_open step) front steps (led-behind fresh step front holds) led)
+    and_from (fresh || negated (is_first step)) (is_led (is_open step) (front ++ steps)) (both-left (fresh || negated (is_first step)) (is_led (is_open step) front) holds) (led-append (is_open step) front steps (led-behind fresh step front holds) led)
 
 abbrev led_chosen : Option (List Step) → Bool
 led_chosen None = true

@@ -20,3 +20,6 @@ pub mod Keeping
 pub mod WordSpots
 pub mod Leading
 pub mod NamePlaces
+pub mod Fates
+pub mod SpotCounts
+pub mod ConstructPlaces

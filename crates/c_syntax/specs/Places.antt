@@ -1,10 +1,13 @@
--- What stands where in the tree of a text: a spot tells the name of a node that has one.
-use Rattle.std.specs.Prelude.{ℕ, ◌≡◌, ◌≢◌, List, [], ◌∷◌, ◌++◌, Ok}
-use Rattle.std.specs.List.{Contains}
+-- What stands where in the tree of a text: a spot tells the name of a node that has one, and it tells a construct from all others.
+use Rattle.std.specs.Prelude.{ℕ, ◌≡◌, ◌≢◌, Bool, true, false, List, [], ◌∷◌, ◌++◌, Ok, map, filter}
+use Rattle.std.specs.List.{AllPairs, Contains}
+use Rattle.c_tokens.specs.declared.token.Spot.{Spot}
 use Rattle.c_tokens.specs.declared.token.Token.{Token}
 use Rattle.c_tokens.specs.Tokens.{tokens_of}
+use Rattle.c_syntax.specs.declared.node.NodeKind.{NodeKind}
+use Rattle.c_syntax.specs.declared.node.NodeKind.TheVariants as node
 use Rattle.c_syntax.specs.Words.{words_of}
-use Rattle.c_syntax.specs.Tree.{Tree, Children, name_of, spot_of}
+use Rattle.c_syntax.specs.Tree.{Tree, Children, kind_of, name_of, spot_of}
 use Rattle.c_syntax.specs.Tree.Tree.{Node}
 use Rattle.c_syntax.specs.Tree.Children.{Over, Child, Absent}
 use Rattle.c_syntax.specs.Derivation.{Spells}
@@ -28,3 +31,15 @@ unfoldable mutual
 abbrev pub HasOneNameAPlace : Tree → Type 0
 HasOneNameAPlace tree =
     (one other : Tree) → Contains (nodes_of tree) one → Contains (nodes_of tree) other → name_of one ≢ 0 → name_of other ≢ 0 → spot_of one ≡ spot_of other → name_of one ≡ name_of other
+
+abbrev pub is_construct : NodeKind → Bool
+is_construct (node.Construct directive) = true
+is_construct other = false
+
+-- the spots of the constructs, in the order of the text
+abbrev pub construct_spots : Tree → List Spot
+construct_spots tree = map spot_of (filter (λ one. is_construct (kind_of one)) (nodes_of tree))
+
+-- none of them is there twice
+abbrev pub HasOneConstructAPlace : Tree → Type 0
+HasOneConstructAPlace tree = AllPairs (λ one other. one ≢ other) (construct_spots tree)

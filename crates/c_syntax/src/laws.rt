@@ -8,7 +8,7 @@ ghost use Rattle.c_syntax.specs.Words.{Word};
 ghost use Rattle.c_syntax.specs.Tree.{Tree};
 ghost use Rattle.c_syntax.specs.Derivation.{Spells};
 ghost use Rattle.c_syntax.specs.Faults.{IsAnswered, IsFault};
-ghost use Rattle.c_syntax.specs.Places.{HasOneNameAPlace, IsTreeOf};
+ghost use Rattle.c_syntax.specs.Places.{HasOneConstructAPlace, HasOneNameAPlace, IsTreeOf};
 
 /// A program has one tree.
 pub fn one_tree()
@@ -33,4 +33,9 @@ pub fn program_or_fault()
 /// A spot tells a name: nodes of a program that have one, and stand at one spot, have the same.
 pub fn one_name_a_place()
     ensures { (text : List ℕ) (tokens : List Token) (tree : Tree) → IsTreeOf text tokens tree → HasOneNameAPlace tree }
+{}
+
+/// A spot tells a construct: no two constructs of a program stand at one spot.
+pub fn one_construct_a_place()
+    ensures { (text : List ℕ) (tokens : List Token) (tree : Tree) → IsTreeOf text tokens tree → HasOneConstructAPlace tree }
 {}

@@ -23,8 +23,8 @@
 //! - words spell one tree at most, by [`one_tree`], and have one fault at most, by [`one_fault`]. No words spell a tree and have a
 //!   fault, by [`tree_or_fault`], and words that end with the end of the text have one or the other, by [`program_or_fault`]. So
 //!   the answer is determined but for want of memory;
-//! - in the tree of a text, nodes with a name that stand at one spot have the same name, by [`one_name_a_place`]. So what is looked
-//!   up by the spot of a node is that of its name.
+//! - in the tree of a text, nodes with a name that stand at one spot have the same name, by [`one_name_a_place`], and no two
+//!   constructs stand at one spot, by [`one_construct_a_place`]. So a look-up by spot is of one name, or of one construct.
 //!
 //! [`SyntaxFault::number`] and [`SyntaxFault::spot`] tell a fault, as `specs/Faults.antt` says.
 //!
@@ -59,7 +59,9 @@ mod word;
 mod words;
 
 pub use fault::SyntaxFault;
-pub use laws::{one_fault, one_name_a_place, one_tree, program_or_fault, tree_or_fault};
+pub use laws::{
+    one_construct_a_place, one_fault, one_name_a_place, one_tree, program_or_fault, tree_or_fault,
+};
 pub use node::{
     BinaryOp, Bump, Data, Default, Directive, Getter, Lead, LockCall, NodeKind, Parameters,
     ReductionOp, Returns, ScheduleKind, Setting, Side, Sign, Standalone, UnaryOp,
