@@ -15,6 +15,7 @@ pub mod Cells
 pub mod Rules
 pub mod Checked
 pub mod First
+pub mod Nearest
 pub mod Seen
 pub mod Tasks
 pub mod Weights

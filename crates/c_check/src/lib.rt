@@ -34,7 +34,7 @@ mod scopes;
 mod sharing;
 
 pub use fault::CheckFault;
-pub use laws::first_fault;
+pub use laws::{first_fault, nearest_declaration};
 pub use program::Program;
 pub use rules::checking::check;
 pub use sharing::Sharing;
