@@ -3,7 +3,7 @@ use Rattle.std.proofs.Common.{◌≡◌, ℕ, ◌+◌, ◌<◌, ◌≤◌, Bool,
 use Rattle.std.specs.Option.{option_map}
 use Rattle.std.proofs.lemmas.Bool.{ne_eqb}
 use Rattle.std.proofs.lemmas.List.{drop_all}
-use Rattle.c_check.specs.Acts.{numbers_in, numbers_behind, one_more}
+use Rattle.c_check.specs.Printed.{numbers_behind, numbers_in, one_more}
 
 -- what bytes ask for, behind a percent sign or not, where so many numbers were asked for before
 abbrev pub asked : Bool → ℕ → List ℕ → Option ℕ

@@ -5,7 +5,8 @@ use Rattle.c_syntax.specs.Tree.{Tree, Children, at_place, kind_of}
 use Rattle.c_syntax.specs.Tree.Children.{Over, Child, Absent}
 use Rattle.c_syntax.specs.Derivation.{nothing}
 use Rattle.c_syntax.specs.Numbered.{tree_at}
-use Rattle.c_check.specs.Acts.{count, is_head, statement_of}
+use Rattle.c_check.specs.NameLists.{child_count}
+use Rattle.c_check.specs.Statements.{is_head, statement_of}
 use Rattle.c_check.specs.Tasks.{from_place}
 
 behind_this : (children : Children) (place : ℕ) (tree : Tree) → Some tree ≡ at_place children place → from_place place children ≡ Child tree (from_place (suc place) children)
@@ -32,19 +33,19 @@ behind_none f x over absent (Child tree rest) (suc place) at = behind_none f x o
 
 module _ (trees : List Tree) (children : Children) (place : ℕ) where
   -- a child counts, where one is found
-  pub count_child : (next : ℕ) (found : Option ℕ) → option_map (tree_at trees) found ≡ at_place children place → is_some found ≡ true → next ≡ place + 1 → count (from_place place children) ≡ count (from_place next children) + 1
-  unfolding count
+  pub count_child : (next : ℕ) (found : Option ℕ) → option_map (tree_at trees) found ≡ at_place children place → is_some found ≡ true → next ≡ place + 1 → child_count (from_place place children) ≡ child_count (from_place next children) + 1
+  unfolding child_count
   count_child next None at some after = absurd (cc)
-  count_child next (Some child) at some after = ap count (behind_child children place next (tree_at trees child) at after)
+  count_child next (Some child) at some after = ap child_count (behind_child children place next (tree_at trees child) at after)
 
-  pub count_none : (found : Option ℕ) → option_map (tree_at trees) found ≡ at_place children place → is_some found ≡ false → count (from_place place children) ≡ 0
-  unfolding count
-  count_none None at none = behind_none count 0 refl (λ rest. refl) children place at
+  pub count_none : (found : Option ℕ) → option_map (tree_at trees) found ≡ at_place children place → is_some found ≡ false → child_count (from_place place children) ≡ 0
+  unfolding child_count
+  count_none None at none = behind_none child_count 0 refl (λ rest. refl) children place at
   count_none (Some child) at none = absurd (cc)
 
-  pub count_found : (next child : ℕ) → Some (tree_at trees child) ≡ at_place children place → next ≡ place + 1 → count (from_place next children) < count (from_place place children)
-  unfolding count
-  count_found next child at after = omega (arith, ap count (behind_child children place next (tree_at trees child) at after))
+  pub count_found : (next child : ℕ) → Some (tree_at trees child) ≡ at_place children place → next ≡ place + 1 → child_count (from_place next children) < child_count (from_place place children)
+  unfolding child_count
+  count_found next child at after = omega (arith, ap child_count (behind_child children place next (tree_at trees child) at after))
 
   -- the statement of a construct is the first child that isn't a head
   pub statement_none : None ≡ at_place children place → statement_of (from_place place children) ≡ nothing

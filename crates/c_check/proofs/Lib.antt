@@ -1,11 +1,14 @@
-mod Earliest
 pub mod Found
-mod Places
+mod Breaking
+pub mod Earliest
+pub mod Places
+pub mod Copying
 pub mod Visible
 pub mod Kept
 pub mod Listed
 pub mod InnerLoops
 pub mod Numbers
+pub mod NumbersOfCriticals
 pub mod Standing
 pub mod Behind
 pub mod Looking

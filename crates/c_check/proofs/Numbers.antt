@@ -1,14 +1,12 @@
 -- The numbers of constructs, the innermost last or first.
-use Rattle.std.proofs.Common.{◌≡◌, ℕ, zero, suc, ◌+◌, ◌-◌, ◌<◌, List, [], ◌∷◌, ◌++◌, length, reverse, take, drop, Some, refl, sym, ap, ◌∙◌, slice_get, arith}
-use Rattle.std.specs.Prelude.{slice_index_or, slice_set}
-use Rattle.std.proofs.lemmas.List.{get_or_default, length-set, length_push, map-append, reverse-append}
-use Rattle.std.proofs.lemmas.Option.{slice_get-get_or}
+use Rattle.std.proofs.Common.{◌≡◌, ℕ, zero, suc, ◌+◌, ◌<◌, List, [], ◌∷◌, ◌++◌, length, reverse, take, refl, sym, ap, ◌∙◌, arith}
+use Rattle.std.specs.Prelude.{slice_index_or}
+use Rattle.std.proofs.lemmas.List.{get_or_append_left, get_or_default, get_or_push, length_push, map-append, reverse-append, take_more}
 use Rattle.c_tokens.specs.declared.token.Spot.{Spot}
-use Rattle.c_check.specs.Around.{AreBelow, AreConstructs, HaveBelow}
-use Rattle.c_check.specs.declared.constructs.parts.Head.{Head}
-use Rattle.c_check.specs.Constructs.{Construct, no_construct, numbered}
+use Rattle.c_check.specs.declared.constructs.parts.EndedNumber.{EndedNumber}
+use Rattle.c_check.specs.Around.{AreBelow, AreKept, HaveBelow, ended_in, ended_with, no_construct, numbered}
+use Rattle.c_check.specs.Constructs.{Construct, EndedConstruct}
 use Rattle.c_check.specs.Spots.{spots_of}
-use Rattle.c_check.proofs.Visible.{last_first}
 
 reverse_last : (numbers outer : List ℕ) (last : ℕ) → numbers ≡ outer ++ last ∷ [] → reverse numbers ≡ last ∷ reverse outer
 reverse_last numbers outer last is = ap reverse is ∙ reverse-append outer (last ∷ [])
@@ -28,90 +26,100 @@ numbered-split all numbers outer last is below other =
     ap (numbered all) (reverse_last numbers outer last is)
     ∙ ap (λ (one : Construct). one ∷ numbered all (reverse outer)) (get_or_default all last no_construct other (last_below (length all) numbers outer last is below))
 
--- the innermost one
-pub innermost_below : (count : ℕ) (numbers : List ℕ) (shown : ℕ) (number : ℕ) → shown ≡ length numbers → Some number ≡ slice_get numbers (shown - 1) → AreBelow count (reverse numbers) → number < count
-unfolding AreBelow
-innermost_below count numbers shown number counts is below =
-    (let parts : AreBelow count (number ∷ reverse (take (shown - 1) numbers)) = rw (last_first numbers shown number counts (sym is)) at below in parts).0
-
--- without the innermost one
-all_but_first : (count : ℕ) (numbers : List ℕ) → AreBelow count numbers → AreBelow count (drop 1 numbers)
-unfolding AreBelow
-all_but_first count [] below = tt
-all_but_first count (first ∷ numbers) below = below.1
-
-reverse-rest : (numbers : List ℕ) (shown : ℕ) → shown ≡ length numbers → reverse (take (shown - 1) numbers) ≡ drop 1 (reverse numbers)
-reverse-rest [] shown counts = rw counts refl
-reverse-rest (first ∷ numbers) shown counts =
-    let within : shown - 1 < length (first ∷ numbers) = omega arith in
-    sym (ap (drop 1) (last_first (first ∷ numbers) shown _ counts (slice_get-get_or (first ∷ numbers) (shown - 1) 0 within)))
-
--- more constructs
+-- with one more construct
 AreBelow-more : (count : ℕ) (numbers : List ℕ) → AreBelow count numbers → AreBelow (count + 1) numbers
 unfolding AreBelow
 AreBelow-more count [] below = tt
 AreBelow-more count (first ∷ numbers) below = (omega (arith, below.0), AreBelow-more count numbers below.1)
 
-HaveBelow-more : (count : ℕ) (all : List Construct) (next : Construct) → HaveBelow count all → AreBelow count next.around → HaveBelow (count + 1) (all ++ next ∷ [])
+HaveBelow-more : (count : ℕ) (ended : List EndedNumber) → HaveBelow count ended → HaveBelow (count + 1) ended
 unfolding HaveBelow
-HaveBelow-more count [] next have below = (AreBelow-more count next.around below, tt)
-HaveBelow-more count (first ∷ all) next have below = (AreBelow-more count first.around have.0, HaveBelow-more count all next have.1 below)
+HaveBelow-more count [] below = tt
+HaveBelow-more count (first ∷ ended) below = (omega (arith, below.0), AreBelow-more count (reverse first.outer.items) below.1, HaveBelow-more count ended below.2)
 
-have_at : (count : ℕ) (all : List Construct) (number : ℕ) (other : Construct) → HaveBelow count all → number < length all → AreBelow count (slice_index_or all number other).around
-unfolding HaveBelow
-have_at count [] number other have within = absurd (omega arith)
-have_at count (first ∷ all) zero other have within = have.0
-have_at count (first ∷ all) (suc number) other have within = have_at count all number other have.1 (omega arith)
-
-HaveBelow-set : (count : ℕ) (all : List Construct) (number : ℕ) (changed : Construct) → HaveBelow count all → AreBelow count changed.around → HaveBelow count (slice_set all number changed)
-unfolding HaveBelow
-HaveBelow-set count [] number changed have below = tt
-HaveBelow-set count (first ∷ all) zero changed have below = (below, have.1)
-HaveBelow-set count (first ∷ all) (suc number) changed have below = (have.0, HaveBelow-set count all number changed have.1 below)
-
-pub no_numbers : AreConstructs [] [] []
-unfolding AreBelow HaveBelow
-no_numbers = record { here = tt; inside = tt; stand = refl }
-
-spots_of-set : (all : List Construct) (number : ℕ) (old changed : Construct) → changed.head.spot ≡ (slice_index_or all number old).head.spot → spots_of (slice_set all number changed) ≡ spots_of all
-spots_of-set [] number old changed same = refl
-spots_of-set (first ∷ all) zero old changed same = ap (λ (it : Spot). it ∷ spots_of all) same
-spots_of-set (first ∷ all) (suc number) old changed same = ap (λ (spots : List Spot). first.head.spot ∷ spots) (spots_of-set all number old changed same)
-
-module _ (all : List Construct) (spots : List Spot) (around : List ℕ) (are : AreConstructs all spots around) where
-  pub without_around : AreConstructs all spots []
+module _ (all : List Construct) (next : Construct) where
+  pub numbered-more : (numbers : List ℕ) → AreBelow (length all) numbers → numbered (all ++ next ∷ []) numbers ≡ numbered all numbers
   unfolding AreBelow
-  without_around = record { here = tt; inside = are.inside; stand = are.stand }
+  numbered-more [] below = refl
+  numbered-more (first ∷ numbers) below =
+      ap (λ (one : Construct). one ∷ numbered (all ++ next ∷ []) numbers) (get_or_append_left all (next ∷ []) no_construct first below.0)
+      ∙ ap (λ (others : List Construct). slice_index_or all first no_construct ∷ others) (numbered-more numbers below.1)
 
-  pub with_next : (next : Construct) (spot : Spot) → next.around ≡ around → next.head.spot ≡ spot → AreConstructs (all ++ next ∷ []) (spots ++ spot ∷ []) around
-  with_next next spot same at = record {
-    here = rw (length_push all next) (AreBelow-more (length all) around are.here);
-    inside = rw (length_push all next) (HaveBelow-more (length all) all next are.inside (rw same are.here));
-    stand = rw (← at, are.stand) (sym (map-append (λ (it : Construct). it.head.spot) all (next ∷ [])));
+  ended_with-more : (one : EndedNumber) → one.construct < length all → AreBelow (length all) (reverse one.outer.items) → ended_with (all ++ next ∷ []) one ≡ ended_with all one
+  ended_with-more one within below =
+      let same : slice_index_or (all ++ next ∷ []) one.construct no_construct ≡ slice_index_or all one.construct no_construct = get_or_append_left all (next ∷ []) no_construct one.construct within in
+      rw (same, numbered-more (reverse one.outer.items) below) refl
+
+  pub ended_in-more : (ended : List EndedNumber) → HaveBelow (length all) ended → ended_in (all ++ next ∷ []) ended ≡ ended_in all ended
+  unfolding HaveBelow
+  ended_in-more [] below = refl
+  ended_in-more (first ∷ ended) below =
+      ap (λ (one : EndedConstruct). one ∷ ended_in (all ++ next ∷ []) ended) (ended_with-more first below.0 below.1)
+      ∙ ap (λ (others : List EndedConstruct). ended_with all first ∷ others) (ended_in-more ended below.2)
+
+  pub numbered-next : (numbers : List ℕ) (number : ℕ) → number ≡ length all → AreBelow (length all) (reverse numbers) → numbered (all ++ next ∷ []) (reverse (numbers ++ number ∷ [])) ≡ next ∷ numbered all (reverse numbers)
+  numbered-next numbers number is below =
+      ap (numbered (all ++ next ∷ [])) (reverse-append numbers (number ∷ []))
+      ∙ ap (λ (one : Construct). one ∷ numbered (all ++ next ∷ []) (reverse numbers)) (get_or_push all next no_construct number (sym is))
+      ∙ ap (λ (others : List Construct). next ∷ others) (numbered-more (reverse numbers) below)
+
+-- what is kept
+pub none_kept : AreKept [] [] [] []
+unfolding AreBelow HaveBelow
+none_kept = record { open_below = tt; ended_below = tt; stand = refl }
+
+module _ (all : List Construct) (around : List ℕ) (ended : List EndedNumber) (spots : List Spot) (are : AreKept all around ended spots) where
+  pub none_open : AreKept all [] ended spots
+  unfolding AreBelow
+  none_open = record { open_below = tt; ended_below = are.ended_below; stand = are.stand }
+
+  pub more_kept : (next : Construct) → AreKept (all ++ next ∷ []) around ended spots
+  more_kept next = record {
+    open_below = rw (length_push all next) (AreBelow-more (length all) around are.open_below);
+    ended_below = rw (length_push all next) (HaveBelow-more (length all) ended are.ended_below);
+    stand = are.stand ∙ ap spots_of (sym (ended_in-more all next ended are.ended_below));
   }
 
-  pub with_next_around : (next : Construct) (spot : Spot) → next.around ≡ around → next.head.spot ≡ spot → AreConstructs (all ++ next ∷ []) (spots ++ spot ∷ []) (length all ∷ around)
+  pub more_open : (next : Construct) → AreKept (all ++ next ∷ []) (length all ∷ around) ended spots
   unfolding AreBelow
-  with_next_around next spot same at =
-      let below : length all < length (all ++ next ∷ []) = omega (arith, length_push all next) in
-      let rest = with_next next spot same at in
-      record { here = (below, rest.here); inside = rest.inside; stand = rest.stand }
+  more_open next =
+      let more = more_kept next in
+      record { open_below = (omega (arith, length_push all next), more.open_below); ended_below = more.ended_below; stand = more.stand }
 
-  pub with_changed : (number : ℕ) (old changed : Construct) → number < length all → old ≡ slice_index_or all number old → changed.around ≡ old.around → changed.head ≡ old.head
-      → AreConstructs (slice_set all number changed) spots around
-  with_changed number old changed within at same heads =
-      let below : AreBelow (length all) changed.around = rw (same, at) (have_at (length all) all number old are.inside within) in
-      record {
-        here = rw (length-set all number changed) are.here;
-        inside = rw (length-set all number changed) (HaveBelow-set (length all) all number changed are.inside below);
-        stand = are.stand ∙ sym (spots_of-set all number old changed (ap (λ (it : Head). it.spot) heads ∙ ap (λ (it : Construct). it.head.spot) at));
-      }
+HaveBelow-push : (count : ℕ) (ended : List EndedNumber) (one : EndedNumber) → HaveBelow count ended → one.construct < count → AreBelow count (reverse one.outer.items) → HaveBelow count (ended ++ one ∷ [])
+unfolding HaveBelow
+HaveBelow-push count [] one have within below = (within, below, tt)
+HaveBelow-push count (first ∷ ended) one have within below = (have.0, have.1, HaveBelow-push count ended one have.2 within below)
 
-pub with_fewer : (all : List Construct) (spots : List Spot) (numbers : List ℕ) (shown : ℕ) → shown ≡ length numbers → AreConstructs all spots (reverse numbers)
-    → AreConstructs all spots (reverse (take (shown - 1) numbers))
-with_fewer all spots numbers shown counts are =
-    record { here = rw (reverse-rest numbers shown counts) (all_but_first (length all) (reverse numbers) are.here); inside = are.inside; stand = are.stand }
+-- the innermost one ends
+module _ (all : List Construct) (numbers outer : List ℕ) (last : ℕ) (ended : List EndedNumber) (spots : List Spot) (is : numbers ≡ outer ++ last ∷ []) (are : AreKept all (reverse numbers) ended spots) where
+  pub fewer_open : AreKept all (reverse outer) ended spots
+  fewer_open = record { open_below = outer_below (length all) numbers outer last is are.open_below; ended_below = are.ended_below; stand = are.stand }
 
--- those around one that is found
-pub around_below : (all : List Construct) (spots : List Spot) (around : List ℕ) (number : ℕ) (other : Construct) → AreConstructs all spots around → number < length all → AreBelow (length all) (slice_index_or all number other).around
-around_below all spots around number other are within = have_at (length all) all number other are.inside within
+  pub more_ended : (one : EndedNumber) (spot : Spot) → one.construct ≡ last → one.outer.items ≡ outer → spot ≡ (slice_index_or all last no_construct).head.spot → AreKept all (reverse outer) (ended ++ one ∷ []) (spots ++ spot ∷ [])
+  more_ended one spot same rest at = record {
+    open_below = outer_below (length all) numbers outer last is are.open_below;
+    ended_below = HaveBelow-push (length all) ended one are.ended_below (rw same (last_below (length all) numbers outer last is are.open_below)) (rw rest (outer_below (length all) numbers outer last is are.open_below));
+    stand =
+        rw (at, ← same, are.stand)
+        (sym (ap spots_of (map-append (ended_with all) ended (one ∷ [])) ∙ map-append (λ (it : EndedConstruct). it.construct.head.spot) (ended_in all ended) (ended_with all one ∷ [])));
+  }
+
+have_at : (count : ℕ) (ended : List EndedNumber) (number : ℕ) (other : EndedNumber) → HaveBelow count ended → number < length ended → ((slice_index_or ended number other).construct < count) × AreBelow count (reverse (slice_index_or ended number other).outer.items)
+unfolding HaveBelow
+have_at count [] number other have within = absurd (omega arith)
+have_at count (first ∷ ended) zero other have within = (have.0, have.1)
+have_at count (first ∷ ended) (suc number) other have within = have_at count ended number other have.2 (omega arith)
+
+-- those of one that has ended
+pub ended_at : (all : List Construct) (around : List ℕ) (ended : List EndedNumber) (spots : List Spot) (number : ℕ) (other : EndedNumber) → AreKept all around ended spots → number < length ended
+    → ((slice_index_or ended number other).construct < length all) × AreBelow (length all) (reverse (slice_index_or ended number other).outer.items)
+ended_at all around ended spots number other are within = have_at (length all) ended number other are.ended_below within
+
+-- one more of some numbers, the outermost of which comes first
+pub numbered-outward : (all : List Construct) (numbers : List ℕ) (index : ℕ) (construct : Construct) → index < length numbers → construct ≡ slice_index_or all (slice_index_or numbers index 0) no_construct
+    → numbered all (reverse (take (index + 1) numbers)) ≡ construct ∷ numbered all (reverse (take index numbers))
+numbered-outward all numbers index construct within is =
+    ap (λ (taken : List ℕ). numbered all (reverse taken)) (take_more numbers index 0 within)
+    ∙ ap (numbered all) (reverse-append (take index numbers) (slice_index_or numbers index 0 ∷ []))
+    ∙ ap (λ (one : Construct). one ∷ numbered all (reverse (take index numbers))) (sym is)

@@ -11,7 +11,9 @@ use Rattle.c_check.specs.declared.acts.act.Thing.TheVariants as thing
 use Rattle.c_check.specs.declared.acts.role.Role.{Role}
 use Rattle.c_check.specs.declared.acts.role.Role.TheVariants as role
 use Rattle.c_check.specs.declared.acts.role.Naming.TheVariants as naming
-use Rattle.c_check.specs.Acts.{acts, each, names, count, target, init, function, first_part, second_part, third_part, shares_loop, statement_of, statement_role, role_with}
+use Rattle.c_check.specs.Acts.{acts, each, first_part, function, init, second_part, target, third_part}
+use Rattle.c_check.specs.NameLists.{child_count, names}
+use Rattle.c_check.specs.Statements.{role_with, shares_loop, statement_of, statement_role}
 use Rattle.c_check.specs.Loops.{loop_name}
 use Rattle.c_check.specs.Tasks.{from_place}
 use Rattle.c_check.specs.Steps.{part_of}
@@ -85,7 +87,7 @@ module _ (returns : Returns) where
   function_two (Child tree (Child (Node kind spot name number text children) (Absent rest))) at = refl
   function_two (Child tree (Child other (Child third rest))) at = absurd (cc)
 
-  pub function_all : (children : Children) (name parameters block : Tree) → Some name ≡ at_place children 0 → Some parameters ≡ at_place children 1 → Some block ≡ at_place children 2 → function returns children ≡ Begin (name_of name) (spot_of name) returns (count (children_of parameters)) ∷ (names naming.Parameters (children_of parameters) ++ (each role.Plain (children_of block) ++ End ∷ []))
+  pub function_all : (children : Children) (name parameters block : Tree) → Some name ≡ at_place children 0 → Some parameters ≡ at_place children 1 → Some block ≡ at_place children 2 → function returns children ≡ Begin (name_of name) (spot_of name) returns (child_count (children_of parameters)) ∷ (names naming.Parameters (children_of parameters) ++ (each role.Plain (children_of block) ++ End ∷ []))
   unfolding acts
   function_all Over name parameters block first second third = absurd (cc)
   function_all (Absent rest) name parameters block first second third = absurd (cc)
@@ -97,7 +99,7 @@ module _ (returns : Returns) where
       let is-name : name ≡ one = cc in
       let are-parameters : parameters ≡ Node kind spot other number text inner = cc in
       let is-block : block ≡ Node sort place another value bytes items = cc in
-      rw (is-name, are-parameters, is-block) (ap (λ (told : List Act). Begin (name_of one) (spot_of one) returns (count inner) ∷ told) (append_assoc (names naming.Parameters inner) (each role.Plain items) (End ∷ [])))
+      rw (is-name, are-parameters, is-block) (ap (λ (told : List Act). Begin (name_of one) (spot_of one) returns (child_count inner) ∷ told) (append_assoc (names naming.Parameters inner) (each role.Plain items) (End ∷ [])))
 
 -- what a construct does with its loop, by the name of the loop's variable, if it shares out a loop
 module _ (which : Directive) (children : Children) (name : Option ℕ) (is : name ≡ (if shares_loop which then loop_name (statement_of children) else None)) where

@@ -3,14 +3,14 @@ use Rattle.std.proofs.Common.{◌≡◌, ℕ, Bool, true, false, cond, ◌==◌,
 use Rattle.std.proofs.lemmas.Bool.{cases_Bool, eqb-true, false≢true}
 use Rattle.c_tokens.specs.declared.token.Spot.{Spot}
 use Rattle.c_check.specs.declared.scopes.declared.Named.{Named}
-use Rattle.c_check.specs.Checked.{slot_in}
+use Rattle.c_check.specs.Seen.{slot_in}
 use Rattle.c_check.specs.Faults.{is_same_spot}
 
 both : (first second : Bool) → (first && second) ≡ true → (first ≡ true) × (second ≡ true)
 both true second holds = (refl, holds)
 both false second fails = absurd (false≢true fails)
 
-same-spot : (first second : Spot) → is_same_spot first second ≡ true → first ≡ second
+pub same-spot : (first second : Spot) → is_same_spot first second ≡ true → first ≡ second
 same-spot first second same =
     let parts = both (first.line == second.line) (first.column == second.column) same in
     let line = eqb-true first.line second.line parts.0 in

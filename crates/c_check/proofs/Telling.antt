@@ -7,7 +7,10 @@ use Rattle.c_syntax.specs.Tree.Children.{Over, Child, Absent}
 use Rattle.c_check.specs.declared.acts.act.Act.{Act}
 use Rattle.c_check.specs.declared.acts.role.Role.{Role}
 use Rattle.c_check.specs.declared.acts.role.Naming.{Naming}
-use Rattle.c_check.specs.Acts.{acts, each, names, named, outside_acts, clause_outside, inside_acts, first_inside, clause_inside, statements, is_head}
+use Rattle.c_check.specs.Acts.{acts, clause_outside, each, outside_acts, statements}
+use Rattle.c_check.specs.Clauses.{clause_inside, first_inside, inside_acts}
+use Rattle.c_check.specs.NameLists.{named, names}
+use Rattle.c_check.specs.Statements.{is_head}
 use Rattle.c_check.specs.Tasks.{from_place}
 use Rattle.c_check.specs.Steps.{clause_in, outside_by}
 use Rattle.c_check.proofs.Behind.{behind_child, behind_none}

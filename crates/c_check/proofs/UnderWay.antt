@@ -5,8 +5,7 @@ use Rattle.c_check.specs.declared.acts.act.Act.{Act}
 use Rattle.c_check.specs.declared.rules.checker.Checker.{Checker}
 use Rattle.c_check.specs.declared.fault.CheckFault.{CheckFault}
 use Rattle.c_check.specs.Here.{Here, after}
-use Rattle.c_check.specs.Rules.{broken_by}
-use Rattle.c_check.specs.Checked.{after_all, broken_by_all, end_of, fault_of}
+use Rattle.c_check.specs.Checked.{after_all, broken_by, broken_by_all, end_of, rule_fault}
 use Rattle.c_check.specs.Faults.{first_of}
 use Rattle.c_check.specs.Standing.{DoesAct, Stands}
 use Rattle.c_check.specs.Under.{IsUnderWay}
@@ -28,6 +27,6 @@ pub under-stands : (program : TreeView) (checker : Checker) → IsUnderWay progr
 unfolding after_all
 under-stands program checker under = subst (λ (here : Here). Stands checker here) under.goes_on under.stands
 
-pub under-found : (program : TreeView) (checker : Checker) → IsUnderWay program checker [] → checker.found ≡ fault_of program
+pub under-found : (program : TreeView) (checker : Checker) → IsUnderWay program checker [] → checker.found ≡ rule_fault program
 unfolding broken_by_all
 under-found program checker under = sym (first_of_nothing checker.found) ∙ under.found

@@ -1,171 +1,24 @@
 -- What a tree does with names, scopes and constructs, in the order of its text.
-use Rattle.std.specs.Prelude.{ℕ, ◌+◌, ◌==◌, if◌then◌else◌, Bool, true, false, not, ◌&&◌, List, [], ◌∷◌, ◌++◌, Option, Some, None}
-use Rattle.c_syntax.specs.declared.node.Data.{Data}
-use Rattle.c_syntax.specs.declared.node.Data.TheVariants as data_clause
-use Rattle.c_syntax.specs.declared.node.Directive.{Directive}
-use Rattle.c_syntax.specs.declared.node.Directive.TheVariants as directive
+use Rattle.std.specs.Prelude.{if◌then◌else◌, List, [], ◌∷◌, ◌++◌}
 use Rattle.c_syntax.specs.declared.node.Returns.{Returns}
 use Rattle.c_syntax.specs.declared.node.Standalone.TheVariants as standalone
-use Rattle.c_syntax.specs.declared.node.NodeKind.{NodeKind}
 use Rattle.c_syntax.specs.declared.node.NodeKind.TheVariants as node
 use Rattle.c_syntax.specs.Tree.{Tree, Children, kind_of, name_of, spot_of}
 use Rattle.c_syntax.specs.Tree.Tree.{Node}
 use Rattle.c_syntax.specs.Tree.Children.{Over, Child, Absent}
-use Rattle.c_syntax.specs.Derivation.{nothing}
 use Rattle.c_check.specs.declared.acts.act.Act.{Act}
-use Rattle.c_check.specs.declared.acts.act.Act.TheVariants.{Open, Close, Begin, End, Declare, Use, Assign, Print, Return, Barrier, Enter, Clause, List as Listing, OddLoop, Loop, Leave}
+use Rattle.c_check.specs.declared.acts.act.Act.TheVariants.{Open, Close, Begin, End, Declare, Use, Print, Return, Barrier, Enter, Leave}
 use Rattle.c_check.specs.declared.acts.act.Thing.TheVariants as thing
-use Rattle.c_check.specs.declared.acts.act.Usage.{Usage}
 use Rattle.c_check.specs.declared.acts.act.Usage.TheVariants as usage
-use Rattle.c_check.specs.declared.acts.act.DataClause.{DataClause}
 use Rattle.c_check.specs.declared.acts.act.DataClause.TheVariants as clause
-use Rattle.c_check.specs.declared.acts.act.Single.TheVariants as single
-use Rattle.c_check.specs.declared.acts.act.Value.{Value}
-use Rattle.c_check.specs.declared.acts.act.Value.TheVariants as value
-use Rattle.c_check.specs.declared.acts.act.Returned.{Returned}
-use Rattle.c_check.specs.declared.acts.act.Returned.TheVariants as returned
-use Rattle.c_check.specs.declared.acts.act.Printed.{Printed}
-use Rattle.c_check.specs.declared.acts.act.Printed.TheVariants as printed
 use Rattle.c_check.specs.declared.acts.role.Role.{Role}
 use Rattle.c_check.specs.declared.acts.role.Role.TheVariants as role
-use Rattle.c_check.specs.declared.acts.role.Naming.{Naming}
 use Rattle.c_check.specs.declared.acts.role.Naming.TheVariants as naming
-use Rattle.c_check.specs.Loops.{has_form, loop_name}
-
--- how many children there are, up to the first absent one
-unfoldable pub count : Children → ℕ
-count Over = 0
-count (Absent rest) = 0
-count (Child tree rest) = count rest + 1
-
-abbrev pub has_child : Children → Bool
-has_child (Child tree rest) = true
-has_child other = false
-
--- what a name in a list does
-abbrev pub named : Naming → Tree → Act
-named naming.Parameters tree = Declare (name_of tree) (spot_of tree) thing.Int
-named naming.Locks tree = Declare (name_of tree) (spot_of tree) thing.Lock
-named naming.Locked tree = Use (name_of tree) (spot_of tree) usage.Locked
-named (naming.Mentioned which) tree = Use (name_of tree) (spot_of tree) (usage.Listed which)
-named (naming.Listed which) tree = Listing (name_of tree) (spot_of tree) which
-
-unfoldable pub names : Naming → Children → List Act
-names why Over = []
-names why (Absent rest) = []
-names why (Child tree rest) = named why tree ∷ names why rest
-
--- how many numbers a text of `printf` asks for; none where a percent sign has another byte behind it than `d` or a second one
-abbrev pub one_more : Option ℕ → Option ℕ
-one_more None = None
-one_more (Some count) = Some (count + 1)
-
-abbrev percent : ℕ
-percent = 37
-
-abbrev pub letter_d : ℕ
-letter_d = 100
-
-unfoldable mutual
-  pub numbers_in : List ℕ → Option ℕ
-  numbers_in [] = Some 0
-  numbers_in (byte ∷ bytes) = if byte == percent then numbers_behind bytes else numbers_in bytes
-
-  -- behind a percent sign
-  pub numbers_behind : List ℕ → Option ℕ
-  numbers_behind [] = None
-  numbers_behind (byte ∷ bytes) = if byte == letter_d then one_more (numbers_in bytes) else if byte == percent then numbers_in bytes else None
-
-abbrev pub as_many : Option ℕ → ℕ → Printed
-as_many None count = printed.Wrong
-as_many (Some numbers) count = if numbers == count then printed.Right else printed.Wrong
-
--- what a place and a call are used as
-abbrev pub place_usage : Children → Usage
-place_usage (Child tree rest) = usage.Indexed
-place_usage other = usage.Plain
-
-abbrev pub call_value : Role → Value
-call_value role.Used = value.Used
-call_value other = value.Dropped
-
--- a place with an index assigns no variable
-abbrev pub assigned : Role → Usage → ℕ → List Act
-assigned role.Target usage.Plain name = Assign name ∷ []
-assigned other used name = []
-
-abbrev pub returned_of : Children → Returned
-returned_of (Child tree rest) = returned.Something
-returned_of other = returned.Nothing
-
--- the body of a loop that a directive shares out
-abbrev pub looped : Role → List Act
-looped (role.Looped name) = Loop name ∷ []
-looped other = []
-
--- clauses, each a node whose child says what it is
-abbrev pub data_of : Data → DataClause
-data_of data_clause.Shared = clause.Shared
-data_of data_clause.Private = clause.Private
-data_of data_clause.Firstprivate = clause.First
-
-abbrev pub chunk_of : Children → ℕ
-chunk_of (Child (Node kind spot name number text children) rest) = number
-chunk_of other = 1
-
--- what a clause says of the construct
-abbrev pub clause_inside : NodeKind → Children → List Act
-clause_inside node.NumThreads children = Clause single.NumThreads ∷ []
-clause_inside (node.Default word) children = Clause (single.Default word) ∷ []
-clause_inside (node.Data which) children = names (naming.Listed (data_of which)) children
-clause_inside (node.Reduction operator) children = names (naming.Listed clause.Reduced) children
-clause_inside (node.Schedule kind) children = Clause (single.Schedule (chunk_of children)) ∷ []
-clause_inside node.Nowait children = Clause single.Nowait ∷ []
-clause_inside node.IfClause children = Clause single.If ∷ []
-clause_inside other children = []
-
-abbrev pub first_inside : Children → List Act
-first_inside (Child (Node kind spot name number text children) rest) = clause_inside kind children
-first_inside other = []
-
-unfoldable pub inside_acts : Children → List Act
-inside_acts Over = []
-inside_acts (Absent rest) = []
-inside_acts (Child (Node (node.Clause lead) spot name number text children) rest) = first_inside children ++ inside_acts rest
-inside_acts (Child other rest) = inside_acts rest
-
--- the number of the name of a critical, or 0
-abbrev pub name_of_critical : Children → ℕ
-name_of_critical (Child (Node node.Name spot name number text children) rest) = name
-name_of_critical other = 0
-
--- the statement of a construct, which stands behind its clauses and the name of a critical
-abbrev pub is_head : NodeKind → Bool
-is_head (node.Clause lead) = true
-is_head node.Name = true
-is_head other = false
-
-unfoldable pub statement_of : Children → Tree
-statement_of Over = nothing
-statement_of (Absent rest) = nothing
-statement_of (Child tree rest) = if is_head (kind_of tree) then statement_of rest else tree
-
--- the statement of a `for` directive is a loop with a variable
-abbrev pub role_with : Option ℕ → Role
-role_with None = role.Plain
-role_with (Some name) = role.Looped name
-
-abbrev pub shares_loop : Directive → Bool
-shares_loop directive.For = true
-shares_loop directive.ParallelFor = true
-shares_loop other = false
-
-abbrev pub statement_role : Directive → Children → Role
-statement_role which children = if shares_loop which then role_with (loop_name (statement_of children)) else role.Plain
-
--- a directive that shares out a loop has a statement that is no loop of the form
-abbrev pub odd_loop : Directive → Children → List Act
-odd_loop which children = if shares_loop which && not (has_form (statement_of children)) then OddLoop ∷ [] else []
+use Rattle.c_check.specs.Clauses.{data_of, inside_acts}
+use Rattle.c_check.specs.NameLists.{child_count, names}
+use Rattle.c_check.specs.Printed.{as_many, numbers_in}
+use Rattle.c_check.specs.Statements.{is_head, looped, name_of_critical, odd_loop, statement_role}
+use Rattle.c_check.specs.Usages.{assigned, call_value, place_usage, returned_of}
 
 unfoldable mutual
   -- what a node does, by what stands around it
@@ -194,12 +47,12 @@ unfoldable mutual
   acts around (Node node.SetCall spot name number text children) = target role.Used children
   acts around (Node node.Step spot name number text children) = each role.Plain children
   acts around (Node node.Called spot name number text children) = each role.Plain children
-  acts around (Node node.Print spot name number text children) = each role.Plain children ++ Print spot (as_many (numbers_in text) (count children)) ∷ []
+  acts around (Node node.Print spot name number text children) = each role.Plain children ++ Print spot (as_many (numbers_in text) (child_count children)) ∷ []
   acts around (Node (node.LockCall which) spot name number text children) = names naming.Locked children
   acts around (Node (node.Assign setting) spot name number text children) = target role.Plain children
   acts around (Node (node.Bump which side) spot name number text children) = target role.Plain children
   acts around (Node node.Place spot name number text children) = Use name spot (place_usage children) ∷ assigned around (place_usage children) name ++ each role.Plain children
-  acts around (Node node.Call spot name number text children) = Use name spot (usage.Called (count children) (call_value around)) ∷ each role.Plain children
+  acts around (Node node.Call spot name number text children) = Use name spot (usage.Called (child_count children) (call_value around)) ∷ each role.Plain children
   acts around (Node node.TestLock spot name number text children) = names naming.Locked children
   acts around (Node (node.Binary operator) spot name number text children) = each role.Plain children
   acts around (Node (node.Unary operator) spot name number text children) = each role.Plain children
@@ -227,7 +80,7 @@ unfoldable mutual
   -- a function is declared with its name, and then come its parameters and the items of its block
   pub function : Returns → Children → List Act
   function returns (Child name (Child (Node kind spot other number text parameters) (Child (Node sort place another value bytes items) rest))) =
-      Begin (name_of name) (spot_of name) returns (count parameters) ∷ names naming.Parameters parameters ++ each role.Plain items ++ End ∷ []
+      Begin (name_of name) (spot_of name) returns (child_count parameters) ∷ names naming.Parameters parameters ++ each role.Plain items ++ End ∷ []
   function returns other = []
 
   -- the scope of a variable that a loop declares begins behind its start

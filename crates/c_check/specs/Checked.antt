@@ -1,21 +1,18 @@
 -- What a program breaks, and the first of it.
-use Rattle.std.specs.Prelude.{ℕ, if◌then◌else◌, List, [], ◌∷◌, ◌++◌, Option, Some, None, slice_get}
+use Rattle.std.specs.Prelude.{◌≡◌, ℕ, List, [], ◌∷◌, ◌++◌, map, Option, None}
+use Rattle.std.specs.List.{IsAmong}
 use Rattle.c_tokens.specs.declared.token.Spot.{Spot}
 use Rattle.c_syntax.specs.Tree.{Tree}
 use Rattle.c_syntax.specs.Numbered.{TreeView, root_tree}
-use Rattle.c_check.specs.declared.fault.CheckFault.{CheckFault}
 use Rattle.c_check.specs.declared.acts.act.Act.{Act}
 use Rattle.c_check.specs.declared.acts.act.Act.TheVariants.{Finish}
 use Rattle.c_check.specs.declared.acts.role.Role.TheVariants as role
-use Rattle.c_check.specs.declared.sharing.Sharing.{Sharing}
+use Rattle.c_check.specs.declared.fault.CheckFault.{CheckFault}
+use Rattle.c_check.specs.declared.fault.CheckFault.TheVariants as fault
 use Rattle.c_check.specs.Acts.{acts}
-use Rattle.c_check.specs.declared.scopes.declared.Declared.{Declared}
-use Rattle.c_check.specs.declared.scopes.declared.Named.{Named}
-use Rattle.c_check.specs.Constructs.{Construct, numbered}
+use Rattle.c_check.specs.Faults.{first_of}
 use Rattle.c_check.specs.Here.{Here, after, before_all}
-use Rattle.c_check.specs.Faults.{first_of, is_same_spot}
-use Rattle.c_check.specs.Rules.{broken_by, is_of_file}
-use Rattle.c_check.specs.Shares.{sharing_at}
+use Rattle.c_check.specs.Rules.{bad_loops, bad_nestings, declared_twice, missing_main, unknown_names, unlisted_uses, wrong_uses}
 
 -- all that a program with this tree does, whose text ends there
 abbrev pub acts_in : Tree → Spot → List Act
@@ -24,53 +21,60 @@ acts_in tree end = acts role.Plain tree ++ Finish end ∷ []
 abbrev pub acts_of : TreeView → List Act
 acts_of program = acts_in (root_tree program) program.end
 
--- where it stands after some acts, and what these break
+-- where it stands after some acts
 unfoldable pub after_all : Here → List Act → Here
 after_all here [] = here
 after_all here (first ∷ rest) = after_all (after here first) rest
+
+-- where a program stands after some of its acts, and at its end
+abbrev pub here_after : TreeView → List Act → Here
+here_after program done = after_all (before_all program.main) done
+
+abbrev pub end_of : TreeView → Here
+end_of program = here_after program (acts_of program)
+
+-- a rule is broken at a place: one of the program's acts breaks it there, where the program stands before that act
+pub record IsBroken (rule : Here → Act → List Spot) (program : TreeView) (spot : Spot) : Type 0 where
+  pub before : List Act
+  pub act : Act
+  pub behind : List Act
+  pub acts_are : acts_of program ≡ before ++ act ∷ behind
+  pub there : IsAmong (rule (here_after program before) act) spot
+
+-- a program breaks a rule at a place
+abbrev pub Breaks : TreeView → CheckFault → Type 0
+Breaks program (fault.UnknownName spot) = IsBroken unknown_names program spot
+Breaks program (fault.TwiceDeclared spot) = IsBroken declared_twice program spot
+Breaks program (fault.WrongUse spot) = IsBroken wrong_uses program spot
+Breaks program (fault.BadNesting spot) = IsBroken bad_nestings program spot
+Breaks program (fault.BadLoop spot) = IsBroken bad_loops program spot
+Breaks program (fault.NoMain spot) = IsBroken missing_main program spot
+Breaks program (fault.NotListed spot) = IsBroken unlisted_uses program spot
+Breaks program fault.Memory = ⊥
+
+-- a program breaks no rule
+abbrev pub Checked : TreeView → Type 0
+Checked program = (broken : CheckFault) → Breaks program broken → ⊥
+
+-- what an act breaks, rule by rule
+abbrev pub broken_by : Here → Act → List CheckFault
+broken_by here act =
+    map fault.UnknownName (unknown_names here act)
+    ++ (map fault.TwiceDeclared (declared_twice here act)
+    ++ (map fault.WrongUse (wrong_uses here act)
+    ++ (map fault.BadNesting (bad_nestings here act)
+    ++ (map fault.BadLoop (bad_loops here act)
+    ++ (map fault.NoMain (missing_main here act)
+    ++ map fault.NotListed (unlisted_uses here act))))))
 
 unfoldable pub broken_by_all : Here → List Act → List CheckFault
 broken_by_all here [] = []
 broken_by_all here (first ∷ rest) = broken_by here first ++ broken_by_all (after here first) rest
 
--- what a program with this tree breaks, whose text ends there and in which the name `main` has this number, or 0
-abbrev pub breaches_in : Tree → Spot → ℕ → List CheckFault
-breaches_in tree end main = broken_by_all (before_all main) (acts_in tree end)
+-- the fault of a program with this tree, whose text ends there and in which the name `main` has this number, or 0: the first of what is
+-- broken, by place and then by number; none where nothing is
+abbrev pub rule_fault_in : Tree → Spot → ℕ → Option CheckFault
+rule_fault_in tree end main = first_of None (broken_by_all (before_all main) (acts_in tree end))
 
-abbrev pub breaches_of : TreeView → List CheckFault
-breaches_of program = breaches_in (root_tree program) program.end program.main
-
--- the fault of a program, if it has one
-abbrev pub fault_in : Tree → Spot → ℕ → Option CheckFault
-fault_in tree end main = first_of None (breaches_in tree end main)
-
-abbrev pub fault_of : TreeView → Option CheckFault
-fault_of program = fault_in (root_tree program) program.end program.main
-
--- where a program stands at its end
-abbrev pub end_of : TreeView → Here
-end_of program = after_all (before_all program.main) (acts_of program)
-
--- the slot of the name that stands there, if it is declared
-unfoldable pub slot_in : List Named → Spot → Option ℕ
-slot_in [] spot = None
-slot_in (first ∷ rest) spot = if is_same_spot first.spot spot then Some first.slot else slot_in rest spot
-
-abbrev pub slot_at : TreeView → Spot → Option ℕ
-slot_at program spot = slot_in (end_of program).named spot
-
--- the construct that stands there
-unfoldable pub construct_at : List Construct → Spot → Option Construct
-construct_at [] spot = None
-construct_at (first ∷ rest) spot = if is_same_spot first.head.spot spot then Some first else construct_at rest spot
-
-abbrev pub seen_by : List Construct → Option Construct → Option Declared → Option Sharing
-seen_by all None it = None
-seen_by all (Some construct) None = None
-seen_by all (Some construct) (Some it) = Some (sharing_at (construct ∷ numbered all construct.around) (is_of_file it) it.slot)
-
--- how the construct that stands there sees the variable with a slot; none where no construct stands there, or nothing has the slot
-abbrev pub sharing_of : TreeView → Spot → ℕ → Option Sharing
-sharing_of program spot slot =
-    let end = end_of program in
-    seen_by end.constructs.all (construct_at end.constructs.all spot) (slice_get end.names.all slot)
+abbrev pub rule_fault : TreeView → Option CheckFault
+rule_fault program = rule_fault_in (root_tree program) program.end program.main

@@ -19,8 +19,8 @@ is_place node.Place = true
 is_place other = false
 
 -- a place with this name, without an index
-abbrev pub is_variable : ℕ → Tree → Bool
-is_variable name tree = is_place (kind_of tree) && name_of tree == name && is_none (child_of tree 0)
+abbrev pub is_variable_named : ℕ → Tree → Bool
+is_variable_named name tree = is_place (kind_of tree) && name_of tree == name && is_none (child_of tree 0)
 
 -- the name stands in an expression
 unfoldable mutual
@@ -34,7 +34,7 @@ unfoldable mutual
 
 -- the variable of a loop is what its first part assigns or declares: a name without an index
 abbrev pub name_if_variable : Tree → Option ℕ
-name_if_variable place = if is_variable (name_of place) place then Some (name_of place) else None
+name_if_variable place = if is_variable_named (name_of place) place then Some (name_of place) else None
 
 abbrev pub assigned_by : NodeKind → Tree → Option ℕ
 assigned_by node.Init variable = Some (name_of variable)
@@ -100,7 +100,7 @@ is_step_down third = takes (kind_of third) (child_at third 1)
 -- the second part is `i`, a sign and an end, and the third part moves `i` towards it
 abbrev pub continues : ℕ → Tree → Tree → Bool
 continues name second third =
-    is_variable name (child_at second 0) && is_variable name (child_at third 0)
+    is_variable_named name (child_at second 0) && is_variable_named name (child_at third 0)
     && (goes_up (kind_of second) && is_step_up third || goes_down (kind_of second) && is_step_down third)
 
 abbrev pub has_head : ℕ → Tree → Bool

@@ -1,14 +1,12 @@
--- The rules: which of them an act breaks where a program stands.
-use Rattle.std.specs.Prelude.{ℕ, ◌+◌, ◌==◌, nat_lt, ◌&&◌, ◌||◌, if◌then◌else◌, Bool, true, false, List, [], ◌∷◌, ◌++◌, Option, Some, None}
+-- The rules: where a program stands and does an act, the places at which the act breaks each of them.
+use Rattle.std.specs.Prelude.{ℕ, ◌+◌, ◌==◌, nat_lt, ◌&&◌, ◌||◌, not, if◌then◌else◌, Bool, true, false, List, [], ◌∷◌, Option, Some, None, is_none}
 use Rattle.c_tokens.specs.declared.token.Spot.{Spot}
 use Rattle.c_syntax.specs.declared.node.Directive.{Directive}
 use Rattle.c_syntax.specs.declared.node.Directive.TheVariants as directive
 use Rattle.c_syntax.specs.declared.node.Returns.{Returns}
 use Rattle.c_syntax.specs.declared.node.Returns.TheVariants as returns
-use Rattle.c_check.specs.declared.fault.CheckFault.{CheckFault}
-use Rattle.c_check.specs.declared.fault.CheckFault.TheVariants as fault
 use Rattle.c_check.specs.declared.acts.act.Act.{Act}
-use Rattle.c_check.specs.declared.acts.act.Act.TheVariants.{Open, Close, Begin, End, Declare, Use, Assign, Print, Return, Barrier, Enter, Clause, List as Listing, OddLoop, Loop, Leave, Finish}
+use Rattle.c_check.specs.declared.acts.act.Act.TheVariants.{Begin, Declare, Use, Assign, Print, Return, Barrier, Enter, Clause, List as Listing, OddLoop, Loop, Finish}
 use Rattle.c_check.specs.declared.acts.act.Thing.{Thing}
 use Rattle.c_check.specs.declared.acts.act.Thing.TheVariants as thing
 use Rattle.c_check.specs.declared.acts.act.Usage.{Usage}
@@ -23,24 +21,44 @@ use Rattle.c_check.specs.declared.acts.act.Returned.TheVariants as returned
 use Rattle.c_check.specs.declared.acts.act.Printed.{Printed}
 use Rattle.c_check.specs.declared.acts.act.Printed.TheVariants as printed
 use Rattle.c_check.specs.declared.constructs.parts.Clauses.{Clauses}
-use Rattle.c_check.specs.declared.scopes.declared.Declared.{Declared}
 use Rattle.c_check.specs.declared.constructs.parts.LoopInside.{LoopInside}
 use Rattle.c_check.specs.declared.constructs.parts.Unlisted.{Unlisted}
+use Rattle.c_check.specs.declared.scopes.declared.Declared.{Declared}
+use Rattle.c_check.specs.Cells.{cells_of, file_cells, most_cells}
+use Rattle.c_check.specs.Constructs.{Construct, is_unmentioned, mention, open_constructs}
 use Rattle.c_check.specs.Declarations.{find, is_at_level}
-use Rattle.c_check.specs.Constructs.{Construct, around_of, is_unmentioned, mention}
-use Rattle.c_check.specs.Here.{Here, cells_of, most_cells}
-use Rattle.c_check.specs.Shares.{is_copied, is_loop_variable, is_parallel, is_task}
+use Rattle.c_check.specs.Faults.{is_same_spot}
+use Rattle.c_check.specs.Here.{Here, copies_at, is_critical}
+use Rattle.c_check.specs.Shares.{TaskCopy, is_loop_variable, is_parallel, is_task}
 
-abbrev pub if_so : Bool → CheckFault → List CheckFault
-if_so true found = found ∷ []
-if_so false found = []
+-- the place, where this is so
+abbrev pub where_so : Bool → Spot → List Spot
+where_so true spot = spot ∷ []
+where_so false spot = []
 
--- UnknownName, TwiceDeclared
+abbrev pub found_here : Here → ℕ → Option Declared
+found_here here name = find here.names.visible name
 
-abbrev pub twice : Here → ℕ → Spot → List CheckFault
-twice here name spot = if_so (is_at_level here.names.level (find here.names.visible name)) (fault.TwiceDeclared spot)
+abbrev pub open_here : Here → List Construct
+open_here here = open_constructs here.constructs
 
--- WrongUse
+-- 8: a name that is used has a declaration in scope
+
+abbrev pub unknown_names : Here → Act → List Spot
+unknown_names here (Use name spot used) = where_so (is_none (found_here here name)) spot
+unknown_names here other = []
+
+-- 9: a name is declared once in a scope
+
+abbrev pub is_twice : Here → ℕ → Bool
+is_twice here name = is_at_level here.names.level (found_here here name)
+
+abbrev pub declared_twice : Here → Act → List Spot
+declared_twice here (Begin name spot gives parameters) = where_so (is_twice here name) spot
+declared_twice here (Declare name spot what) = where_so (is_twice here name) spot
+declared_twice here other = []
+
+-- 10: what is declared is used as what it is
 
 -- the most elements of an array
 abbrev pub most_elements : ℕ
@@ -50,19 +68,14 @@ abbrev pub is_odd_size : Thing → Bool
 is_odd_size (thing.Array size) = size == 0 || nat_lt most_elements size
 is_odd_size other = false
 
+-- with one more declaration the variables and locks of the file have too many cells
 abbrev pub is_too_much : Here → Thing → Bool
-is_too_much here what = here.names.level == 0 && nat_lt most_cells (here.cells + cells_of what)
-
-abbrev pub wrong_declaration : Here → Spot → Thing → List CheckFault
-wrong_declaration here spot what = if_so (is_odd_size what || is_too_much here what) (fault.WrongUse spot)
+is_too_much here what = here.names.level == 0 && nat_lt most_cells (file_cells here.names.all + cells_of what)
 
 -- main returns an int and has no parameters
 abbrev pub is_odd_main : Returns → ℕ → Bool
 is_odd_main returns.Int parameters = nat_lt 0 parameters
 is_odd_main returns.Void parameters = true
-
-abbrev pub wrong_function : Here → ℕ → Spot → Returns → ℕ → List CheckFault
-wrong_function here name spot gives parameters = if_so (name == here.main && is_odd_main gives parameters) (fault.WrongUse spot)
 
 -- a void function has no value
 abbrev pub lacks_value : Returns → Value → Bool
@@ -86,22 +99,22 @@ abbrev pub calls_main : Usage → Bool → Bool
 calls_main (usage.Called arguments value) is_main = is_main
 calls_main other is_main = false
 
--- a variable of the file
-abbrev pub is_of_file : Declared → Bool
-is_of_file it = it.level == 0
+-- a task has a copy of a lock by rule
+abbrev pub is_some_copy : List TaskCopy → Bool
+is_some_copy [] = false
+is_some_copy (first ∷ copies) = true
 
--- a task has a copy of a lock
-abbrev pub copies_lock : Thing → List Construct → Declared → Bool
-copies_lock thing.Lock around it = is_copied around (is_of_file it) it.slot
-copies_lock other around it = false
+abbrev pub is_lock : Thing → Bool
+is_lock thing.Lock = true
+is_lock other = false
 
-abbrev pub misused : Here → ℕ → Spot → Usage → Option Declared → List CheckFault
-misused here name spot used None = fault.UnknownName spot ∷ []
-misused here name spot used (Some it) = if_so (is_wrong it.thing used || calls_main used (name == here.main) || copies_lock it.thing (around_of here.constructs) it) (fault.WrongUse spot)
+abbrev pub is_misused : Here → ℕ → Usage → Option Declared → Bool
+is_misused here name used None = false
+is_misused here name used (Some it) = is_wrong it.thing used || calls_main used (name == here.main) || is_lock it.thing && is_some_copy (copies_at here.constructs it)
 
-abbrev pub wrong_print : Spot → Printed → List CheckFault
-wrong_print spot printed.Right = []
-wrong_print spot printed.Wrong = fault.WrongUse spot ∷ []
+abbrev pub is_wrong_print : Printed → Bool
+is_wrong_print printed.Right = false
+is_wrong_print printed.Wrong = true
 
 -- an int function returns something, a void one nothing
 abbrev pub is_wrong_return : Returns → Returned → Bool
@@ -121,17 +134,26 @@ abbrev pub is_empty_chunk : Single → Bool
 is_empty_chunk (single.Schedule chunk) = chunk == 0
 is_empty_chunk other = false
 
-abbrev pub wrong_clause : Single → List Construct → List CheckFault
-wrong_clause one [] = []
-wrong_clause one (first ∷ around) = if_so (is_empty_chunk one || has_single first.clauses one) (fault.WrongUse first.head.spot)
+abbrev pub wrong_clause : Single → Option Construct → List Spot
+wrong_clause one None = []
+wrong_clause one (Some newest) = where_so (is_empty_chunk one || has_single newest.clauses one) newest.head.spot
 
 -- a variable stands a second time in the data clauses of a construct
-abbrev pub listed_again : Spot → Option Declared → List Construct → List CheckFault
-listed_again spot None around = []
-listed_again spot (Some it) [] = []
-listed_again spot (Some it) (first ∷ around) = if_so (if is_unmentioned (mention first.mentions it.slot) then false else true) (fault.WrongUse spot)
+abbrev pub is_listed : Option Declared → Option Construct → Bool
+is_listed (Some it) (Some newest) = not (is_unmentioned (mention newest.mentions it.slot))
+is_listed it newest = false
 
--- BadNesting
+abbrev pub wrong_uses : Here → Act → List Spot
+wrong_uses here (Begin name spot gives parameters) = where_so (name == here.main && is_odd_main gives parameters) spot
+wrong_uses here (Declare name spot what) = where_so (is_odd_size what || is_too_much here what) spot
+wrong_uses here (Use name spot used) = where_so (is_misused here name used (found_here here name)) spot
+wrong_uses here (Print spot shown) = where_so (is_wrong_print shown) spot
+wrong_uses here (Return spot what) = where_so (is_wrong_return here.returns what) spot
+wrong_uses here (Clause one) = wrong_clause one here.constructs.newest
+wrong_uses here (Listing name spot which) = where_so (is_listed (found_here here name) here.constructs.newest) spot
+wrong_uses here other = []
+
+-- 11: constructs and `return` stand where they may
 
 -- worksharing regions and barriers may stand directly in a parallel construct, or in none
 abbrev pub is_plain_parallel : Directive → Bool
@@ -156,10 +178,6 @@ unfoldable pub masked_badly : List Construct → Bool
 masked_badly [] = false
 masked_badly (first ∷ around) = keeps_masked_out first.head.directive || (if is_parallel first.head.directive then false else masked_badly around)
 
-abbrev pub is_critical : Directive → Bool
-is_critical directive.Critical = true
-is_critical other = false
-
 -- a critical of the same name, up to the innermost task or parallel construct
 unfoldable pub critical_badly : ℕ → List Construct → Bool
 critical_badly name [] = false
@@ -180,20 +198,26 @@ abbrev pub is_within : List Construct → Bool
 is_within [] = false
 is_within (first ∷ around) = true
 
--- BadLoop
+abbrev pub bad_nestings : Here → Act → List Spot
+bad_nestings here (Return spot what) = where_so (is_within (open_here here)) spot
+bad_nestings here (Barrier spot) = where_so (binds_badly (open_here here)) spot
+bad_nestings here (Enter spot which critical) = where_so (nests_badly which critical (open_here here)) spot
+bad_nestings here other = []
+
+-- 12: the statement of a `for` directive is a loop that can be shared out
 
 -- the constructs around whose loops have this variable
-unfoldable pub spoiled : ℕ → List Construct → List CheckFault
+unfoldable pub spoiled : ℕ → List Construct → List Spot
 spoiled slot [] = []
-spoiled slot (first ∷ around) = if_so (is_loop_variable first.loop slot) (fault.BadLoop first.head.spot) ++ spoiled slot around
+spoiled slot (first ∷ around) = if is_loop_variable first.loop slot then first.head.spot ∷ spoiled slot around else spoiled slot around
 
-abbrev pub spoiled_by : Option Declared → List Construct → List CheckFault
+abbrev pub spoiled_by : Option Declared → List Construct → List Spot
 spoiled_by None around = []
 spoiled_by (Some it) around = spoiled it.slot around
 
-abbrev pub bad_loop : List Construct → List CheckFault
-bad_loop [] = []
-bad_loop (first ∷ around) = fault.BadLoop first.head.spot ∷ []
+abbrev pub newest_spot : Option Construct → List Spot
+newest_spot None = []
+newest_spot (Some newest) = newest.head.spot ∷ []
 
 abbrev pub is_int_thing : Thing → Bool
 is_int_thing thing.Int = true
@@ -203,33 +227,29 @@ abbrev pub is_int : Option Declared → Bool
 is_int None = false
 is_int (Some it) = is_int_thing it.thing
 
--- NotListed
+abbrev pub bad_loops : Here → Act → List Spot
+bad_loops here (Assign name) = spoiled_by (found_here here name) (open_here here)
+bad_loops here OddLoop = newest_spot here.constructs.newest
+bad_loops here (Loop name) = if is_int (found_here here name) then [] else newest_spot here.constructs.newest
+bad_loops here other = []
 
--- the variable is that of a loop inside the construct
-unfoldable pub is_loop_inside : List LoopInside → ℕ → ℕ → Bool
+-- 13: there is a function main
+
+abbrev pub missing_main : Here → Act → List Spot
+missing_main here (Finish spot) = where_so (not here.has_main) spot
+missing_main here other = []
+
+-- 14: under default(none) each variable is listed
+
+-- the variable is that of a loop inside the construct that stands there
+unfoldable pub is_loop_inside : List LoopInside → ℕ → Spot → Bool
 is_loop_inside [] slot construct = false
-is_loop_inside (first ∷ loops) slot construct = first.slot == slot && first.construct == construct || is_loop_inside loops slot construct
+is_loop_inside (first ∷ loops) slot construct = first.slot == slot && is_same_spot first.construct construct || is_loop_inside loops slot construct
 
-unfoldable pub not_listed : List LoopInside → List Unlisted → List CheckFault
+unfoldable pub not_listed : List LoopInside → List Unlisted → List Spot
 not_listed loops [] = []
-not_listed loops (first ∷ rest) = if_so (if is_loop_inside loops first.slot first.construct then false else true) (fault.NotListed first.spot) ++ not_listed loops rest
+not_listed loops (first ∷ rest) = if is_loop_inside loops first.slot first.construct then not_listed loops rest else first.spot ∷ not_listed loops rest
 
--- what an act breaks
-unfoldable pub broken_by : Here → Act → List CheckFault
-broken_by here (Begin name spot gives parameters) = twice here name spot ++ wrong_function here name spot gives parameters
-broken_by here (Declare name spot what) = twice here name spot ++ wrong_declaration here spot what
-broken_by here (Use name spot used) = misused here name spot used (find here.names.visible name)
-broken_by here (Assign name) = spoiled_by (find here.names.visible name) (around_of here.constructs)
-broken_by here (Print spot shown) = wrong_print spot shown
-broken_by here (Return spot what) = if_so (is_wrong_return here.returns what) (fault.WrongUse spot) ++ if_so (is_within (around_of here.constructs)) (fault.BadNesting spot)
-broken_by here (Barrier spot) = if_so (binds_badly (around_of here.constructs)) (fault.BadNesting spot)
-broken_by here (Enter spot which critical) = if_so (nests_badly which critical (around_of here.constructs)) (fault.BadNesting spot)
-broken_by here (Clause one) = wrong_clause one (around_of here.constructs)
-broken_by here (Listing name spot which) = listed_again spot (find here.names.visible name) (around_of here.constructs)
-broken_by here OddLoop = bad_loop (around_of here.constructs)
-broken_by here (Loop name) = if is_int (find here.names.visible name) then [] else bad_loop (around_of here.constructs)
-broken_by here (Finish spot) = if_so (if here.has_main then false else true) (fault.NoMain spot) ++ not_listed here.constructs.loops here.constructs.unlisted
-broken_by here Open = []
-broken_by here Close = []
-broken_by here End = []
-broken_by here Leave = []
+abbrev pub unlisted_uses : Here → Act → List Spot
+unlisted_uses here (Finish spot) = not_listed here.constructs.loops here.constructs.unlisted
+unlisted_uses here other = []

@@ -1,5 +1,6 @@
 -- How a construct sees a variable (OpenMP 5.2, 5.1), by the constructs around it.
-use Rattle.std.specs.Prelude.{ℕ, ◌==◌, ◌&&◌, ◌||◌, if◌then◌else◌, Bool, true, false, List, [], ◌∷◌, Option, Some, None}
+use Rattle.std.specs.Prelude.{ℕ, ◌==◌, ◌&&◌, ◌||◌, if◌then◌else◌, Bool, true, false, not, List, [], ◌∷◌, ◌++◌, Option, Some, None}
+use Rattle.c_tokens.specs.declared.token.Spot.{Spot}
 use Rattle.c_syntax.specs.declared.node.Directive.{Directive}
 use Rattle.c_syntax.specs.declared.node.Directive.TheVariants as directive
 use Rattle.c_check.specs.declared.acts.act.DataClause.{DataClause}
@@ -49,12 +50,15 @@ shared_or (Some own) other = is_shared own
 -- A variable is shared by a task that says nothing of it, where these constructs are around. Where one of them is parallel, the variable
 -- is declared outside of the innermost such one and shared there, and no construct between makes copies of it. Where none is, it
 -- is a variable of the file, and none of them makes copies.
+abbrev pub shared_inside : Construct → Bool → ℕ → Bool
+shared_inside construct by_rule slot =
+    if is_parallel construct.head.directive
+    then not (is_inside construct slot) && shared_or (own_sharing construct slot) true
+    else shared_or (own_sharing construct slot) true && by_rule
+
 unfoldable pub shared_by_rule : List Construct → Bool → ℕ → Bool
 shared_by_rule [] of_file slot = of_file
-shared_by_rule (first ∷ around) of_file slot =
-    if is_parallel first.head.directive
-    then (if is_inside first slot then false else shared_or (own_sharing first slot) true)
-    else shared_or (own_sharing first slot) true && shared_by_rule around of_file slot
+shared_by_rule (first ∷ around) of_file slot = shared_inside first (shared_by_rule around of_file slot) slot
 
 -- how a construct sees a variable of which it says nothing and that is declared outside of it
 abbrev pub by_directive : Construct → Bool → Sharing → Sharing
@@ -82,9 +86,17 @@ is_unnamed (Some own) = false
 abbrev pub copies_by_rule : Construct → Bool → ℕ → Bool
 copies_by_rule construct by_rule slot =
     is_task construct.head.directive && is_unnamed (own_sharing construct slot)
-    && (if is_inside construct slot || construct.clauses.default_shared || by_rule then false else true)
+    && not (is_inside construct slot || construct.clauses.default_shared || by_rule)
 
--- one of the tasks around has one
-unfoldable pub is_copied : List Construct → Bool → ℕ → Bool
-is_copied [] of_file slot = false
-is_copied (first ∷ around) of_file slot = copies_by_rule first (shared_by_rule around of_file slot) slot || is_copied around of_file slot
+-- the task that stands there has a copy of the variable with a slot by rule
+pub record TaskCopy : Type 0 where
+  pub task : Spot
+  pub slot : ℕ
+
+-- The copies by rule of the tasks around a use of a variable, that of the outermost one first.
+abbrev pub copy_by_rule : Construct → Bool → ℕ → List TaskCopy
+copy_by_rule construct by_rule slot = if copies_by_rule construct by_rule slot then record { task = construct.head.spot; slot = slot } ∷ [] else []
+
+unfoldable pub copies_around : List Construct → Bool → ℕ → List TaskCopy
+copies_around [] of_file slot = []
+copies_around (first ∷ around) of_file slot = copies_around around of_file slot ++ copy_by_rule first (shared_by_rule around of_file slot) slot

@@ -5,7 +5,7 @@ use Rattle.c_tokens.specs.declared.token.Spot.{Spot}
 use Rattle.c_check.specs.declared.scopes.declared.Named.{Named}
 use Rattle.c_check.specs.declared.scopes.slots.Slots.{Slots}
 use Rattle.c_check.specs.Pairs.{same_pair}
-use Rattle.c_check.specs.Checked.{slot_in}
+use Rattle.c_check.specs.Seen.{slot_in}
 
 -- these names have come, in this order
 abbrev pub AreSlots : List Named → Slots → Type 0

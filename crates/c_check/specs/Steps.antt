@@ -15,7 +15,9 @@ use Rattle.c_check.specs.declared.acts.role.Role.TheVariants as role
 use Rattle.c_check.specs.declared.acts.walk.Task.{Task}
 use Rattle.c_check.specs.declared.acts.walk.Task.TheVariants as task
 use Rattle.c_check.specs.declared.acts.walk.Walk.{Walk}
-use Rattle.c_check.specs.Acts.{acts, data_of, each, names}
+use Rattle.c_check.specs.Acts.{acts, each}
+use Rattle.c_check.specs.Clauses.{data_of}
+use Rattle.c_check.specs.NameLists.{names}
 use Rattle.c_check.specs.Tasks.{children_left, left_of, told_by, AreThere}
 use Rattle.c_check.specs.Weights.{weight_among, weight_below}
 

@@ -7,7 +7,9 @@ use Rattle.c_check.specs.declared.acts.act.Act.{Act}
 use Rattle.c_check.specs.declared.acts.walk.Task.{Task}
 use Rattle.c_check.specs.declared.acts.walk.Task.TheVariants as task
 use Rattle.c_check.specs.declared.acts.walk.Walk.{Walk}
-use Rattle.c_check.specs.Acts.{acts, each, inside_acts, names, outside_acts, statements}
+use Rattle.c_check.specs.Acts.{acts, each, outside_acts, statements}
+use Rattle.c_check.specs.Clauses.{inside_acts}
+use Rattle.c_check.specs.NameLists.{names}
 
 -- the children from a place on
 unfoldable pub from_place : ℕ → Children → Children

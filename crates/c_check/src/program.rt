@@ -1,18 +1,20 @@
 //! A program that breaks no rule.
 
-ghost use Rattle.std.specs.Prelude.{ℕ, ◌≡◌, ◌<◌, [], length, Some};
-ghost use Rattle.c_syntax.specs.Tree.{spot_of};
+ghost use Rattle.std.specs.Prelude.{◌≡◌, ◌<◌, length};
 ghost use Rattle.c_syntax.specs.Numbered.{tree_at};
-ghost use Rattle.c_check.specs.declared.sharing.Sharing.{Sharing as Seen};
-ghost use Rattle.c_check.specs.Checked.{breaches_of, end_of, sharing_of, slot_at};
+ghost use Rattle.c_check.specs.Checked.{Checked, end_of};
+ghost use Rattle.c_check.specs.Seen.{critical_count, critical_number, sharing_by_node, slot_of_name, task_copies};
 ghost use Rattle.c_check.specs.Standing.{Stands};
 
+use crate::acts::directive::critical_name;
 use crate::constructs::arena::Constructs;
+use crate::constructs::criticals::Criticals;
+use crate::constructs::task_copies::TaskCopies;
 use crate::rules::checker::Checker;
 use crate::scopes::declarations::Declarations;
 use crate::scopes::slots::Slots;
 use crate::sharing::Sharing;
-use c_syntax::Tree;
+use c_syntax::{Directive, NodeKind, Tree};
 use std::marker::Model;
 
 /// A program that breaks no rule: its tree, the slots of its names, and how its constructs see variables. Contracts see the tree.
@@ -22,10 +24,11 @@ pub struct Program {
     names: Declarations,
     constructs: Constructs,
     slots: Slots,
+    copies: TaskCopies,
+    criticals: Criticals,
 }
 
 impl Model for Program {
-    ghost use Rattle.std.specs.Prelude.{◌≡◌, []};
     ghost use Rattle.c_syntax.specs.Numbered.{TreeView};
     ghost use Rattle.c_syntax.specs.Codes.{tree_view_code};
 
@@ -37,20 +40,22 @@ impl Model for Program {
 
     ghost view = { λ program. program.tree };
 
-    ghost invariant = { λ program. IsChecked program.tree program.names program.constructs program.slots };
+    ghost invariant = { λ program. IsChecked program.tree program.names program.constructs program.slots program.copies program.criticals };
 }
 
 impl Program {
     /// The program of a tree that was checked, and broke no rule.
     pub(crate) fn new(tree: Tree, checker: Checker) -> Program
         requires stands { Stands checker (end_of tree) }
-        requires none { breaches_of tree ≡ [] }
+        requires none { Checked tree }
         ensures { result ≡ tree }
     {
         let Checker {
             names,
             constructs,
             slots,
+            copies,
+            criticals,
             ..
         } = checker;
         Program {
@@ -58,6 +63,8 @@ impl Program {
             names,
             constructs,
             slots,
+            copies,
+            criticals,
         }
     }
 
@@ -72,15 +79,16 @@ impl Program {
     /// the text. 0 where no name that is declared stands there.
     pub fn slot(&self, node: u32) -> u32
         requires { node < length self.now.trees }
-        ensures { (slot : ℕ) → slot_at self.now (spot_of (tree_at self.now.trees node)) ≡ Some slot → result ≡ slot }
+        ensures { result ≡ slot_of_name self.now (tree_at self.now.trees node) }
     {
         self.slots.slot(self.tree.spot(node)).unwrap_or(0)
     }
 
-    /// How a construct sees the variable with a slot. [`Sharing::Shared`] where the node is no construct or nothing has the slot.
+    /// How a construct sees the variable with a slot (OpenMP 5.2, 5.1). [`Sharing::Shared`] where no construct stands where the node
+    /// begins, or nothing has the slot.
     pub fn sharing(&self, construct: u32, slot: u32) -> Sharing
         requires { construct < length self.now.trees }
-        ensures { (seen : Seen) → sharing_of self.now (spot_of (tree_at self.now.trees construct)) slot ≡ Some seen → result ≡ seen }
+        ensures { result ≡ sharing_by_node self.now (tree_at self.now.trees construct) slot }
     {
         let Some(declared) = self.names.declaration(slot) else {
             return Sharing::Shared;
@@ -89,5 +97,41 @@ impl Program {
         self.constructs
             .sharing(spot, declared)
             .unwrap_or(Sharing::Shared)
+    }
+
+    /// The slots of the variables that a task copies by rule, and not by its own clauses: each once, in the order in which they are
+    /// first used inside it (OpenMP 5.2, 5.1.1). None for a node that is no task construct.
+    pub fn task_copies(&self, construct: u32) -> &[u32]
+        requires { construct < length self.now.trees }
+        ensures { result.now ≡ task_copies self.now (tree_at self.now.trees construct) }
+    {
+        match self.tree.kind(construct) {
+            NodeKind::Construct(Directive::Task) => {
+                self.copies.of_task(self.tree.spot(construct))
+            }
+            _ => &[],
+        }
+    }
+
+    /// The number of a critical's name: from 1, in the order in which the names first appear, and those without a name have one together
+    /// (OpenMP 5.2, 15.2). 0 for a node that is no critical.
+    pub fn critical_number(&self, construct: u32) -> u32
+        requires { construct < length self.now.trees }
+        ensures { result ≡ critical_number self.now (tree_at self.now.trees construct) }
+    {
+        match self.tree.kind(construct) {
+            NodeKind::Construct(Directive::Critical) => {
+                let name = critical_name(&self.tree, construct);
+                self.criticals.number(name).unwrap_or(0)
+            }
+            _ => 0,
+        }
+    }
+
+    /// How many names the criticals have.
+    pub fn critical_count(&self) -> u32
+        ensures { result ≡ critical_count self.now }
+    {
+        self.criticals.count()
     }
 }

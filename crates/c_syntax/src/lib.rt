@@ -31,8 +31,8 @@
 //! No function calls itself as deep as the text nests, and each word takes a bounded number of steps. The time and the memory
 //! are no clauses.
 //!
-//! Tests compare tables of texts with what was written out by hand: that a text is a program, or the number and place of its
-//! fault; and the trees of programs, node by node, with their kinds, places, names, numbers and texts.
+//! The program `text_tables` compares texts with what was written out by hand: that a text is a program, or the number and place of
+//! its fault; and the trees of programs, node by node, with their kinds, places, names, numbers and texts.
 #![tactic(auto)]
 
 mod fault;
@@ -49,8 +49,6 @@ mod program;
 mod reader;
 mod rules;
 mod term;
-#[cfg(test)]
-mod tests;
 mod tree;
 mod word;
 mod words;

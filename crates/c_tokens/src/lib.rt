@@ -10,7 +10,7 @@
 //! bytes it has, and what may follow it. Proved:
 //!
 //! - [`tokens`] answers `Ok` with the list that `tokens_of` has, and a fault, with its place, that `tokens_of` has. It answers
-//!   want of memory for no other reason that a clause names; a test shows that it doesn't where there is enough;
+//!   want of memory for no other reason that a clause names; rows of `text_tables` show that it doesn't where there is enough;
 //! - the two definitions have the same lists, by [`tokens_are_read`] and [`reading_is_tokens`], and each text has one at most, by
 //!   [`one_list_of_tokens`]. That `tokens_of` answers one list or one fault is plain, since it is a function.
 //!
@@ -20,8 +20,8 @@
 //!
 //! Time grows linearly with the text. That is no clause, and neither is where memory is wanting.
 //!
-//! Tests compare tables of texts, each byte and each pair of symbols with values written out by hand. Of the wrong bodies that were
-//! tried, the contracts let none through but a line of a table that is right as well.
+//! The program `text_tables` compares the tokens of texts, of each byte and of symbols side by side with answers written out by hand.
+//! Of the wrong bodies that were tried, the contracts let none through but a line of a table that is right as well.
 #![tactic(auto)]
 
 mod blanks;
@@ -34,8 +34,6 @@ mod quoted;
 mod scan;
 mod symbol;
 mod tail;
-#[cfg(test)]
-mod tests;
 mod token;
 mod word;
 

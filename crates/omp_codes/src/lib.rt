@@ -7,14 +7,12 @@
 //! - [`PROFILE_MASK`] is the mask with the callbacks of [`PROFILE`], by [`profile_has_its_mask`];
 //! - [`next_state`] is `next_of`: the one that follows in the list of the states.
 //!
-//! Tests compare a few answers with values written out by hand. Nothing here takes memory.
+//! Tests in `ompt_tests` compare a few answers with values written out by hand. Nothing here takes memory.
 #![tactic(auto)]
 
 mod answers;
 pub mod callbacks;
 mod states;
-#[cfg(test)]
-mod tests;
 
 pub use answers::set_answer;
 pub use callbacks::{PROFILE, PROFILE_MASK, is_profile, profile_has_its_mask};

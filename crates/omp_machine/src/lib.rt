@@ -29,10 +29,10 @@
 //! stores: where an event was told, a store into the word of what was made may stand next, and after it the thread is
 //! inside the same callback, with one store more.
 //!
-//! No clause says that `new` or `go` finds memory, nor how far a run comes: tests run the empty program to its end and to
-//! its limit of silent steps, and a region of two threads to its end, let a tool store a word and find it at the next
-//! event, read the levels of a worker, and compare what is told with values written out by hand. The must-fail edits try
-//! wrong bodies.
+//! No clause says that `new` or `go` finds memory, nor how far a run comes: tests in `ompt_tests` run the empty program to its
+//! end and to its limit of silent steps, and a region of two threads to its end, let a tool store a word and find it at the
+//! next event, read the levels of a worker, and compare what is told with values written out by hand. The must-fail edits
+//! try wrong bodies.
 #![tactic(auto)]
 
 mod board;
@@ -47,8 +47,6 @@ mod settings;
 mod snapshot;
 mod state;
 mod task;
-#[cfg(test)]
-mod tests;
 mod thread;
 mod went;
 mod words;

@@ -21,7 +21,7 @@
 //! A [`Reply`] has the stores of a tool. Which of them take effect, and in which words, is the definition `stores_of`. What
 //! a tool hears of an event, with these stores, is the definition `Item`.
 //!
-//! A test compares a few lines with texts written out by hand, since a definition cannot check itself.
+//! Tests in `ompt_tests` compare lines and inquiries with what was written out by hand, since a definition cannot check itself.
 #![tactic(auto)]
 
 mod call;
@@ -29,8 +29,6 @@ mod line;
 mod mask;
 mod reply;
 mod snapshot;
-#[cfg(test)]
-mod tests;
 
 pub use call::{Call, Frame, Word};
 pub use line::{Memory, line_of};

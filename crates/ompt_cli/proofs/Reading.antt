@@ -12,9 +12,7 @@ use Rattle.c_syntax.specs.Tree.{Tree}
 use Rattle.c_syntax.specs.Faults.{IsFault}
 use Rattle.c_tokens.proofs.Spans.{tokens-end}
 use Rattle.c_syntax.specs.Numbered.{TreeView, root_tree}
-use Rattle.c_check.specs.Checked.{breaches_of, fault_in, fault_of}
-use Rattle.c_check.specs.Faults.{first_of}
-use Rattle.c_check.proofs.Found.{first_of_nothing}
+use Rattle.c_check.specs.Checked.{rule_fault, rule_fault_in}
 use Rattle.omp_model.specs.declared.blocks.Block.{Block}
 use Rattle.c_syntax.proofs.Unique.{fault-one, spells-no_fault, spells-one}
 use Rattle.c_check.specs.declared.fault.CheckFault.{CheckFault}
@@ -132,39 +130,36 @@ module _ (text : List ℕ) where
 
   -- what was read of a text
   module _ (program : TreeView) (is : IsReadAs text program) where
-    rule-is : (known : Option CheckFault) → fault_of program ≡ known → rule_broken text is.tokens (root_tree program) ≡ known
+    rule-is : (known : Option CheckFault) → rule_fault program ≡ known → rule_broken text is.tokens (root_tree program) ≡ known
     rule-is known same =
-        subst (λ (end : Spot). fault_in (root_tree program) end (main_of text is.tokens) ≡ known) is.end_is
-        (subst (λ main. fault_in (root_tree program) program.end main ≡ known) is.main_is same)
+        subst (λ (end : Spot). rule_fault_in (root_tree program) end (main_of text is.tokens) ≡ known) is.end_is
+        (subst (λ main. rule_fault_in (root_tree program) program.end main ≡ known) is.main_is same)
 
     form-is : (blocks : Option (List Block)) → blocks_of program.main (root_tree program) ≡ blocks → blocks_of (main_of text is.tokens) (root_tree program) ≡ blocks
     form-is blocks same = subst (λ main. blocks_of main (root_tree program) ≡ blocks) is.main_is same
 
-    no-fault : breaches_of program ≡ [] → fault_of program ≡ None
-    no-fault same = ap (λ faults. first_of None faults) same ∙ first_of_nothing None
-
     module _ (short : length text ≤ 65536) where
-      pub spells-by : (blocks : List Block) → breaches_of program ≡ [] → blocks_of program.main (root_tree program) ≡ Some blocks → Spells text blocks
+      pub spells-by : (blocks : List Block) → rule_fault program ≡ None → blocks_of program.main (root_tree program) ≡ Some blocks → Spells text blocks
       spells-by blocks keeps same = record {
         short = short;
         tokens = is.tokens;
         tree = root_tree program;
         has = is.has;
-        keeps = rule-is None (no-fault keeps);
+        keeps = rule-is None keeps;
         form = form-is (Some blocks) same;
       }
 
-      pub other-by : breaches_of program ≡ [] → blocks_of program.main (root_tree program) ≡ None → IsRefused OtherForm text
-      other-by keeps same = (short, (is.tokens, root_tree program, is.has, rule-is None (no-fault keeps), form-is None same))
+      pub other-by : rule_fault program ≡ None → blocks_of program.main (root_tree program) ≡ None → IsRefused OtherForm text
+      other-by keeps same = (short, (is.tokens, root_tree program, is.has, rule-is None keeps, form-is None same))
 
-      pub runs-by : (blocks : List Block) → breaches_of program ≡ [] → blocks_of program.main (root_tree program) ≡ Some blocks → IsProgram text
+      pub runs-by : (blocks : List Block) → rule_fault program ≡ None → blocks_of program.main (root_tree program) ≡ Some blocks → IsProgram text
       runs-by blocks keeps same = (blocks, spells-by blocks keeps same)
 
-      broken-by : (found : CheckFault) → fault_of program ≡ Some found → HasCheckFault found text
+      broken-by : (found : CheckFault) → rule_fault program ≡ Some found → HasCheckFault found text
       broken-by found same = (short, (is.tokens, root_tree program, is.has, rule-is (Some found) same))
 
       -- what is refused for this broken rule, if it is one
-      check-ends : (P : End → Type 0) → P Memory → ((found : CheckFault) → IsRefused (Rule found) text → P (Refused (Rule found))) → (found : CheckFault) → (found ≢ rule.Memory → fault_of program ≡ Some found) → P (end_of_check_fault found)
+      check-ends : (P : End → Type 0) → P Memory → ((found : CheckFault) → IsRefused (Rule found) text → P (Refused (Rule found))) → (found : CheckFault) → (found ≢ rule.Memory → rule_fault program ≡ Some found) → P (end_of_check_fault found)
       check-ends P memory other rule.Memory known = memory
       check-ends P memory other (rule.UnknownName spot) known = other _ (broken-by _ (known (λ same. cc)))
       check-ends P memory other (rule.TwiceDeclared spot) known = other _ (broken-by _ (known (λ same. cc)))
@@ -174,10 +169,10 @@ module _ (text : List ℕ) where
       check-ends P memory other (rule.NoMain spot) known = other _ (broken-by _ (known (λ same. cc)))
       check-ends P memory other (rule.NotListed spot) known = other _ (broken-by _ (known (λ same. cc)))
 
-      pub check-accepted : (found : CheckFault) → (found ≢ rule.Memory → fault_of program ≡ Some found) → (why : Refusal) → IsRefused why text → MayRefuse why (end_of_check_fault found)
+      pub check-accepted : (found : CheckFault) → (found ≢ rule.Memory → rule_fault program ≡ Some found) → (why : Refusal) → IsRefused why text → MayRefuse why (end_of_check_fault found)
       check-accepted found known why refused = check-ends (MayRefuse why) tt (λ one has. found-accepted (Rule one) why has refused) found known
 
-      pub check-runs : (found : CheckFault) → (found ≢ rule.Memory → fault_of program ≡ Some found) → IsProgram text → MayRun (end_of_check_fault found)
+      pub check-runs : (found : CheckFault) → (found ≢ rule.Memory → rule_fault program ≡ Some found) → IsProgram text → MayRun (end_of_check_fault found)
       check-runs found known program = check-ends MayRun tt (λ one has. program-not_refused (Rule one) program has) found known
 
 -- the last token stands where the text ends

@@ -13,7 +13,7 @@ use Rattle.c_syntax.specs.Numbered.{TreeView, root_tree}
 use Rattle.c_syntax.specs.Derivation.{Spells as IsTreeOf}
 use Rattle.c_syntax.specs.Faults.{IsFault}
 use Rattle.c_check.specs.declared.fault.CheckFault.{CheckFault}
-use Rattle.c_check.specs.Checked.{fault_in}
+use Rattle.c_check.specs.Checked.{rule_fault_in}
 use Rattle.omp_model.specs.declared.blocks.Block.{Block}
 use Rattle.ompt_cli.specs.Form.{blocks_of}
 
@@ -32,7 +32,7 @@ end_of tokens = end_at (record { line = 1; column = 1 }) tokens
 
 -- the rule that a text with these tokens and this tree breaks first, if it breaks one
 abbrev pub rule_broken : List ℕ → List Token → Tree → Option CheckFault
-rule_broken text tokens tree = fault_in tree (end_of tokens) (main_of text tokens)
+rule_broken text tokens tree = rule_fault_in tree (end_of tokens) (main_of text tokens)
 
 -- a tree that was read is that of the text, with its end and the number of its name `main`
 pub record IsReadAs (text : List ℕ) (program : TreeView) : Type 0 where

@@ -33,19 +33,19 @@ pub(crate) struct Listening {
 /// What a guest heard at a call, and what it could inquire there.
 #[derive(Clone, Copy, PartialEq, Eq)]
 pub(crate) struct Heard {
-    seq: u32,
-    thread: u8,
-    call: Call,
-    inquired: Inquired,
+    pub seq: u32,
+    pub thread: u8,
+    pub call: Call,
+    pub inquired: Inquired,
 }
 
 /// What can be inquired.
 #[derive(Clone, Copy, PartialEq, Eq)]
-struct Inquired {
-    word: Word,
-    state: (u16, u32),
-    tasks: [Option<TaskLevel>; 3],
-    regions: [Option<RegionLevel>; 3],
+pub(crate) struct Inquired {
+    pub word: Word,
+    pub state: (u16, u32),
+    pub tasks: [Option<TaskLevel>; 3],
+    pub regions: [Option<RegionLevel>; 3],
 }
 
 impl Listening {
@@ -113,12 +113,7 @@ impl GuestTool for Listening {
         if self.heard.len().saturating_add(1) == self.fails {
             return Err(AllocError);
         }
-        self.heard.push(Heard {
-            seq,
-            thread,
-            call: *call,
-            inquired,
-        })?;
+        self.heard.push(heard_of(seq, thread, call, snapshot))?;
         Ok(match call {
             Call::ParallelBegin { .. } if self.stores != 0 => Reply {
                 first: Some(Store {
@@ -199,7 +194,7 @@ pub(crate) const STORED: Word = Word {
 
 /// What can be inquired on one thread at the begin of the member's task in a region of two. What the event makes is left out:
 /// no inquiry tells it.
-fn inside(rt: &impl AllocGlobal) -> Result<Snapshot, Memory> {
+pub(crate) fn inside(rt: &impl AllocGlobal) -> Result<Snapshot, Memory> {
     let member = TaskLevel {
         flags: 2,
         word: TWO,
@@ -230,6 +225,16 @@ fn inside(rt: &impl AllocGlobal) -> Result<Snapshot, Memory> {
         regions: RegionLevels(Vec::from_array(rt.alloc(), [region, outer])?),
         fresh: None,
     })
+}
+
+/// What is kept of a call.
+pub(crate) fn heard_of(seq: u32, thread: u8, call: &Call, snapshot: &Snapshot) -> Heard {
+    Heard {
+        seq,
+        thread,
+        call: *call,
+        inquired: inquired_of(snapshot),
+    }
 }
 
 /// What can be inquired of a snapshot.

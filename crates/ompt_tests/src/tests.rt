@@ -1,11 +1,12 @@
 //! What no clause says: that each end of the command comes about, with the bytes that it writes.
 
 use crate::fixture::*;
+use c_check::CheckFault;
 use c_tokens::Spot;
 use omp_codes::PROFILE_MASK;
 use omp_model::{Block, Cause, Entry, What};
 use ompt_cli::{Command, End, Refusal};
-use run_edges::{MemSink, read_all};
+use run_edges::{MemSink, ReadAllFault, WriteFault, read_all, write_all};
 use std::process::Abort;
 use std::test::Fail;
 
@@ -97,6 +98,20 @@ fn other_words_are_a_faulty_command_line(rt: HostRuntime) -> Result<(), Fail> {
     Ok(())
 }
 
+/// A source and an output that fail at their first call make no difference, and still fail at their first call afterwards.
+#[test]
+fn other_words_touch_neither_source_nor_output(rt: HostRuntime) -> Result<(), Fail> {
+    let mut source = failing_source(&rt, PROGRAM, 0, 1)?;
+    let out = failing(&rt, 0, 1)?;
+    let words = ["list", "--serial"];
+    let mut told = tell(&rt, &words, &mut source, out, ample(&rt)?)?;
+    nothing_ran(&rt, &told, End::Usage, 2, USAGE, 0);
+    let left = read_all(rt.alloc(), &mut source, 100);
+    assert!(rt; matches!(left, Err(ReadAllFault::ReadFault)));
+    assert_eq!(rt; write_all(&mut told.out, b"x"), Err(WriteFault));
+    Ok(())
+}
+
 #[test]
 fn a_read_that_fails_is_a_read_fault(rt: HostRuntime) -> Result<(), Fail> {
     for count in 0..30 {
@@ -158,6 +173,9 @@ struct Lost {
     front: &'static [u8],
 }
 
+/// The end of a text without anything.
+const NO_MAIN: End = End::Refused(Refusal::Rule(CheckFault::NoMain(Spot { line: 1, column: 1 })));
+
 const LOST: &[Lost] = &[
     Lost {
         words: &[],
@@ -174,7 +192,7 @@ const LOST: &[Lost] = &[
         text: b"",
         reads: 9,
         writes: 9,
-        end: End::Refused(Refusal::NoMain(Spot { line: 1, column: 1 })),
+        end: NO_MAIN,
         status: 9,
         out: b"",
         front: b"ref",

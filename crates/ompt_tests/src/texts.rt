@@ -1,9 +1,8 @@
 //! Texts: the layouts in which a program runs, and why other texts are refused.
 
 use crate::fixture::*;
-use c_tokens::Spot;
 use omp_model::Block;
-use ompt_cli::{End, Refusal};
+use ompt_cli::End;
 use run_edges::Memory;
 use std::process::Abort;
 use std::test::Fail;
@@ -127,239 +126,78 @@ fn other_forms_are_refused(rt: HostRuntime) -> Result<(), Fail> {
 
 /// The text is a program of another form.
 fn other_form<R: AllocGlobal + Abort>(rt: &R, text: &str, case: usize) -> Result<(), Memory> {
-    refused(rt, text, Refusal::OtherForm, b"refused 16 at 0:0\n", case)
+    refused(rt, text, b"refused 16 at 0:0\n", case)
 }
 
-/// A text with a fault, what it is refused for, and its line.
-type Faulty = (&'static str, Refusal, &'static [u8]);
+/// A text with a fault, and the line that tells it.
+type Faulty = (&'static str, &'static [u8]);
 
-/// Texts with a fault in their tokens, and texts that are no programs. The first fault of the tokens counts, whatever the
-/// grammar says, and a fault of the grammar counts whatever the form.
+/// A text for each number of a fault. The first fault of the tokens counts, whatever the grammar says; a fault of the grammar,
+/// whatever the rules say; and the first rule that is broken, whatever the form.
 const FAULTY_TEXTS: &[Faulty] = &[
-    (
-        "int main(void) { return 2147483648; }\n",
-        Refusal::BadNumber(Spot {
-            line: 1,
-            column: 25,
-        }),
-        b"refused 3 at 1:25\n",
-    ),
-    (
-        "int main(void) { /*\n",
-        Refusal::OpenComment(Spot {
-            line: 1,
-            column: 18,
-        }),
-        b"refused 2 at 1:18\n",
-    ),
-    (
-        "int main(void) { goto @ }\n",
-        Refusal::BadByte(Spot {
-            line: 1,
-            column: 23,
-        }),
-        b"refused 1 at 1:23\n",
-    ),
+    ("int main(void) { goto @ }\n", b"refused 1 at 1:23\n"),
+    ("int main(void) { /*\n", b"refused 2 at 1:18\n"),
     (
         "int main(void) {\n\n  return 08; @\n}\n",
-        Refusal::BadNumber(Spot {
-            line: 3,
-            column: 10,
-        }),
         b"refused 3 at 3:10\n",
     ),
-    (
-        "int main(void) { goto a; }\n",
-        Refusal::OutOfProfile(Spot {
-            line: 1,
-            column: 18,
-        }),
-        b"refused 6 at 1:18\n",
-    ),
+    ("int main(void) { return x = 0;\n", b"refused 4 at 1:27\n"),
     (
         "int main(void) {\n#pragma omp paralel num_threads(2)\n{ }\nreturn 0;\n}\n",
-        Refusal::UnknownDirective(Spot {
-            line: 2,
-            column: 13,
-        }),
         b"refused 5 at 2:13\n",
     ),
-    (
-        "int main(void) {\n#pragma omp atomic\n{ }\nreturn 0;\n}\n",
-        Refusal::OutOfProfile(Spot {
-            line: 2,
-            column: 13,
-        }),
-        b"refused 6 at 2:13\n",
-    ),
-    (
-        "int main(void) {\n#pragma omp parallel num_threads()\n{ }\nreturn 0;\n}\n",
-        Refusal::Unexpected(Spot {
-            line: 2,
-            column: 34,
-        }),
-        b"refused 4 at 2:34\n",
-    ),
-    (
-        "void main(void) { return 1 }\n",
-        Refusal::Unexpected(Spot {
-            line: 1,
-            column: 28,
-        }),
-        b"refused 4 at 1:28\n",
-    ),
-    (
-        "int main(void) {\n",
-        Refusal::Unexpected(Spot { line: 2, column: 1 }),
-        b"refused 4 at 2:1\n",
-    ),
-];
-
-/// Programs by the grammar that break a rule. The first fault by its place counts, whatever the form.
-const RULE_TEXTS: &[Faulty] = &[
-    (
-        "",
-        Refusal::NoMain(Spot { line: 1, column: 1 }),
-        b"refused 13 at 1:1\n",
-    ),
-    (
-        "int main(void) { return x; }\n",
-        Refusal::UnknownName(Spot {
-            line: 1,
-            column: 25,
-        }),
-        b"refused 8 at 1:25\n",
-    ),
-    (
-        "int main(void) {\n#pragma omp parallel num_threads(two)\n{ }\nreturn 0;\n}\n",
-        Refusal::UnknownName(Spot {
-            line: 2,
-            column: 34,
-        }),
-        b"refused 8 at 2:34\n",
-    ),
+    ("int main(void) { goto a; }\n", b"refused 6 at 1:18\n"),
+    ("int main(void) { return x; }\n", b"refused 8 at 1:25\n"),
     (
         "int main(void) { int a; int a; return 0; }\n",
-        Refusal::TwiceDeclared(Spot {
-            line: 1,
-            column: 29,
-        }),
         b"refused 9 at 1:29\n",
     ),
     (
         "int main(void) { printf(\"%d\\n\"); return 0; }\n",
-        Refusal::WrongUse(Spot {
-            line: 1,
-            column: 18,
-        }),
         b"refused 10 at 1:18\n",
-    ),
-    (
-        "void main(void) { return 0; }\n",
-        Refusal::WrongUse(Spot { line: 1, column: 6 }),
-        b"refused 10 at 1:6\n",
-    ),
-    (
-        "int main(int a) { return 0; }\n",
-        Refusal::WrongUse(Spot { line: 1, column: 5 }),
-        b"refused 10 at 1:5\n",
-    ),
-    (
-        "int main(void) { return; }\n",
-        Refusal::WrongUse(Spot {
-            line: 1,
-            column: 18,
-        }),
-        b"refused 10 at 1:18\n",
-    ),
-    (
-        "int main(void) {\n#pragma omp parallel num_threads(2) num_threads(2)\n{ }\nreturn 0;\n}\n",
-        Refusal::WrongUse(Spot { line: 2, column: 1 }),
-        b"refused 10 at 2:1\n",
-    ),
-    (
-        "int main(void) {\n#pragma omp parallel\n#pragma omp single\n{\n#pragma omp barrier\n}\nreturn 0;\n}\n",
-        Refusal::BadNesting(Spot { line: 5, column: 1 }),
-        b"refused 11 at 5:1\n",
     ),
     (
         "int main(void) {\n#pragma omp parallel num_threads(2)\nreturn 0;\n}\n",
-        Refusal::BadNesting(Spot { line: 3, column: 1 }),
         b"refused 11 at 3:1\n",
     ),
     (
         "int main(void) {\nint i;\n#pragma omp for\nfor (i = 0; i != 7; i++) ;\nreturn 0;\n}\n",
-        Refusal::BadLoop(Spot { line: 3, column: 1 }),
         b"refused 12 at 3:1\n",
     ),
-    (
-        "int main(void) {\n#pragma omp parallel for num_threads(2)\n{ }\nreturn 0;\n}\n",
-        Refusal::BadLoop(Spot { line: 2, column: 1 }),
-        b"refused 12 at 2:1\n",
-    ),
-    (
-        "int mine(void) { return 0; }\n",
-        Refusal::NoMain(Spot { line: 2, column: 1 }),
-        b"refused 13 at 2:1\n",
-    ),
+    ("int mine(void) { return 0; }\n", b"refused 13 at 2:1\n"),
     (
         "int main(void) {\nint a;\n#pragma omp parallel default(none)\na = 1;\nreturn 0;\n}\n",
-        Refusal::NotListed(Spot { line: 4, column: 1 }),
         b"refused 14 at 4:1\n",
     ),
 ];
 
-/// A text whose variables of the file have too many cells is refused at the first name that is too much.
-#[test]
-fn too_many_cells_are_refused(rt: HostRuntime) -> Result<(), Fail> {
-    let mut text = String::new(rt.alloc());
-    for number in 1..258 {
-        write!(text, "int a{number}[4096];\n")?;
-    }
-    text.push_str("int main(void) { return 0; }\n")?;
-    let spot = Spot {
-        line: 257,
-        column: 5,
-    };
-    refused(
-        &rt,
-        text.as_str(),
-        Refusal::WrongUse(spot),
-        b"refused 10 at 257:5\n",
-        257,
-    )?;
-    Ok(())
-}
-
 #[test]
 fn faulty_texts_are_refused_at_their_first_fault(rt: HostRuntime) -> Result<(), Fail> {
-    for rows in [FAULTY_TEXTS, RULE_TEXTS] {
-        for (case, (text, why, line)) in rows.iter().enumerate() {
-            refused(&rt, text, *why, line, case)?;
-        }
+    for (case, (text, line)) in FAULTY_TEXTS.iter().enumerate() {
+        refused(&rt, text, line, case)?;
     }
     Ok(())
 }
 
-/// The block of main and 63 parentheses in it are deep enough. One more is refused where it opens.
+/// How many parentheses stand around a 0, and the line that tells the fault: the block of main is one level, and 64 are enough.
 #[test]
-fn sixty_four_is_deep_enough(rt: HostRuntime) -> Result<(), Fail> {
-    other_form(&rt, parenthesized(&rt, 63)?.as_str(), 63)?;
-    let spot = Spot {
-        line: 1,
-        column: 88,
-    };
+fn too_deep_a_text_is_refused(rt: HostRuntime) -> Result<(), Fail> {
+    refused(
+        &rt,
+        parenthesized(&rt, 63)?.as_str(),
+        b"refused 16 at 0:0\n",
+        63,
+    )?;
     refused(
         &rt,
         parenthesized(&rt, 64)?.as_str(),
-        Refusal::TooDeep(spot),
         b"refused 7 at 1:88\n",
         64,
     )?;
     Ok(())
 }
 
-/// A main that returns 0 in so many parentheses.
+/// A main that returns a 0 in so many parentheses.
 fn parenthesized(rt: &impl AllocGlobal, count: usize) -> Result<String, Memory> {
     let mut text = String::from_str(rt.alloc(), "int main(void) { return ")?;
     for _ in 0..count {
@@ -373,57 +211,37 @@ fn parenthesized(rt: &impl AllocGlobal, count: usize) -> Result<String, Memory> 
     Ok(text)
 }
 
-/// How many bytes a text of blanks has, its first byte, what it is refused for, and its line.
-type Long = (usize, char, Refusal, &'static [u8]);
+/// How many bytes a text of blanks has, its first byte, and its line.
+type Long = (usize, char, &'static [u8]);
 
 const LONG_TEXTS: &[Long] = &[
-    (
-        65_536,
-        ' ',
-        Refusal::NoMain(Spot {
-            line: 1,
-            column: 65_537,
-        }),
-        b"refused 13 at 1:65537\n",
-    ),
-    (65_537, ' ', Refusal::TooLong, b"refused 15 at 0:0\n"),
-    (
-        65_536,
-        '@',
-        Refusal::BadByte(Spot { line: 1, column: 1 }),
-        b"refused 1 at 1:1\n",
-    ),
-    (65_537, '@', Refusal::TooLong, b"refused 15 at 0:0\n"),
-    (
-        65_536,
-        '~',
-        Refusal::OutOfProfile(Spot { line: 1, column: 1 }),
-        b"refused 6 at 1:1\n",
-    ),
+    (65_536, ' ', b"refused 13 at 1:65537\n"),
+    (65_536, '@', b"refused 1 at 1:1\n"),
+    (65_537, '@', b"refused 15 at 0:0\n"),
 ];
 
 #[test]
 fn a_long_text_is_refused_for_its_length_first(rt: HostRuntime) -> Result<(), Fail> {
-    for (length, first, why, line) in LONG_TEXTS {
+    for (length, first, line) in LONG_TEXTS {
         let mut text = String::new(rt.alloc());
         text.push(*first)?;
         for _ in 1..*length {
             text.push(' ')?;
         }
-        refused(&rt, text.as_str(), *why, line, *length)?;
+        refused(&rt, text.as_str(), line, *length)?;
     }
     Ok(())
 }
 
-/// The text is refused for this, with this line, before anything runs.
+/// The text is refused with this line, before anything runs.
 fn refused<R: AllocGlobal + Abort>(
     rt: &R,
     text: &str,
-    why: Refusal,
     line: &[u8],
     case: usize,
 ) -> Result<(), Memory> {
     let told = tell_text(rt, LIST_ON_ONE, text.as_bytes())?;
-    nothing_ran(rt, &told, End::Refused(why), 3, line, case);
+    assert!(rt; matches!(told.end, End::Refused(_)), "in case {case}");
+    nothing_ran(rt, &told, told.end, 3, line, case);
     Ok(())
 }

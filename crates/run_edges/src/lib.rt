@@ -17,8 +17,6 @@ mod sink;
 mod source;
 mod std_sink;
 mod std_source;
-#[cfg(test)]
-mod tests;
 mod writing;
 
 pub use mem_sink::{MemSink, Memory};

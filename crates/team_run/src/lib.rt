@@ -49,17 +49,15 @@
 //!   parts have no order between them. That part 0 is started first, and that parts are called in the order of the
 //!   positions and none after part 0 is finished, is to be read in `src/`.
 //!
-//! Tests run a region of two on one and two threads. They have a tool that stores and finds the word at a later call, one
-//! that stores several words at once, one that answers 0, one that finds no memory, and one of two parts, and compare what
-//! these heard with values written out by hand. The must-fail edits try wrong bodies.
+//! Tests in `ompt_tests` run a region of two on one and two threads. They have a tool that stores and finds the word at a
+//! later call, one that stores several words at once, one that answers 0, one that finds no memory, and one of two parts, and
+//! compare what these heard with values written out by hand. The must-fail edits try wrong bodies.
 #![tactic(auto)]
 
 mod entries;
 mod ran;
 mod serial;
 mod serial_run;
-#[cfg(test)]
-mod tests;
 
 pub use ran::{Memory, Ran};
 pub use serial::run_serial;

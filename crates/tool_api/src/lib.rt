@@ -31,8 +31,7 @@
 //! - [`Registrar::set_profile`] registers the callbacks of the profile, where nothing is registered yet;
 //! - [`Registrar::get`] answers 1 exactly where the callback is registered, and else 0.
 //!
-//! Tests run a small tool in a box, and compare its answers with values written out by hand. The must-fail edits try wrong
-//! bodies.
+//! Tests in `ompt_tests` register callbacks, and run tools in boxes. The must-fail edits try wrong bodies.
 #![tactic(auto)]
 
 mod guest;
@@ -41,8 +40,6 @@ mod handed;
 mod part;
 mod quiet;
 mod registrar;
-#[cfg(test)]
-mod tests;
 
 pub use guest::Guest;
 pub use guest_tool::GuestTool;

@@ -14,7 +14,7 @@
 //! - no tool is recorded within the lister, which holds none.
 //!
 //! A `callback` that found no memory is an error, and leaves the list as it was. That a lister finds memory where there
-//! is some isn't proved: the tests show it.
+//! is some isn't proved: tests in `ompt_tests` show it.
 //!
 //! Proved by the contracts of the functions that are named:
 //!
@@ -27,14 +27,12 @@
 //! What a line says is in `specs/` of `ompt_calls`. The records are sorted by std's sort, so the cost is n log n for n
 //! records.
 //!
-//! Tests compare the mask, the records and the lines of two listers with values written out by hand. The must-fail edits
-//! try wrong bodies.
+//! Tests in `ompt_tests` compare the mask, records and lines with values written out by hand. The must-fail edits try wrong
+//! bodies.
 #![tactic(auto)]
 
 mod lines;
 mod lister;
-#[cfg(test)]
-mod tests;
 
 pub use lines::{Memory, lines_text};
 pub use lister::Lister;

@@ -3,7 +3,7 @@
 ghost use Rattle.std.specs.Prelude.{◌≡◌, ◌<◌, ◌+◌, length, IfOk};
 ghost use Rattle.c_syntax.specs.Tree.{children_of};
 ghost use Rattle.c_syntax.specs.Numbered.{tree_at};
-ghost use Rattle.c_check.specs.Acts.{count as count_of};
+ghost use Rattle.c_check.specs.NameLists.{child_count as count_of};
 
 use c_syntax::Tree;
 use std::alloc::AllocError;

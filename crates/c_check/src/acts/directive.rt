@@ -5,7 +5,8 @@ ghost use Rattle.std.specs.Option.{option_map};
 ghost use Rattle.c_syntax.specs.Tree.{children_of};
 ghost use Rattle.c_syntax.specs.Derivation.{nothing};
 ghost use Rattle.c_syntax.specs.Numbered.{tree_at};
-ghost use Rattle.c_check.specs.Acts as texts;
+ghost use Rattle.c_check.specs.Clauses as clauses;
+ghost use Rattle.c_check.specs.Statements as statements;
 ghost use Rattle.c_check.specs.Loops.{has_form as is_of_form, loop_name as loop_name_of};
 ghost use Rattle.c_check.specs.Steps.{clause_in};
 
@@ -19,7 +20,7 @@ use std::alloc::{AllocError, Global};
 
 /// Whether a directive shares out a loop: `for` and `parallel for` (OpenMP 5.2, 11.5.1).
 pub fn shares_loop(directive: Directive) -> bool
-    ensures { result ≡ texts.shares_loop directive }
+    ensures { result ≡ statements.shares_loop directive }
 {
     matches!(directive, Directive::For | Directive::ParallelFor)
 }
@@ -32,7 +33,7 @@ pub fn shared_loop_name(
     node: u32,
 ) -> Result<Option<u32>, AllocError>
     requires { node < length tree.now.trees }
-    ensures { IfOk result (λ found. found ≡ (if texts.shares_loop directive then loop_name_of (texts.statement_of (children_of (tree_at tree.now.trees node))) else None)) }
+    ensures { IfOk result (λ found. found ≡ (if statements.shares_loop directive then loop_name_of (statements.statement_of (children_of (tree_at tree.now.trees node))) else None)) }
 {
     if !shares_loop(directive) {
         return Ok(None);
@@ -51,7 +52,7 @@ pub fn has_odd_loop(
     node: u32,
 ) -> Result<bool, AllocError>
     requires { node < length tree.now.trees }
-    ensures { IfOk result (λ odd. odd ≡ (texts.shares_loop directive && not (is_of_form (texts.statement_of (children_of (tree_at tree.now.trees node)))))) }
+    ensures { IfOk result (λ odd. odd ≡ (statements.shares_loop directive && not (is_of_form (statements.statement_of (children_of (tree_at tree.now.trees node)))))) }
 {
     if !shares_loop(directive) {
         return Ok(false);
@@ -64,7 +65,7 @@ pub fn has_odd_loop(
 
 /// What stands around the statement of a construct whose loop has a variable with this name, if it has one.
 pub fn role_with(name: Option<u32>) -> Role
-    ensures { result ≡ texts.role_with name }
+    ensures { result ≡ statements.role_with name }
 {
     match name {
         Some(name) => Role::Looped(name),
@@ -75,7 +76,7 @@ pub fn role_with(name: Option<u32>) -> Role
 /// The statement of a construct, if there is one.
 pub fn statement_of(tree: &Tree, node: u32) -> Result<Option<u32>, AllocError>
     requires { node < length tree.now.trees }
-    ensures statement { IfOk result (λ found. unwrap_or (option_map (tree_at tree.now.trees) found) nothing ≡ texts.statement_of (children_of (tree_at tree.now.trees node))) }
+    ensures statement { IfOk result (λ found. unwrap_or (option_map (tree_at tree.now.trees) found) nothing ≡ statements.statement_of (children_of (tree_at tree.now.trees node))) }
     ensures there { IfOk result (λ found. IfSome found (λ statement. statement < length tree.now.trees)) }
 {
     let mut place = 0;
@@ -90,7 +91,7 @@ pub fn statement_of(tree: &Tree, node: u32) -> Result<Option<u32>, AllocError>
 
 /// Whether a child of a construct stands before its statement.
 pub fn is_head(kind: NodeKind) -> bool
-    ensures { result ≡ texts.is_head kind }
+    ensures { result ≡ statements.is_head kind }
 {
     matches!(kind, NodeKind::Clause(_) | NodeKind::Name)
 }
@@ -98,7 +99,7 @@ pub fn is_head(kind: NodeKind) -> bool
 /// The number of the name of a critical, or 0.
 pub fn critical_name(tree: &Tree, node: u32) -> u32
     requires { node < length tree.now.trees }
-    ensures { result ≡ texts.name_of_critical (children_of (tree_at tree.now.trees node)) }
+    ensures { result ≡ statements.name_of_critical (children_of (tree_at tree.now.trees node)) }
 {
     match tree.child(node, 0) {
         Some(child) if tree.kind(child) == NodeKind::Name => tree.name(child),
@@ -120,7 +121,7 @@ pub fn clause_of(tree: &Tree, node: u32) -> Option<u32>
 
 /// What a clause on names alone makes them.
 pub fn data_of(which: Data) -> DataClause
-    ensures { result ≡ texts.data_of which }
+    ensures { result ≡ clauses.data_of which }
 {
     match which {
         Data::Shared => DataClause::Shared,
@@ -132,7 +133,7 @@ pub fn data_of(which: Data) -> DataClause
 /// The chunk size of a `schedule`, 1 where there is none.
 pub fn chunk_of(tree: &Tree, clause: u32) -> u32
     requires { clause < length tree.now.trees }
-    ensures { result ≡ texts.chunk_of (children_of (tree_at tree.now.trees clause)) }
+    ensures { result ≡ clauses.chunk_of (children_of (tree_at tree.now.trees clause)) }
 {
     match tree.child(clause, 0) {
         Some(number) => number_at(tree, number),

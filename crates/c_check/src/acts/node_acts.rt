@@ -3,7 +3,9 @@
 ghost use Rattle.std.specs.Prelude.{◌≡◌, ◌<◌, length};
 ghost use Rattle.c_syntax.specs.Tree.{children_of, number_of};
 ghost use Rattle.c_syntax.specs.Numbered.{tree_at};
-ghost use Rattle.c_check.specs.Acts as texts;
+ghost use Rattle.c_check.specs.NameLists as lists;
+ghost use Rattle.c_check.specs.Printed as printed;
+ghost use Rattle.c_check.specs.Usages as usages;
 ghost use Rattle.c_check.specs.Steps.{passes};
 
 use crate::acts::act::{Act, Printed, Returned, Thing, Usage, Value};
@@ -41,7 +43,7 @@ pub fn number_at(tree: &Tree, node: u32) -> u32
 /// What a name in a list does.
 pub fn named(tree: &Tree, why: Naming, node: u32) -> Act
     requires { node < length tree.now.trees }
-    ensures { result ≡ texts.named why (tree_at tree.now.trees node) }
+    ensures { result ≡ lists.named why (tree_at tree.now.trees node) }
 {
     let (name, spot) = (tree.name(node), tree.spot(node));
     match why {
@@ -72,7 +74,7 @@ pub fn named(tree: &Tree, why: Naming, node: u32) -> Act
 /// What a place is used as.
 pub fn place_usage(tree: &Tree, node: u32) -> Usage
     requires { node < length tree.now.trees }
-    ensures { result ≡ texts.place_usage (children_of (tree_at tree.now.trees node)) }
+    ensures { result ≡ usages.place_usage (children_of (tree_at tree.now.trees node)) }
 {
     match tree.child(node, 0) {
         Some(_) => Usage::Indexed,
@@ -82,7 +84,7 @@ pub fn place_usage(tree: &Tree, node: u32) -> Usage
 
 /// Whether the value of a call is used.
 pub fn value_of(role: Role) -> Value
-    ensures { result ≡ texts.call_value role }
+    ensures { result ≡ usages.call_value role }
 {
     match role {
         Role::Used => Value::Used,
@@ -93,7 +95,7 @@ pub fn value_of(role: Role) -> Value
 /// Whether something follows a `return`.
 pub fn returned_of(tree: &Tree, node: u32) -> Returned
     requires { node < length tree.now.trees }
-    ensures { result ≡ texts.returned_of (children_of (tree_at tree.now.trees node)) }
+    ensures { result ≡ usages.returned_of (children_of (tree_at tree.now.trees node)) }
 {
     match tree.child(node, 0) {
         Some(_) => Returned::Something,
@@ -104,7 +106,7 @@ pub fn returned_of(tree: &Tree, node: u32) -> Returned
 /// How many numbers a text of `printf` asks for, or `None` where a percent sign has another byte behind it than `d` or a second
 /// one.
 pub fn numbers_in(text: &[u8]) -> Option<usize>
-    ensures { result ≡ texts.numbers_in text.now }
+    ensures { result ≡ printed.numbers_in text.now }
 {
     let mut numbers = 0;
     // Whether a percent sign stands before the byte, with nothing before it that it belongs to.
@@ -124,7 +126,7 @@ pub fn numbers_in(text: &[u8]) -> Option<usize>
 
 /// Whether a text asks for as many numbers as there are arguments.
 pub fn as_many(numbers: Option<usize>, count: u32) -> Printed
-    ensures { result ≡ texts.as_many numbers count }
+    ensures { result ≡ printed.as_many numbers count }
 {
     match numbers {
         Some(numbers) if numbers == count as usize => Printed::Right,

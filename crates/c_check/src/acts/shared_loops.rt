@@ -189,7 +189,7 @@ fn name_at(tree: &Tree, node: u32, place: u32) -> u32
 /// Whether the child at a place is the variable with this name, without an index.
 fn is_variable_at(tree: &Tree, name: u32, node: u32, place: u32) -> bool
     requires { node < length tree.now.trees }
-    ensures { result ≡ loops.is_variable name (loops.child_at (tree_at tree.now.trees node) place) }
+    ensures { result ≡ loops.is_variable_named name (loops.child_at (tree_at tree.now.trees node) place) }
 {
     match tree.child(node, place) {
         Some(child) => is_named(tree, name, child) && tree.child(child, 0).is_none(),

@@ -7,6 +7,11 @@ ghost use Rattle.std.specs.Prelude.{◌≡◌, ◌<◌, ◌≤◌, ◌+◌, [], 
 ghost use Rattle.c_syntax.specs.Tree.{Tree as Spelled, child_of, children_of, kind_of, name_of, spot_of, text_of};
 ghost use Rattle.c_syntax.specs.Numbered.{root_tree, tree_at};
 ghost use Rattle.c_check.specs.Acts as texts;
+ghost use Rattle.c_check.specs.Clauses as clauses;
+ghost use Rattle.c_check.specs.NameLists as lists;
+ghost use Rattle.c_check.specs.Printed as printed;
+ghost use Rattle.c_check.specs.Statements as statements;
+ghost use Rattle.c_check.specs.Usages as usages;
 ghost use Rattle.c_check.specs.Tasks.{AreThere, IsThere, children_left, left_of, told_by};
 ghost use Rattle.c_check.specs.Weights.{weight_among, weight_below, weight_if};
 ghost use Rattle.c_check.specs.Steps.{Puts, outside_by, part_of, standalone_acts, told_if, weight_by, weight_in};
@@ -199,7 +204,7 @@ impl Walk {
     fn parts(&mut self, tree: &Tree, role: Role, node: u32) -> Result<(), AllocError>
         requires node { node < length tree.now.trees }
         requires there { AreThere tree.now.trees self.old }
-        ensures { OnOk result (Puts tree.now.trees (Act.Open ∷ texts.first_part (texts.looped role) (children_of (tree_at tree.now.trees node)) ++ Act.Close ∷ []) (weight_below (tree_at tree.now.trees node)) self.old self.new) }
+        ensures { OnOk result (Puts tree.now.trees (Act.Open ∷ texts.first_part (statements.looped role) (children_of (tree_at tree.now.trees node)) ++ Act.Close ∷ []) (weight_below (tree_at tree.now.trees node)) self.old self.new) }
     {
         self.then(Task::Tell(Act::Close))?;
         self.then(Task::Each(Role::Plain, node, 3))?;
@@ -212,7 +217,7 @@ impl Walk {
 
     /// The body of a loop that a directive shares out begins, if it is that of one.
     fn looped(&mut self, role: Role) -> Result<(), AllocError>
-        ensures { OnOk result ((trees : List Spelled) → AreThere trees self.old → Puts trees (texts.looped role) 0 self.old self.new) }
+        ensures { OnOk result ((trees : List Spelled) → AreThere trees self.old → Puts trees (statements.looped role) 0 self.old self.new) }
     {
         match role {
             Role::Looped(name) => self.then(Task::Tell(Act::Loop { name })),
@@ -249,7 +254,7 @@ impl Walk {
     fn return_(&mut self, tree: &Tree, node: u32, spot: Spot) -> Result<(), AllocError>
         requires node { node < length tree.now.trees }
         requires there { AreThere tree.now.trees self.old }
-        ensures { OnOk result (Puts tree.now.trees (texts.each (Role.Used) (children_of (tree_at tree.now.trees node)) ++ Act.Return spot (texts.returned_of (children_of (tree_at tree.now.trees node))) ∷ []) (weight_below (tree_at tree.now.trees node)) self.old self.new) }
+        ensures { OnOk result (Puts tree.now.trees (texts.each (Role.Used) (children_of (tree_at tree.now.trees node)) ++ Act.Return spot (usages.returned_of (children_of (tree_at tree.now.trees node))) ∷ []) (weight_below (tree_at tree.now.trees node)) self.old self.new) }
     {
         let returned = returned_of(tree, node);
         self.then(Task::Tell(Act::Return { spot, returned }))?;
@@ -260,7 +265,7 @@ impl Walk {
     fn print(&mut self, tree: &Tree, node: u32, spot: Spot) -> Result<(), AllocError>
         requires node { node < length tree.now.trees }
         requires there { AreThere tree.now.trees self.old }
-        ensures { OnOk result (Puts tree.now.trees (texts.each (Role.Plain) (children_of (tree_at tree.now.trees node)) ++ Act.Print spot (texts.as_many (texts.numbers_in (text_of (tree_at tree.now.trees node))) (texts.count (children_of (tree_at tree.now.trees node)))) ∷ []) (weight_below (tree_at tree.now.trees node)) self.old self.new) }
+        ensures { OnOk result (Puts tree.now.trees (texts.each (Role.Plain) (children_of (tree_at tree.now.trees node)) ++ Act.Print spot (printed.as_many (printed.numbers_in (text_of (tree_at tree.now.trees node))) (lists.child_count (children_of (tree_at tree.now.trees node)))) ∷ []) (weight_below (tree_at tree.now.trees node)) self.old self.new) }
     {
         let printed = as_many(numbers_in(tree.text(node)), count(tree, node)?);
         self.then(Task::Tell(Act::Print { spot, printed }))?;
@@ -284,7 +289,7 @@ impl Walk {
     fn place(&mut self, tree: &Tree, role: Role, node: u32) -> Result<(), AllocError>
         requires node { node < length tree.now.trees }
         requires there { AreThere tree.now.trees self.old }
-        ensures { OnOk result (Puts tree.now.trees (Act.Use (name_of (tree_at tree.now.trees node)) (spot_of (tree_at tree.now.trees node)) (texts.place_usage (children_of (tree_at tree.now.trees node))) ∷ texts.assigned role (texts.place_usage (children_of (tree_at tree.now.trees node))) (name_of (tree_at tree.now.trees node)) ++ texts.each (Role.Plain) (children_of (tree_at tree.now.trees node))) (weight_below (tree_at tree.now.trees node)) self.old self.new) }
+        ensures { OnOk result (Puts tree.now.trees (Act.Use (name_of (tree_at tree.now.trees node)) (spot_of (tree_at tree.now.trees node)) (usages.place_usage (children_of (tree_at tree.now.trees node))) ∷ usages.assigned role (usages.place_usage (children_of (tree_at tree.now.trees node))) (name_of (tree_at tree.now.trees node)) ++ texts.each (Role.Plain) (children_of (tree_at tree.now.trees node))) (weight_below (tree_at tree.now.trees node)) self.old self.new) }
     {
         let (name, spot) = (tree.name(node), tree.spot(node));
         let usage = place_usage(tree, node);
@@ -295,7 +300,7 @@ impl Walk {
 
     /// A variable is assigned, if it is what an assignment sets.
     fn assigned(&mut self, role: Role, usage: Usage, name: u32) -> Result<(), AllocError>
-        ensures { OnOk result ((trees : List Spelled) → AreThere trees self.old → Puts trees (texts.assigned role usage name) 0 self.old self.new) }
+        ensures { OnOk result ((trees : List Spelled) → AreThere trees self.old → Puts trees (usages.assigned role usage name) 0 self.old self.new) }
     {
         match (role, usage) {
             (Role::Target, Usage::Plain) => self.then(Task::Tell(Act::Assign { name })),
@@ -307,7 +312,7 @@ impl Walk {
     fn call(&mut self, tree: &Tree, role: Role, node: u32) -> Result<(), AllocError>
         requires node { node < length tree.now.trees }
         requires there { AreThere tree.now.trees self.old }
-        ensures { OnOk result (Puts tree.now.trees (Act.Use (name_of (tree_at tree.now.trees node)) (spot_of (tree_at tree.now.trees node)) (Usage.Called (texts.count (children_of (tree_at tree.now.trees node))) (texts.call_value role)) ∷ texts.each (Role.Plain) (children_of (tree_at tree.now.trees node))) (weight_below (tree_at tree.now.trees node)) self.old self.new) }
+        ensures { OnOk result (Puts tree.now.trees (Act.Use (name_of (tree_at tree.now.trees node)) (spot_of (tree_at tree.now.trees node)) (Usage.Called (lists.child_count (children_of (tree_at tree.now.trees node))) (usages.call_value role)) ∷ texts.each (Role.Plain) (children_of (tree_at tree.now.trees node))) (weight_below (tree_at tree.now.trees node)) self.old self.new) }
     {
         let usage = Usage::Called(count(tree, node)?, value_of(role));
         let (name, spot) = (tree.name(node), tree.spot(node));
@@ -325,7 +330,7 @@ impl Walk {
     ) -> Result<(), AllocError>
         requires node { node < length tree.now.trees }
         requires there { AreThere tree.now.trees self.old }
-        ensures { OnOk result (Puts tree.now.trees (texts.outside_acts (children_of (tree_at tree.now.trees node)) ++ Act.Enter (spot_of (tree_at tree.now.trees node)) directive (texts.name_of_critical (children_of (tree_at tree.now.trees node))) ∷ texts.inside_acts (children_of (tree_at tree.now.trees node)) ++ texts.odd_loop directive (children_of (tree_at tree.now.trees node)) ++ texts.statements (texts.statement_role directive (children_of (tree_at tree.now.trees node))) (children_of (tree_at tree.now.trees node)) ++ Act.Leave ∷ []) (weight_below (tree_at tree.now.trees node)) self.old self.new) }
+        ensures { OnOk result (Puts tree.now.trees (texts.outside_acts (children_of (tree_at tree.now.trees node)) ++ Act.Enter (spot_of (tree_at tree.now.trees node)) directive (statements.name_of_critical (children_of (tree_at tree.now.trees node))) ∷ clauses.inside_acts (children_of (tree_at tree.now.trees node)) ++ statements.odd_loop directive (children_of (tree_at tree.now.trees node)) ++ texts.statements (statements.statement_role directive (children_of (tree_at tree.now.trees node))) (children_of (tree_at tree.now.trees node)) ++ Act.Leave ∷ []) (weight_below (tree_at tree.now.trees node)) self.old self.new) }
     {
         let name = shared_loop_name(tree, directive, node)?;
         let odd = has_odd_loop(alloc, tree, directive, node)?;
@@ -369,7 +374,7 @@ impl Walk {
     fn names(&mut self, tree: &Tree, why: Naming, node: u32, place: u32) -> Result<(), AllocError>
         requires node { node < length tree.now.trees }
         requires there { AreThere tree.now.trees self.old }
-        ensures { OnOk result (Puts tree.now.trees (texts.names why (children_left tree.now.trees node place)) (weight_among (children_left tree.now.trees node place)) self.old self.new) }
+        ensures { OnOk result (Puts tree.now.trees (lists.names why (children_left tree.now.trees node place)) (weight_among (children_left tree.now.trees node place)) self.old self.new) }
     {
         let Some(child) = tree.child(node, place) else {
             return Ok(());
@@ -401,7 +406,7 @@ impl Walk {
     fn inside(&mut self, tree: &Tree, node: u32, place: u32) -> Result<(), AllocError>
         requires node { node < length tree.now.trees }
         requires there { AreThere tree.now.trees self.old }
-        ensures { OnOk result (Puts tree.now.trees (texts.inside_acts (children_left tree.now.trees node place)) (weight_among (children_left tree.now.trees node place)) self.old self.new) }
+        ensures { OnOk result (Puts tree.now.trees (clauses.inside_acts (children_left tree.now.trees node place)) (weight_among (children_left tree.now.trees node place)) self.old self.new) }
     {
         let Some(child) = tree.child(node, place) else {
             return Ok(());
@@ -460,7 +465,7 @@ fn outside_of(tree: &Tree, clause: u32) -> Option<Task>
 #[tactic(auto, unfolding(crate::specs::Tasks::from_place))]
 fn inside_of(tree: &Tree, clause: u32) -> Option<Task>
     requires { clause < length tree.now.trees }
-    ensures told { told_if tree.now.trees result ≡ texts.clause_inside (kind_of (tree_at tree.now.trees clause)) (children_of (tree_at tree.now.trees clause)) }
+    ensures told { told_if tree.now.trees result ≡ clauses.clause_inside (kind_of (tree_at tree.now.trees clause)) (children_of (tree_at tree.now.trees clause)) }
     ensures task { IfSome result (λ task. IsThere tree.now.trees task × weight_by tree.now.trees task ≤ weight_among (children_of (tree_at tree.now.trees clause)) + 1) }
 {
     let single = match tree.kind(clause) {

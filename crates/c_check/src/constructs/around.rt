@@ -1,8 +1,9 @@
 //! The constructs around a place.
 
-ghost use Rattle.std.specs.Prelude.{◌≡◌, ◌∷◌, [], length, reverse, MatchOption};
-ghost use Rattle.c_check.specs.Constructs.{numbered};
-ghost use Rattle.c_check.specs.Around.{AreBelow};
+ghost use Rattle.std.specs.Prelude.{◌≡◌, ◌∷◌, [], length, reverse, IfSome, MatchOption};
+ghost use Rattle.std.specs.Option.{option_copied};
+ghost use Rattle.c_check.specs.Constructs.{with_newest};
+ghost use Rattle.c_check.specs.Around.{AreBelow, numbered};
 
 use crate::constructs::construct::Construct;
 use std::marker::Model;
@@ -10,30 +11,41 @@ use std::marker::Model;
 /// The constructs around a place. Contracts see them, the innermost first.
 #[derive(Drop)]
 pub struct Around<'a> {
-    all: &'a [Construct],
-    /// The numbers of those around, the innermost last.
+    /// The one that began last, if it is around.
+    newest: Option<&'a Construct>,
+    older: &'a [Construct],
+    /// The numbers of the other ones around, the innermost last.
     numbers: &'a [usize],
 }
 
 impl<'a> Model for Around<'a> {
     ghost use Rattle.std.specs.Prelude.{List, length, reverse};
-    ghost use Rattle.c_check.specs.Constructs.{Construct, numbered};
-    ghost use Rattle.c_check.specs.Around.{AreBelow};
+    ghost use Rattle.std.specs.Option.{option_copied};
+    ghost use Rattle.c_check.specs.Constructs.{Construct, with_newest};
+    ghost use Rattle.c_check.specs.Around.{AreBelow, numbered};
 
     ghost Value = { List Construct };
 
-    ghost view = { λ around. numbered around.all.now (reverse around.numbers.now) };
+    ghost view = { λ around. with_newest (option_copied around.newest) (numbered around.older.now (reverse around.numbers.now)) };
 
-    ghost invariant = { λ around. AreBelow (length around.all.now) (reverse around.numbers.now) };
+    ghost invariant = { λ around. AreBelow (length around.older.now) (reverse around.numbers.now) };
 }
 
 impl<'a> Around<'a> {
-    /// Those with some numbers, the innermost last.
-    pub fn new(all: &'a [Construct], numbers: &'a [usize]) -> Around<'a>
-        requires { AreBelow (length all.now) (reverse numbers.now) }
-        ensures { result ≡ numbered all.now (reverse numbers.now) }
+    /// The one that began last, if it is around, and others by their numbers, the innermost last.
+    pub fn new(
+        newest: Option<&'a Construct>,
+        older: &'a [Construct],
+        numbers: &'a [usize],
+    ) -> Around<'a>
+        requires { AreBelow (length older.now) (reverse numbers.now) }
+        ensures { result ≡ with_newest (option_copied newest.entry) (numbered older.now (reverse numbers.now)) }
     {
-        Around { all, numbers }
+        Around {
+            newest,
+            older,
+            numbers,
+        }
     }
 
     /// The same constructs.
@@ -41,7 +53,8 @@ impl<'a> Around<'a> {
         ensures { result ≡ self.now }
     {
         Around {
-            all: self.all,
+            newest: self.newest,
+            older: self.older,
             numbers: self.numbers,
         }
     }
@@ -50,13 +63,26 @@ impl<'a> Around<'a> {
     pub fn split(&self) -> Option<(&'a Construct, Around<'a>)>
         ensures { MatchOption result (self.now ≡ []) (λ parts. self.now ≡ parts.0.now ∷ parts.1) }
     {
-        let (last, numbers) = self.numbers.split_last()?;
-        let number = *last;
-        let first = &self.all[number];
-        let outer = Around {
-            all: self.all,
-            numbers,
-        };
+        if let Some(newest) = self.newest {
+            let outer = Around::new(None, self.older, self.numbers);
+            return Some((newest, outer));
+        }
+        let (first, numbers) = split_numbers(self.older, self.numbers)?;
+        let outer = Around::new(None, self.older, numbers);
         Some((first, outer))
     }
+}
+
+/// The construct with the last of some numbers, and the other numbers.
+fn split_numbers<'a>(
+    older: &'a [Construct],
+    numbers: &'a [usize],
+) -> Option<(&'a Construct, &'a [usize])>
+    requires { AreBelow (length older.now) (reverse numbers.now) }
+    ensures split { MatchOption result (numbers.now ≡ []) (λ parts. numbered older.now (reverse numbers.now) ≡ parts.0.now ∷ numbered older.now (reverse parts.1.now)) }
+    ensures below { IfSome result (λ parts. AreBelow (length older.now) (reverse parts.1.now)) }
+{
+    let (last, numbers) = numbers.split_last()?;
+    let first = older.get(*last)?;
+    Some((first, numbers))
 }

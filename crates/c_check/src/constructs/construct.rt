@@ -1,6 +1,6 @@
 //! A construct.
 
-ghost use Rattle.std.specs.Prelude.{◌≡◌, ◌++◌, ◌∷◌, [], reverse, OnErr, OnOk};
+ghost use Rattle.std.specs.Prelude.{◌≡◌, ◌++◌, ◌∷◌, [], OnErr, OnOk};
 ghost use Rattle.c_check.specs.Constructs.{is_inside, leaves_out, mention, no_clauses, with_single};
 ghost use Rattle.c_check.specs.Shares.{is_loop_variable};
 
@@ -11,12 +11,10 @@ use c_syntax::Default;
 use std::alloc::{AllocError, Global};
 use std::marker::Model;
 
-/// A construct. Contracts see the numbers of those around it, the innermost first.
+/// A construct.
 #[derive(Drop)]
 pub struct Construct {
     head: Head,
-    /// The numbers of those around it, the innermost last.
-    around: Vec<usize>,
     clauses: Clauses,
     mentions: Mentions,
     /// The slot of the variable of the loop that it shares out.
@@ -24,22 +22,20 @@ pub struct Construct {
 }
 
 impl Model for Construct {
-    ghost use Rattle.std.specs.Prelude.{reverse};
     ghost use Rattle.c_check.specs.Constructs.{Construct};
 
     ghost Value = { Construct };
 
-    ghost view = { λ it. record { head = it.head; around = reverse it.around.items; clauses = it.clauses; mentions = it.mentions; loop = it.loop_slot } };
+    ghost view = { λ it. record { head = it.head; clauses = it.clauses; mentions = it.mentions; loop = it.loop_slot } };
 }
 
 impl Construct {
-    /// One that begins, with the numbers of those around it, the innermost last.
-    pub fn new(alloc: Global, head: Head, around: Vec<usize>) -> Construct
-        ensures { result ≡ record { head = head; around = reverse around.items; clauses = no_clauses; mentions = []; loop = None } }
+    /// One that begins.
+    pub fn new(alloc: Global, head: Head) -> Construct
+        ensures { result ≡ record { head = head; clauses = no_clauses; mentions = []; loop = None } }
     {
         Construct {
             head,
-            around,
             clauses: Clauses {
                 num_threads: false,
                 default_shared: false,
@@ -58,13 +54,6 @@ impl Construct {
         ensures { result ≡ self.now.head }
     {
         self.head
-    }
-
-    /// The numbers of those around it, the innermost last.
-    pub fn around(&self) -> &[usize]
-        ensures { reverse result.now ≡ self.now.around }
-    {
-        &self.around
     }
 
     /// Which clauses it has of those that may stand once.

@@ -24,7 +24,7 @@ pub fn note_use(
             unlisted.push(Unlisted {
                 spot,
                 slot,
-                construct: first.head().number,
+                construct: first.head().spot,
             })?;
         }
         around = outer;
@@ -44,7 +44,7 @@ pub fn note_loop(
     while let Some((first, outer)) = around.split() {
         loops.add(LoopInside {
             slot,
-            construct: first.head().number,
+            construct: first.head().spot,
         })?;
         around = outer;
     }

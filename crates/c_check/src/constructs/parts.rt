@@ -30,23 +30,28 @@ pub struct Head {
     pub directive: Directive,
     /// The number of the name of a critical, or 0.
     pub critical: u32,
-    /// Its number, from 0, in the order of the text.
-    pub number: usize,
     /// How many declarations stand before it.
     pub first: usize,
 }
 
-/// A use of a variable that the construct with this number, which has `default(none)`, doesn't list.
+/// A use of a variable that the construct whose `#` stands there, which has `default(none)`, doesn't list.
 #[derive(Clone, Copy)]
 pub struct Unlisted {
     pub spot: Spot,
     pub slot: u32,
-    pub construct: usize,
+    pub construct: Spot,
 }
 
-/// A loop inside the construct with this number, which a directive shares out, has this variable.
+/// A loop inside the construct whose `#` stands there, which a directive shares out, has this variable.
 #[derive(Clone, Copy)]
 pub struct LoopInside {
     pub slot: u32,
+    pub construct: Spot,
+}
+
+/// A construct that has ended, by its number, and the numbers of those that were around it, the innermost last.
+#[derive(Drop)]
+pub struct EndedNumber {
     pub construct: usize,
+    pub outer: Vec<usize>,
 }

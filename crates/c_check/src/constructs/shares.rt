@@ -2,7 +2,7 @@
 
 ghost use Rattle.std.specs.Prelude.{◌≡◌, ◌∷◌, true};
 ghost use Rattle.std.specs.Option.{unwrap_or};
-ghost use Rattle.c_check.specs.Shares.{copies_by_rule, given_by, is_copied, own_sharing, shared_by_rule, shared_or, sharing_at};
+ghost use Rattle.c_check.specs.Shares.{copies_by_rule, given_by, own_sharing, shared_by_rule, shared_inside, shared_or, sharing_at};
 
 use crate::acts::act::DataClause;
 use crate::constructs::around::Around;
@@ -63,29 +63,25 @@ fn sharing_here(
     Some(Sharing::First)
 }
 
-/// Whether one of the tasks around has a copy of a variable that it doesn't name.
-#[tactic(auto, unfolding(crate::specs::Shares::is_copied))]
-pub fn is_copied(mut around: Around<'_>, of_file: bool, slot: u32) -> bool
-    ensures { result ≡ is_copied around.entry of_file slot }
-{
-    while let Some((first, outer)) = around.split() {
-        if copies(first, outer.again(), of_file, slot) {
-            return true;
-        }
-        around = outer;
-    }
-    false
-}
-
-/// Whether a construct is a task that has a copy of a variable that it doesn't name.
-fn copies(construct: &Construct, outer: Around<'_>, of_file: bool, slot: u32) -> bool
-    ensures { result ≡ copies_by_rule construct.now (shared_by_rule outer.entry of_file slot) slot }
+/// Whether a construct is a task that has a copy of a variable by rule, where those around it share the variable or don't.
+pub fn copies_by_rule(construct: &Construct, by_rule: bool, slot: u32) -> bool
+    ensures { result ≡ copies_by_rule construct.now by_rule slot }
 {
     is_task(construct.head().directive)
         && own_sharing(construct, slot).is_none()
-        && !construct.is_inside(slot)
-        && !construct.clauses().default_shared
-        && !is_shared_by_rule(outer, of_file, slot)
+        && !(construct.is_inside(slot) || construct.clauses().default_shared || by_rule)
+}
+
+/// Whether a task inside of a construct shares a variable of which it says nothing, where one around the construct does or doesn't.
+pub fn shared_inside(construct: &Construct, by_rule: bool, slot: u32) -> bool
+    ensures { result ≡ shared_inside construct.now by_rule slot }
+{
+    let shares = shares_or_says_nothing(construct, slot);
+    if is_parallel(construct.head().directive) {
+        !construct.is_inside(slot) && shares
+    } else {
+        shares && by_rule
+    }
 }
 
 /// Whether a task that says nothing of a variable shares it.

@@ -1,11 +1,13 @@
 //! What an act breaks in the constructs around.
 
-ghost use Rattle.std.specs.Prelude.{◌≡◌};
-ghost use Rattle.c_check.specs.Rules.{bad_loop, has_single, is_empty_chunk, listed_again, not_listed, spoiled, wrong_clause};
+ghost use Rattle.std.specs.Prelude.{◌≡◌, map};
+ghost use Rattle.std.specs.Option.{option_copied};
+ghost use Rattle.c_check.specs.Rules.{has_single, is_empty_chunk, is_listed, newest_spot, not_listed, spoiled, wrong_clause};
 ghost use Rattle.c_check.specs.Faults.{first_of};
 
 use crate::acts::act::Single;
 use crate::constructs::around::Around;
+use crate::constructs::construct::Construct;
 use crate::constructs::inner_loops::InnerLoops;
 use crate::constructs::parts::{Clauses, Unlisted};
 use crate::fault::CheckFault;
@@ -13,18 +15,18 @@ use crate::rules::finding::sooner;
 use crate::scopes::declared::Declared;
 use c_tokens::Spot;
 
-/// The first fault, with that of a clause of the innermost construct which stands twice, or has a chunk without iterations.
+/// The first fault, with that of a clause of the construct that began last which stands twice, or has a chunk without iterations.
 #[tactic(auto, unfolding(crate::specs::Faults::first_of))]
 pub fn wrong_clause(
-    around: Around<'_>,
+    newest: Option<&Construct>,
     single: Single,
     found: Option<CheckFault>,
 ) -> Option<CheckFault>
-    ensures { result ≡ first_of found (wrong_clause single around.entry) }
+    ensures { result ≡ first_of found (map CheckFault.WrongUse (wrong_clause single (option_copied newest.entry))) }
 {
-    match around.split() {
-        Some((first, _)) if is_empty_chunk(single) || has_single(first.clauses(), single) => {
-            sooner(found, CheckFault::WrongUse(first.head().spot))
+    match newest {
+        Some(newest) if is_empty_chunk(single) || has_single(newest.clauses(), single) => {
+            sooner(found, CheckFault::WrongUse(newest.head().spot))
         }
         _ => found,
     }
@@ -52,21 +54,13 @@ fn is_empty_chunk(single: Single) -> bool
     }
 }
 
-/// The first fault, with that of a variable that stands a second time in the data clauses of the innermost construct.
-#[tactic(auto, unfolding(crate::specs::Faults::first_of))]
-pub fn listed_again(
-    around: Around<'_>,
-    spot: Spot,
-    variable: Option<Declared>,
-    found: Option<CheckFault>,
-) -> Option<CheckFault>
-    ensures { result ≡ first_of found (listed_again spot variable around.entry) }
+/// Whether a data clause of the construct that began last has the variable already.
+pub fn is_listed(newest: Option<&Construct>, variable: Option<Declared>) -> bool
+    ensures { result ≡ is_listed variable (option_copied newest.entry) }
 {
-    match (variable, around.split()) {
-        (Some(variable), Some((first, _))) if first.mention(variable.slot).is_some() => {
-            sooner(found, CheckFault::WrongUse(spot))
-        }
-        _ => found,
+    match (variable, newest) {
+        (Some(variable), Some(newest)) => newest.mention(variable.slot).is_some(),
+        _ => false,
     }
 }
 
@@ -77,7 +71,7 @@ pub fn spoiled(
     slot: u32,
     mut found: Option<CheckFault>,
 ) -> Option<CheckFault>
-    ensures { result ≡ first_of found (spoiled slot around.entry) }
+    ensures { result ≡ first_of found (map CheckFault.BadLoop (spoiled slot around.entry)) }
 {
     while let Some((first, outer)) = around.split() {
         if first.has_loop(slot) {
@@ -88,13 +82,13 @@ pub fn spoiled(
     found
 }
 
-/// The first fault, with that of the innermost construct, whose statement is no loop that can be shared out.
+/// The first fault, with that of the construct that began last, whose statement is no loop that can be shared out.
 #[tactic(auto, unfolding(crate::specs::Faults::first_of))]
-pub fn bad_loop(around: Around<'_>, found: Option<CheckFault>) -> Option<CheckFault>
-    ensures { result ≡ first_of found (bad_loop around.entry) }
+pub fn bad_loop(newest: Option<&Construct>, found: Option<CheckFault>) -> Option<CheckFault>
+    ensures { result ≡ first_of found (map CheckFault.BadLoop (newest_spot (option_copied newest.entry))) }
 {
-    match around.split() {
-        Some((first, _)) => sooner(found, CheckFault::BadLoop(first.head().spot)),
+    match newest {
+        Some(newest) => sooner(found, CheckFault::BadLoop(newest.head().spot)),
         None => found,
     }
 }
@@ -106,7 +100,7 @@ pub fn not_listed(
     unlisted: &[Unlisted],
     mut found: Option<CheckFault>,
 ) -> Option<CheckFault>
-    ensures { result ≡ first_of found (not_listed loops.now unlisted.now) }
+    ensures { result ≡ first_of found (map CheckFault.NotListed (not_listed loops.now unlisted.now)) }
 {
     for used in unlisted {
         if !loops.has(used.slot, used.construct) {

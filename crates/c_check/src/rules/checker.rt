@@ -1,24 +1,24 @@
 //! What a program breaks, act by act.
-#![tactic(auto, using(crate::proofs::Found::first_of_append, crate::proofs::Found::first_of_nothing), unfolding(crate::specs::Here::after, crate::specs::Rules::broken_by))]
+#![tactic(auto, using(crate::proofs::Found::first_of_append, crate::proofs::Found::first_of_nothing, crate::proofs::Found::first_of_unknown, crate::proofs::Found::first_of_twice, crate::proofs::Found::first_of_wrong, crate::proofs::Found::first_of_nested, crate::proofs::Found::first_of_main), unfolding(crate::specs::Here::after))]
 
-ghost use Rattle.std.specs.Prelude.{◌≡◌, ◌==◌, ◌+◌, ◌&&◌, ◌||◌, nat_lt, None, OnOk};
+ghost use Rattle.std.specs.Prelude.{◌≡◌, ◌==◌, ◌+◌, ◌&&◌, nat_lt, None, Some, false, true, OnOk};
 ghost use Rattle.c_check.specs.declared.acts.act.Act.TheVariants as act;
+ghost use Rattle.c_check.specs.Cells.{cells_of, most_cells};
 ghost use Rattle.c_check.specs.Declarations.{find, is_at_level};
-ghost use Rattle.c_check.specs.Constructs.{around_of};
-ghost use Rattle.c_check.specs.Here.{Here, before_all, cells_of, declared, most_cells};
-ghost use Rattle.c_check.specs.Rules.{calls_main, copies_lock, if_so, is_wrong};
 ghost use Rattle.c_check.specs.Faults.{first_of};
-ghost use Rattle.c_check.specs.Standing.{DoesAct, Stands};
+ghost use Rattle.c_check.specs.Here.{Here, before_all, declared, is_variable};
+ghost use Rattle.c_check.specs.Standing.{DoesAct, Stands, if_so};
 
 use crate::acts::act::{Act, DataClause, Printed, Returned, Single, Thing, Usage};
 use crate::constructs::arena::Constructs;
-use crate::constructs::shares::is_copied;
+use crate::constructs::criticals::Criticals;
+use crate::constructs::task_copies::TaskCopies;
 use crate::fault::CheckFault;
-use crate::rules::breaches::{bad_loop, listed_again, spoiled, wrong_clause};
+use crate::rules::breaches::{bad_loop, is_listed, spoiled, wrong_clause};
 use crate::rules::finding::sooner_if;
-use crate::rules::nesting::{binds_badly, is_within, nests_badly};
+use crate::rules::nesting::{binds_badly, is_critical, is_within, nests_badly};
 use crate::rules::uses::{
-    calls_main, is_odd_main, is_odd_size, is_variable, is_wrong, is_wrong_return,
+    calls_main, is_lock, is_odd_main, is_odd_size, is_variable, is_wrong, is_wrong_return,
 };
 use crate::scopes::cells::CellCount;
 use crate::scopes::declarations::Declarations;
@@ -45,6 +45,10 @@ pub struct Checker {
     pub constructs: Constructs,
     /// The slots of the names so far.
     pub slots: Slots,
+    /// The copies by rule of the variables that were used so far.
+    pub copies: TaskCopies,
+    /// The names of the criticals so far.
+    pub criticals: Criticals,
     /// The first fault so far.
     pub found: Option<CheckFault>,
 }
@@ -63,6 +67,8 @@ impl Checker {
             returns: Returns::Int,
             constructs: Constructs::new(alloc),
             slots: Slots::new(alloc),
+            copies: TaskCopies::new(alloc),
+            criticals: Criticals::new(alloc),
             found: None,
         }
     }
@@ -200,33 +206,51 @@ impl Checker {
             self.note_if(true, CheckFault::UnknownName(spot));
             return Ok(());
         };
-        self.note_if(
-            self.is_misused(name, usage, found),
-            CheckFault::WrongUse(spot),
-        );
         if is_variable(found.thing) {
-            self.constructs.use_variable(spot, found.slot)?;
+            self.use_variable(name, spot, usage, found)
+        } else {
+            self.use_function(name, spot, usage, found)
         }
+    }
+
+    /// A function is used.
+    fn use_function(
+        &mut self,
+        name: u32,
+        spot: Spot,
+        usage: Usage,
+        found: Declared,
+    ) -> Result<(), AllocError>
+        requires found { find self.old.names.visible name ≡ Some found }
+        requires function { is_variable found.thing ≡ false }
+        ensures { OnOk result (DoesAct self.old (act.Use name spot usage) self.new) }
+    {
+        let misused = is_wrong(found.thing, usage) || calls_main(usage, name == self.main);
+        self.note_if(misused, CheckFault::WrongUse(spot));
         self.slots.add(spot, found.slot)
     }
 
-    /// Whether a declaration may not be used so here.
-    fn is_misused(&self, name: u32, usage: Usage, found: Declared) -> bool
-        ensures { result ≡ (is_wrong found.thing usage || calls_main usage (name == self.now.main) || copies_lock found.thing (around_of self.now.constructs) found) }
+    /// A variable or a lock is used.
+    fn use_variable(
+        &mut self,
+        name: u32,
+        spot: Spot,
+        usage: Usage,
+        found: Declared,
+    ) -> Result<(), AllocError>
+        requires found { find self.old.names.visible name ≡ Some found }
+        requires variable { is_variable found.thing ≡ true }
+        ensures { OnOk result (DoesAct self.old (act.Use name spot usage) self.new) }
     {
-        is_wrong(found.thing, usage)
+        let copied = self
+            .constructs
+            .note_copies(&mut self.copies, found.level == 0, found.slot)?;
+        let misused = is_wrong(found.thing, usage)
             || calls_main(usage, name == self.main)
-            || self.copies_lock(found)
-    }
-
-    /// Whether it is a lock of which a task around has a copy.
-    fn copies_lock(&self, found: Declared) -> bool
-        ensures { result ≡ copies_lock found.thing (around_of self.now.constructs) found }
-    {
-        match found.thing {
-            Thing::Lock => is_copied(self.constructs.around(), found.level == 0, found.slot),
-            _ => false,
-        }
+            || is_lock(found.thing) && copied;
+        self.note_if(misused, CheckFault::WrongUse(spot));
+        self.constructs.use_variable(spot, found.slot)?;
+        self.slots.add(spot, found.slot)
     }
 
     /// A variable is assigned, which spoils the loops around that have it.
@@ -272,25 +296,29 @@ impl Checker {
     {
         let misplaced = nests_badly(self.constructs.around(), directive, critical);
         self.note_if(misplaced, CheckFault::BadNesting(spot));
+        if is_critical(directive) {
+            self.criticals.add(critical)?;
+        }
         let first = self.names.count();
         self.constructs.enter(spot, directive, critical, first)
     }
 
-    /// The innermost construct has this clause.
+    /// The construct that began last has this clause.
     fn clause(&mut self, single: Single) -> Result<(), AllocError>
         ensures { OnOk result (DoesAct self.old (act.Clause single) self.new) }
     {
-        self.found = wrong_clause(self.constructs.around(), single, self.found);
+        self.found = wrong_clause(self.constructs.newest(), single, self.found);
         self.constructs.clause(single);
         Ok(())
     }
 
-    /// A data clause of the innermost construct lists this name.
+    /// A data clause of the construct that began last lists this name.
     fn list(&mut self, name: u32, spot: Spot, clause: DataClause) -> Result<(), AllocError>
         ensures { OnOk result (DoesAct self.old (act.List name spot clause) self.new) }
     {
         let found = self.names.find(name);
-        self.found = listed_again(self.constructs.around(), spot, found, self.found);
+        let again = is_listed(self.constructs.newest(), found);
+        self.note_if(again, CheckFault::WrongUse(spot));
         match found {
             Some(found) => self.constructs.mention(found.slot, clause),
             None => Ok(()),
@@ -300,7 +328,7 @@ impl Checker {
     fn odd_loop(&mut self) -> Result<(), AllocError>
         ensures { OnOk result (DoesAct self.old act.OddLoop self.new) }
     {
-        self.found = bad_loop(self.constructs.around(), self.found);
+        self.found = bad_loop(self.constructs.newest(), self.found);
         Ok(())
     }
 
@@ -316,7 +344,7 @@ impl Checker {
                 ..
             })
         ) {
-            self.found = bad_loop(self.constructs.around(), self.found);
+            self.found = bad_loop(self.constructs.newest(), self.found);
         }
         match found {
             Some(found) => self.constructs.share_loop(found.slot),
@@ -327,8 +355,7 @@ impl Checker {
     fn leave(&mut self) -> Result<(), AllocError>
         ensures { OnOk result (DoesAct self.old act.Leave self.new) }
     {
-        self.constructs.leave();
-        Ok(())
+        self.constructs.leave()
     }
 
     /// The text ends.

@@ -1,7 +1,7 @@
 //! The check of a program.
 
-ghost use Rattle.std.specs.Prelude.{◌≡◌, ◌≢◌, [], IfOk, IfErr, Some};
-ghost use Rattle.c_check.specs.Checked.{breaches_of, end_of, fault_of};
+ghost use Rattle.std.specs.Prelude.{◌≡◌, ◌≢◌, IfOk, IfErr, Some};
+ghost use Rattle.c_check.specs.Checked.{Checked, end_of, rule_fault};
 ghost use Rattle.c_check.specs.Standing.{Stands};
 
 use crate::acts::walk::Walk;
@@ -16,10 +16,10 @@ use std::alloc::{AllocError, Global};
 pub fn check(alloc: Global, tree: Tree) -> Result<Program, CheckFault>
     // It is the program of this tree, and no rule is broken.
     ensures tree { IfOk result (λ program. program ≡ tree) }
-    ensures checked { IfOk result (λ program. breaches_of tree ≡ []) }
+    ensures checked { IfOk result (λ program. Checked tree) }
 
     // Otherwise this is its fault.
-    ensures fault { IfErr result (λ fault. fault ≢ CheckFault.Memory → fault_of tree ≡ Some fault) }
+    ensures fault { IfErr result (λ fault. fault ≢ CheckFault.Memory → rule_fault tree ≡ Some fault) }
 {
     let Ok(checker) = checked(alloc, &tree) else {
         return Err(CheckFault::Memory);
@@ -33,7 +33,7 @@ pub fn check(alloc: Global, tree: Tree) -> Result<Program, CheckFault>
 /// Does all acts of a program.
 fn checked(alloc: Global, tree: &Tree) -> Result<Checker, AllocError>
     ensures stands { IfOk result (λ checker. Stands checker (end_of tree.now)) }
-    ensures found { IfOk result (λ checker. checker.found ≡ fault_of tree.now) }
+    ensures found { IfOk result (λ checker. checker.found ≡ rule_fault tree.now) }
 {
     let mut walk = Walk::new(alloc, tree)?;
     let mut checker = Checker::new(alloc, tree.main());

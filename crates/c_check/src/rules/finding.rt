@@ -1,7 +1,7 @@
 //! Which of two faults is told.
 
 ghost use Rattle.std.specs.Prelude.{◌≡◌};
-ghost use Rattle.c_check.specs.Rules.{if_so};
+ghost use Rattle.c_check.specs.Standing.{if_so};
 ghost use Rattle.c_check.specs.Faults.{comes_first, first_of, is_earlier, is_same_spot, sooner};
 
 use crate::fault::CheckFault;

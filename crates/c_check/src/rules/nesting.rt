@@ -1,7 +1,8 @@
 //! Which constructs may stand in which (OpenMP 5.2, 17.1).
 
 ghost use Rattle.std.specs.Prelude.{◌≡◌};
-ghost use Rattle.c_check.specs.Rules.{binds_badly, critical_badly, is_critical, is_plain_parallel, is_within, keeps_masked_out, masked_badly, nests_badly};
+ghost use Rattle.c_check.specs.Rules.{binds_badly, critical_badly, is_plain_parallel, is_within, keeps_masked_out, masked_badly, nests_badly};
+ghost use Rattle.c_check.specs.Here.{is_critical};
 ghost use Rattle.c_check.specs.Shares.{is_parallel, is_task};
 
 use crate::constructs::around::Around;
@@ -95,7 +96,8 @@ fn is_plain_parallel(directive: Directive) -> bool
     directive == Directive::Parallel
 }
 
-fn is_critical(directive: Directive) -> bool
+/// Whether a directive makes a critical.
+pub fn is_critical(directive: Directive) -> bool
     ensures { result ≡ is_critical directive }
 {
     directive == Directive::Critical

@@ -2,7 +2,7 @@
 
 ghost use Rattle.std.specs.Prelude.{◌≡◌};
 ghost use Rattle.c_check.specs.Here.{is_variable};
-ghost use Rattle.c_check.specs.Rules.{calls_main, is_odd_main, is_odd_size, is_wrong, is_wrong_return, lacks_value};
+ghost use Rattle.c_check.specs.Rules.{calls_main, is_odd_main, is_lock, is_odd_size, is_wrong, is_wrong_return, lacks_value};
 
 use crate::acts::act::{DataClause, Returned, Thing, Usage, Value};
 use c_syntax::Returns;
@@ -25,6 +25,13 @@ pub fn is_variable(thing: Thing) -> bool
     ensures { result ≡ is_variable thing }
 {
     !matches!(thing, Thing::Function(_, _))
+}
+
+/// Whether it is a lock.
+pub fn is_lock(thing: Thing) -> bool
+    ensures { result ≡ is_lock thing }
+{
+    matches!(thing, Thing::Lock)
 }
 
 /// Whether a function main may not be so.

@@ -1,7 +1,8 @@
 //! How many cells the variables of a file have.
 
 ghost use Rattle.std.specs.Prelude.{◌≡◌, ◌+◌, nat_lt};
-ghost use Rattle.c_check.specs.Here.{cells_of, most_cells, up_to_most};
+ghost use Rattle.c_check.specs.Cells.{cells_of, most_cells};
+ghost use Rattle.c_check.specs.Standing.{up_to_most};
 
 use crate::acts::act::Thing;
 use std::marker::Model;

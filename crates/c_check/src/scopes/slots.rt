@@ -2,7 +2,7 @@
 
 ghost use Rattle.std.specs.Prelude.{◌≡◌, List, [], OnOk};
 ghost use Rattle.c_check.specs.Here.{with_named};
-ghost use Rattle.c_check.specs.Checked.{slot_in};
+ghost use Rattle.c_check.specs.Seen.{slot_in};
 ghost use Rattle.c_check.specs.Slots.{AreSlots};
 ghost use Rattle.c_check.specs.declared.scopes.declared.Named.{Named};
 

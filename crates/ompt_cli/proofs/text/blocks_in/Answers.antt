@@ -21,31 +21,31 @@ returns-in-Err-clause-runs c = λ text short is runs.
 
 pub returns-in-Ok-Some-clause-program : goal.returns-in-Ok-Some-clause-program
 returns-in-Ok-Some-clause-program c = λ text short is.
-    spells-by text c.args.tree is short _ c.in-Ok.ensures.checked
+    spells-by text c.args.tree is short _ c.in-Ok.ensures.unbroken
     (found-in c.tree.result.now c.args.tree _ (c.tree.ensures ∙ c.in-Ok.ensures.tree) c.in-Ok-Some.ensures ∙ c.in-Ok-Some.field-0-is)
 
 pub returns-in-Ok-Some-clause-accepted : goal.returns-in-Ok-Some-clause-accepted
 returns-in-Ok-Some-clause-accepted c = λ why text short is refused.
     program-not_refused text why
-    (runs-by text c.args.tree is short _ c.in-Ok.ensures.checked
+    (runs-by text c.args.tree is short _ c.in-Ok.ensures.unbroken
     (found-in c.tree.result.now c.args.tree _ (c.tree.ensures ∙ c.in-Ok.ensures.tree) c.in-Ok-Some.ensures ∙ c.in-Ok-Some.field-0-is))
     refused
 
 pub returns-in-Ok-None-clause-refused : goal.returns-in-Ok-None-clause-refused
 returns-in-Ok-None-clause-refused c = λ why same text short is.
     subst (λ one. IsRefused one text) (let told : OtherForm ≡ why = cc in told)
-    (other-by text c.args.tree is short c.in-Ok.ensures.checked
+    (other-by text c.args.tree is short c.in-Ok.ensures.unbroken
     (found-in c.tree.result.now c.args.tree _ (c.tree.ensures ∙ c.in-Ok.ensures.tree) c.in-Ok-None.ensures ∙ c.in-Ok-None.field-0-is))
 
 pub returns-in-Ok-None-clause-accepted : goal.returns-in-Ok-None-clause-accepted
 returns-in-Ok-None-clause-accepted c = λ why text short is refused.
     refusal-one text OtherForm why
-    (other-by text c.args.tree is short c.in-Ok.ensures.checked
+    (other-by text c.args.tree is short c.in-Ok.ensures.unbroken
     (found-in c.tree.result.now c.args.tree _ (c.tree.ensures ∙ c.in-Ok.ensures.tree) c.in-Ok-None.ensures ∙ c.in-Ok-None.field-0-is))
     refused
 
 pub returns-in-Ok-None-clause-runs : goal.returns-in-Ok-None-clause-runs
 returns-in-Ok-None-clause-runs c = λ text short is runs.
     program-not_refused text OtherForm runs
-    (other-by text c.args.tree is short c.in-Ok.ensures.checked
+    (other-by text c.args.tree is short c.in-Ok.ensures.unbroken
     (found-in c.tree.result.now c.args.tree _ (c.tree.ensures ∙ c.in-Ok.ensures.tree) c.in-Ok-None.ensures ∙ c.in-Ok-None.field-0-is))

@@ -1,7 +1,8 @@
 use Rattle.std.proofs.Common.{◌≡◌}
 use Rattle.c_syntax.specs.Tree.{children_of}
 use Rattle.c_syntax.specs.Numbered.{tree_at}
-use Rattle.c_check.specs.Acts.{count as count_of, statement_of}
+use Rattle.c_check.specs.NameLists.{child_count as count_of}
+use Rattle.c_check.specs.Statements.{statement_of}
 use Rattle.c_check.specs.Tasks.{children_left}
 use Rattle.c_check.proofs.acts.directive.statement_of.Given as goal
 

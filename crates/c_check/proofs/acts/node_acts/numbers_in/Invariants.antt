@@ -1,5 +1,5 @@
 use Rattle.std.proofs.Common.{◌≡◌, ◌≤◌, drop}
-use Rattle.c_check.specs.Acts.{numbers_in}
+use Rattle.c_check.specs.Printed.{numbers_in}
 use Rattle.c_check.proofs.Asking.{asked}
 use Rattle.c_check.proofs.acts.node_acts.numbers_in.Given as goal
 

@@ -1,7 +1,9 @@
 use Rattle.std.proofs.Common.{sym, ◌∙◌}
-use Rattle.c_check.specs.Checked.{breaches_of}
-use Rattle.c_check.proofs.Earliest.{none-told}
+use Rattle.c_check.proofs.Earliest.{none-broken}
 use Rattle.c_check.proofs.rules.checking.check.Goals as goal
 
 pub new-requires-clause-none : goal.new-requires-clause-none
-new-requires-clause-none c = none-told (breaches_of c.args.tree) (sym c.in-Ok.ensures.found ∙ c.in-None.is)
+new-requires-clause-none c = none-broken c.args.tree (sym c.in-Ok.ensures.found ∙ c.in-None.is)
+
+pub returns-in-None-clause-checked : goal.returns-in-None-clause-checked
+returns-in-None-clause-checked c = none-broken c.args.tree (sym c.in-Ok.ensures.found ∙ c.in-None.is)

@@ -3,7 +3,7 @@ use Rattle.std.proofs.lemmas.Result.{on_ok_weaker}
 use Rattle.c_syntax.specs.Tree.{children_of}
 use Rattle.c_syntax.specs.Numbered.{tree_at}
 use Rattle.c_check.specs.declared.acts.act.Act.{Act}
-use Rattle.c_check.specs.Acts.{inside_acts}
+use Rattle.c_check.specs.Clauses.{inside_acts}
 use Rattle.c_check.specs.Tasks.{from_place}
 use Rattle.c_check.proofs.Putting.{both, keep_as, puts_as}
 use Rattle.c_check.proofs.Telling.{told_inside, inside_none, inside_child}

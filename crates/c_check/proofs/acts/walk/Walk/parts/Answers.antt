@@ -4,7 +4,7 @@ use Rattle.c_syntax.specs.Tree.{children_of}
 use Rattle.c_syntax.specs.Numbered.{tree_at}
 use Rattle.c_check.specs.declared.acts.act.Act.{Act}
 use Rattle.c_check.specs.declared.acts.act.Act.TheVariants.{Open, Close}
-use Rattle.c_check.specs.Acts.{looped}
+use Rattle.c_check.specs.Statements.{looped}
 use Rattle.c_check.specs.Tasks.{from_place}
 use Rattle.c_check.proofs.Parts.{parts_are}
 use Rattle.c_check.proofs.Putting.{both, puts_as}

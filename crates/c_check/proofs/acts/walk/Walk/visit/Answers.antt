@@ -11,7 +11,8 @@ use Rattle.c_check.specs.declared.acts.act.Act.TheVariants.{Declare}
 use Rattle.c_check.specs.declared.acts.act.Thing.TheVariants as thing
 use Rattle.c_check.specs.declared.acts.role.Role.TheVariants as role
 use Rattle.c_check.specs.declared.acts.role.Naming.TheVariants as naming
-use Rattle.c_check.specs.Acts.{acts, names, target}
+use Rattle.c_check.specs.Acts.{acts, target}
+use Rattle.c_check.specs.NameLists.{names}
 use Rattle.c_check.specs.Tasks.{from_place}
 use Rattle.c_check.specs.Steps.{passes}
 use Rattle.c_check.proofs.Putting.{acts_of, acts_passing, acts_standalone, both, keep_as, puts_as}

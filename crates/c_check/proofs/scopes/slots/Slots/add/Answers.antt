@@ -1,5 +1,5 @@
 use Rattle.std.proofs.Common.{◌≡◌, ℕ, sym, ap, ◌∙◌, Option, Some, None, cond}
-use Rattle.c_check.specs.Checked.{slot_in}
+use Rattle.c_check.specs.Seen.{slot_in}
 use Rattle.c_check.specs.Faults.{is_same_spot}
 use Rattle.c_check.proofs.Places.{slot_in-new, slot_in-again}
 use Rattle.c_check.proofs.scopes.slots.Slots.add.Goals as goal

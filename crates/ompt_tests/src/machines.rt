@@ -1,0 +1,221 @@
+//! Steps of the machine that no listing shows, against values written out by hand.
+
+use crate::listening::{NULL, ONE, TWO};
+use omp_machine::{Machine, Memory, Went};
+use omp_model::{Block, Blocks, Cause};
+use ompt_calls::{Call, Frame, RegionLevel, Snapshot, Target, TaskLevel, Word, WordAt};
+use std::process::Abort;
+
+/// The begin of regions alone.
+const REGIONS: u64 = 0x08;
+
+/// The events of implicit tasks alone.
+const TASKS: u64 = 0x80;
+
+/// The begin and the end of threads, and implicit tasks.
+const THREADS_AND_TASKS: u64 = 0x86;
+
+const THREE: Word = Word {
+    identity: 3,
+    value: 0,
+};
+
+/// A program without a block: what the calls of the machine answer at each step.
+#[test]
+fn the_empty_program_runs(rt: HostRuntime) -> Result<(), Memory> {
+    let no_blocks = Blocks(Vec::new(rt.alloc()));
+    let mut machine = Machine::new(rt.alloc(), no_blocks, THREADS_AND_TASKS, 1, 1_000_000)?;
+    assert_eq!(rt; machine.first_enabled(1), Some(0));
+    for call in [
+        Call::ThreadBegin {
+            kind: 1,
+            thread: ONE,
+        },
+        initial(1, ONE, 1),
+        initial(2, NULL, 0),
+        Call::ThreadEnd { thread: ONE },
+    ] {
+        assert!(rt; machine.enabled(0));
+        let went = machine.go(0)?;
+        assert!(rt;
+            matches!(went, Went::Told(told, _) if told == call),
+            "{call:?}"
+        );
+        assert!(rt; !machine.enabled(0), "inside {call:?}");
+        assert!(rt; machine.pending(0), "inside {call:?}");
+        machine.back(0);
+    }
+    assert_eq!(rt; machine.whole(), Some(0));
+    assert_eq!(rt; machine.cause(), Some(Cause::Done));
+    assert!(rt; !machine.enabled(0));
+    assert!(rt; !machine.halted());
+    assert!(rt; !machine.stuck());
+    Ok(())
+}
+
+/// The second silent step meets a limit of one.
+#[test]
+fn the_machine_halts_at_its_limit(rt: HostRuntime) -> Result<(), Memory> {
+    let no_blocks = Blocks(Vec::new(rt.alloc()));
+    let mut machine = Machine::new(rt.alloc(), no_blocks, 0, 1, 1)?;
+    for _event in 0..2 {
+        untold(&rt, &mut machine)?;
+    }
+    assert!(rt; machine.enabled(0));
+    let went = machine.go(0)?;
+    assert!(rt; matches!(went, Went::Limit(1)));
+    assert!(rt; machine.halted());
+    assert_eq!(rt; machine.cause(), Some(Cause::Limit(1)));
+    Ok(())
+}
+
+/// Which words there are before and after the region of two begins, on one thread.
+#[test]
+fn words_are_there_once_they_are_made(rt: HostRuntime) -> Result<(), Memory> {
+    let mut machine = Machine::new(rt.alloc(), two_threads(&rt)?, 0, 1, 1_000_000)?;
+    for _event in 0..2 {
+        untold(&rt, &mut machine)?;
+    }
+    for (target, made) in [
+        (Target::Thread(0), true),
+        (Target::Thread(1), false),
+        (Target::Parallel(0), false),
+        (Target::Parallel(1), true),
+        (Target::Parallel(2), false),
+        (Target::Task(0), false),
+        (Target::Task(1), true),
+        (Target::Task(2), false),
+    ] {
+        assert_eq!(rt; machine.made(target), made, "{target:?}");
+    }
+    untold(&rt, &mut machine)?;
+    assert!(rt; machine.made(Target::Parallel(2)));
+    Ok(())
+}
+
+/// The worker of a region of two: what it can inquire where its implicit task begins, and where that task ends.
+#[test]
+fn a_worker_has_levels(rt: HostRuntime) -> Result<(), Memory> {
+    let mut machine = Machine::new(rt.alloc(), two_threads(&rt)?, TASKS, 2, 1_000_000)?;
+    let (begun, ended) = worker_snapshots(&mut machine)?;
+    let Some(begun) = begun else {
+        panic!(rt; "the worker's begin was not told");
+    };
+    let Some(ended) = ended else {
+        panic!(rt; "the worker's end was not told");
+    };
+    assert_eq!(rt; begun.get_state(), (0x001, 0));
+    assert_eq!(rt; begun.get_thread_data(), TWO);
+    let levels = [
+        level(2, THREE, (65_537, 0), TWO, 1),
+        level(1, ONE, (0, 32_769), ONE, 0),
+    ];
+    assert_eq!(rt; begun.tasks.0.as_slice(), levels.as_slice());
+    let regions = [
+        RegionLevel { word: TWO, team: 2 },
+        RegionLevel { word: ONE, team: 1 },
+    ];
+    assert_eq!(rt; begun.regions.0.as_slice(), regions.as_slice());
+    assert_eq!(rt; ended.get_state(), (0x100, 0));
+    assert!(rt; ended.tasks.0.is_empty() && ended.regions.0.is_empty());
+    Ok(())
+}
+
+/// The snapshot of the begin of a region is read when the region is under way, and says what it said.
+#[test]
+fn a_snapshot_stays_as_it_was(rt: HostRuntime) -> Result<(), Memory> {
+    let mut machine = Machine::new(rt.alloc(), two_threads(&rt)?, REGIONS, 2, 1_000_000)?;
+    let mut begun = None;
+    for _round in 0..6 {
+        for thread in [0, 1] {
+            if let Some((_, snapshot)) = turn(&mut machine, thread)? {
+                begun = Some(snapshot);
+            }
+        }
+    }
+    let Some(begun) = begun else {
+        panic!(rt; "no region was told");
+    };
+    assert_eq!(rt; begun.get_state(), (0x101, 0));
+    assert_eq!(rt; begun.get_thread_data(), ONE);
+    let initial = level(1, ONE, (0, 32_769), ONE, 0);
+    assert_eq!(rt; begun.get_task_info(0), Some(initial));
+    assert_eq!(rt; begun.get_task_info(1), None);
+    let outer = RegionLevel { word: ONE, team: 1 };
+    assert_eq!(rt; begun.get_parallel_info(0), Some(outer));
+    assert_eq!(rt; begun.get_parallel_info(1), None);
+    assert_eq!(rt; begun.target(WordAt::Fresh), Some(Target::Parallel(2)));
+    Ok(())
+}
+
+/// What thread 1 of two can inquire at the begin and at the end of its implicit task, in a whole run.
+fn worker_snapshots(machine: &mut Machine) -> Result<(Option<Snapshot>, Option<Snapshot>), Memory> {
+    let mut begun = None;
+    let mut ended = None;
+    for _round in 0..21 {
+        let _of_the_initial_thread = turn(machine, 0)?;
+        match turn(machine, 1)? {
+            Some((Call::ImplicitTask { endpoint: 1, .. }, snapshot)) => begun = Some(snapshot),
+            Some((_, snapshot)) => ended = Some(snapshot),
+            None => {}
+        }
+    }
+    Ok((begun, ended))
+}
+
+/// Does a turn of the thread, with the Back of its event, where the thread is enabled. Answers what was told, if anything was.
+fn turn(machine: &mut Machine, thread: u8) -> Result<Option<(Call, Snapshot)>, Memory> {
+    if !machine.enabled(thread) {
+        return Ok(None);
+    }
+    let went = machine.go(thread)?;
+    if machine.pending(thread) {
+        machine.back(thread);
+    }
+    Ok(match went {
+        Went::Told(call, snapshot) => Some((call, snapshot)),
+        _ => None,
+    })
+}
+
+/// The next event of thread 0 isn't registered.
+fn untold(rt: &impl Abort, machine: &mut Machine) -> Result<(), Memory> {
+    assert!(rt; machine.enabled(0));
+    let went = machine.go(0)?;
+    assert!(rt; matches!(went, Went::Untold));
+    assert!(rt; machine.pending(0));
+    machine.back(0);
+    Ok(())
+}
+
+/// A program with one block, in line 2, that asks for two threads.
+fn two_threads(rt: &impl AllocGlobal) -> Result<Blocks, Memory> {
+    let block = Block {
+        requested: 2,
+        codeptr: 131_073,
+    };
+    Ok(Blocks(Vec::from_array(rt.alloc(), [block])?))
+}
+
+/// The level of a task.
+fn level(flags: u32, word: Word, (exit, enter): (u32, u32), region: Word, index: u32) -> TaskLevel {
+    TaskLevel {
+        flags,
+        word,
+        frame: Frame { exit, enter },
+        region,
+        index,
+    }
+}
+
+/// An endpoint of the initial task, whose team has so many members where it begins.
+fn initial(endpoint: u32, region: Word, actual: u32) -> Call {
+    Call::ImplicitTask {
+        endpoint,
+        region,
+        task: ONE,
+        actual,
+        index: 1,
+        flags: 1,
+    }
+}

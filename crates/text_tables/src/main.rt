@@ -1,0 +1,79 @@
+//! Tables of texts, each with the answer that is wanted of it, and how many of the answers differ.
+//!
+//! A table is read from the standard input. Each of its rows asks a question of a text: its tokens, its tree, its fault, the slots of
+//! its names, or how its constructs see variables. The program prints each row that differs from the answer that is wanted, and then
+//! how many rows there were and how many of them differ. A line that can't be read counts as a row that differs.
+//!
+//! # Lines
+//!
+//! A line is one of these. Lines with nothing in them are passed over.
+//!
+//! | Line | What it is |
+//! |---|---|
+//! | `# words` | a comment |
+//! | `= words` | the headline of what follows |
+//! | `frame NAME` | begins a frame, which is named text that stands around the texts of rows |
+//! | `\| text` | the next line of the frame. In one of them `...` stands where the text of a row goes |
+//! | `> tree` | what stands around the trees of rows in the frame, with `...` where they go |
+//! | `ask QUESTION` | what is asked in the rows that follow, of their texts alone |
+//! | `ask QUESTION in NAME` | the same of their texts in a frame |
+//! | `ANSWER \| TEXT` | a row: the answer that is wanted, and the text. Without a sign between them the text is empty |
+//!
+//! # Questions
+//!
+//! | Question | Answer |
+//! |---|---|
+//! | `tokens` | each token, as its kind, its span in bytes, and its place |
+//! | `tree` | the tree by the grammar; see [`tree_line`] |
+//! | `syntax` | `ok` where the text is a program by the grammar |
+//! | `fault` | `ok` where it also breaks no rule |
+//! | `main` | the number of the name `main` in the tree, and the place where the text ends |
+//! | `slots` | `NAME@PLACE=SLOT` for each name that the answer speaks of |
+//! | `sharing` | the place of a construct, and `NAME:SLOT=SHARING` for each variable that the answer speaks of |
+//!
+//! A place is a line and a column, as `3:1`. Any question is answered by the number of a fault and its place, as `10 at 3:1`, where the
+//! text doesn't come so far.
+//!
+//! # Texts
+//!
+//! What a text is written with is told at [`pattern`].
+#![tactic(auto)]
+
+mod answer;
+mod frame;
+mod pattern;
+mod place;
+mod question;
+mod refusal;
+mod row_fault;
+mod seen;
+mod table;
+mod tally;
+mod tree_line;
+
+use std::io::{self, BufRead, BufReader};
+use table::{Outcome, Table};
+use tally::{Tally, Verdict};
+
+fn main(rt: HostRuntime) -> io::Result<()> {
+    let mut table = Table::new(rt.alloc());
+    let mut tally = Tally::new();
+    let mut number = 0_u32;
+    for line in BufReader::new(rt.alloc(), rt.reader())?.lines(rt.alloc()) {
+        let line = line?;
+        number = number.saturating_add(1);
+        match table.take(rt.alloc(), line.as_str()) {
+            Ok(Outcome::NoRow) => {}
+            Ok(Outcome::Agrees) => tally.add(Verdict::Agrees),
+            Ok(Outcome::Differs(difference)) => {
+                tally.add(Verdict::Differs);
+                println!(rt; "{number}: {difference}")?;
+            }
+            Err(fault) => {
+                tally.add(Verdict::Differs);
+                println!(rt; "{number}: {fault}")?;
+            }
+        }
+    }
+    println!(rt; "{tally}")
+}

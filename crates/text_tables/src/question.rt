@@ -1,0 +1,36 @@
+//! The questions of a table.
+
+/// What a row asks of its text.
+#[derive(Clone, Copy)]
+pub(crate) enum Question {
+    /// The tokens.
+    Tokens,
+    /// The tree.
+    Tree,
+    /// Whether it is a program by the grammar.
+    Syntax,
+    /// Whether it is a program that breaks no rule.
+    Fault,
+    /// The number of the name `main`, and the end of the text.
+    Main,
+    /// The slots of names.
+    Slots,
+    /// How constructs see variables.
+    Sharing,
+}
+
+impl Question {
+    /// The question that a table asks by a word.
+    pub fn by_word(word: &str) -> Option<Question> {
+        match word {
+            "tokens" => Some(Question::Tokens),
+            "tree" => Some(Question::Tree),
+            "syntax" => Some(Question::Syntax),
+            "fault" => Some(Question::Fault),
+            "main" => Some(Question::Main),
+            "slots" => Some(Question::Slots),
+            "sharing" => Some(Question::Sharing),
+            _ => None,
+        }
+    }
+}
