@@ -1,5 +1,5 @@
 -- The declaration that a search finds is the nearest one whose scope is open.
-use Rattle.std.proofs.Common.{◌≡◌, ◌⊎◌, ℕ, zero, suc, ◌+◌, ◌-◌, ◌<◌, ◌≤◌, Bool, true, false, cond, List, [], ◌∷◌, ◌++◌, length, take, Option, Some, None, refl, sym, ap, subst, ◌∙◌, inl, inr, sum_by, nat_eq, arith}
+use Rattle.std.proofs.Common.{◌≡◌, ◌⊎◌, ℕ, zero, suc, ◌+◌, ◌-◌, ◌<◌, ◌≤◌, true, List, [], ◌∷◌, ◌++◌, length, take, Option, Some, None, refl, sym, ap, subst, ◌∙◌, inl, inr, sum_by, nat_eq, arith}
 use Rattle.std.specs.Prelude.{nat_le}
 use Rattle.std.proofs.lemmas.Bool.{cases_Bool, cases_lt, eqb-true, eqb-false, leb-false, leb-true, le-leb}
 use Rattle.std.proofs.lemmas.List.{length_push}
@@ -55,14 +55,14 @@ names-used here (Loop name) = refl
 names-used here Leave = refl
 names-used here (Finish spot) = refl
 
-pub names-after : (here : Here) (acts : List Act) → (after_all here acts).names ≡ steps here.names acts
+names-after : (here : Here) (acts : List Act) → (after_all here acts).names ≡ steps here.names acts
 unfolding after_all steps
 names-after here [] = refl
 names-after here (first ∷ rest) = names-after (after here first) rest ∙ ap (λ (names : Declarations). steps names rest) (names-used here first)
 
 -- a scope stays open exactly where no more end than begin
 module _ where
-  pub open-least : (acts : List Act) (count : ℕ) → sum_by scopes_ended (take count acts) ≤ sum_by scopes_begun (take count acts) + excess acts
+  open-least : (acts : List Act) (count : ℕ) → sum_by scopes_ended (take count acts) ≤ sum_by scopes_begun (take count acts) + excess acts
   unfolding excess
   open-least acts zero = omega arith
   open-least [] (suc count) = omega arith
@@ -87,10 +87,10 @@ module _ where
         }
       ]
 
-  pub stays-open : (acts : List Act) → excess acts ≡ 0 → StaysOpen acts
+  stays-open : (acts : List Act) → excess acts ≡ 0 → StaysOpen acts
   stays-open acts none count = omega (arith, open-least acts count)
 
-  pub open-stays : (acts : List Act) → StaysOpen acts → excess acts ≡ 0
+  open-stays : (acts : List Act) → StaysOpen acts → excess acts ≡ 0
   open-stays acts stays = let most = open-most acts in omega (arith, most.most, stays most.count)
 
 -- what is still in scope
@@ -170,17 +170,17 @@ record Keeps (names : Declarations) (acts : List Act) (name : ℕ) : Type 0 wher
 
 -- one act before others, that isn't such a declaration
 none-more : (first : Act) (rest : List Act) (name : ℕ) → IsNoneOpen rest name → (Declares name first → excess (acts_over first rest) ≡ 0 → ⊥) → IsNoneOpen (first ∷ rest) name
-none-more first rest name none not_first [] act behind are declares open =
+none-more first rest name none not_first [] act behind are declares still =
     let is_act : first ≡ act = cc in
     let is_behind : rest ≡ behind = cc in
-    not_first (subst (λ (one : Act). Declares name one) (sym is_act) declares) (rw (is_act, is_behind) open)
-none-more first rest name none not_first (one ∷ before) act behind are declares open =
+    not_first (subst (λ (one : Act). Declares name one) (sym is_act) declares) (rw (is_act, is_behind) still)
+none-more first rest name none not_first (one ∷ before) act behind are declares still =
     let is_rest : rest ≡ before ++ act ∷ behind = cc in
-    none before act behind is_rest declares open
+    none before act behind is_rest declares still
 
 none-in-nothing : (name : ℕ) → IsNoneOpen [] name
-none-in-nothing name [] act behind are declares open = absurd (cc)
-none-in-nothing name (one ∷ before) act behind are declares open = absurd (cc)
+none-in-nothing name [] act behind are declares still = absurd (cc)
+none-in-nothing name (one ∷ before) act behind are declares still = absurd (cc)
 
 abbrev Outcome : Declarations → List Act → ℕ → Type 0
 Outcome names acts name = Finds names acts name ⊎ Keeps names acts name
@@ -211,7 +211,7 @@ scope-closed (suc level) over visible =
 -- a declaration whose scope is open as long as no more end
 record IsThis (names : Declarations) (name other : ℕ) (what : Thing) (from over : ℕ) : Type 0 where
   same : other ≡ name
-  open : over ≡ 0
+  still : over ≡ 0
   found : find (still_in_scope from (next_of names other what ∷ names.visible)) name ≡ Some (next_of names name what)
 
 record IsAnother (names : Declarations) (name other : ℕ) (what : Thing) (from over : ℕ) : Type 0 where
@@ -229,7 +229,7 @@ declared-more names name other what from zero levels stays ends =
           elim (cases_Bool (nat_eq other name)) [
             | inl same ↦ inl (record {
               same = eqb-true other name same;
-              open = refl;
+              still = refl;
               found = rw (under, same) (ap (λ (it : ℕ). Some (next_of names it what)) (eqb-true other name same));
             })
             | inr apart ↦ inr (record {
@@ -241,13 +241,13 @@ declared-more names name other what from zero levels stays ends =
 declared-more names name other what from (suc over) levels stays ends =
     let at : from ≡ names.level + 1 - suc over = ends (omega arith) in
     let within : nat_le from names.level ≡ true = le-leb from names.level (omega (arith, at)) in
-    inr (record { not_this = λ same none. absurd (cc); found = rw (within, at) refl })
+    inr (record { not_this = λ same none. absurd (cc); found = rw within (ap (λ (level : ℕ). find (still_in_scope level names.visible) name) at) })
 
 outcome-more : (first : Act) (rest : List Act) (names : Declarations) (name : ℕ) → IsLevelled names → Keeps (step names first) rest name → Outcome names (first ∷ rest) name
 unfolding excess step steps IsLevelled
-outcome-more Open rest names name levels keeps = keep Open rest names name keeps (λ declares open. declares) (ap (λ (visible : List Declared). find visible name) (scope-opened names.level (excess rest) names.visible levels))
-outcome-more Close rest names name levels keeps = keep Close rest names name keeps (λ declares open. declares) (ap (λ (visible : List Declared). find visible name) (scope-closed names.level (excess rest) names.visible))
-outcome-more End rest names name levels keeps = keep End rest names name keeps (λ declares open. declares) (ap (λ (visible : List Declared). find visible name) (scope-closed names.level (excess rest) names.visible))
+outcome-more Open rest names name levels keeps = keep Open rest names name keeps (λ declares still. declares) (ap (λ (visible : List Declared). find visible name) (scope-opened names.level (excess rest) names.visible levels))
+outcome-more Close rest names name levels keeps = keep Close rest names name keeps (λ declares still. declares) (ap (λ (visible : List Declared). find visible name) (scope-closed names.level (excess rest) names.visible))
+outcome-more End rest names name levels keeps = keep End rest names name keeps (λ declares still. declares) (ap (λ (visible : List Declared). find visible name) (scope-closed names.level (excess rest) names.visible))
 outcome-more (Declare other spot what) rest names name levels keeps =
     let over : excess rest + 0 - 0 ≡ excess rest = omega arith in
     elim (declared-more names name other what (names.level + 1 - excess rest) (excess rest) levels (λ none. omega (arith, none)) (λ some. refl)) [
@@ -257,7 +257,7 @@ outcome-more (Declare other spot what) rest names name levels keeps =
         behind = rest;
         acts_are = refl;
         declares = this.same;
-        no_excess = this.open;
+        no_excess = this.still;
         none_nearer = keeps.none;
         found = keeps.found ∙ this.found;
       })
@@ -271,7 +271,7 @@ outcome-more (Begin other spot returns parameters) rest names name levels keeps 
         behind = rest;
         acts_are = refl;
         declares = this.same;
-        no_excess = this.open;
+        no_excess = this.still;
         none_nearer = keeps.none;
         found = keeps.found ∙ this.found;
       })
@@ -279,7 +279,7 @@ outcome-more (Begin other spot returns parameters) rest names name levels keeps 
     ]
 outcome-more other rest names name levels keeps =
     let over : excess rest + 0 - 0 ≡ excess rest = omega arith in
-    keep other rest names name keeps (λ declares open. declares) (rw over refl)
+    keep other rest names name keeps (λ declares still. declares) (rw over refl)
 
 outcome : (acts : List Act) (names : Declarations) (name : ℕ) → IsLevelled names → Outcome names acts name
 unfolding excess steps IsLevelled
@@ -350,7 +350,7 @@ module _ (main : ℕ) (acts : List Act) (name : ℕ) where
           none_nearer = λ before act behind is. finds.none_nearer before act behind is.acts_are is.declares (open-stays (acts_over act behind) is.stays_open);
           name_is = ap (λ (it : Declared). it.name) same;
           thing_is = ap (λ (it : Declared). it.thing) same;
-          slot_is = ap (λ (it : Declared). it.slot) same ∙ count-after no_names finds.before;
+          slot_is = omega (arith, ap (λ (it : Declared). it.slot) same, count-after no_names finds.before);
           level_is = ap (λ (it : Declared). it.level) same ∙ level-after no_names finds.before;
         }
 

@@ -5,6 +5,8 @@ pub mod Printed
 pub mod Usages
 pub mod Clauses
 pub mod Statements
+pub mod LoopParts
+pub mod SharedLoops
 pub mod Acts
 pub mod Once
 pub mod Declarations
