@@ -116,8 +116,8 @@ impl Program {
         }
     }
 
-    /// The parts of the loop that a construct shares out. `None` for a node that is no `for` or `parallel for`; where it is one, its loop
-    /// is of the form, as no rule is broken.
+    /// The parts of the loop that a construct shares out. `None` for a node that is no `for` or `parallel for`, and it may be for
+    /// one with more children than a `u32` counts. That each other one has parts is not proved.
     pub fn shared_loop(&self, construct: u32) -> Option<SharedLoop>
         requires { construct < length self.now.trees }
         ensures parts { IfSome result (λ found. loop_parts (tree_at self.now.trees construct) ≡ Some (loop_at self.now.trees found)) }

@@ -31,8 +31,8 @@
 //! Which sentences of `docs/language.md` the rules stand for is to be read. The place of a fault doesn't depend on the rules' form:
 //! it is said by what can be completed to a program.
 //!
-//! No function calls itself as deep as the text nests, and each word takes a bounded number of steps. The time and the memory
-//! are no clauses.
+//! That no function calls itself as deep as the text nests, and that each word takes a bounded number of steps, is to be read. The
+//! time and the memory are no clauses.
 //!
 //! The program `text_tables` compares texts with what was written out by hand: that a text is a program, or the number and place of
 //! its fault; and the trees of programs, node by node, with their kinds, places, names, numbers and texts.

@@ -14,7 +14,7 @@ pub struct Word {
     /// The number of a name, from 1 in the order in which they first appear, or the number that digits write, which an `i32` holds.
     /// Else 0.
     pub value: u32,
-    /// Where the bytes between the quotes of a text begin in the source. Any other word has none, and both are its token's start.
+    /// Where the bytes between the quotes of a text begin in the source. Any other word has none: this and `end` are the same.
     pub start: u32,
     /// Where they end.
     pub end: u32,

@@ -9,8 +9,8 @@
 //! at the front of the bytes. `Reads` in `specs/Pieces.antt` is for a reader: it says of each blank, comment and token by itself which
 //! bytes it has, and what may follow it. Proved:
 //!
-//! - [`tokens`] answers `Ok` with the list that `tokens_of` has, and a fault, with its place, that `tokens_of` has. It answers
-//!   want of memory for no other reason that a clause names; rows of `text_tables` show that it doesn't where there is enough;
+//! - [`tokens`] answers `Ok` with the list that `tokens_of` has, and a fault, with its place, that `tokens_of` has. It may
+//!   answer want of memory at any time; rows of `text_tables` show that it doesn't where there is enough;
 //! - the two definitions have the same lists, by [`tokens_are_read`] and [`reading_is_tokens`], and each text has one at most, by
 //!   [`one_list_of_tokens`]. That `tokens_of` answers one list or one fault is plain, since it is a function.
 //!
@@ -21,7 +21,7 @@
 //! Time grows linearly with the text. That is no clause, and neither is where memory is wanting.
 //!
 //! The program `text_tables` compares the tokens of texts, of each byte and of symbols side by side with answers written out by hand.
-//! Of the wrong bodies that were tried, the contracts let none through but a line of a table that is right as well.
+//! The must-fail edits try wrong bodies.
 #![tactic(auto)]
 
 mod blanks;

@@ -6,7 +6,7 @@ ghost use Rattle.omp_codes.specs.Answers.{answer_of};
 /// `ompt_set_error` of `ompt_set_result_t` (OpenMP 5.2, 19.4.4): the number is no callback's.
 const ERROR: u8 = 0;
 
-/// `ompt_set_never` of `ompt_set_result_t`: the callback may be registered, and is never called.
+/// `ompt_set_never` of `ompt_set_result_t`: the callback is never called, and here isn't registered either.
 const NEVER: u8 = 1;
 
 /// `ompt_set_always` of `ompt_set_result_t`: the callback is called at each of its events.

@@ -104,7 +104,7 @@ pub fn is_profile(number: u32) -> bool
     )
 }
 
-/// A law: the mask of the profile has the callbacks of the profile, and no others.
+/// A law: the mask of the profile has the callbacks that `PROFILE` lists, and no others.
 pub fn profile_has_its_mask()
     ensures { PROFILE_MASK ≡ mask_of PROFILE }
 {}

@@ -149,7 +149,7 @@ impl Machine {
 
     /// Does one turn of the thread, and tells what it came to.
     ///
-    /// All memory is taken before the first change.
+    /// Where it finds no memory, nothing has changed.
     pub fn go(&mut self, thread: u8) -> Result<Went, Memory>
         requires { IsTrue (enabled self.old.run self.old.state thread) }
         ensures turn { OnOk result (self.new ≡ record self.old { state = (turn self.old.run self.old.state thread).state }) }

@@ -13,6 +13,6 @@ pub enum Cause {
     Deadlock,
     /// The last turn met this limit.
     Limit(u8),
-    /// The runner found no memory. The history stops at some entry, and has no cause of its own.
+    /// The runner found no memory. No state has this cause: the history stops at some entry.
     Memory,
 }

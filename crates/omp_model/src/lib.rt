@@ -12,7 +12,7 @@
 //!
 //! - two serial histories of a run in which nothing is stored, and that go on to its end, are the same, and each is the one
 //!   that `serial` computes ([`serial_history_is_one`]). It doesn't say of a run that there is one;
-//! - with all callbacks registered, a million silent steps and 1 to 16 threads, `serial` computes for the empty program
+//! - with the callbacks of the profile registered, a million silent steps and 1 to 16 threads, `serial` computes for the empty program
 //!   the eight entries of `empty_history`, whose records are the four of `empty_records` and whose cause is
 //!   [`Cause::Done`] ([`empty_program_ends`]);
 //! - [`History::entries`] gives the history's entries.
@@ -25,7 +25,7 @@
 //! and `proofs/Targets.antt` that each word that a snapshot names is of something that was made.
 //!
 //! No proof says that the definitions are OpenMP's: that is for their reader to judge.
-//! `rt plant` lists no wrong body that a contract lets through. The two laws have no body to plant one in.
+//! The must-fail edits try wrong bodies. The two laws have none.
 #![tactic(auto)]
 
 mod blocks;

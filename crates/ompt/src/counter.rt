@@ -7,7 +7,7 @@ ghost use Rattle.ompt.specs.Counting.{CountsCalls};
 use ompt_calls::{Call, Reply, Snapshot};
 use tool_api::{GuestTool, Memory, Registrar};
 
-/// A tool that registers each callback of the profile, counts the calls that it gets, and stores nothing.
+/// A tool that registers each callback of the profile and counts the calls that it gets. That it stores nothing is to be read.
 #[derive(Drop)]
 pub(crate) struct Counter {
     /// How many calls there were, at most 2^64 - 1.

@@ -11,7 +11,7 @@
 //!
 //! - `{}` of a [`Word`] writes exactly the bytes of `word_text`, `{}` of a [`Frame`] those of `frame_text`, and `{}`
 //!   of a [`Call`] those of `call_text`;
-//! - where memory is left, [`line_of`] returns exactly the bytes of `line_text`;
+//! - where it finds memory, [`line_of`] returns exactly the bytes of `line_text`;
 //! - [`Call::number`] is `number_of`, the value in `ompt_callbacks_t`;
 //! - the inquiries of a [`Snapshot`] answer what it has: [`Snapshot::get_task_info`] and
 //!   [`Snapshot::get_parallel_info`] the level that is asked for, and `None` exactly where there is none, as `task_info`

@@ -18,7 +18,7 @@ pub enum Target {
     Task(u32),
 }
 
-/// A task on a thread's stack, as `ompt_get_task_info` tells it (OpenMP 5.2, 19.6.1.14).
+/// A level of tasks, as `ompt_get_task_info` tells it (OpenMP 5.2, 19.6.1.14).
 #[derive(Clone, Copy, Debug, PartialEq, Eq)]
 pub struct TaskLevel {
     /// Its `ompt_task_flag_t`.
@@ -42,7 +42,7 @@ pub struct RegionLevel {
     pub team: u32,
 }
 
-/// The tasks on a thread's stack, the current one first. Contracts see them as their list.
+/// The levels of tasks, the current one first: those on a thread's stack, and those beyond. Contracts see them as their list.
 #[derive(Debug, Drop)]
 pub struct TaskLevels(pub Vec<TaskLevel>);
 
@@ -77,7 +77,7 @@ pub struct Snapshot {
     pub state: u16,
     /// What the thread waits for (`ompt_wait_id_t`), or 0.
     pub wait_id: u32,
-    /// The tasks on the thread's stack.
+    /// The levels of tasks: those on the thread's stack, and those beyond.
     pub tasks: TaskLevels,
     /// The parallel regions around its current task.
     pub regions: RegionLevels,

@@ -34,6 +34,7 @@ pub struct Top {
     pub status: u8,
     /// How the command ended, before its line was told.
     pub end: End,
-    /// The report of the run, where one ended by a cause, also by want of memory after its first entry.
+    /// The report of the run. It is there at the ends `Done`, `Deadlock`, `Limit` and `WriteFault`, and isn't at `Usage`,
+    /// `Refused` and `ReadFault`. At `Memory` it may be there; where its cause is want of memory, its history has an entry.
     pub ran: Option<Report>,
 }

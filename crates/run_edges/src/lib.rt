@@ -2,7 +2,7 @@
 //!
 //! A [`Source`] gives bytes and a [`Sink`] takes them. Contracts see each of them as the bytes that it has left or
 //! holds, where it tells them, and as a count of faults that never falls. So a fault that is answered has a cause
-//! that the caller can see: the count of the object that was handed in rose.
+//! that the caller can see: the count of the object that was handed in rose, or stands at its last value.
 //!
 //! The sources and sinks in memory tell their bytes and follow a script, so that a caller can be tried at each
 //! failing call. [`StdSource`] and [`StdSink`] adapt std's readers and writers: they tell no content, and are trusted.

@@ -8,7 +8,7 @@ use std::marker::Model;
 
 /// A writer of std as a sink that tells no content.
 ///
-/// Its count of faults rises at each error of the writer, and at each write that takes nothing.
+/// Its count of faults rises at each failure. That an error of the writer is one, and a write that takes nothing, is to be read.
 #[derive(Drop)]
 pub struct StdSink<W> {
     inner: W,

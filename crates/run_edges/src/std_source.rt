@@ -8,7 +8,8 @@ use std::marker::Model;
 
 /// A reader of std as a source that tells no content.
 ///
-/// Its count of faults rises at each error of the reader. A read of no bytes is the end.
+/// Its count of faults rises at each failure. That an error of the reader is one, and that a read of no bytes is the end, is to
+/// be read.
 #[derive(Drop)]
 pub struct StdSource<R> {
     inner: R,

@@ -42,9 +42,10 @@
 //! Not proved:
 //!
 //! - that a run finds memory: an error, or the cause `Memory`, is always allowed. Of the parts nothing is said after an
-//!   error. They are gone, and part 0 was started but isn't finished;
+//!   error. That they are gone, and that part 0 was started but isn't finished, is to be read;
 //! - that a tool returns from a call;
 //! - that a run ends in `Done`: neither `Deadlock` nor a limit is ruled out;
+//! - what a call told that found no memory;
 //! - all of the order in which calls come. A record doesn't say how many calls came before a start, and the records of two
 //!   parts have no order between them. That part 0 is started first, and that parts are called in the order of the
 //!   positions and none after part 0 is finished, is to be read in `src/`.

@@ -21,8 +21,9 @@ use tool_api::{Registrar, ToolPart};
 /// Part 0 is started before the first entry. What it registers is heard, where it answers another number than 0, and else
 /// nothing. Where it answers another number than 0 it is finished after the last entry.
 ///
-/// An error comes only before the first entry. Where memory fails later, the cause is `Memory`. The history then stops before
-/// the turn that found none, or after the Go of the event whose callback found none.
+/// No clause says when memory is wanting, nor when part 0 is started. That an error comes only before the first entry is to be
+/// read. Where the cause is `Memory` the history has an entry, and stops between two turns, or after the Go of an event whose
+/// thread's part found none.
 pub fn run_serial<P: ToolPart>(
     alloc: Global,
     blocks: Blocks,

@@ -2,7 +2,8 @@
 //!
 //! A table is read from the standard input. Each of its rows asks a question of a text: its tokens, its tree, its fault, the slots of
 //! its names, or how its constructs see variables. The program prints each row that differs from the answer that is wanted, and then
-//! how many rows there were and how many of them differ. A line that can't be read counts as a row that differs.
+//! how many rows there were and how many of them differ. A line that can't be read counts as a row that differs. `Tally::add` has
+//! clauses; all else is only tested.
 //!
 //! # Lines
 //!

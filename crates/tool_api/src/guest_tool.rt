@@ -8,7 +8,7 @@ use crate::part::Memory;
 use crate::registrar::Registrar;
 use ompt_calls::{Call, Reply, Snapshot};
 
-/// A tool that is called through a box, with the calls of a `ToolPart` and its promises. It is a trait of its own, since a
+/// A tool that is called through a box, with the calls of a `ToolPart` and its promises on `stands_for`. It is a trait of its own, since a
 /// box has no type that a runtime could be written for.
 pub trait GuestTool: Drop + Send {
     ghost stands_for: { Self → Record → Type 0 };
@@ -18,7 +18,7 @@ pub trait GuestTool: Drop + Send {
     fn initialize(&mut self, registrar: &mut Registrar) -> u32
         // Nothing is registered yet.
         requires { registrar.old ≡ 0 }
-        ensures { (h : Record) → stands_for self.old h → stands_for self.new (initialized h result registrar.new) };
+        ensures started { (h : Record) → stands_for self.old h → stands_for self.new (initialized h result registrar.new) };
 
     /// Tells the tool of an event: its position in the history, its thread, and its callback with the arguments. The
     /// snapshot has what can be inquired meanwhile, and the reply what the tool stores.
@@ -35,5 +35,5 @@ pub trait GuestTool: Drop + Send {
 
     /// Finishes the tool, as `ompt_finalize_t` does (OpenMP 5.2, 19.5.1.2).
     fn finalize(&mut self)
-        ensures { (h : Record) → stands_for self.old h → stands_for self.new (finalized h) };
+        ensures finished { (h : Record) → stands_for self.old h → stands_for self.new (finalized h) };
 }

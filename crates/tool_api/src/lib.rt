@@ -3,8 +3,9 @@
 //! A runtime calls a tool as a [`ToolPart`]: [`ToolPart::initialize`], [`ToolPart::callback`] for each event that the
 //! tool has registered, and [`ToolPart::finalize`]. A part keeps a relation, `stands_for`, between itself and a record of
 //! its calls: what each call of `initialize` answered and left registered; what each call of `callback` told and which of
-//! its stores took effect; for each call of `finalize`, how many calls of `callback` came before it; and how many calls of
-//! `callback` found no memory. Each kind of part defines the relation for itself.
+//! its stores took effect; for each call of `finalize`, how many calls of `callback` came before it; how many calls of
+//! `callback` found no memory; and for each tool within it the calls of `initialize` that are answered on its behalf, which no
+//! call of today adds to. Each kind of part defines the relation for itself.
 //!
 //! Every part promises, for every record that it stands for:
 //!
