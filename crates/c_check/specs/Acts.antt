@@ -1,4 +1,7 @@
--- What a tree does with names, scopes and constructs, in the order of its text.
+-- What a tree does with names, scopes and constructs: its acts, in the order of its text but for these. A name is declared behind what it
+-- begins with; a `printf` and a `return` come behind their expressions. What the clauses of a construct compute, and the names that its
+-- data clauses use, come before the construct begins, and what the clauses say of it behind that, so these names come twice. That its
+-- statement isn't a loop of the form comes before the statement, and the loop's variable before the loop's body.
 use Rattle.std.specs.Prelude.{if◌then◌else◌, List, [], ◌∷◌, ◌++◌}
 use Rattle.c_syntax.specs.declared.node.Returns.{Returns}
 use Rattle.c_syntax.specs.declared.node.Standalone.TheVariants as standalone

@@ -1,5 +1,5 @@
 -- The constructs of a program: those that are open, and those that have ended.
-use Rattle.std.specs.Prelude.{ℕ, ◌&&◌, nat_le, not, ◌==◌, if◌then◌else◌, Bool, true, false, List, [], ◌∷◌, ◌++◌, option_map, Option, Some, None}
+use Rattle.std.specs.Prelude.{ℕ, ◌&&◌, nat_le, not, ◌==◌, if◌then◌else◌, Bool, true, false, List, [], ◌∷◌, ◌++◌, option_map, Option, Some, None, is_none}
 use Rattle.c_tokens.specs.declared.token.Spot.{Spot}
 use Rattle.c_syntax.specs.declared.node.Default.TheVariants as default
 use Rattle.c_syntax.specs.declared.node.Directive.{Directive}
@@ -63,17 +63,13 @@ unfoldable pub mention : List Mention → ℕ → Option DataClause
 mention [] slot = None
 mention (first ∷ rest) slot = if first.slot == slot then Some first.clause else mention rest slot
 
-abbrev pub is_unmentioned : Option DataClause → Bool
-is_unmentioned None = true
-is_unmentioned (Some clause) = false
-
 -- the variable is declared inside the construct
 abbrev pub is_inside : Construct → ℕ → Bool
 is_inside construct slot = nat_le construct.head.first slot
 
 -- a construct with default(none) doesn't list a variable that is declared outside of it
 abbrev pub leaves_out : Construct → ℕ → Bool
-leaves_out construct slot = construct.clauses.default_none && not (is_inside construct slot) && is_unmentioned (mention construct.mentions slot)
+leaves_out construct slot = construct.clauses.default_none && not (is_inside construct slot) && is_none (mention construct.mentions slot)
 
 unfoldable pub unlisted_in : List Construct → Spot → ℕ → List Unlisted
 unlisted_in [] spot slot = []

@@ -1,5 +1,6 @@
 -- The rules: where a program stands and does an act, the places at which the act breaks each of them.
 use Rattle.std.specs.Prelude.{ℕ, ◌+◌, ◌==◌, nat_lt, ◌&&◌, ◌||◌, not, if◌then◌else◌, Bool, true, false, List, [], ◌∷◌, Option, Some, None, is_none}
+use Rattle.std.specs.Option.{is_some}
 use Rattle.c_tokens.specs.declared.token.Spot.{Spot}
 use Rattle.c_syntax.specs.declared.node.Directive.{Directive}
 use Rattle.c_syntax.specs.declared.node.Directive.TheVariants as directive
@@ -25,7 +26,7 @@ use Rattle.c_check.specs.declared.constructs.parts.LoopInside.{LoopInside}
 use Rattle.c_check.specs.declared.constructs.parts.Unlisted.{Unlisted}
 use Rattle.c_check.specs.declared.scopes.declared.Declared.{Declared}
 use Rattle.c_check.specs.Cells.{cells_of, file_cells, most_cells}
-use Rattle.c_check.specs.Constructs.{Construct, is_unmentioned, mention, open_constructs}
+use Rattle.c_check.specs.Constructs.{Construct, mention, open_constructs}
 use Rattle.c_check.specs.Declarations.{find, is_at_level}
 use Rattle.c_check.specs.Faults.{is_same_spot}
 use Rattle.c_check.specs.Here.{Here, copies_at, is_critical}
@@ -140,7 +141,7 @@ wrong_clause one (Some newest) = where_so (is_empty_chunk one || has_single newe
 
 -- a variable stands a second time in the data clauses of a construct
 abbrev pub is_listed : Option Declared → Option Construct → Bool
-is_listed (Some it) (Some newest) = not (is_unmentioned (mention newest.mentions it.slot))
+is_listed (Some it) (Some newest) = is_some (mention newest.mentions it.slot)
 is_listed it newest = false
 
 abbrev pub wrong_uses : Here → Act → List Spot
@@ -153,9 +154,10 @@ wrong_uses here (Clause one) = wrong_clause one here.constructs.newest
 wrong_uses here (Listing name spot which) = where_so (is_listed (found_here here name) here.constructs.newest) spot
 wrong_uses here other = []
 
--- 11: constructs and `return` stand where they may
+-- 11: constructs, `barrier` and `return` stand where they may
 
--- worksharing regions and barriers may stand directly in a parallel construct, or in none
+-- Worksharing regions and barriers may stand directly in a `parallel`, or in no construct. All other constructs are among those in which
+-- they may not stand; `parallel for` and `parallel sections` have the inner one between.
 abbrev pub is_plain_parallel : Directive → Bool
 is_plain_parallel directive.Parallel = true
 is_plain_parallel other = false

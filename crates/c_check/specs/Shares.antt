@@ -1,5 +1,5 @@
 -- How a construct sees a variable (OpenMP 5.2, 5.1), by the constructs around it.
-use Rattle.std.specs.Prelude.{ℕ, ◌==◌, ◌&&◌, ◌||◌, if◌then◌else◌, Bool, true, false, not, List, [], ◌∷◌, ◌++◌, Option, Some, None}
+use Rattle.std.specs.Prelude.{ℕ, ◌==◌, ◌&&◌, ◌||◌, if◌then◌else◌, Bool, true, false, not, List, [], ◌∷◌, ◌++◌, Option, Some, None, is_none}
 use Rattle.c_tokens.specs.declared.token.Spot.{Spot}
 use Rattle.c_syntax.specs.declared.node.Directive.{Directive}
 use Rattle.c_syntax.specs.declared.node.Directive.TheVariants as directive
@@ -42,10 +42,10 @@ abbrev pub is_shared : Sharing → Bool
 is_shared sharing.Shared = true
 is_shared other = false
 
--- a parallel construct shares what it doesn't say otherwise of
-abbrev pub shared_or : Option Sharing → Bool → Bool
-shared_or None other = other
-shared_or (Some own) other = is_shared own
+-- a construct says of a variable that it is shared, or nothing
+abbrev pub is_shared_or_unsaid : Option Sharing → Bool
+is_shared_or_unsaid None = true
+is_shared_or_unsaid (Some own) = is_shared own
 
 -- A variable is shared by a task that says nothing of it, where these constructs are around. Where one of them is parallel, the variable
 -- is declared outside of the innermost such one and shared there, and no construct between makes copies of it. Where none is, it
@@ -53,8 +53,8 @@ shared_or (Some own) other = is_shared own
 abbrev pub shared_inside : Construct → Bool → ℕ → Bool
 shared_inside construct by_rule slot =
     if is_parallel construct.head.directive
-    then not (is_inside construct slot) && shared_or (own_sharing construct slot) true
-    else shared_or (own_sharing construct slot) true && by_rule
+    then not (is_inside construct slot) && is_shared_or_unsaid (own_sharing construct slot)
+    else is_shared_or_unsaid (own_sharing construct slot) && by_rule
 
 unfoldable pub shared_by_rule : List Construct → Bool → ℕ → Bool
 shared_by_rule [] of_file slot = of_file
@@ -78,14 +78,10 @@ sharing_at [] of_file slot = sharing.Shared
 sharing_at (first ∷ around) of_file slot =
     sharing_by (own_sharing first slot) (is_inside first slot) (by_directive first (shared_by_rule around of_file slot) (sharing_at around of_file slot))
 
-abbrev pub is_unnamed : Option Sharing → Bool
-is_unnamed None = true
-is_unnamed (Some own) = false
-
 -- a task has a copy of a variable that it doesn't name, by rule
 abbrev pub copies_by_rule : Construct → Bool → ℕ → Bool
 copies_by_rule construct by_rule slot =
-    is_task construct.head.directive && is_unnamed (own_sharing construct slot)
+    is_task construct.head.directive && is_none (own_sharing construct slot)
     && not (is_inside construct slot || construct.clauses.default_shared || by_rule)
 
 -- the task that stands there has a copy of the variable with a slot by rule

@@ -1,4 +1,4 @@
--- What a place, a call and a `return` are used as.
+-- How a place and a call are used, and whether something stands behind a `return`.
 use Rattle.std.specs.Prelude.{ℕ, List, [], ◌∷◌}
 use Rattle.c_syntax.specs.Tree.{Children}
 use Rattle.c_syntax.specs.Tree.Children.{Child}

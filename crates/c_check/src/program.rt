@@ -88,7 +88,8 @@ impl Program {
     }
 
     /// How a construct sees the variable with a slot (OpenMP 5.2, 5.1). [`Sharing::Shared`] where no construct stands where the node
-    /// begins, or nothing has the slot.
+    /// begins, or nothing has the slot. The variable needn't be in scope: one that is declared behind the beginning of the construct,
+    /// inside it or not, is [`Sharing::Local`], and one declared before is seen as if it were in scope.
     pub fn sharing(&self, construct: u32, slot: u32) -> Sharing
         requires { construct < length self.now.trees }
         ensures { result ≡ sharing_by_node self.now (tree_at self.now.trees construct) slot }

@@ -2,7 +2,7 @@
 
 ghost use Rattle.std.specs.Prelude.{◌≡◌, ◌∷◌, true};
 ghost use Rattle.std.specs.Option.{unwrap_or};
-ghost use Rattle.c_check.specs.Shares.{copies_by_rule, given_by, own_sharing, shared_by_rule, shared_inside, shared_or, sharing_at};
+ghost use Rattle.c_check.specs.Shares.{copies_by_rule, given_by, own_sharing, shared_by_rule, is_shared_or_unsaid, shared_inside, sharing_at};
 
 use crate::acts::act::DataClause;
 use crate::constructs::around::Around;
@@ -104,7 +104,7 @@ fn is_shared_by_rule(mut around: Around<'_>, of_file: bool, slot: u32) -> bool
 
 /// Whether a construct says of a variable that it is shared, or nothing.
 fn shares_or_says_nothing(construct: &Construct, slot: u32) -> bool
-    ensures { result ≡ shared_or (own_sharing construct.now slot) true }
+    ensures { result ≡ is_shared_or_unsaid (own_sharing construct.now slot) }
 {
     match own_sharing(construct, slot) {
         Some(own) => own == Sharing::Shared,
