@@ -2,6 +2,9 @@
 
 ghost use Rattle.std.specs.Prelude.{◌≤◌, length};
 
+use crate::copies::copies;
+use crate::criticals::criticals;
+use crate::loop_parts::loop_parts;
 use crate::place::write_spot;
 use crate::question::Question;
 use crate::refusal::{Refusal, program_of, tree_of};
@@ -26,7 +29,11 @@ pub(crate) fn answer(
         Question::Syntax => syntax(alloc, text),
         Question::Fault => fault(alloc, text),
         Question::Main => main_and_end(alloc, text),
-        Question::Slots | Question::Sharing => return seen_in(alloc, question, text, want),
+        Question::Slots
+        | Question::Sharing
+        | Question::Copies
+        | Question::Criticals
+        | Question::Loop => return seen_in(alloc, question, text, want),
     };
     match answered {
         Ok(told) => Ok(told),
@@ -34,13 +41,16 @@ pub(crate) fn answer(
     }
 }
 
-/// The slots, or how a construct sees variables.
+/// What the program of a text says of its names, variables and constructs.
 fn seen_in(alloc: Global, question: Question, text: &[u8], want: &str) -> Result<String, RowFault>
     requires { length text.now ≤ 65536 }
 {
     match program_of(alloc, text) {
         Ok(program) => match question {
             Question::Slots => seen::slots(alloc, &program, want),
+            Question::Copies => copies(alloc, &program, text, want),
+            Question::Criticals => criticals(alloc, &program),
+            Question::Loop => loop_parts(alloc, &program, want),
             _ => seen::sharing(alloc, &program, want),
         },
         Err(refusal) => refused(alloc, refusal),

@@ -1,9 +1,9 @@
 //! Tables of texts, each with the answer that is wanted of it, and how many of the answers differ.
 //!
 //! A table is read from the standard input. Each of its rows asks a question of a text: its tokens, its tree, its fault, the slots of
-//! its names, or how its constructs see variables. The program prints each row that differs from the answer that is wanted, and then
-//! how many rows there were and how many of them differ. A line that can't be read counts as a row that differs. `Tally::add` has
-//! clauses; all else is only tested.
+//! its names, how its constructs see variables, what its tasks copy, the numbers of its criticals, or the parts of its loops. The
+//! program prints each row that differs from the answer that is wanted, and then how many rows there were and how many of them differ.
+//! A line that can't be read counts as a row that differs. `Tally::add` has clauses on its counts; the answers are only tested.
 //!
 //! # Lines
 //!
@@ -31,9 +31,12 @@
 //! | `main` | the number of the name `main` in the tree, and the place where the text ends |
 //! | `slots` | `NAME@PLACE=SLOT` for each name that the answer speaks of |
 //! | `sharing` | the place of a construct, and `NAME:SLOT=SHARING` for each variable that the answer speaks of |
+//! | `copies` | the place of a task, and `NAME:SLOT` for each variable that it copies, or `none` |
+//! | `criticals` | `PLACE=NUMBER` for each critical, an inner one before the one around it, and `count=COUNT` |
+//! | `loop` | a construct's place, those of its loop's `variable`, `start`, `end` and `body`, the comparison and `step`, or `none` |
 //!
-//! A place is a line and a column, as `3:1`. Any question is answered by the number of a fault and its place, as `10 at 3:1`, where the
-//! text doesn't come so far.
+//! A place is a line and a column, as `3:1`. Where no construct stands at the place of an answer, `no construct` follows in it. Any
+//! question is answered by the number of a fault and its place, as `10 at 3:1`, where the text doesn't come so far.
 //!
 //! # Texts
 //!
@@ -41,7 +44,11 @@
 #![tactic(auto)]
 
 mod answer;
+mod construct;
+mod copies;
+mod criticals;
 mod frame;
+mod loop_parts;
 mod pattern;
 mod place;
 mod question;

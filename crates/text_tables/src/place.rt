@@ -16,3 +16,11 @@ pub(crate) fn write_spot(told: &mut String, spot: Spot) -> Result<(), AllocError
     let Spot { line, column } = spot;
     write!(told, "{line}:{column}")
 }
+
+/// What stands before a sign, or all where it doesn't stand.
+pub(crate) fn before(item: &str, sign: char) -> &str {
+    match item.split_once(sign) {
+        Some((front, _)) => front,
+        None => item,
+    }
+}

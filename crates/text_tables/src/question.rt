@@ -17,6 +17,12 @@ pub(crate) enum Question {
     Slots,
     /// How constructs see variables.
     Sharing,
+    /// What a task copies by rule.
+    Copies,
+    /// The numbers of criticals.
+    Criticals,
+    /// The parts of a loop that is shared out.
+    Loop,
 }
 
 impl Question {
@@ -30,6 +36,9 @@ impl Question {
             "main" => Some(Question::Main),
             "slots" => Some(Question::Slots),
             "sharing" => Some(Question::Sharing),
+            "copies" => Some(Question::Copies),
+            "criticals" => Some(Question::Criticals),
+            "loop" => Some(Question::Loop),
             _ => None,
         }
     }

@@ -1,9 +1,9 @@
 //! What a program says of names and variables, as far as an answer speaks of them.
 
-use crate::place::spot_of;
+use crate::construct::construct_at;
+use crate::place::{before, spot_of};
 use crate::row_fault::RowFault;
 use c_check::Program;
-use c_syntax::NodeKind;
 use c_tokens::Spot;
 use std::alloc::Global;
 
@@ -38,14 +38,6 @@ pub(crate) fn sharing(alloc: Global, program: &Program, want: &str) -> Result<St
     Ok(told)
 }
 
-/// What stands before a sign, or all where it doesn't stand.
-fn before(item: &str, sign: char) -> &str {
-    match item.split_once(sign) {
-        Some((front, _)) => front,
-        None => item,
-    }
-}
-
 /// Begins the next part of an answer.
 fn part(told: &mut String, asked: &str) -> Result<(), RowFault> {
     if !told.is_empty() {
@@ -74,14 +66,12 @@ fn write_sharing(
     spot: Spot,
     slot: u32,
 ) -> Result<(), RowFault> {
-    let tree = program.tree();
-    for node in 0..=tree.root() {
-        if matches!(tree.kind(node), NodeKind::Construct(_)) && tree.spot(node) == spot {
-            let sharing = program.sharing(node, slot);
+    match construct_at(program, spot) {
+        Some(construct) => {
+            let sharing = program.sharing(construct, slot);
             write!(told, "{sharing:?}")?;
-            return Ok(());
         }
+        None => told.push_str("no construct")?,
     }
-    told.push_str("no construct")?;
     Ok(())
 }
