@@ -1,0 +1,4 @@
+pub mod Watching
+pub mod Values
+pub mod Examples
+pub mod Waiting

@@ -1,0 +1,16 @@
+pub mod Parts
+pub mod Program
+pub mod Cells
+pub mod Value
+pub mod Text
+pub mod Clauses
+pub mod Loops
+pub mod Task
+pub mod Copies
+pub mod Coming
+pub mod Calls
+pub mod Statements
+pub mod Constructs
+pub mod Step
+pub mod Going
+pub mod Begin
