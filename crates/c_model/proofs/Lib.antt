@@ -2,3 +2,4 @@ pub mod Watching
 pub mod Values
 pub mod Examples
 pub mod Waiting
+pub mod Tasks

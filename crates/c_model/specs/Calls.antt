@@ -12,7 +12,8 @@ use Rattle.c_model.specs.declared.point.Point.TheVariants.{LockDestroy, LockInit
 use Rattle.c_model.specs.declared.point.Target.{Target}
 use Rattle.c_model.specs.declared.point.Target.TheVariants as target
 use Rattle.c_check.specs.Seen.{slot_of_name}
-use Rattle.c_model.specs.Parts.{child, flat_declarations, parts}
+use Rattle.c_check.specs.Loops.{child_at}
+use Rattle.c_model.specs.Parts.{flat_declarations, parts}
 use Rattle.c_model.specs.Program.{body_of, file_variables, function_named, parameters_of, place_of}
 use Rattle.c_model.specs.Cells.{Bound, Entry, entry_of, has_too_many, with_cells, with_declarators}
 use Rattle.c_model.specs.Value.{all_values, cell_of}
@@ -96,7 +97,7 @@ returns here number = returns_to here.task.calls here number
 
 -- the wait identifier of the lock that a call names
 abbrev pub lock_id : Here → Tree → ℕ
-lock_id here call = LOCK_UNIT + (entry_of here.task.env (name_of (child call 0))).first
+lock_id here call = LOCK_UNIT + (entry_of here.task.env (name_of (child_at call 0))).first
 
 -- `omp_test_lock` begins with its event
 abbrev pub begin_test : Here → Tree → Target → Outcome
@@ -109,18 +110,18 @@ begin_right other here call env to = begin_call here call env to
 
 -- a call that is a statement
 abbrev pub begin_called : Here → Tree → Outcome
-begin_called here tree = begin_right (kind_of (child tree 0)) here (child tree 0) here.task.env target.Nowhere
+begin_called here tree = begin_right (kind_of (child_at tree 0)) here (child_at tree 0) here.task.env target.Nowhere
 
 -- an assignment of a call: first the cell, and then the call
 abbrev pub begin_set_call : Here → Tree → Outcome
 begin_set_call here tree =
-    with_result (cell_of (scope_of here) (child tree 0)) (λ cell.
-    begin_right (kind_of (child tree 1)) here (child tree 1) here.task.env (target.Cell cell))
+    with_result (cell_of (scope_of here) (child_at tree 0)) (λ cell.
+    begin_right (kind_of (child_at tree 1)) here (child_at tree 1) here.task.env (target.Cell cell))
 
 -- the call of a declarator whose cell was made. Its variable comes into scope behind it
 abbrev pub begin_initialise : Here → Tree → Entry → Outcome
 begin_initialise here tree entry =
-    begin_right (kind_of (child tree 0)) here (child tree 0) (here.task.env ++ entry ∷ []) (target.Cell entry.first)
+    begin_right (kind_of (child_at tree 0)) here (child_at tree 0) (here.task.env ++ entry ∷ []) (target.Cell entry.first)
 
 -- `return`, of nothing, of a call, or of an expression
 abbrev pub begin_return_of : NodeKind → Here → Tree → Outcome
@@ -130,7 +131,7 @@ begin_return_of other here right = with_result (value_here here right) (λ numbe
 
 -- a return of nothing gives 0
 abbrev pub begin_return : Here → Tree → Outcome
-begin_return here tree = begin_return_of (kind_of (child tree 0)) here (child tree 0)
+begin_return here tree = begin_return_of (kind_of (child_at tree 0)) here (child_at tree 0)
 
 -- the end of `omp_test_lock`: a silent step that gives 1 where the lock came to be owned
 abbrev pub ends_test : Here → Target → Outcome

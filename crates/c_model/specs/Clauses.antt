@@ -11,11 +11,13 @@ use Rattle.c_syntax.specs.Tree.{Tree, kind_of, name_of, number_of}
 use Rattle.c_syntax.specs.Derivation.{nothing}
 use Rattle.c_model.specs.declared.point.Schedule.{Schedule}
 use Rattle.c_model.specs.declared.point.Schedule.TheVariants.{Static, Dynamic, Guided}
-use Rattle.c_model.specs.Parts.{child, parts}
+use Rattle.c_check.specs.Loops.{child_at}
+use Rattle.c_check.specs.Statements.{is_head}
+use Rattle.c_model.specs.Parts.{parts}
 
 -- what the clauses are, in the order of the text
 abbrev pub clause_in : NodeKind → Tree → List Tree
-clause_in (node.Clause lead) tree = child tree 0 ∷ []
+clause_in (node.Clause lead) tree = child_at tree 0 ∷ []
 clause_in other tree = []
 
 unfoldable pub clauses_among : List Tree → List Tree
@@ -26,21 +28,16 @@ abbrev pub clauses_of : Tree → List Tree
 clauses_of construct = clauses_among (parts construct)
 
 -- the statement of a construct, which stands behind its clauses and the name of a critical, or the sections
-abbrev pub is_of_head : NodeKind → Bool
-is_of_head (node.Clause lead) = true
-is_of_head node.Name = true
-is_of_head other = false
-
 unfoldable pub statements_among : List Tree → List Tree
 statements_among [] = []
-statements_among (tree ∷ trees) = if is_of_head (kind_of tree) then statements_among trees else tree ∷ statements_among trees
+statements_among (tree ∷ trees) = if is_head (kind_of tree) then statements_among trees else tree ∷ statements_among trees
 
 abbrev pub statement_of : Tree → Tree
 statement_of construct = slice_index_or (statements_among (parts construct)) 0 nothing
 
 -- what a section executes. The first one may be a statement without a `section` before it
 abbrev pub section_statement : NodeKind → Tree → Tree
-section_statement node.Section tree = child tree 0
+section_statement node.Section tree = child_at tree 0
 section_statement other tree = tree
 
 abbrev pub sections_of : Tree → List Tree
@@ -49,7 +46,7 @@ sections_of construct = map (λ (tree : Tree). section_statement (kind_of tree) 
 -- the expression of the first clause of a kind
 unfoldable pub expression_among : (NodeKind → Bool) → List Tree → Option Tree
 expression_among is_kind [] = None
-expression_among is_kind (clause ∷ clauses) = if is_kind (kind_of clause) then Some (child clause 0) else expression_among is_kind clauses
+expression_among is_kind (clause ∷ clauses) = if is_kind (kind_of clause) then Some (child_at clause 0) else expression_among is_kind clauses
 
 abbrev pub is_num_threads : NodeKind → Bool
 is_num_threads node.NumThreads = true

@@ -2,13 +2,13 @@
 -- of the loop that it shares out, and in a task for what the task copies by rule. Each comes into scope under the name of the variable around.
 use Rattle.std.specs.Prelude.{ℕ, ◌==◌, ◌||◌, ◌^◌, ◌-◌, if◌then◌else◌, Bool, true, false, not, List, [], ◌∷◌, ◌++◌, replicate, ℤ, pos, negsuc}
 use Rattle.std.specs.List.{filter}
-use Rattle.c_syntax.specs.declared.node.Directive.TheVariants as directive
 use Rattle.c_syntax.specs.declared.node.ReductionOp.{ReductionOp}
 use Rattle.c_syntax.specs.declared.node.ReductionOp.TheVariants as reduction
 use Rattle.c_syntax.specs.declared.node.NodeKind.{NodeKind}
 use Rattle.c_syntax.specs.declared.node.NodeKind.TheVariants as node
 use Rattle.c_syntax.specs.Tree.{Tree, kind_of, name_of}
 use Rattle.c_syntax.specs.Numbered.{TreeView}
+use Rattle.c_check.specs.Statements.{shares_loop}
 use Rattle.c_check.specs.Seen.{slot_of_name, task_copies}
 use Rattle.c_model.specs.Cells.{Bound, Entry, entry_at_slot, entry_of, numbers_of, with_cells}
 use Rattle.c_model.specs.Clauses.{Copying, Listed, clauses_of, listed_among}
@@ -18,13 +18,12 @@ use Rattle.c_model.specs.Task.{Item}
 use Rattle.c_model.specs.Task.Item.{Combine, MakeCells}
 
 -- the construct shares out a loop
-abbrev pub shares_loop : NodeKind → Bool
-shares_loop (node.Construct directive.For) = true
-shares_loop (node.Construct directive.ParallelFor) = true
-shares_loop other = false
+abbrev pub is_loop_construct : NodeKind → Bool
+is_loop_construct (node.Construct which) = shares_loop which
+is_loop_construct other = false
 
 abbrev pub is_loop : Tree → Bool
-is_loop construct = shares_loop (kind_of construct)
+is_loop construct = is_loop_construct (kind_of construct)
 
 -- the variables that the clauses of a construct list. A loop's variable is private whatever its directive's clauses say of it, so they are passed over
 -- where they name it

@@ -18,7 +18,7 @@ use Rattle.c_model.specs.declared.point.Work.TheVariants as work
 use Rattle.c_model.specs.declared.point.WorkKind.TheVariants as work_kind
 use Rattle.c_model.specs.declared.question.Answer.{Answer}
 use Rattle.c_model.specs.declared.question.Answer.TheVariants as answer
-use Rattle.c_model.specs.Parts.{child}
+use Rattle.c_check.specs.Loops.{child_at}
 use Rattle.c_model.specs.Cells.{Entry}
 use Rattle.c_model.specs.Clauses.{has_nowait, sections_of, statement_of}
 use Rattle.c_model.specs.Copies.{combines, makes_cells}
@@ -99,10 +99,10 @@ mutex_items mutex.Critical tree id to = Acquire tree mutex.Critical id ∷ Start
 
 -- the tree at which an event stands: a construct or directive, or the call in a statement
 abbrev pub call_in : NodeKind → Tree → Tree
-call_in node.SetCall tree = child tree 1
-call_in node.Called tree = child tree 0
-call_in node.Return tree = child tree 0
-call_in node.LocalSet tree = child tree 0
+call_in node.SetCall tree = child_at tree 1
+call_in node.Called tree = child_at tree 0
+call_in node.Return tree = child_at tree 0
+call_in node.LocalSet tree = child_at tree 0
 call_in other tree = tree
 
 abbrev pub tree_at_event : Item → Tree

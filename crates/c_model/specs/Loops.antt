@@ -7,30 +7,30 @@ use Rattle.c_syntax.specs.declared.node.Setting.TheVariants as setting
 use Rattle.c_syntax.specs.declared.node.NodeKind.{NodeKind}
 use Rattle.c_syntax.specs.declared.node.NodeKind.TheVariants as node
 use Rattle.c_syntax.specs.Tree.{Tree, kind_of, number_of}
-use Rattle.c_model.specs.Parts.{child}
+use Rattle.c_check.specs.Loops.{child_at}
 use Rattle.c_model.specs.Clauses.{statement_of}
 
 abbrev pub loop_first : Tree → Tree
-loop_first construct = child (statement_of construct) 0
+loop_first construct = child_at (statement_of construct) 0
 
 abbrev pub loop_test : Tree → Tree
-loop_test construct = child (statement_of construct) 1
+loop_test construct = child_at (statement_of construct) 1
 
 abbrev pub loop_third : Tree → Tree
-loop_third construct = child (statement_of construct) 2
+loop_third construct = child_at (statement_of construct) 2
 
 abbrev pub loop_body : Tree → Tree
-loop_body construct = child (statement_of construct) 3
+loop_body construct = child_at (statement_of construct) 3
 
 -- the variable, where it is assigned or declared
 abbrev pub loop_variable : Tree → Tree
-loop_variable construct = child (loop_first construct) 0
+loop_variable construct = child_at (loop_first construct) 0
 
 abbrev pub loop_start : Tree → Tree
-loop_start construct = child (loop_first construct) 1
+loop_start construct = child_at (loop_first construct) 1
 
 abbrev pub loop_end : Tree → Tree
-loop_end construct = child (loop_test construct) 1
+loop_end construct = child_at (loop_test construct) 1
 
 -- the loop declares its variable
 abbrev pub is_declaration : NodeKind → Bool
@@ -46,7 +46,7 @@ change_by (node.Assign setting.Subtract) number = neg_ℤ (pos number)
 change_by other number = pos 0
 
 abbrev pub loop_step : Tree → ℤ
-loop_step construct = change_by (kind_of (loop_third construct)) (number_of (child (loop_third construct) 1))
+loop_step construct = change_by (kind_of (loop_third construct)) (number_of (child_at (loop_third construct) 1))
 
 -- how far a number is above another one; 0 where it isn't above
 abbrev pub positive_part : ℤ → ℕ

@@ -1,14 +1,9 @@
--- The parts of a tree: children by their places, and lists of them. A child that is missing is a program without anything.
-use Rattle.std.specs.Prelude.{ℕ, Bool, List, [], ◌∷◌, ◌++◌, is_some, unwrap_or}
+-- The parts of a tree: which children there are, and lists of them.
+use Rattle.std.specs.Prelude.{ℕ, Bool, List, [], ◌∷◌, ◌++◌, is_some}
 use Rattle.c_syntax.specs.declared.node.NodeKind.{NodeKind}
 use Rattle.c_syntax.specs.declared.node.NodeKind.TheVariants as node
 use Rattle.c_syntax.specs.Tree.{Tree, Children, child_of, children_of, kind_of}
 use Rattle.c_syntax.specs.Tree.Children.{Over, Child, Absent}
-use Rattle.c_syntax.specs.Derivation.{nothing}
-
--- the child at a place, counted from 0
-abbrev pub child : Tree → ℕ → Tree
-child tree place = unwrap_or (child_of tree place) nothing
 
 abbrev pub has_child : Tree → ℕ → Bool
 has_child tree place = is_some (child_of tree place)

@@ -6,7 +6,8 @@ use Rattle.c_syntax.specs.Tree.{Tree, kind_of, name_of, spot_of}
 use Rattle.c_syntax.specs.Numbered.{TreeView, root_tree}
 use Rattle.c_syntax.specs.Derivation.{nothing}
 use Rattle.c_model.specs.declared.limits.TheConstants.{LINE_UNIT}
-use Rattle.c_model.specs.Parts.{child, parts}
+use Rattle.c_check.specs.Loops.{child_at}
+use Rattle.c_model.specs.Parts.{parts}
 
 -- the place of a tree as tools are told it
 abbrev pub place_of : Tree → ℕ
@@ -18,7 +19,7 @@ is_function (node.Function returns) = true
 is_function other = false
 
 abbrev pub is_function_named : ℕ → Tree → Bool
-is_function_named name tree = if is_function (kind_of tree) then name_of (child tree 0) == name else false
+is_function_named name tree = if is_function (kind_of tree) then name_of (child_at tree 0) == name else false
 
 unfoldable pub function_among : ℕ → List Tree → Tree
 function_among name [] = nothing
@@ -28,10 +29,10 @@ abbrev pub function_named : TreeView → ℕ → Tree
 function_named program name = function_among name (parts (root_tree program))
 
 abbrev pub parameters_of : Tree → List Tree
-parameters_of function = parts (child function 1)
+parameters_of function = parts (child_at function 1)
 
 abbrev pub body_of : Tree → Tree
-body_of function = child function 2
+body_of function = child_at function 2
 
 -- the declarations of variables and locks of the file
 abbrev pub is_of_variables : NodeKind → Bool

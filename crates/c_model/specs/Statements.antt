@@ -10,7 +10,8 @@ use Rattle.c_syntax.specs.declared.node.NodeKind.TheVariants as node
 use Rattle.c_syntax.specs.Tree.{Tree, kind_of, name_of, text_of}
 use Rattle.c_model.specs.declared.limits.TheConstants.{CELLS, TEXT, TEXT_LIMIT}
 use Rattle.c_check.specs.Seen.{slot_of_name}
-use Rattle.c_model.specs.Parts.{child, flat_declarations, has_child, parts}
+use Rattle.c_check.specs.Loops.{child_at}
+use Rattle.c_model.specs.Parts.{flat_declarations, has_child, parts}
 use Rattle.c_model.specs.Cells.{cell_at, has_too_many, new_entry, with_cells, with_declarator}
 use Rattle.c_model.specs.Value.{all_values, binary_value, cell_of, is_zero}
 use Rattle.c_model.specs.Text.{printed_text}
@@ -53,20 +54,20 @@ begin_set_to_value here named expression items =
 abbrev pub begin_local_set : NodeKind → Here → Tree → Outcome
 begin_local_set node.Call here tree = begin_set_to_call here tree
 begin_local_set node.TestLock here tree = begin_set_to_call here tree
-begin_local_set other here tree = begin_set_to_value here tree (child tree 0) []
+begin_local_set other here tree = begin_set_to_value here tree (child_at tree 0) []
 
 -- the branch of an `if` that is taken
 abbrev pub branch_taken : Tree → ℤ → List Item
 branch_taken tree number =
-    if is_zero number then (if has_child tree 2 then Start (child tree 2) ∷ [] else []) else Start (child tree 1) ∷ []
+    if is_zero number then (if has_child tree 2 then Start (child_at tree 2) ∷ [] else []) else Start (child_at tree 1) ∷ []
 
 abbrev pub begin_if : Here → Tree → Outcome
-begin_if here tree = with_result (value_here here (child tree 0)) (λ number. goes_on here (branch_taken tree number))
+begin_if here tree = with_result (value_here here (child_at tree 0)) (λ number. goes_on here (branch_taken tree number))
 
 abbrev pub begin_while : Here → Tree → Outcome
 begin_while here tree =
-    with_result (value_here here (child tree 0)) (λ number.
-    goes_on here (if is_zero number then [] else Start (child tree 1) ∷ Start tree ∷ []))
+    with_result (value_here here (child_at tree 0)) (λ number.
+    goes_on here (if is_zero number then [] else Start (child_at tree 1) ∷ Start tree ∷ []))
 
 -- what an assignment puts into its cell, by what the cell holds and the value of its right side
 abbrev pub new_number : Setting → ℤ → Result ℤ ℕ → Result ℤ ℕ
@@ -89,29 +90,29 @@ assigns here which place right items =
 
 -- a step of a loop's head, or that is a statement; one that is absent does nothing
 abbrev pub makes_step : NodeKind → Here → Tree → List Item → Outcome
-makes_step (node.Assign which) here tree items = assigns here which (child tree 0) (value_here here (child tree 1)) items
-makes_step (node.Bump which side) here tree items = assigns here (setting_of which) (child tree 0) (Ok (pos 1)) items
-makes_step node.Init here tree items = begin_set_to_value here (child tree 0) (child tree 1) items
+makes_step (node.Assign which) here tree items = assigns here which (child_at tree 0) (value_here here (child_at tree 1)) items
+makes_step (node.Bump which side) here tree items = assigns here (setting_of which) (child_at tree 0) (Ok (pos 1)) items
+makes_step node.Init here tree items = begin_set_to_value here (child_at tree 0) (child_at tree 1) items
 makes_step other here tree items = goes_on here items
 
 abbrev pub begin_step : Here → Tree → Outcome
-begin_step here tree = makes_step (kind_of (child tree 0)) here (child tree 0) []
+begin_step here tree = makes_step (kind_of (child_at tree 0)) here (child_at tree 0) []
 
 -- a plain `for` begins with its first part, and then its test stands next
 abbrev pub begin_for : Here → Tree → Outcome
-begin_for here tree = makes_step (kind_of (child tree 0)) here (child tree 0) (Test tree (length here.task.env) ∷ [])
+begin_for here tree = makes_step (kind_of (child_at tree 0)) here (child_at tree 0) (Test tree (length here.task.env) ∷ [])
 
 -- a test that is absent is true
 abbrev pub test_value : Here → Tree → Result ℤ ℕ
-test_value here tree = if has_child tree 1 then value_here here (child tree 1) else Ok (pos 1)
+test_value here tree = if has_child tree 1 then value_here here (child_at tree 1) else Ok (pos 1)
 
 abbrev pub test_for : Here → Tree → ℕ → Outcome
 test_for here tree names =
     with_result (test_value here tree) (λ number.
-    if is_zero number then goes_on_with here names [] else goes_on here (Start (child tree 3) ∷ Third tree names ∷ []))
+    if is_zero number then goes_on_with here names [] else goes_on here (Start (child_at tree 3) ∷ Third tree names ∷ []))
 
 abbrev pub third_for : Here → Tree → ℕ → Outcome
-third_for here tree names = makes_step (kind_of (child tree 2)) here (child tree 2) (Test tree names ∷ [])
+third_for here tree names = makes_step (kind_of (child_at tree 2)) here (child_at tree 2) (Test tree names ∷ [])
 
 -- `printf`: its numbers from left to right, and then its text
 abbrev pub prints : Here → List ℕ → Outcome

@@ -18,7 +18,7 @@ use Rattle.c_model.specs.Task.Outcome.{Asks, Ends}
 use Rattle.c_model.specs.Statements.{begin_block, begin_declarator, begin_empty, begin_for, begin_if, begin_local_set, begin_print, begin_step, begin_while, leave_block, test_for, third_for}
 use Rattle.c_model.specs.Calls.{begin_called, begin_initialise, begin_lock_call, begin_return, begin_set_call, ends_test, returns}
 use Rattle.c_model.specs.Constructs.{acquires, begin_critical, begin_iteration, begin_loop, begin_masked, begin_parallel, begin_sections, begin_single, begin_task, combine, end_masked, end_parallel, end_work, make_cells, next_chunk, next_section, releases, synchronises}
-use Rattle.c_model.specs.Parts.{child}
+use Rattle.c_check.specs.Loops.{child_at}
 
 abbrev pub begin_standalone : Standalone → Tree → Outcome
 begin_standalone standalone.Barrier tree = synchronises tree sync.Barrier stage.RegionBegin
@@ -42,7 +42,7 @@ abbrev pub begin_statement : NodeKind → Here → Tree → Outcome
 begin_statement node.Name here tree = begin_declarator here tree
 begin_statement node.LocalVar here tree = begin_declarator here tree
 begin_statement node.LocalArray here tree = begin_declarator here tree
-begin_statement node.LocalSet here tree = begin_local_set (kind_of (child tree 0)) here tree
+begin_statement node.LocalSet here tree = begin_local_set (kind_of (child_at tree 0)) here tree
 begin_statement node.Empty here tree = begin_empty here
 begin_statement node.Block here tree = begin_block here tree
 begin_statement node.If here tree = begin_if here tree
@@ -122,9 +122,9 @@ is_test node.TestLock = true
 is_test other = false
 
 abbrev pub is_event_statement : NodeKind → Tree → Bool
-is_event_statement node.SetCall tree = is_test (kind_of (child tree 1))
-is_event_statement node.Called tree = is_test (kind_of (child tree 0))
-is_event_statement node.Return tree = is_test (kind_of (child tree 0))
+is_event_statement node.SetCall tree = is_test (kind_of (child_at tree 1))
+is_event_statement node.Called tree = is_test (kind_of (child_at tree 0))
+is_event_statement node.Return tree = is_test (kind_of (child_at tree 0))
 is_event_statement (node.LockCall which) tree = true
 is_event_statement (node.Standalone which) tree = true
 is_event_statement (node.Construct which) tree = true
@@ -137,7 +137,7 @@ is_inside_event other = false
 
 abbrev pub is_event : Item → Bool
 is_event (Start tree) = is_event_statement (kind_of tree) tree
-is_event (Initialise tree entry) = is_test (kind_of (child tree 0))
+is_event (Initialise tree entry) = is_test (kind_of (child_at tree 0))
 is_event (Forked construct) = true
 is_event (Inside construct) = is_inside_event (kind_of construct)
 is_event (EndWork construct kind count names) = true

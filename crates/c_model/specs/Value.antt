@@ -14,7 +14,8 @@ use Rattle.c_syntax.specs.Tree.Tree.{Node}
 use Rattle.c_syntax.specs.Tree.Children.{Over, Child, Absent}
 use Rattle.c_model.specs.declared.traps.TheConstants.{OVERFLOW, ZERO_DIVIDE, INDEX}
 use Rattle.c_model.specs.declared.view.View.{View}
-use Rattle.c_model.specs.Parts.{child, has_child}
+use Rattle.c_check.specs.Loops.{child_at}
+use Rattle.c_model.specs.Parts.{has_child}
 use Rattle.c_model.specs.Cells.{Entry, entry_of, cell_at, fits_cell}
 
 -- what an expression is evaluated in
@@ -148,7 +149,7 @@ all_values scope (tree ∷ trees) = value_before (value scope tree) (all_values 
 
 -- the cell of a place that is assigned
 abbrev pub index_of : Scope → Tree → Option (Result ℤ ℕ)
-index_of scope place = if has_child place 0 then Some (value scope (child place 0)) else None
+index_of scope place = if has_child place 0 then Some (value scope (child_at place 0)) else None
 
 abbrev pub cell_of : Scope → Tree → Result ℕ ℕ
 cell_of scope place = place_cell (entry_of scope.env (name_of place)) (index_of scope place)
