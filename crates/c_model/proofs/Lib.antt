@@ -3,3 +3,5 @@ pub mod Values
 pub mod Examples
 pub mod Waiting
 pub mod Tasks
+pub mod Standing
+pub mod Settled

@@ -13,4 +13,5 @@ pub mod Statements
 pub mod Constructs
 pub mod Step
 pub mod Going
+pub mod Standing
 pub mod Begin
