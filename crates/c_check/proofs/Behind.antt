@@ -1,5 +1,6 @@
 -- The children from a place on: the one at the place, and those behind it.
 use Rattle.std.proofs.Common.{◌≡◌, ℕ, zero, suc, ◌+◌, List, Option, Some, None, true, false, refl, sym, ap, ◌∙◌, ◌<◌, add-one, arith}
+use Rattle.std.specs.Prelude.{Result, Ok, Err, OnErr}
 use Rattle.std.specs.Option.{option_map, is_some}
 use Rattle.c_syntax.specs.Tree.{Tree, Children, at_place, kind_of}
 use Rattle.c_syntax.specs.Tree.Children.{Over, Child, Absent}
@@ -47,6 +48,10 @@ module _ (trees : List Tree) (children : Children) (place : ℕ) where
   unfolding child_count
   count_found next child at after = omega (arith, ap child_count (behind_child children place next (tree_at trees child) at after))
 
+  pub count_here : (next child : ℕ) → Some (tree_at trees child) ≡ at_place children place → next ≡ place + 1 → child_count (from_place place children) ≡ child_count (from_place next children) + 1
+  unfolding child_count
+  count_here next child at after = ap child_count (behind_child children place next (tree_at trees child) at after)
+
   -- the statement of a construct is the first child that isn't a head
   pub statement_none : None ≡ at_place children place → statement_of (from_place place children) ≡ nothing
   unfolding statement_of
@@ -59,3 +64,8 @@ module _ (trees : List Tree) (children : Children) (place : ℕ) where
   pub statement_behind : (next child : ℕ) → Some (tree_at trees child) ≡ at_place children place → next ≡ place + 1 → is_head (kind_of (tree_at trees child)) ≡ true → statement_of (from_place next children) ≡ statement_of (from_place place children)
   unfolding statement_of
   statement_behind next child at after head = sym (ap statement_of (behind_child children place next (tree_at trees child) at after) ∙ rw head refl)
+
+-- what holds anyway holds at an error
+pub on_err : {T E P : Type 0} (result : Result T E) → P → OnErr result P
+on_err (Ok value) holds = tt
+on_err (Err error) holds = holds

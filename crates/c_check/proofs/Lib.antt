@@ -1,5 +1,6 @@
 pub mod Found
 mod Breaking
+mod Nearest
 pub mod Earliest
 pub mod Places
 pub mod Copying

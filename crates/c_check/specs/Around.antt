@@ -1,6 +1,7 @@
 -- How constructs are kept: by numbers.
 use Rattle.std.specs.Prelude.{◌≡◌, ℕ, ◌<◌, List, [], ◌∷◌, length, map, reverse, slice_index_or}
 use Rattle.c_tokens.specs.declared.token.Spot.{Spot}
+use Rattle.c_tokens.specs.Faults.{nowhere}
 use Rattle.c_syntax.specs.declared.node.Directive.TheVariants as directive
 use Rattle.c_check.specs.declared.constructs.parts.EndedNumber.{EndedNumber}
 use Rattle.c_check.specs.Constructs.{Construct, EndedConstruct, begun_construct}
@@ -8,7 +9,7 @@ use Rattle.c_check.specs.Spots.{spots_of}
 
 -- a construct that isn't there
 abbrev pub no_construct : Construct
-no_construct = begun_construct (record { line = 0; column = 0 }) directive.Parallel 0 0
+no_construct = begun_construct nowhere directive.Parallel 0 0
 
 -- the constructs with some numbers
 abbrev pub numbered : List Construct → List ℕ → List Construct

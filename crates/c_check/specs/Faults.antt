@@ -1,6 +1,7 @@
 -- Faults: their numbers, their places, and which of several is told.
 use Rattle.std.specs.Prelude.{ℕ, ◌==◌, nat_lt, ◌&&◌, ◌||◌, if◌then◌else◌, Bool, List, [], ◌∷◌, Option, Some, None}
 use Rattle.c_tokens.specs.declared.token.Spot.{Spot}
+use Rattle.c_tokens.specs.Faults.{nowhere}
 use Rattle.c_check.specs.declared.fault.CheckFault.{CheckFault}
 use Rattle.c_check.specs.declared.fault.CheckFault.TheVariants as fault
 
@@ -23,7 +24,7 @@ fault_spot (fault.BadNesting spot) = spot
 fault_spot (fault.BadLoop spot) = spot
 fault_spot (fault.NoMain spot) = spot
 fault_spot (fault.NotListed spot) = spot
-fault_spot fault.Memory = record { line = 0; column = 0 }
+fault_spot fault.Memory = nowhere
 
 -- a fault is told before another: its place comes first, or at one place its number is less
 abbrev pub is_earlier : Spot → Spot → Bool

@@ -5,6 +5,8 @@ pub mod Printed
 pub mod Usages
 pub mod Clauses
 pub mod Statements
+pub mod LoopParts
+pub mod SharedLoops
 pub mod Acts
 pub mod Once
 pub mod Declarations
@@ -15,6 +17,7 @@ pub mod Cells
 pub mod Rules
 pub mod Checked
 pub mod First
+pub mod Nearest
 pub mod Seen
 pub mod Tasks
 pub mod Weights

@@ -3,7 +3,7 @@
 ghost use Rattle.std.specs.Prelude.{◌≡◌};
 ghost use Rattle.c_check.specs.Faults.{fault_number, fault_spot};
 
-use c_tokens::Spot;
+use c_tokens::{NOWHERE, Spot};
 use thiserror::Error;
 
 /// The rule that a program breaks, and the place: that of the name, the call, the directive or the statement that breaks it.
@@ -36,7 +36,7 @@ pub enum CheckFault {
 }
 
 impl CheckFault {
-    /// The number of the rule, 8 to 14; 0 for want of memory.
+    /// The number that tells the fault: 8 to 14, in the order above, and 0 for want of memory.
     pub fn number(&self) -> u32
         ensures { result ≡ fault_number self.now }
     {
@@ -52,7 +52,7 @@ impl CheckFault {
         }
     }
 
-    /// The place of what breaks the rule; line 0 and column 0 for want of memory.
+    /// The place of the fault: 0:0 for want of memory.
     pub fn spot(&self) -> Spot
         ensures { result ≡ fault_spot self.now }
     {
@@ -64,7 +64,7 @@ impl CheckFault {
             | CheckFault::BadLoop(spot)
             | CheckFault::NoMain(spot)
             | CheckFault::NotListed(spot) => *spot,
-            CheckFault::Memory => Spot { line: 0, column: 0 },
+            CheckFault::Memory => NOWHERE,
         }
     }
 }

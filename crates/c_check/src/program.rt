@@ -1,12 +1,15 @@
 //! A program that breaks no rule.
 
-ghost use Rattle.std.specs.Prelude.{◌≡◌, ◌<◌, length};
+ghost use Rattle.std.specs.Prelude.{◌≡◌, ◌<◌, ◌⊎◌, None, Some, length, IfNone, IfSome};
 ghost use Rattle.c_syntax.specs.Numbered.{tree_at};
 ghost use Rattle.c_check.specs.Checked.{Checked, end_of};
+ghost use Rattle.c_check.specs.LoopParts.{HasTooManyChildren, loop_parts};
 ghost use Rattle.c_check.specs.Seen.{critical_count, critical_number, sharing_by_node, slot_of_name, task_copies};
+ghost use Rattle.c_check.specs.SharedLoops.{IsBefore, loop_at};
 ghost use Rattle.c_check.specs.Standing.{Stands};
 
 use crate::acts::directive::critical_name;
+use crate::acts::loop_parts::{SharedLoop, shared_loop};
 use crate::constructs::arena::Constructs;
 use crate::constructs::criticals::Criticals;
 use crate::constructs::task_copies::TaskCopies;
@@ -111,6 +114,17 @@ impl Program {
             }
             _ => &[],
         }
+    }
+
+    /// The parts of the loop that a construct shares out. `None` for a node that is no `for` or `parallel for`; where it is one, its loop
+    /// is of the form, as no rule is broken.
+    pub fn shared_loop(&self, construct: u32) -> Option<SharedLoop>
+        requires { construct < length self.now.trees }
+        ensures parts { IfSome result (λ found. loop_parts (tree_at self.now.trees construct) ≡ Some (loop_at self.now.trees found)) }
+        ensures none { IfNone result ((loop_parts (tree_at self.now.trees construct) ≡ None) ⊎ HasTooManyChildren (tree_at self.now.trees construct)) }
+        ensures before { IfSome result (λ found. IsBefore construct found) }
+    {
+        shared_loop(&self.tree, construct)
     }
 
     /// The number of a critical's name: from 1, in the order in which the names first appear, and those without a name have one together

@@ -17,3 +17,9 @@ pub mod Opening
 pub mod Joining
 pub mod ReaderSteps
 pub mod Keeping
+pub mod WordSpots
+pub mod Leading
+pub mod NamePlaces
+pub mod Fates
+pub mod SpotCounts
+pub mod ConstructPlaces

@@ -12,15 +12,7 @@ use Rattle.c_syntax.specs.declared.grammar.Step.TheVariants.{Expect, Deepen, Ris
 use Rattle.c_syntax.specs.Grammar.{choice}
 use Rattle.c_syntax.specs.Closing.{opener, opens, followers, IsAmong, is_shallow, is_end, last_steps, IsHeld, IsReady}
 use Rattle.c_syntax.proofs.Steps.{some-one}
-use Rattle.c_syntax.proofs.Terms.{all_terms, among-all, is_among, among-true, every, every-among, both-left, both-right}
-
-abbrev negated : Bool → Bool
-negated true = false
-negated false = true
-
-negated-true : (test : Bool) → IsTrue (negated test) → test ≡ false
-negated-true true fails = absurd (false≢true fails)
-negated-true false holds = refl
+use Rattle.c_syntax.proofs.Terms.{all_terms, among-all, is_among, among-true, every, every-among, negated, negated-true, both-left, both-right}
 
 -- whether some steps may be left behind a word, and before one that was seen, where this word follows them
 abbrev held_before : Term → List Step → Bool

@@ -152,6 +152,14 @@ abbrev pub every : (Term → Bool) → List Term → Bool
 every test [] = true
 every test (first ∷ rest) = test first && every test rest
 
+abbrev pub negated : Bool → Bool
+negated true = false
+negated false = true
+
+pub negated-true : (test : Bool) → IsTrue (negated test) → test ≡ false
+negated-true true fails = absurd (false≢true fails)
+negated-true false holds = refl
+
 pub both-left : (first second : Bool) → IsTrue (first && second) → IsTrue first
 both-left true second holds = refl
 both-left false second fails = fails

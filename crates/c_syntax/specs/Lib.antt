@@ -16,3 +16,4 @@ pub mod Growth
 pub mod Codes
 pub mod ReaderViews
 pub mod LastChildren
+pub mod Places

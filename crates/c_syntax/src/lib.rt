@@ -13,7 +13,8 @@
 //!   program with a tree, in which nothing is deeper than 64. `CanGoOn` says that words begin a program;
 //! - `specs/Heads.antt`: whether words leave off where a directive, a clause or the kind of a schedule should stand;
 //! - `specs/Faults.antt`: `IsFault`, the fault of words that are no program: where it stands, and its number. `IsAnswered` says
-//!   that words are a program or have a fault.
+//!   that words are a program or have a fault;
+//! - `specs/Places.antt`: the nodes of a tree in order, and what a place tells of them.
 //!
 //! Proved:
 //!
@@ -21,7 +22,9 @@
 //!   at any time, and no clause says when. Its one condition is that the tokens are those of the text, however long that is;
 //! - words spell one tree at most, by [`one_tree`], and have one fault at most, by [`one_fault`]. No words spell a tree and have a
 //!   fault, by [`tree_or_fault`], and words that end with the end of the text have one or the other, by [`program_or_fault`]. So
-//!   the answer is determined but for want of memory.
+//!   the answer is determined but for want of memory;
+//! - in the tree of a text, nodes with a name that stand at one spot have the same name, by [`one_name_a_place`], and no two
+//!   constructs stand at one spot, by [`one_construct_a_place`]. So a look-up by spot is of one name, or of one construct.
 //!
 //! [`SyntaxFault::number`] and [`SyntaxFault::spot`] tell a fault, as `specs/Faults.antt` says.
 //!
@@ -54,7 +57,9 @@ mod word;
 mod words;
 
 pub use fault::SyntaxFault;
-pub use laws::{one_fault, one_tree, program_or_fault, tree_or_fault};
+pub use laws::{
+    one_construct_a_place, one_fault, one_name_a_place, one_tree, program_or_fault, tree_or_fault,
+};
 pub use node::{
     BinaryOp, Bump, Data, Default, Directive, Getter, Lead, LockCall, NodeKind, Parameters,
     ReductionOp, Returns, ScheduleKind, Setting, Side, Sign, Standalone, UnaryOp,

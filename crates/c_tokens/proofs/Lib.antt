@@ -10,4 +10,5 @@ pub mod Pieces
 pub mod Fronts
 pub mod Law
 pub mod Spans
+pub mod Spots
 pub mod NameCounts

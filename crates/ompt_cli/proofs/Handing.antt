@@ -139,7 +139,7 @@ module _ {G : Type 0} {B : Type 0} (box : G → B) (stands : B → Record → Ty
       (none-out guests parts after rest out runs.as_many kinds 0 e _ past below (runs.first e nothing_called (none-in guests parts rest out 0 e past below))))
   without-guest run cause H guests parts after rest out kinds runs (suc k) e past below =
       silent-each (heard_of run H (suc k)) (subst StoresNothing (same-unheard runs.unheard (suc k) (served nothing_called (heard_of run H (suc k)))).calls
-      (none-out guests parts after rest out runs.as_many kinds (suc k) e _ past below (runs.others (suc k) e nothing_called (omega arith) below (none-in guests parts rest out (suc k) e past below))))
+      (none-out guests parts after rest out runs.as_many kinds (suc k) e _ past below (runs.others (suc k) (omega arith) below e nothing_called (none-in guests parts rest out (suc k) e past below))))
 
   -- so the guests stand for what their threads heard
   pub guests-serve : (run : Run) (cause : Cause) (H : List Entry) (guests : List B) (parts after : List (Handed G)) (rest : List B) → 1 ≤ run.threads → length parts ≡ run.threads → HandOut box guests parts rest → SameKinds kind_of parts after → RunsFor For run cause H parts after → GuestsServe stands run cause H guests (guests_of box after ++ rest)
@@ -151,12 +151,12 @@ module _ {G : Type 0} {B : Type 0} (box : G → B) (stands : B → Record → Ty
         registered = runs.registered;
         mask_is = runs.mask_is;
         nobody = λ none. first-answer run cause H (p ∷ parts) after rest (omega arith) (subst (λ guests. HandOut box guests (p ∷ parts) rest) (nil_from_length guests none) out) runs.as_many kinds runs;
-        first = λ d h more for.
+        first = λ more d h for.
             guest-out guests (p ∷ parts) after rest out runs.as_many kinds 0 d p (first_record runs.answer runs.registered (heard_of run H 0) runs.unheard h) (omega arith) more
             (runs.first p h (guest-in guests (p ∷ parts) rest out 0 d p h (omega arith) more for));
-        others = λ k d h past below more for.
+        others = λ k past below more d h for.
             guest-out guests (p ∷ parts) after rest out runs.as_many kinds k d p (unheard_on runs.unheard k (served h (heard_of run H k))) (omega (arith, below, each)) more
-            (runs.others k p h past (omega (arith, below, each)) (guest-in guests (p ∷ parts) rest out k d p h (omega (arith, below, each)) more for));
+            (runs.others k past (omega (arith, below, each)) p h (guest-in guests (p ∷ parts) rest out k d p h (omega (arith, below, each)) more for));
         unheard = runs.unheard;
         is_unheard = runs.is_unheard;
         all_heard = runs.all_heard;

@@ -129,7 +129,7 @@ module _ (run : Run) (cause : Cause) (H : List Entry) (threads : ℕ) (parts : L
   keeps : (k : ℕ) (d : List EventRecord) → k < threads → KeepsOf (slice_index_or parts k d) (heard_of run H k)
   keeps zero d below = keeps-of (slice_index_or parts 0 d) (initialized nothing_called runs.answer runs.registered) refl (heard_of run H 0) (first-lister d)
   keeps (suc k) d below =
-      keeps-of (slice_index_or parts (suc k) d) nothing_called refl (heard_of run H (suc k)) (same-lister (slice_index_or parts (suc k) d) _ _ (same-unheard runs.unheard (suc k) (served nothing_called (heard_of run H (suc k)))) (runs.others (suc k) d nothing_called (omega arith) (subst (λ n. suc k < n) (sym (length-replicate threads [])) below) (fresh-at (suc k) d below)))
+      keeps-of (slice_index_or parts (suc k) d) nothing_called refl (heard_of run H (suc k)) (same-lister (slice_index_or parts (suc k) d) _ _ (same-unheard runs.unheard (suc k) (served nothing_called (heard_of run H (suc k)))) (runs.others (suc k) (omega arith) (subst (λ n. suc k < n) (sym (length-replicate threads [])) below) d nothing_called (fresh-at (suc k) d below)))
 
   -- so nothing was stored
   pub lists-silent : run.threads ≡ threads → HearsSilent run H

@@ -8,9 +8,9 @@ use Rattle.omp_model.specs.declared.cause.Cause.TheVariants as causes
 use Rattle.omp_model.specs.declared.history.Entry.{Entry}
 use Rattle.omp_model.specs.State.{Run}
 use Rattle.omp_model.specs.Heard.{heard_of}
-use Rattle.team_run.specs.Serving.{served, mask_of, first_record}
+use Rattle.team_run.specs.Serving.{Becomes, mask_of, first_record, later_record}
 use Rattle.team_run.specs.Standing.{AreSilent}
-use Rattle.team_run.specs.Unheard.{IsUnheard, unheard_on}
+use Rattle.team_run.specs.Unheard.{IsUnheard}
 use Rattle.ompt_cli.specs.declared.words.Command.{Command}
 use Rattle.ompt_cli.specs.declared.words.Command.TheVariants.{List as Listing, Run as Running}
 
@@ -27,8 +27,8 @@ pub record GuestsServe {B : Type 0} (stands_for : B → Record → Type 0) (run 
   pub unheard : Option ℕ
   pub is_unheard : IsUnheard run history unheard
   pub all_heard : cause ≢ causes.Memory → unheard ≡ None
-  pub first : (d : B) (h : Record) → 0 < length guests → stands_for (slice_index_or guests 0 d) h → stands_for (slice_index_or after 0 d) (first_record answer registered (heard_of run history 0) unheard h)
-  pub others : (k : ℕ) (d : B) (h : Record) → 0 < k → k < run.threads → k < length guests → stands_for (slice_index_or guests k d) h → stands_for (slice_index_or after k d) (unheard_on unheard k (served h (heard_of run history k)))
+  pub first : 0 < length guests → Becomes stands_for guests after 0 (first_record answer registered (heard_of run history 0) unheard)
+  pub others : (k : ℕ) → 0 < k → k < run.threads → k < length guests → Becomes stands_for guests after k (later_record k (heard_of run history k) unheard)
   pub rest : (k : ℕ) (d : B) → run.threads ≤ k → slice_index_or after k d ≡ slice_index_or guests k d
   pub guestless : (k : ℕ) → length guests ≤ k → k < run.threads → AreSilent (heard_of run history k)
 

@@ -9,7 +9,7 @@ use Rattle.omp_model.specs.declared.history.Entry.{Entry}
 use Rattle.omp_model.specs.State.{State}
 use Rattle.omp_model.specs.Storing.{put_all, put_at, puts_at, back_at, event_reply}
 use Rattle.omp_model.proofs.Targets.{put_all-append}
-use Rattle.team_run.specs.Serving.{told_on}
+use Rattle.team_run.specs.Serving.{Becomes, told_on}
 use Rattle.team_run.specs.Unheard.{unheard_on}
 
 -- the state after them
@@ -33,8 +33,8 @@ module _ {P : Type 0} (stands_for : P → Record → Type 0) (parts : List P) (t
   -- the part of the thread was told of an item, and the others are as they were
   pub told-at :
       (item : Item) → ((h : Record) → stands_for found h → stands_for part (told h item))
-      → (k : ℕ) (d : P) (h : Record) → k < length parts → stands_for (slice_index_or parts k d) h → stands_for (slice_index_or (slice_set parts t part) k d) (told_on t k item h)
-  told-at item keeps k d h below stands = elim (eqb_tells t k) [
+      → (k : ℕ) → k < length parts → Becomes stands_for parts (slice_set parts t part) k (told_on t k item)
+  told-at item keeps k below d h stands = elim (eqb_tells t k) [
     | inl same ↦ rw (same.0, ← same.1, get_or-set_same parts t part d within) (keeps h (found-at k d h same.1 stands))
     | inr different ↦ rw (different.0, get_or-set_other parts t k part d (λ same. different.1 (sym same))) stands
   ]
@@ -42,8 +42,8 @@ module _ {P : Type 0} (stands_for : P → Record → Type 0) (parts : List P) (t
   -- the part of the thread found no memory, and the others are as they were
   pub unheard-at :
       ((h : Record) → stands_for found h → stands_for part (one_unheard h))
-      → (k : ℕ) (d : P) (h : Record) → k < length parts → stands_for (slice_index_or parts k d) h → stands_for (slice_index_or (slice_set parts t part) k d) (unheard_on (Some t) k h)
-  unheard-at keeps k d h below stands = elim (eqb_tells t k) [
+      → (k : ℕ) → k < length parts → Becomes stands_for parts (slice_set parts t part) k (unheard_on (Some t) k)
+  unheard-at keeps k below d h stands = elim (eqb_tells t k) [
     | inl same ↦ rw (same.0, ← same.1, get_or-set_same parts t part d within) (keeps h (found-at k d h same.1 stands))
     | inr different ↦ rw (different.0, get_or-set_other parts t k part d (λ same. different.1 (sym same))) stands
   ]

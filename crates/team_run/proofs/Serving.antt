@@ -10,8 +10,8 @@ use Rattle.omp_model.specs.declared.cause.Cause.TheVariants as causes
 use Rattle.omp_model.specs.declared.history.Entry.{Entry}
 use Rattle.omp_model.specs.State.{Run}
 use Rattle.omp_model.specs.Heard.{heard, heard_of}
-use Rattle.team_run.specs.Serving.{served, Serves, ServesTo, told_on, mask_of, finished_by, RunsFor, SameKinds}
-use Rattle.team_run.specs.Unheard.{OnlyUnheard, unheard_on}
+use Rattle.team_run.specs.Serving.{Becomes, served, Serves, ServesTo, OnlyUnheard, told_on, mask_of, finished_by, RunsFor, SameKinds}
+use Rattle.team_run.specs.Unheard.{unheard_on}
 use Rattle.team_run.specs.Standing.{AreSilent, HearsSilent, HearsOwn}
 
 -- the items of one thread
@@ -63,19 +63,19 @@ module _ {P : Type 0} (stands_for : P → Record → Type 0) (run : Run) where
   serves-unheard parts others H K unheard same kept =
       record {
         as_many = kept.as_many;
-        each = λ k d h below stands. subst (λ items. stands_for (slice_index_or others k d) (unheard_on unheard k (served h items))) (sym (heard_of-same run H K k same)) (kept.each k d (served h (heard_of run H k)) below stands);
+        each = λ k d h below stands. subst (λ items. stands_for (slice_index_or others k d) (unheard_on unheard k (served h items))) (sym (heard_of-same run H K k same)) (kept.each k below d (served h (heard_of run H k)) stands);
       }
 
   -- where one item more is heard, and the part of its thread was told of it
   pub serves-told :
       (parts others : List P) (H K : List Entry) (t : ℕ) (item : Item) → item.thread ≡ t → heard run K ≡ heard run H ++ item ∷ [] → length others ≡ length parts
-      → ((k : ℕ) (d : P) (h : Record) → k < length parts → stands_for (slice_index_or parts k d) h → stands_for (slice_index_or others k d) (told_on t k item h)) → Serves stands_for run parts H None others K
+      → ((k : ℕ) → k < length parts → Becomes stands_for parts others k (told_on t k item)) → Serves stands_for run parts H None others K
   serves-told parts others H K t item is more as_many each =
       record {
         as_many = as_many;
         each = λ k d h below stands.
             subst (λ (h : Record). stands_for (slice_index_or others k d) h) (told_on-served t k h (heard_of run H k) item is ∙ ap (λ items. served h items) (sym (heard_of-more run H K (item ∷ []) k more)))
-            (each k d (served h (heard_of run H k)) below stands);
+            (each k below d (served h (heard_of run H k)) stands);
       }
 
 -- calls that are silent are so in both parts
@@ -143,7 +143,7 @@ runs-whole {P} stands_for run cause H parts started between after answer registe
       first = λ d h stands.
           last d (unheard_on served_to.unheard 0 (served (initialized h answer registered) (heard_of run H 0)))
           (serves.each 0 d (initialized h answer registered) (omega (arith, some, as_many)) (from-nothing 0 d (initialized h answer registered) (first d h stands)));
-      others = λ k d h past below stands.
+      others = λ k past below d h stands.
           subst (λ (part : P). stands_for part (unheard_on served_to.unheard k (served h (heard_of run H k)))) (sym (others_too k d past))
           (serves.each k d h (omega (arith, below, as_many)) (from-nothing k d h (subst (λ (part : P). stands_for part h) (sym (others k d past)) stands)));
     }

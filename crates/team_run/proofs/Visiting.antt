@@ -36,8 +36,8 @@ use Rattle.omp_model.proofs.Targets.{made-put_all, may-store, pending-put_all}
 use Rattle.team_run.specs.Standing.{AreSilent, StandsAt, StopsAt}
 use Rattle.omp_machine.proofs.Telling.{IsTold}
 use Rattle.tool_api.specs.Record.{Record}
-use Rattle.team_run.specs.Serving.{Serves, ServesTo, Answers}
-use Rattle.team_run.specs.Unheard.{IsUnheard, OnlyUnheard}
+use Rattle.team_run.specs.Serving.{Serves, ServesTo, OnlyUnheard, Answers}
+use Rattle.team_run.specs.Unheard.{IsUnheard}
 use Rattle.team_run.proofs.Serving.{serves-told, serves-unheard, hears-front, item-silent, own-told, own-unheard, heard_of-same}
 
 abbrev all_none : List (Option Callback) → Bool
@@ -302,7 +302,7 @@ module _ (run : Run) (S : State) (from : ℕ) (H : List Entry) (t : ℕ) (stands
   pub visited-untold : is_registered run.mask (number_of (call_of inner.world t e)) ≡ false → Visited stands_for run S H t parts (back inner t) parts (H ++ event_at t [])
   visited-untold unregistered =
       record {
-        serves = serves-unheard stands_for run parts parts H (H ++ event_at t []) None (untold-heard run S from H t stands turns e happens waits unregistered) (record { as_many = refl; each = λ k d h below stands. stands });
+        serves = serves-unheard stands_for run parts parts H (H ++ event_at t []) None (untold-heard run S from H t stands turns e happens waits unregistered) (record { as_many = refl; each = λ k below d h stands. stands });
         stands = stands-untold run S from H t stands turns e happens waits unregistered;
         turns = back-turns inner t ∙ rises;
       }
@@ -329,7 +329,7 @@ module _ (run : Run) (S : State) (from : ℕ) (H : List Entry) (t : ℕ) (stands
   pub visited-alone : inside_after (turn run S t).outcome t ≡ None → Visited stands_for run S H t parts (turn run S t).state parts (H ++ go_at t ∷ [])
   visited-alone none =
       record {
-        serves = serves-unheard stands_for run parts parts H (H ++ go_at t ∷ []) None (heard-alone t stands.has_run none) (record { as_many = refl; each = λ k d h below stands. stands });
+        serves = serves-unheard stands_for run parts parts H (H ++ go_at t ∷ []) None (heard-alone t stands.has_run none) (record { as_many = refl; each = λ k below d h stands. stands });
         stands = stands-alone run S from H t stands turns none;
         turns = turns-rise run S t (first_enabled-enabled run S from t turns);
       }

@@ -16,15 +16,24 @@ use Rattle.omp_model.specs.Heard.{heard_of}
 use Rattle.team_run.specs.Unheard.{IsUnheard, unheard_on}
 use Rattle.omp_model.specs.Storing.{put_all, event_reply}
 
+-- part k, whatever it stood for before, stands afterwards for what this makes of it
+abbrev pub Becomes : {P : Type 0} → (P → Record → Type 0) → List P → List P → ℕ → (Record → Record) → Type 0
+Becomes {P} stands_for parts after k more =
+    (d : P) (h : Record) → stands_for (slice_index_or parts k d) h → stands_for (slice_index_or after k d) (more h)
+
 -- the record after the calls of these items
 abbrev pub served : Record → List Item → Record
 served h items = record h { calls = h.calls ++ items }
+
+-- the record of part k after the calls of these items, and one more that found no memory if it is the part of this thread
+abbrev pub later_record : ℕ → List Item → Option ℕ → Record → Record
+later_record k items unheard h = unheard_on unheard k (served h items)
 
 -- each part that stood for what its thread had heard of one history stands for what it has heard of the other, and this
 -- thread's, if any, found no memory in one call
 pub record Serves {P : Type 0} (stands_for : P → Record → Type 0) (run : Run) (parts : List P) (history : List Entry) (unheard : Option ℕ) (after : List P) (longer : List Entry) : Type 0 where
   pub as_many : length after ≡ length parts
-  pub each : (k : ℕ) (d : P) (h : Record) → k < length parts → stands_for (slice_index_or parts k d) (served h (heard_of run history k)) → stands_for (slice_index_or after k d) (unheard_on unheard k (served h (heard_of run longer k)))
+  pub each : (k : ℕ) (d : P) (h : Record) → k < length parts → stands_for (slice_index_or parts k d) (served h (heard_of run history k)) → stands_for (slice_index_or after k d) (later_record k (heard_of run longer k) unheard h)
 
 -- the same, where the longer history says which thread's part found no memory
 pub record ServesTo {P : Type 0} (stands_for : P → Record → Type 0) (run : Run) (parts : List P) (history : List Entry) (after : List P) (longer : List Entry) : Type 0 where
@@ -42,7 +51,12 @@ pub record Answers {P : Type 0} (stands_for : P → Record → Type 0) (seq t : 
   pub state_is : after ≡ back (put_all state t (stores_of reply snapshot)) t
   pub history_is : longer ≡ history ++ event_reply t (stores_of reply snapshot)
   pub as_many : length others ≡ length parts
-  pub each : (k : ℕ) (d : P) (h : Record) → k < length parts → stands_for (slice_index_or parts k d) h → stands_for (slice_index_or others k d) (told_on t k (item_of seq t call snapshot reply) h)
+  pub each : (k : ℕ) → k < length parts → Becomes stands_for parts others k (told_on t k (item_of seq t call snapshot reply))
+
+-- each part stands for what it stood for, but that this thread's, if any, found no memory in one call
+pub record OnlyUnheard {P : Type 0} (stands_for : P → Record → Type 0) (unheard : Option ℕ) (parts others : List P) : Type 0 where
+  pub as_many : length others ≡ length parts
+  pub each : (k : ℕ) → k < length parts → Becomes stands_for parts others k (unheard_on unheard k)
 
 -- each part is of the kind of which it was
 pub record SameKinds {P : Type 0} (kind : P → ℕ) (parts others : List P) : Type 0 where
@@ -56,11 +70,11 @@ mask_of answer registered = if answer == 0 then 0 else registered
 abbrev pub finished_by : ℕ → Record → Record
 finished_by answer h = if answer == 0 then h else finalized h
 
--- the first part's record after a run: it was started with this answer and this registered, called for these items, found no memory
--- in one call more if it is this thread's part, and was finished after all these calls where it is active
+-- the first part's record after a run: it was started with this answer and this registered, then called as the others are, and
+-- at the end finished where it is active
 abbrev pub first_record : ℕ → ℕ → List Item → Option ℕ → Record → Record
 first_record answer registered items unheard h =
-    finished_by answer (unheard_on unheard 0 (served (initialized h answer registered) items))
+    finished_by answer (later_record 0 items unheard (initialized h answer registered))
 
 -- the parts of a run that ended in this cause with this history: the first was started, and at the end finished, and each was
 -- called for what its thread heard, in order. Beside that only one call more was made, where one found no memory
@@ -72,5 +86,5 @@ pub record RunsFor {P : Type 0} (stands_for : P → Record → Type 0) (run : Ru
   pub unheard : Option ℕ
   pub is_unheard : IsUnheard run history unheard
   pub all_heard : cause ≢ causes.Memory → unheard ≡ None
-  pub first : (d : P) (h : Record) → stands_for (slice_index_or parts 0 d) h → stands_for (slice_index_or after 0 d) (first_record answer registered (heard_of run history 0) unheard h)
-  pub others : (k : ℕ) (d : P) (h : Record) → 0 < k → k < length parts → stands_for (slice_index_or parts k d) h → stands_for (slice_index_or after k d) (unheard_on unheard k (served h (heard_of run history k)))
+  pub first : Becomes stands_for parts after 0 (first_record answer registered (heard_of run history 0) unheard)
+  pub others : (k : ℕ) → 0 < k → k < length parts → Becomes stands_for parts after k (later_record k (heard_of run history k) unheard)

@@ -1,5 +1,5 @@
 -- The thread whose part found no memory in a call, and what that adds to the records of the parts.
-use Rattle.std.specs.Prelude.{ℕ, ◌≡◌, ◌<◌, ◌==◌, IsTrue, if◌then◌else◌, List, [], ◌∷◌, ◌++◌, length, slice_index_or, Option, Some, None}
+use Rattle.std.specs.Prelude.{ℕ, ◌≡◌, ◌==◌, IsTrue, if◌then◌else◌, List, [], ◌∷◌, ◌++◌, Option, Some, None}
 use Rattle.tool_api.specs.Record.{Record, one_unheard}
 use Rattle.omp_model.specs.declared.history.Entry.{Entry}
 use Rattle.omp_model.specs.declared.machine.Callback.{Callback}
@@ -27,8 +27,3 @@ IsUnheard run history (Some t) = EndsInside run history t
 abbrev pub unheard_on : Option ℕ → ℕ → Record → Record
 unheard_on None k h = h
 unheard_on (Some t) k h = if t == k then one_unheard h else h
-
--- each part stands for what it stood for, but that this thread's, if any, found no memory in one call
-pub record OnlyUnheard {P : Type 0} (stands_for : P → Record → Type 0) (unheard : Option ℕ) (parts others : List P) : Type 0 where
-  pub as_many : length others ≡ length parts
-  pub each : (k : ℕ) (d : P) (h : Record) → k < length parts → stands_for (slice_index_or parts k d) h → stands_for (slice_index_or others k d) (unheard_on unheard k h)

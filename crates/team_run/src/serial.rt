@@ -6,7 +6,7 @@ ghost use Rattle.omp_model.specs.Cause.{cause_of};
 ghost use Rattle.omp_model.specs.Tame.{TameCause};
 ghost use Rattle.omp_model.specs.Program.{run_of_blocks};
 ghost use Rattle.tool_api.specs.Record.{Record, initialized};
-ghost use Rattle.team_run.specs.Serving.{RunsFor, SameKinds, finished_by, mask_of};
+ghost use Rattle.team_run.specs.Serving.{Becomes, RunsFor, SameKinds, finished_by, mask_of};
 ghost use Rattle.team_run.specs.Standing.{HearsOwn, HearsSilent};
 
 use crate::ran::{Memory, Ran};
@@ -36,12 +36,15 @@ pub fn run_serial<P: ToolPart>(
     requires bounded { steps ≤ 30000000 }
     requires parts { length parts.items ≡ threads }
     ensures serial { IfOk result (λ ran. Serial (run_of_blocks blocks ran.mask threads steps) ran.history) }
-    ensures parts { IfOk result (λ ran. RunsFor P.stands_for (run_of_blocks blocks ran.mask threads steps) ran.cause ran.history parts.items ran.parts.items) }
+    ensures parts { IfOk result (λ ran. RunsFor P.stands_for (run_of_blocks blocks ran.mask threads steps)
+        ran.cause ran.history parts.items ran.parts.items) }
     ensures kinds { IfOk result (λ ran. SameKinds P.kind parts.items ran.parts.items) }
     ensures own { IfOk result (λ ran. HearsOwn (run_of_blocks blocks ran.mask threads steps) ran.history) }
-    ensures cause { IfOk result (λ ran. ran.cause ≢ Cause.Memory → cause_of (run_of_blocks blocks ran.mask threads steps) ran.history ≡ Some ran.cause) }
-    ensures whole { IfOk result (λ ran. ran.cause ≢ Cause.Memory → HearsSilent (run_of_blocks blocks ran.mask threads steps) ran.history
-        → ran.history ≡ serial (run_of_blocks blocks ran.mask threads steps)) }
+    ensures cause { IfOk result (λ ran. ran.cause ≢ Cause.Memory →
+        cause_of (run_of_blocks blocks ran.mask threads steps) ran.history ≡ Some ran.cause) }
+    ensures whole { IfOk result (λ ran. ran.cause ≢ Cause.Memory →
+        HearsSilent (run_of_blocks blocks ran.mask threads steps) ran.history →
+        ran.history ≡ serial (run_of_blocks blocks ran.mask threads steps)) }
     ensures tame { IfOk result (λ ran. ran.cause ≢ Cause.Memory → TameCause ran.cause) }
     ensures begun { IfOk result (λ ran. ran.cause ≡ Cause.Memory → ran.history ≢ []) }
 {
@@ -81,8 +84,8 @@ fn initialize_first<P: ToolPart>(parts: &mut [P]) -> Start
     requires { 0 < length parts.old }
     ensures as_many { length parts.new ≡ length parts.old }
     ensures kinds { SameKinds P.kind parts.old parts.new }
-    ensures first { (d : P) (h : Record) → P.stands_for (slice_index_or parts.old 0 d) h
-        → P.stands_for (slice_index_or parts.new 0 d) (initialized h result.answer result.registered) }
+    ensures first { Becomes P.stands_for parts.old parts.new 0
+        (λ (h : Record). initialized h result.answer result.registered) }
     ensures others { (k : ℕ) (d : P) → 0 < k → slice_index_or parts.new k d ≡ slice_index_or parts.old k d }
 {
     let mut registrar = Registrar::new();
@@ -109,8 +112,7 @@ fn finalize_first<P: ToolPart>(start: Start, parts: &mut [P])
     requires { 0 < length parts.old }
     ensures as_many { length parts.new ≡ length parts.old }
     ensures kinds { SameKinds P.kind parts.old parts.new }
-    ensures first { (d : P) (h : Record) → P.stands_for (slice_index_or parts.old 0 d) h
-        → P.stands_for (slice_index_or parts.new 0 d) (finished_by start.answer h) }
+    ensures first { Becomes P.stands_for parts.old parts.new 0 (finished_by start.answer) }
     ensures others { (k : ℕ) (d : P) → 0 < k → slice_index_or parts.new k d ≡ slice_index_or parts.old k d }
 {
     if start.answer == 0 {

@@ -9,9 +9,8 @@ ghost use Rattle.omp_model.specs.Cause.{cause_in};
 ghost use Rattle.omp_model.specs.Storing.{MayStore, back_at, put_all, puts_at};
 ghost use Rattle.omp_model.specs.Tame.{TameCause};
 ghost use Rattle.omp_model.specs.Program.{run_of_blocks};
-ghost use Rattle.team_run.specs.Serving.{Answers, SameKinds, ServesTo};
+ghost use Rattle.team_run.specs.Serving.{Answers, OnlyUnheard, SameKinds, ServesTo};
 ghost use Rattle.team_run.specs.Standing.{StandsAt, StopsAt};
-ghost use Rattle.team_run.specs.Unheard.{OnlyUnheard};
 
 use crate::entries::Entries;
 use crate::ran::Memory;
@@ -54,7 +53,8 @@ impl<P: ToolPart> SerialRun<P> {
         ensures run { IfOk result (λ serial. serial.machine.run ≡ run_of_blocks blocks mask threads steps) }
         ensures parts { IfOk result (λ serial. serial.parts ≡ parts) }
         ensures fresh { IfOk result (λ serial. serial.history.entries ≡ []) }
-        ensures stands { IfOk result (λ serial. StandsAt serial.machine.run serial.machine.state serial.next serial.history.entries) }
+        ensures stands { IfOk result (λ serial.
+            StandsAt serial.machine.run serial.machine.state serial.next serial.history.entries) }
     {
         Ok(SerialRun {
             machine: Machine::new(alloc, blocks, mask, threads, steps)?,
@@ -69,11 +69,14 @@ impl<P: ToolPart> SerialRun<P> {
         requires stands { StandsAt self.old.machine.run self.old.machine.state self.old.next self.old.history.entries }
         requires parts { length self.old.parts.items ≡ self.old.machine.run.threads }
         ensures run { self.new.machine.run ≡ self.old.machine.run }
-        ensures serves { ServesTo P.stands_for self.old.machine.run self.old.parts.items self.old.history.entries self.new.parts.items self.new.history.entries }
+        ensures serves { ServesTo P.stands_for self.old.machine.run self.old.parts.items self.old.history.entries
+            self.new.parts.items self.new.history.entries }
         ensures kinds { SameKinds P.kind self.old.parts.items self.new.parts.items }
         ensures stops { StopsAt self.old.machine.run self.new.history.entries }
-        ensures stands { result ≢ Cause.Memory → StandsAt self.new.machine.run self.new.machine.state self.new.next self.new.history.entries }
-        ensures over { result ≢ Cause.Memory → first_enabled self.new.machine.run self.new.machine.state self.new.next ≡ None }
+        ensures stands { result ≢ Cause.Memory →
+            StandsAt self.new.machine.run self.new.machine.state self.new.next self.new.history.entries }
+        ensures over { result ≢ Cause.Memory →
+            first_enabled self.new.machine.run self.new.machine.state self.new.next ≡ None }
         ensures cause { result ≢ Cause.Memory → cause_in self.new.machine.run self.new.machine.state ≡ Some result }
         ensures tame { result ≢ Cause.Memory → TameCause result }
     {
@@ -95,10 +98,12 @@ impl<P: ToolPart> SerialRun<P> {
         requires turn { first_enabled self.old.machine.run self.old.machine.state self.old.next ≡ Some thread }
         requires parts { length self.old.parts.items ≡ self.old.machine.run.threads }
         ensures run { self.new.machine.run ≡ self.old.machine.run }
-        ensures serves { ServesTo P.stands_for self.old.machine.run self.old.parts.items self.old.history.entries self.new.parts.items self.new.history.entries }
+        ensures serves { ServesTo P.stands_for self.old.machine.run self.old.parts.items self.old.history.entries
+            self.new.parts.items self.new.history.entries }
         ensures kinds { SameKinds P.kind self.old.parts.items self.new.parts.items }
         ensures stops { StopsAt self.old.machine.run self.new.history.entries }
-        ensures stands { OnOk result (StandsAt self.new.machine.run self.new.machine.state self.new.next self.new.history.entries) }
+        ensures stands { OnOk result
+            (StandsAt self.new.machine.run self.new.machine.state self.new.next self.new.history.entries) }
         ensures turns { OnOk result (self.new.machine.state.turns ≡ self.old.machine.state.turns + 1) }
     {
         self.history.reserve(ENTRIES_OF_A_TURN)?;
@@ -129,13 +134,18 @@ impl<P: ToolPart> SerialRun<P> {
     ) -> Result<(), Memory>
         requires part { thread < length self.old.parts.items }
         requires room { 4 ≤ self.old.history.room }
-        requires stores { (reply : Reply) → MayStore self.old.machine.run self.old.machine.state thread (stores_of reply snapshot.now) }
-        requires inside { (reply : Reply) → IsSome (pending_at (put_all self.old.machine.state thread (stores_of reply snapshot.now)) thread) }
+        requires stores { (reply : Reply) →
+            MayStore self.old.machine.run self.old.machine.state thread (stores_of reply snapshot.now) }
+        requires inside { (reply : Reply) →
+            IsSome (pending_at (put_all self.old.machine.state thread (stores_of reply snapshot.now)) thread) }
         ensures run { self.new.machine.run ≡ self.old.machine.run }
         ensures next { self.new.next ≡ self.old.next }
         ensures kinds { SameKinds P.kind self.old.parts.items self.new.parts.items }
-        ensures answers { OnOk result (Answers P.stands_for seq thread call.now snapshot.now self.old.machine.state self.old.parts.items self.old.history.entries self.new.machine.state self.new.parts.items self.new.history.entries) }
-        ensures memory { OnErr result ((self.new.history.entries ≡ self.old.history.entries) × OnlyUnheard P.stands_for (Some thread) self.old.parts.items self.new.parts.items) }
+        ensures answers { OnOk result (Answers P.stands_for seq thread call.now snapshot.now
+            self.old.machine.state self.old.parts.items self.old.history.entries
+            self.new.machine.state self.new.parts.items self.new.history.entries) }
+        ensures memory { OnErr result ((self.new.history.entries ≡ self.old.history.entries)
+            × OnlyUnheard P.stands_for (Some thread) self.old.parts.items self.new.parts.items) }
     {
         let reply = self.parts[thread as usize].callback(seq, thread, call, snapshot)?;
         self.store(thread, reply.first, snapshot);
@@ -153,7 +163,8 @@ impl<P: ToolPart> SerialRun<P> {
         ensures next { self.new.next ≡ self.old.next }
         ensures parts { self.new.parts ≡ self.old.parts }
         ensures state { self.new.machine.state ≡ put_all self.old.machine.state thread (stored_of snapshot.now store) }
-        ensures history { self.new.history.entries ≡ self.old.history.entries ++ puts_at thread (stored_of snapshot.now store) }
+        ensures history { self.new.history.entries
+            ≡ self.old.history.entries ++ puts_at thread (stored_of snapshot.now store) }
         ensures room { self.old.history.room ≤ self.new.history.room + 1 }
     {
         let Some(store) = store else {

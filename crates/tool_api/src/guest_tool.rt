@@ -29,7 +29,8 @@ pub trait GuestTool: Drop + Send {
         call: &Call,
         snapshot: &Snapshot,
     ) -> Result<Reply, Memory>
-        ensures heard { IfOk result (λ reply. (h : Record) → stands_for self.old h → stands_for self.new (told h (item_of seq thread call.now snapshot.now reply))) }
+        ensures heard { IfOk result (λ reply. (h : Record) → stands_for self.old h →
+            stands_for self.new (told h (item_of seq thread call.now snapshot.now reply))) }
         ensures memory { OnErr result ((h : Record) → stands_for self.old h → stands_for self.new (one_unheard h)) };
 
     /// Finishes the tool, as `ompt_finalize_t` does (OpenMP 5.2, 19.5.1.2).

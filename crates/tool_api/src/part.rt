@@ -25,7 +25,8 @@ pub trait ToolPart: Drop + Send {
     fn initialize(&mut self, registrar: &mut Registrar) -> u32
         // Nothing is registered yet.
         requires { registrar.old ≡ 0 }
-        ensures started { (h : Record) → stands_for self.old h → stands_for self.new (initialized h result registrar.new) }
+        ensures started { (h : Record) → stands_for self.old h →
+            stands_for self.new (initialized h result registrar.new) }
         ensures kept { kind self.new ≡ kind self.old };
 
     /// Tells the part of an event: its position in the history, its thread, and its callback with the arguments. The
@@ -37,7 +38,8 @@ pub trait ToolPart: Drop + Send {
         call: &Call,
         snapshot: &Snapshot,
     ) -> Result<Reply, Memory>
-        ensures heard { IfOk result (λ reply. (h : Record) → stands_for self.old h → stands_for self.new (told h (item_of seq thread call.now snapshot.now reply))) }
+        ensures heard { IfOk result (λ reply. (h : Record) → stands_for self.old h →
+            stands_for self.new (told h (item_of seq thread call.now snapshot.now reply))) }
         ensures memory { OnErr result ((h : Record) → stands_for self.old h → stands_for self.new (one_unheard h)) }
         ensures kept { kind self.new ≡ kind self.old };
 

@@ -28,7 +28,8 @@ impl ToolPart for Quiet {
         call: &Call,
         snapshot: &Snapshot,
     ) -> Result<Reply, Memory>
-        ensures heard { IfOk result (λ reply. (h : Record) → QuietFor self.old h → QuietFor self.new (told h (item_of seq thread call.now snapshot.now reply))) }
+        ensures heard { IfOk result (λ reply. (h : Record) → QuietFor self.old h →
+            QuietFor self.new (told h (item_of seq thread call.now snapshot.now reply))) }
         ensures memory { OnErr result ((h : Record) → QuietFor self.old h → QuietFor self.new (one_unheard h)) }
         ensures kept { quiet_kind self.new ≡ quiet_kind self.old }
 

@@ -1,6 +1,6 @@
 //! Places of children.
 
-ghost use Rattle.std.specs.Prelude.{◌≡◌, ◌<◌, ◌+◌, length, IfOk};
+ghost use Rattle.std.specs.Prelude.{◌≡◌, ◌<◌, ◌+◌, length, IfOk, OnErr};
 ghost use Rattle.c_syntax.specs.Tree.{children_of};
 ghost use Rattle.c_syntax.specs.Numbered.{tree_at};
 ghost use Rattle.c_check.specs.NameLists.{child_count as count_of};
@@ -10,9 +10,13 @@ use std::alloc::AllocError;
 
 /// The next place. Where there is none, a node with so many children found no memory.
 pub fn next_place(place: u32) -> Result<u32, AllocError>
-    ensures { IfOk result (λ next. next ≡ place + 1) }
+    ensures next { IfOk result (λ next. next ≡ place + 1) }
+    ensures err { OnErr result (place ≡ 4294967295) }
 {
-    place.checked_add(1).ok_or(AllocError)
+    if place == u32::MAX {
+        return Err(AllocError);
+    }
+    Ok(place + 1)
 }
 
 /// How many children a node has, up to the first absent one.

@@ -1,12 +1,13 @@
 //! Directives: the loop that they share out, their statement, their clauses.
 
-ghost use Rattle.std.specs.Prelude.{◌≡◌, ◌<◌, ◌&&◌, None, not, length, if◌then◌else◌, unwrap_or, IfOk, IfSome};
+ghost use Rattle.std.specs.Prelude.{◌≡◌, ◌<◌, ◌&&◌, None, not, length, if◌then◌else◌, unwrap_or, IfOk, IfSome, OnErr};
 ghost use Rattle.std.specs.Option.{option_map};
 ghost use Rattle.c_syntax.specs.Tree.{children_of};
 ghost use Rattle.c_syntax.specs.Derivation.{nothing};
 ghost use Rattle.c_syntax.specs.Numbered.{tree_at};
 ghost use Rattle.c_check.specs.Clauses as clauses;
 ghost use Rattle.c_check.specs.Statements as statements;
+ghost use Rattle.c_check.specs.LoopParts.{HasTooManyChildren};
 ghost use Rattle.c_check.specs.Loops.{has_form as is_of_form, loop_name as loop_name_of};
 ghost use Rattle.c_check.specs.Steps.{clause_in};
 
@@ -77,7 +78,8 @@ pub fn role_with(name: Option<u32>) -> Role
 pub fn statement_of(tree: &Tree, node: u32) -> Result<Option<u32>, AllocError>
     requires { node < length tree.now.trees }
     ensures statement { IfOk result (λ found. unwrap_or (option_map (tree_at tree.now.trees) found) nothing ≡ statements.statement_of (children_of (tree_at tree.now.trees node))) }
-    ensures there { IfOk result (λ found. IfSome found (λ statement. statement < length tree.now.trees)) }
+    ensures there { IfOk result (λ found. IfSome found (λ statement. statement < node)) }
+    ensures many { OnErr result (HasTooManyChildren (tree_at tree.now.trees node)) }
 {
     let mut place = 0;
     while let Some(child) = tree.child(node, place) {

@@ -3,6 +3,7 @@
 pub mod act;
 pub mod child_places;
 pub mod directive;
+pub mod loop_parts;
 pub mod node_acts;
 pub mod role;
 pub mod shared_loops;

@@ -1,6 +1,6 @@
 //! The check of a program.
 
-ghost use Rattle.std.specs.Prelude.{◌≡◌, ◌≢◌, IfOk, IfErr, Some};
+ghost use Rattle.std.specs.Prelude.{◌≡◌, ◌≢◌, None, Some, IfOk, IfErr};
 ghost use Rattle.c_check.specs.Checked.{Checked, end_of, rule_fault};
 ghost use Rattle.c_check.specs.Standing.{Stands};
 
@@ -17,6 +17,7 @@ pub fn check(alloc: Global, tree: Tree) -> Result<Program, CheckFault>
     // It is the program of this tree, and no rule is broken.
     ensures tree { IfOk result (λ program. program ≡ tree) }
     ensures checked { IfOk result (λ program. Checked tree) }
+    ensures unbroken { IfOk result (λ program. rule_fault tree ≡ None) }
 
     // Otherwise this is its fault.
     ensures fault { IfErr result (λ fault. fault ≢ CheckFault.Memory → rule_fault tree ≡ Some fault) }

@@ -11,11 +11,11 @@ loop-place-init c = omega arith
 
 pub loop-place-smaller : goal.loop-place-smaller
 loop-place-smaller c =
-    omega (arith, count_child c.args.tree.now.trees (children_of (tree_at c.args.tree.now.trees c.args.node)) c.loop-place.place c.in_ok-place.place c.child.result c.child.ensures.child (sym c.is_some.ensures ∙ c.loop-place-test.true) c.in_ok-place.ensures)
+    omega (arith, count_child c.args.tree.now.trees (children_of (tree_at c.args.tree.now.trees c.args.node)) c.loop-place.place c.in_ok-place.place c.child.result c.child.ensures.child (sym c.is_some.ensures ∙ c.loop-place-test.true) c.in_ok-place.ensures.next)
 
 pub loop-place-preserved : goal.loop-place-preserved
 loop-place-preserved c =
-    omega (arith, count_child c.args.tree.now.trees (children_of (tree_at c.args.tree.now.trees c.args.node)) c.loop-place.place c.in_ok-place.place c.child.result c.child.ensures.child (sym c.is_some.ensures ∙ c.loop-place-test.true) c.in_ok-place.ensures)
+    omega (arith, count_child c.args.tree.now.trees (children_of (tree_at c.args.tree.now.trees c.args.node)) c.loop-place.place c.in_ok-place.place c.child.result c.child.ensures.child (sym c.is_some.ensures ∙ c.loop-place-test.true) c.in_ok-place.ensures.next, c.in_ok-place.ensures.next)
 
 pub returns : goal.returns
 returns c =

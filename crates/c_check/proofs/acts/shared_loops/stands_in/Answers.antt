@@ -30,10 +30,10 @@ returns-then-is_named-2 c =
 
 pub loop-node-smaller : goal.loop-node-smaller
 loop-node-smaller c =
-    lighter-child c.args.tree.now.trees c.args.name c.loop-node.left.items c.pop.new.self.items c.in-Some.node c.in-Some.place c.in-Some.ensures.items c.in-Some-child.child c.in-Some-child.ensures.child c.in_ok-next_place.field-0 c.push-in-Some.new.self.items c.push-in-Some-2.new.self.items c.in_ok-next_place.ensures c.in_ok-push-2.ensures.items c.in_ok-push-3.ensures.items
+    lighter-child c.args.tree.now.trees c.args.name c.loop-node.left.items c.pop.new.self.items c.in-Some.node c.in-Some.place c.in-Some.ensures.items c.in-Some-child.child c.in-Some-child.ensures.child c.in_ok-next_place.field-0 c.push-in-Some.new.self.items c.push-in-Some-2.new.self.items c.in_ok-next_place.ensures.next c.in_ok-push-2.ensures.items c.in_ok-push-3.ensures.items
 
 pub loop-node-preserved : goal.loop-node-preserved
 loop-node-preserved c = record {
-  left = looked-child c.args.tree.now.trees c.args.name c.loop-node.left.items c.pop.new.self.items c.in-Some.node c.in-Some.place c.in-Some.ensures.items c.in-Some-child.child c.in-Some-child.ensures.child c.in_ok-next_place.field-0 c.push-in-Some.new.self.items c.push-in-Some-2.new.self.items c.in_ok-next_place.ensures c.in_ok-push-2.ensures.items c.in_ok-push-3.ensures.items (sym c.is_named-in-Some.ensures ∙ c.if-is_named-2.false) ∙ c.loop-node.invariant.left;
-  there = there-child c.args.tree.now.trees c.args.name c.loop-node.left.items c.pop.new.self.items c.in-Some.node c.in-Some.place c.in-Some.ensures.items c.in-Some-child.child c.in-Some-child.ensures.child c.in_ok-next_place.field-0 c.push-in-Some.new.self.items c.push-in-Some-2.new.self.items c.in_ok-next_place.ensures c.in_ok-push-2.ensures.items c.in_ok-push-3.ensures.items c.in-Some-child.ensures.before c.loop-node.invariant.there;
+  left = looked-child c.args.tree.now.trees c.args.name c.loop-node.left.items c.pop.new.self.items c.in-Some.node c.in-Some.place c.in-Some.ensures.items c.in-Some-child.child c.in-Some-child.ensures.child c.in_ok-next_place.field-0 c.push-in-Some.new.self.items c.push-in-Some-2.new.self.items c.in_ok-next_place.ensures.next c.in_ok-push-2.ensures.items c.in_ok-push-3.ensures.items (sym c.is_named-in-Some.ensures ∙ c.if-is_named-2.false) ∙ c.loop-node.invariant.left;
+  there = there-child c.args.tree.now.trees c.args.name c.loop-node.left.items c.pop.new.self.items c.in-Some.node c.in-Some.place c.in-Some.ensures.items c.in-Some-child.child c.in-Some-child.ensures.child c.in_ok-next_place.field-0 c.push-in-Some.new.self.items c.push-in-Some-2.new.self.items c.in_ok-next_place.ensures.next c.in_ok-push-2.ensures.items c.in_ok-push-3.ensures.items c.in-Some-child.ensures.before c.loop-node.invariant.there;
 }

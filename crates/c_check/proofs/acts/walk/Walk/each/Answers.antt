@@ -17,7 +17,7 @@ returns c =
     (λ put.
     let rest = c.in_ok-then.ensures c.args.tree.now.trees c.requires.node c.requires.there in
     puts_as
-    (sym (each_child (children_of (tree_at c.args.tree.now.trees c.args.node)) c.args.place c.in_ok-next_place.field-0 (tree_at c.args.tree.now.trees c.in-Some.child) c.in-Some.ensures.child c.in_ok-next_place.ensures c.args.role))
-    (omega (arith, weighs_child (children_of (tree_at c.args.tree.now.trees c.args.node)) c.args.place c.in_ok-next_place.field-0 (tree_at c.args.tree.now.trees c.in-Some.child) c.in-Some.ensures.child c.in_ok-next_place.ensures, weight_is (tree_at c.args.tree.now.trees c.in-Some.child)))
+    (sym (each_child (children_of (tree_at c.args.tree.now.trees c.args.node)) c.args.place c.in_ok-next_place.field-0 (tree_at c.args.tree.now.trees c.in-Some.child) c.in-Some.ensures.child c.in_ok-next_place.ensures.next c.args.role))
+    (omega (arith, weighs_child (children_of (tree_at c.args.tree.now.trees c.args.node)) c.args.place c.in_ok-next_place.field-0 (tree_at c.args.tree.now.trees c.in-Some.child) c.in-Some.ensures.child c.in_ok-next_place.ensures.next, weight_is (tree_at c.args.tree.now.trees c.in-Some.child)))
     (both rest (put c.args.tree.now.trees (omega (arith, c.in-Some.ensures.before, c.requires.node)) rest.there)))
     c.then-2.ensures

@@ -21,8 +21,8 @@ returns-in_default-clause_of c =
     let next = c.in_ok-next_place.field-0 in
     let tree = tree_at trees c.in-Some.child in
     puts_as
-    (ap (λ (told : List Act). told ++ inside_acts (from_place next children)) (ap told_inside c.in_default-clause_of.ensures.clause) ∙ sym (inside_child children c.args.place next tree c.in-Some.ensures.child c.in_ok-next_place.ensures))
-    (omega (arith, weighs_child children c.args.place next tree c.in-Some.ensures.child c.in_ok-next_place.ensures))
+    (ap (λ (told : List Act). told ++ inside_acts (from_place next children)) (ap told_inside c.in_default-clause_of.ensures.clause) ∙ sym (inside_child children c.args.place next tree c.in-Some.ensures.child c.in_ok-next_place.ensures.next))
+    (omega (arith, weighs_child children c.args.place next tree c.in-Some.ensures.child c.in_ok-next_place.ensures.next))
     (c.in_ok-then.ensures trees c.requires.node c.requires.there)
 
 pub returns-in-Some-inside_of : goal.returns-in-Some-inside_of
@@ -35,8 +35,8 @@ returns-in-Some-inside_of c =
     (λ put.
     let rest = c.in_ok-then.ensures trees c.requires.node c.requires.there in
     puts_as
-    (ap (λ (told : List Act). told ++ inside_acts (from_place next children)) (c.in-Some-inside_of.ensures.told ∙ ap told_inside c.in-Some-clause_of.ensures.clause) ∙ sym (inside_child children c.args.place next tree c.in-Some.ensures.child c.in_ok-next_place.ensures))
-    (omega (arith, c.in-Some-inside_of.ensures.task.1, weighs_child children c.args.place next tree c.in-Some.ensures.child c.in_ok-next_place.ensures, weighs_clause (tree_at trees c.in-Some-clause_of.clause) tree c.in-Some-clause_of.ensures.clause))
+    (ap (λ (told : List Act). told ++ inside_acts (from_place next children)) (c.in-Some-inside_of.ensures.told ∙ ap told_inside c.in-Some-clause_of.ensures.clause) ∙ sym (inside_child children c.args.place next tree c.in-Some.ensures.child c.in_ok-next_place.ensures.next))
+    (omega (arith, c.in-Some-inside_of.ensures.task.1, weighs_child children c.args.place next tree c.in-Some.ensures.child c.in_ok-next_place.ensures.next, weighs_clause (tree_at trees c.in-Some-clause_of.clause) tree c.in-Some-clause_of.ensures.clause))
     (both rest (put trees c.in-Some-inside_of.ensures.task.0 rest.there)))
     c.then-in-Some-inside_of.ensures
 
@@ -47,6 +47,6 @@ returns-in-None c =
     let next = c.in_ok-next_place.field-0 in
     let tree = tree_at trees c.in-Some.child in
     puts_as
-    (ap (λ (told : List Act). told ++ inside_acts (from_place next children)) (c.in-None.ensures.told ∙ ap told_inside c.in-Some-clause_of.ensures.clause) ∙ sym (inside_child children c.args.place next tree c.in-Some.ensures.child c.in_ok-next_place.ensures))
-    (omega (arith, weighs_child children c.args.place next tree c.in-Some.ensures.child c.in_ok-next_place.ensures))
+    (ap (λ (told : List Act). told ++ inside_acts (from_place next children)) (c.in-None.ensures.told ∙ ap told_inside c.in-Some-clause_of.ensures.clause) ∙ sym (inside_child children c.args.place next tree c.in-Some.ensures.child c.in_ok-next_place.ensures.next))
+    (omega (arith, weighs_child children c.args.place next tree c.in-Some.ensures.child c.in_ok-next_place.ensures.next))
     (c.in_ok-then.ensures trees c.requires.node c.requires.there)

@@ -23,7 +23,7 @@ returns c =
     (λ put.
     let rest = c.in_ok-then.ensures c.args.tree.now.trees c.requires.node c.requires.there in
     puts_as
-    (ap (λ (act : Act). act ∷ names c.args.why (from_place next children)) c.named.ensures ∙ sym (names_child children c.args.place next tree c.in-Some.ensures.child c.in_ok-next_place.ensures c.args.why))
-    (omega (arith, weighs_child children c.args.place next tree c.in-Some.ensures.child c.in_ok-next_place.ensures))
+    (ap (λ (act : Act). act ∷ names c.args.why (from_place next children)) c.named.ensures ∙ sym (names_child children c.args.place next tree c.in-Some.ensures.child c.in_ok-next_place.ensures.next c.args.why))
+    (omega (arith, weighs_child children c.args.place next tree c.in-Some.ensures.child c.in_ok-next_place.ensures.next))
     (both rest (put c.args.tree.now.trees tt rest.there)))
     c.then-2.ensures

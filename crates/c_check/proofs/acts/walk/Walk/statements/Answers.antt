@@ -17,8 +17,8 @@ returns-then-is_head c =
     let next = c.in_ok-next_place.field-0 in
     let tree = tree_at c.args.tree.now.trees c.in-Some.child in
     puts_as
-    (sym (statements_head children c.args.place next tree c.in-Some.ensures.child c.in_ok-next_place.ensures c.args.role (cc)))
-    (omega (arith, weighs_child children c.args.place next tree c.in-Some.ensures.child c.in_ok-next_place.ensures))
+    (sym (statements_head children c.args.place next tree c.in-Some.ensures.child c.in_ok-next_place.ensures.next c.args.role (cc)))
+    (omega (arith, weighs_child children c.args.place next tree c.in-Some.ensures.child c.in_ok-next_place.ensures.next))
     (c.in_ok-then.ensures c.args.tree.now.trees c.requires.node c.requires.there)
 
 pub returns : goal.returns
@@ -30,7 +30,7 @@ returns c =
     (λ put.
     let rest = c.in_ok-then.ensures c.args.tree.now.trees c.requires.node c.requires.there in
     puts_as
-    (sym (statements_child children c.args.place next tree c.in-Some.ensures.child c.in_ok-next_place.ensures c.args.role (cc)))
-    (omega (arith, weighs_child children c.args.place next tree c.in-Some.ensures.child c.in_ok-next_place.ensures, weight_is tree))
+    (sym (statements_child children c.args.place next tree c.in-Some.ensures.child c.in_ok-next_place.ensures.next c.args.role (cc)))
+    (omega (arith, weighs_child children c.args.place next tree c.in-Some.ensures.child c.in_ok-next_place.ensures.next, weight_is tree))
     (both rest (put c.args.tree.now.trees (omega (arith, c.in-Some.ensures.before, c.requires.node)) rest.there)))
     c.then-2.ensures
