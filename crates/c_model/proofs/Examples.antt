@@ -27,6 +27,7 @@ use Rattle.c_model.specs.Program.{function_among, variables_among}
 use Rattle.c_model.specs.Cells.{last_named, with_declarators}
 use Rattle.c_model.specs.Value.{value, values, all_values}
 use Rattle.c_model.specs.Text.{printed_text, text_behind_percent, text_behind_backslash}
+use Rattle.c_check.specs.Statements.{statement_of}
 use Rattle.c_model.specs.Clauses.{clauses_among, expression_among, listed_among, schedule_among, statements_among}
 use Rattle.c_model.specs.Copies.{combining_all, with_listed}
 use Rattle.c_model.specs.Calls.{with_parameters}
@@ -56,7 +57,7 @@ looping = program_of 1 (function 1 [] looping_items ∷ [])
 
 -- The block, two declarators, the first part of the loop, four tests, three bodies, three third parts, the printf, the return.
 looping-runs : watched 100 looping alone [] 0 (at_start looping) ≡ End 16 (pos 0) (54 ∷ 10 ∷ []) ∷ []
-unfolding watched forked_in silent children items_from_next trees_in flat_declarations function_among variables_among last_named with_declarators value values all_values printed_text text_behind_percent text_behind_backslash with_parameters digits clauses_among expression_among listed_among schedule_among statements_among combining_all with_listed
+unfolding watched forked_in silent children items_from_next trees_in flat_declarations function_among variables_among last_named with_declarators value values all_values printed_text text_behind_percent text_behind_backslash with_parameters digits clauses_among expression_among listed_among schedule_among statements_among combining_all with_listed statement_of
 looping-runs = refl
 
 -- int f(int n) { if (n < 1) return 7; return f(n - 1); }   int main(void) { int r = f(2); return r; }
@@ -76,7 +77,7 @@ recursive =
 -- In main the block, the declarator, the start of the call; in each of three calls the block, the test, and the start of the next call or the
 -- return; in each of the two that wait a return of their own; and main's return.
 recursive-runs : watched 100 recursive alone [] 0 (at_start recursive) ≡ End 15 (pos 7) [] ∷ []
-unfolding watched forked_in silent children items_from_next trees_in flat_declarations function_among variables_among last_named with_declarators value values all_values printed_text text_behind_percent text_behind_backslash with_parameters digits clauses_among expression_among listed_among schedule_among statements_among combining_all with_listed
+unfolding watched forked_in silent children items_from_next trees_in flat_declarations function_among variables_among last_named with_declarators value values all_values printed_text text_behind_percent text_behind_backslash with_parameters digits clauses_among expression_among listed_among schedule_among statements_among combining_all with_listed statement_of
 recursive-runs = refl
 
 -- The same without an end. Main's block and statement stand in one call; 63 more may be open beside it, each with its start and its block; the
@@ -89,7 +90,7 @@ endless =
     ∷ [])
 
 endless-runs : watched 300 endless alone [] 0 (at_start endless) ≡ Limit 127 6 ∷ []
-unfolding watched forked_in silent children items_from_next trees_in flat_declarations function_among variables_among last_named with_declarators value values all_values printed_text text_behind_percent text_behind_backslash with_parameters digits clauses_among expression_among listed_among schedule_among statements_among combining_all with_listed
+unfolding watched forked_in silent children items_from_next trees_in flat_declarations function_among variables_among last_named with_declarators value values all_values printed_text text_behind_percent text_behind_backslash with_parameters digits clauses_among expression_among listed_among schedule_among statements_among combining_all with_listed statement_of
 endless-runs = refl
 
 -- int s; int main(void) { int i;
@@ -122,7 +123,7 @@ sharing =
 -- Main forks after its block and its declarator, and goes on behind the region. Its member does nothing here.
 sharing-forks : watched 100 sharing alone [] 0 (at_start sharing)
     ≡ After 2 (point.ParallelBegin 131073 (pos 1)) ∷ After 0 (point.ParallelEnd 131073) ∷ End 1 (pos 0) [] ∷ []
-unfolding watched forked_in silent children items_from_next trees_in flat_declarations function_among variables_among last_named with_declarators value values all_values printed_text text_behind_percent text_behind_backslash with_parameters digits clauses_among expression_among listed_among schedule_among statements_among combining_all with_listed
+unfolding watched forked_in silent children items_from_next trees_in flat_declarations function_among variables_among last_named with_declarators value values all_values printed_text text_behind_percent text_behind_backslash with_parameters digits clauses_among expression_among listed_among schedule_among statements_among combining_all with_listed statement_of
 sharing-forks = refl
 
 -- where main stands when the region is forked
@@ -145,5 +146,5 @@ sharing-member :
     ∷ After 0 (point.Sync 131073 sync.Parallel stage.RegionEnd)
     ∷ End 0 (pos 0) []
     ∷ []
-unfolding watched forked_in silent children items_from_next trees_in flat_declarations function_among variables_among last_named with_declarators value values all_values printed_text text_behind_percent text_behind_backslash with_parameters digits clauses_among expression_among listed_among schedule_among statements_among combining_all with_listed
+unfolding watched forked_in silent children items_from_next trees_in flat_declarations function_among variables_among last_named with_declarators value values all_values printed_text text_behind_percent text_behind_backslash with_parameters digits clauses_among expression_among listed_among schedule_among statements_among combining_all with_listed statement_of
 sharing-member = refl

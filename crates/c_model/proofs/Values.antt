@@ -12,9 +12,8 @@ use Rattle.c_syntax.specs.declared.node.NodeKind.TheVariants as node
 use Rattle.c_syntax.specs.Tree.{Tree}
 use Rattle.c_model.specs.Cells.{last_named}
 use Rattle.c_model.specs.Value.{Scope, value, values}
-use Rattle.c_model.specs.Clauses.{statements_among}
-use Rattle.c_model.specs.Parts.{trees_in}
-use Rattle.c_model.specs.Loops.{iteration_count, iteration_value, loop_step}
+use Rattle.c_check.specs.Statements.{statement_of}
+use Rattle.c_model.specs.Loops.{iteration_count, iteration_value, loop_of}
 use Rattle.c_model.proofs.Watching.{alone, binary_of, children, literal, plain, tree, variable}
 
 -- the least and the greatest number, and -1
@@ -116,10 +115,10 @@ iterations :
     ∷ iteration_count (loop_with binary.LessEqual (plain (node.Bump bump.Increment side.Before) (variable 1 ∷ []))) least greatest
     ∷ []
     ≡ 3 ∷ 4 ∷ 5 ∷ 0 ∷ 2 ^ 32 ∷ []
-unfolding statements_among trees_in children
+unfolding statement_of children
 iterations = refl
 
 -- the last of the five
-last-iteration : iteration_value (pos 4) (loop_step (loop_with binary.GreaterEqual (by setting.Subtract 2))) 4 ≡ negsuc 3
-unfolding statements_among trees_in children
+last-iteration : iteration_value (pos 4) (loop_of (loop_with binary.GreaterEqual (by setting.Subtract 2))).step 4 ≡ negsuc 3
+unfolding statement_of children
 last-iteration = refl

@@ -19,7 +19,7 @@ use Rattle.c_model.specs.Program.{place_of}
 use Rattle.c_model.specs.Cells.{cell_at, entry_of, has_too_many}
 use Rattle.c_model.specs.Value.{in_range, is_zero}
 use Rattle.c_model.specs.Clauses.{condition_of, requested_threads, schedule_of, sections_of}
-use Rattle.c_model.specs.Loops.{iteration_count, iteration_value, loop_body, loop_end, loop_start, loop_step, loop_variable}
+use Rattle.c_model.specs.Loops.{iteration_count, iteration_value, loop_of}
 use Rattle.c_model.specs.Copies.{with_own_cells, with_task_cells}
 use Rattle.c_model.specs.Task.{Here, Item, Outcome, SharedLoop}
 use Rattle.c_model.specs.Task.Item.{Iterations, NextChunk, Start}
@@ -43,12 +43,12 @@ end_parallel construct = Occurs (ParallelEnd (place_of construct)) construct
 -- a loop that is shared out begins with its start and its end
 abbrev pub loop_work : Tree → ℤ → ℤ → Outcome
 loop_work construct start end =
-    Occurs (WorkBegin (place_of construct) (work.Loop start (iteration_count construct start end) (loop_step construct) (schedule_of construct))) construct
+    Occurs (WorkBegin (place_of construct) (work.Loop start (iteration_count construct start end) (loop_of construct).step (schedule_of construct))) construct
 
 abbrev pub begin_loop : Here → Tree → Outcome
 begin_loop here construct =
-    with_result (value_here here (loop_start construct)) (λ start.
-    with_result (value_here here (loop_end construct)) (λ end. loop_work construct start end))
+    with_result (value_here here (loop_of construct).start) (λ start.
+    with_result (value_here here (loop_of construct).end) (λ end. loop_work construct start end))
 
 abbrev pub begin_sections : Tree → Outcome
 begin_sections construct = Occurs (WorkBegin (place_of construct) (work.Sections (length (sections_of construct)))) construct
@@ -90,8 +90,8 @@ iterations_from loop at upto = if nat_lt at upto then Iterations loop at upto el
 -- an iteration begins: the loop's variable is set in a silent step
 abbrev pub begin_iteration : Here → SharedLoop → ℕ → ℕ → Outcome
 begin_iteration here loop at upto =
-    sets here (entry_of here.task.env (name_of (loop_variable loop.construct))).first (iteration_value loop.start loop.step at)
-    (Start (loop_body loop.construct) ∷ iterations_from loop (at + 1) upto ∷ [])
+    sets here (entry_of here.task.env (name_of (loop_of loop.construct).variable)).first (iteration_value loop.start loop.step at)
+    (Start (loop_of loop.construct).body ∷ iterations_from loop (at + 1) upto ∷ [])
 
 -- the next section is taken in a silent step
 abbrev pub next_section : Tree → Outcome

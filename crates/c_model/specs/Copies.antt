@@ -13,7 +13,7 @@ use Rattle.c_check.specs.Seen.{slot_of_name, task_copies}
 use Rattle.c_model.specs.Cells.{Bound, Entry, entry_at_slot, entry_of, numbers_of, with_cells}
 use Rattle.c_model.specs.Clauses.{Copying, Listed, clauses_of, listed_among}
 use Rattle.c_model.specs.Clauses.Copying.{Private, First, Reduced}
-use Rattle.c_model.specs.Loops.{is_declaration, loop_first, loop_variable}
+use Rattle.c_model.specs.Loops.{declares_variable, loop_of}
 use Rattle.c_model.specs.Task.{Item}
 use Rattle.c_model.specs.Task.Item.{Combine, MakeCells}
 
@@ -30,7 +30,7 @@ is_loop construct = is_loop_construct (kind_of construct)
 abbrev pub is_own_loop_variable : Tree → ℕ → Bool
 is_own_loop_variable construct name =
     if is_loop construct
-    then (if is_declaration (kind_of (loop_first construct)) then false else name_of (loop_variable construct) == name)
+    then (if declares_variable construct then false else name_of (loop_of construct).variable == name)
     else false
 
 abbrev pub listed_variables : Tree → List Listed
@@ -64,12 +64,12 @@ with_listed around bound (listed ∷ rest) = with_listed around (with_copy aroun
 -- the variable of a loop that is shared out
 abbrev pub loop_slot : TreeView → Bound → Tree → ℕ
 loop_slot program around construct =
-    if is_declaration (kind_of (loop_first construct)) then slot_of_name program (loop_variable construct)
-    else (entry_of around.env (name_of (loop_variable construct))).slot
+    if declares_variable construct then slot_of_name program (loop_of construct).variable
+    else (entry_of around.env (name_of (loop_of construct).variable)).slot
 
 abbrev pub with_loop_variable : TreeView → Bound → Tree → Bound → Bound
 with_loop_variable program around construct bound =
-    if is_loop construct then with_cells bound (name_of (loop_variable construct)) (loop_slot program around construct) (pos 0 ∷ []) else bound
+    if is_loop construct then with_cells bound (name_of (loop_of construct).variable) (loop_slot program around construct) (pos 0 ∷ []) else bound
 
 -- the names and cells behind a construct's making of its own: what its clauses list, in order, and its loop's variable
 abbrev pub with_own_cells : TreeView → Bound → Tree → Bound
