@@ -5,3 +5,5 @@ pub mod Waiting
 pub mod Tasks
 pub mod Standing
 pub mod Settled
+pub mod KnownValues
+pub mod KnownOutcomes

@@ -14,4 +14,5 @@ pub mod Constructs
 pub mod Step
 pub mod Going
 pub mod Standing
+pub mod Known
 pub mod Begin

@@ -6,6 +6,7 @@ ghost use Rattle.c_model.specs.declared.view.View.{View as Seen};
 ghost use Rattle.c_model.specs.Task.{Moment};
 ghost use Rattle.c_model.specs.Task.Outcome.{Ends};
 ghost use Rattle.c_model.specs.Standing.{Fits};
+ghost use Rattle.c_model.specs.Known.{IsKnown};
 ghost use Rattle.c_model.specs.Step.{settled_task, silent, stands};
 
 /// What stands next tells by its form alone, without cells, whether an event or the end comes: then nothing is a silent step and
@@ -27,4 +28,11 @@ pub fn settling_changes_nothing()
 pub fn ended_code_has_no_step()
     ensures { (program : TreeView) (view : Seen) (now : Moment) → now.task.todo ≡ [] →
         silent program view now ≡ Ends (unwrap_or now.task.returned (pos 0)) }
+{}
+
+/// What a task's code traps with is one of the three traps of expressions, and the limits that it meets are those of cells, of open calls
+/// and of printed text.
+#[tactic(auto, using(crate::proofs::KnownOutcomes::known_silent))]
+pub fn traps_and_limits_are_known()
+    ensures { (program : TreeView) (view : Seen) (now : Moment) → IsKnown (silent program view now) }
 {}

@@ -13,6 +13,7 @@
 //! - `Statements`, `Calls`, `Constructs`: one definition for each form of statement and each stage of a construct;
 //! - `Step`: what a task does next: one line for each form;
 //! - `Standing`: which outcomes there are where an event or the end stands next;
+//! - `Known`: the traps and limits that a task's code can come to;
 //! - `Going`: how it goes on after an answer or an event;
 //! - `Begin`: how the code of main, of a member of a team and of an explicit task begins.
 //!
@@ -28,7 +29,8 @@
 //! - whether an event or the end stands next, or else a silent step or a question, is told by the form of what stands next alone
 //!   ([`standing_is_told_by_form`]);
 //! - a task comes to the same whether or not it has left out what it goes past ([`settling_changes_nothing`]);
-//! - a task for which nothing is left has ended ([`ended_code_has_no_step`]).
+//! - a task for which nothing is left has ended ([`ended_code_has_no_step`]);
+//! - a task's code traps with 1, 2 or 3, and meets the limits 3, 6 and 7 ([`traps_and_limits_are_known`]).
 //!
 //! In `proofs/` programs and expressions are computed: `Values` at the edges of numbers, arrays and loops, `Examples` with a loop, a recursion
 //! and a loop that is shared out, `Waiting` with locks, `single`, `barrier`, `masked` and sections, and `Tasks` with an explicit task.
@@ -42,7 +44,10 @@ mod question;
 mod traps;
 mod view;
 
-pub use laws::{ended_code_has_no_step, settling_changes_nothing, standing_is_told_by_form};
+pub use laws::{
+    ended_code_has_no_step, settling_changes_nothing, standing_is_told_by_form,
+    traps_and_limits_are_known,
+};
 pub use limits::{CALL_LIMIT, CALLS, CELL_LIMIT, CELLS, LINE_UNIT, LOCK_UNIT, TEXT, TEXT_LIMIT};
 pub use point::{MutexKind, Point, Schedule, SyncKind, SyncStage, Target, Work, WorkKind};
 pub use question::{Answer, Ask};
