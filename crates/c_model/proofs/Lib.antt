@@ -3,6 +3,7 @@ pub mod Values
 pub mod Examples
 pub mod Waiting
 pub mod Tasks
+pub mod Criticals
 pub mod Standing
 pub mod Settled
 pub mod KnownValues

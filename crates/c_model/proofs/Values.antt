@@ -10,7 +10,9 @@ use Rattle.c_syntax.specs.declared.node.Directive.TheVariants as directive
 use Rattle.c_syntax.specs.declared.node.UnaryOp.TheVariants as unary
 use Rattle.c_syntax.specs.declared.node.NodeKind.TheVariants as node
 use Rattle.c_syntax.specs.Tree.{Tree}
+use Rattle.std.specs.Fmt.{digits}
 use Rattle.c_model.specs.Cells.{last_named}
+use Rattle.c_model.specs.Text.{printed_text, text_behind_backslash, text_behind_percent}
 use Rattle.c_model.specs.Value.{Scope, value, values}
 use Rattle.c_check.specs.Statements.{statement_of}
 use Rattle.c_model.specs.Loops.{iteration_count, iteration_value, loop_of}
@@ -122,3 +124,12 @@ iterations = refl
 last-iteration : iteration_value (pos 4) (loop_of (loop_with binary.GreaterEqual (by setting.Subtract 2))).step 4 ≡ negsuc 3
 unfolding statement_of children
 last-iteration = refl
+
+-- printf("a%%b %d\t\\\"%d\n", -50, least)
+printing :
+    printed_text
+    (97 ∷ 37 ∷ 37 ∷ 98 ∷ 32 ∷ 37 ∷ 100 ∷ 92 ∷ 116 ∷ 92 ∷ 92 ∷ 92 ∷ 34 ∷ 37 ∷ 100 ∷ 92 ∷ 110 ∷ [])
+    (negsuc 49 ∷ least ∷ [])
+    ≡ 97 ∷ 37 ∷ 98 ∷ 32 ∷ 45 ∷ 53 ∷ 48 ∷ 9 ∷ 92 ∷ 34 ∷ 45 ∷ 50 ∷ 49 ∷ 52 ∷ 55 ∷ 52 ∷ 56 ∷ 51 ∷ 54 ∷ 52 ∷ 56 ∷ 10 ∷ []
+unfolding printed_text text_behind_percent text_behind_backslash digits
+printing = refl

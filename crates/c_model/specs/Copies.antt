@@ -42,17 +42,17 @@ is_empty [] = true
 is_empty (first ∷ rest) = false
 
 -- the number with which a reduction begins (OpenMP 5.2, 5.5.3)
-abbrev pub neutral : ReductionOp → ℤ
-neutral reduction.Add = pos 0
-neutral reduction.Multiply = pos 1
-neutral reduction.Max = negsuc (2 ^ 31 - 1)
-neutral reduction.Min = pos (2 ^ 31 - 1)
+abbrev pub neutral_number : ReductionOp → ℤ
+neutral_number reduction.Add = pos 0
+neutral_number reduction.Multiply = pos 1
+neutral_number reduction.Max = negsuc (2 ^ 31 - 1)
+neutral_number reduction.Min = pos (2 ^ 31 - 1)
 
 -- what the new cells of a variable hold
 abbrev pub copied_numbers : Copying → List ℤ → Entry → List ℤ
 copied_numbers Private cells around = replicate around.size (pos 0)
 copied_numbers First cells around = numbers_of cells around
-copied_numbers (Reduced operator) cells around = neutral operator ∷ []
+copied_numbers (Reduced operator) cells around = neutral_number operator ∷ []
 
 abbrev pub with_copy : Bound → Bound → Entry → Copying → Bound
 with_copy around bound entry copying = with_cells bound entry.name entry.slot (copied_numbers copying around.cells entry)

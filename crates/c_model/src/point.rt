@@ -30,7 +30,9 @@ pub enum Work {
 /// What a member of a team has done of shared work (`ompt_work_t`).
 #[derive(Clone, Copy)]
 pub enum WorkKind {
+    /// Iterations of a loop.
     Loop,
+    /// Sections.
     Sections,
     /// A `single` that it executed.
     SingleExecutor,
@@ -54,9 +56,13 @@ pub enum SyncKind {
 /// The four events of a barrier or taskwait, in order.
 #[derive(Clone, Copy)]
 pub enum SyncStage {
+    /// `ompt_callback_sync_region` with `ompt_scope_begin`.
     RegionBegin,
+    /// `ompt_callback_sync_region_wait` with `ompt_scope_begin`.
     WaitBegin,
+    /// `ompt_callback_sync_region_wait` with `ompt_scope_end`.
     WaitEnd,
+    /// `ompt_callback_sync_region` with `ompt_scope_end`.
     RegionEnd,
 }
 
@@ -74,6 +80,7 @@ pub enum MutexKind {
 /// Where the value of a call goes.
 #[derive(Clone, Copy)]
 pub enum Target {
+    /// Nobody takes it.
     Nowhere,
     /// Into the cell with this number.
     Cell(u32),
@@ -85,7 +92,8 @@ pub enum Target {
 /// column. The numbers are what the expressions of the construct gave.
 #[derive(Clone, Copy)]
 pub enum Point {
-    /// A region is forked (OpenMP 5.2, 19.5.2.3). `requested` is the value of `num_threads`, or how many threads a run may have.
+    /// A region is forked (OpenMP 5.2, 19.5.2.3). `requested` is the value of `num_threads`, which
+    /// may be below 1, or how many threads a run may have.
     ParallelBegin {
         codeptr: u64,
         requested: i32,
