@@ -13,6 +13,7 @@ use Rattle.c_syntax.specs.declared.node.NodeKind.TheVariants as node
 use Rattle.c_tokens.specs.declared.token.Spot.{Spot}
 use Rattle.c_syntax.specs.declared.node.ScheduleKind.TheVariants as kind
 use Rattle.c_syntax.specs.Tree.{Tree}
+use Rattle.c_syntax.specs.Tree.Children.{Absent, Child, Over}
 use Rattle.c_syntax.specs.Tree.Tree.{Node}
 use Rattle.c_syntax.specs.Numbered.{TreeView}
 use Rattle.c_model.specs.declared.point.Point.TheVariants as point
@@ -34,7 +35,7 @@ use Rattle.c_model.specs.Calls.{with_parameters}
 use Rattle.c_model.specs.Task.{Moment}
 use Rattle.c_model.specs.Step.{items_from_next, silent}
 use Rattle.c_model.proofs.Watching.{watched, children, alone, at_start, forked_in, member_of, tree, plain, named, variable, literal, binary_of, function, program_of}
-use Rattle.c_model.proofs.Watching.Deed.{After, End, Limit}
+use Rattle.c_model.proofs.Watching.Deed.{After, End, Limit, Trap}
 
 -- int main(void) { int i, s = 0; for (i = 0; i < 3; i++) s = s + i * 2; printf("%d\n", s); return s - 6; }
 abbrev looping_items : List Tree
@@ -148,3 +149,39 @@ sharing-member :
     ∷ []
 unfolding watched forked_in silent children items_from_next trees_in flat_declarations function_among variables_among last_named with_declarators value values all_values printed_text text_behind_percent text_behind_backslash with_parameters digits clauses_among expression_among listed_among schedule_among statements_among combining_all with_listed statement_of
 sharing-member = refl
+
+-- int main(void) { int x = 2147483647; x = x + 1; return 0; }
+abbrev overflowing : TreeView
+overflowing =
+    program_of 1 (
+    function 1 [] (
+    plain node.Locals (tree node.LocalSet 2 0 (literal 2147483647 ∷ []) ∷ [])
+    ∷ plain node.Step (plain (node.Assign setting.Plain) (variable 2 ∷ binary_of binary.Add (variable 2) (literal 1) ∷ []) ∷ [])
+    ∷ plain node.Return (literal 0 ∷ [])
+    ∷ [])
+    ∷ [])
+
+overflowing-runs : watched 100 overflowing alone [] 0 (at_start overflowing) ≡ Trap 2 1 ∷ []
+unfolding watched forked_in silent children items_from_next trees_in flat_declarations function_among variables_among last_named with_declarators value values all_values printed_text text_behind_percent text_behind_backslash with_parameters digits clauses_among expression_among listed_among schedule_among statements_among combining_all with_listed statement_of
+overflowing-runs = refl
+
+-- int a[2]; int main(void) { int i = 0; for (;;) { a[i] = 7; i++; } }
+abbrev leaving_array : TreeView
+leaving_array =
+    program_of 1 (
+    plain node.Globals (tree node.GlobalArray 2 2 [] ∷ [])
+    ∷ function 1 [] (
+    plain node.Locals (tree node.LocalSet 3 0 (literal 0 ∷ []) ∷ [])
+    ∷ Node node.For (record { line = 0; column = 0 }) 0 0 [] (Absent (Absent (Absent (Child (
+    plain node.Block (
+    plain node.Step (plain (node.Assign setting.Plain) (tree node.Place 2 0 (variable 3 ∷ []) ∷ literal 7 ∷ []) ∷ [])
+    ∷ plain node.Step (plain (node.Bump bump.Increment side.Behind) (variable 3 ∷ []) ∷ [])
+    ∷ [])) Over))))
+    ∷ [])
+    ∷ [])
+
+-- The block, the declarator and the absent first part; twice the absent test, the block, two statements, its end and the absent third part; and
+-- once more the test and the block, before the index is 2.
+leaving-runs : watched 100 leaving_array alone [] 0 (at_start leaving_array) ≡ Trap 17 3 ∷ []
+unfolding watched forked_in silent children items_from_next trees_in flat_declarations function_among variables_among last_named with_declarators value values all_values printed_text text_behind_percent text_behind_backslash with_parameters digits clauses_among expression_among listed_among schedule_among statements_among combining_all with_listed statement_of
+leaving-runs = refl
