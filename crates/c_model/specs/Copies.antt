@@ -25,8 +25,8 @@ is_loop_construct other = false
 abbrev pub is_loop : Tree → Bool
 is_loop construct = is_loop_construct (kind_of construct)
 
--- the variables that the clauses of a construct list. A loop's variable is private whatever its directive's clauses say of it, so they are passed over
--- where they name it
+-- The variables that the clauses of a construct list. A loop's variable is private whatever its directive's clauses say of it, so a clause
+-- that names it is passed over.
 abbrev pub is_own_loop_variable : Tree → ℕ → Bool
 is_own_loop_variable construct name =
     if is_loop construct

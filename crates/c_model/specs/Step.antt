@@ -115,8 +115,7 @@ step_at (item ∷ items) program view now =
 unfoldable pub silent : TreeView → View → Moment → Outcome
 silent program view now = step_at (items_from_next view now.task.todo) program view now
 
--- Whether an event, or the end, stands next. Then no silent step does, and nothing is asked.
--- a call is one where it tests a lock
+-- What is an event by its form. A call is one where it tests a lock.
 abbrev pub is_test : NodeKind → Bool
 is_test node.TestLock = true
 is_test other = false
@@ -147,6 +146,7 @@ is_event (Acquire tree kind id) = true
 is_event (Release tree id) = true
 is_event other = false
 
+-- Whether an event, or the end, stands next. Then no silent step does, and nothing is asked.
 abbrev pub stands_at : List Item → Bool
 stands_at [] = true
 stands_at (item ∷ items) = is_event item
