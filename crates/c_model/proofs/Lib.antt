@@ -1,0 +1,10 @@
+pub mod Watching
+pub mod Values
+pub mod Examples
+pub mod Waiting
+pub mod Tasks
+pub mod Criticals
+pub mod Standing
+pub mod Settled
+pub mod KnownValues
+pub mod KnownOutcomes

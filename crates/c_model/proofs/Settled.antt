@@ -1,0 +1,33 @@
+-- What a task goes past counts for nothing, and a task for which nothing is left has ended.
+use Rattle.std.specs.Prelude.{◌≡◌, if◌then◌else◌, Bool, true, false, List, [], ◌∷◌, pos, unwrap_or, refl}
+use Rattle.std.proofs.Common.{ap, ◌∙◌}
+use Rattle.c_syntax.specs.Numbered.{TreeView}
+use Rattle.c_model.specs.declared.view.View.{View}
+use Rattle.c_model.specs.Task.{Item, Moment}
+use Rattle.c_model.specs.Task.Outcome.{Ends}
+use Rattle.c_model.specs.Step.{is_passed_over, items_from_next, settled_task, silent, step_at}
+
+-- leaving out once is leaving out twice
+next-by : (view : View) (item : Item) (items : List Item) (passed : Bool) → is_passed_over item view ≡ passed → items_from_next view (items_from_next view items) ≡ items_from_next view items →
+    items_from_next view (if passed then items_from_next view items else item ∷ items) ≡ (if passed then items_from_next view items else item ∷ items)
+unfolding items_from_next
+next-by view item items true is same = same
+next-by view item items false is same = ap (λ passed. if passed then items_from_next view items else item ∷ items) is
+
+next-once : (view : View) (items : List Item) → items_from_next view (items_from_next view items) ≡ items_from_next view items
+unfolding items_from_next
+next-once view [] = refl
+next-once view (item ∷ items) = next-by view item items (is_passed_over item view) refl (next-once view items)
+
+-- what stands in the task as next isn't looked at but for what was found there
+same-step : (items : List Item) (program : TreeView) (view : View) (now : Moment) → step_at items program view (record now { task = settled_task view now.task }) ≡ step_at items program view now
+same-step [] program view now = refl
+same-step (item ∷ items) program view now = refl
+
+pub settled_silent : (program : TreeView) (view : View) (now : Moment) → silent program view (record now { task = settled_task view now.task }) ≡ silent program view now
+unfolding silent
+settled_silent program view now = ap (λ (items : List Item). step_at items program view (record now { task = settled_task view now.task })) (next-once view now.task.todo) ∙ same-step (items_from_next view now.task.todo) program view now
+
+pub ended_silent : (program : TreeView) (view : View) (now : Moment) → now.task.todo ≡ [] → silent program view now ≡ Ends (unwrap_or now.task.returned (pos 0))
+unfolding silent items_from_next
+ended_silent program view now empty = ap (λ (items : List Item). step_at (items_from_next view items) program view now) empty

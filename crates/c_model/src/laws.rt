@@ -1,0 +1,38 @@
+//! What follows from the definitions alone: each law is the contract of a function with an empty body.
+
+ghost use Rattle.std.specs.Prelude.{◌≡◌, [], pos, unwrap_or};
+ghost use Rattle.c_syntax.specs.Numbered.{TreeView};
+ghost use Rattle.c_model.specs.declared.view.View.{View as Seen};
+ghost use Rattle.c_model.specs.Task.{Moment};
+ghost use Rattle.c_model.specs.Task.Outcome.{Ends};
+ghost use Rattle.c_model.specs.Standing.{Fits};
+ghost use Rattle.c_model.specs.Known.{IsKnown};
+ghost use Rattle.c_model.specs.Step.{settled_task, silent, stands};
+
+/// What stands next tells by its form alone, without cells, whether an event or the end comes: then nothing is a silent step and
+/// nothing is asked, and else no event occurs and the code doesn't end. A trap or a limit may come in both cases.
+#[tactic(auto, using(crate::proofs::Standing::stands_fits))]
+pub fn standing_is_told_by_form()
+    ensures { (program : TreeView) (view : Seen) (now : Moment) → Fits (silent program view now) (stands view now.task) }
+{}
+
+/// A task comes to the same whether or not it has left out what it goes past.
+#[tactic(auto, using(crate::proofs::Settled::settled_silent))]
+pub fn settling_changes_nothing()
+    ensures { (program : TreeView) (view : Seen) (now : Moment) →
+        silent program view (record now { task = settled_task view now.task }) ≡ silent program view now }
+{}
+
+/// A task for which nothing is left has ended, with the value of its last call, or 0.
+#[tactic(auto, using(crate::proofs::Settled::ended_silent))]
+pub fn ended_code_has_no_step()
+    ensures { (program : TreeView) (view : Seen) (now : Moment) → now.task.todo ≡ [] →
+        silent program view now ≡ Ends (unwrap_or now.task.returned (pos 0)) }
+{}
+
+/// What a task's code traps with is one of the three traps of expressions, and the limits that it meets are those of cells, of open calls
+/// and of printed text.
+#[tactic(auto, using(crate::proofs::KnownOutcomes::known_silent))]
+pub fn traps_and_limits_are_known()
+    ensures { (program : TreeView) (view : Seen) (now : Moment) → IsKnown (silent program view now) }
+{}

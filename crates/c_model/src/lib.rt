@@ -1,0 +1,55 @@
+//! What one task of a program does between events, as definitions.
+//!
+//! `specs/` says it over the tree of a program, plain lists and numbers:
+//!
+//! - `Parts`, `Clauses`, `Loops`: the parts of trees, of directives, and of the loops that they share out;
+//! - `Program`: the functions and variables of a program;
+//! - `Cells`: names with their cells, and the cells that a declaration makes;
+//! - `Value`: the number of an expression, or its trap;
+//! - `Text`: what a `printf` prints;
+//! - `Task`: what is left of a task's code, and what one step of it can come to;
+//! - `Copies`: the cells that a construct makes of its own;
+//! - `Coming`: what a step comes to, in the words of the forms;
+//! - `Statements`, `Calls`, `Constructs`: one definition for each form of statement and each stage of a construct;
+//! - `Step`: what a task does next: one line for each form;
+//! - `Standing`: which outcomes there are where an event or the end stands next;
+//! - `Known`: the traps and limits that a task's code can come to;
+//! - `Going`: how it goes on after an answer or an event;
+//! - `Begin`: how the code of main, of a member of a team and of an explicit task begins.
+//!
+//! `docs/statements.md` tells the same in a page. `src/` has the types and numbers that the definitions share with the code. Nothing
+//! here runs a program: the interpreter is to be proved equal to `silent`, `after_answer` and `after_event`.
+//!
+//! The definitions are total. A child that is missing is an empty program, a name that nothing declares reads as 0 and can't be set, a
+//! form that can't stand where it stands is an empty statement. None of them is met in a program that breaks no rule, which isn't
+//! proved here.
+//!
+//! Proved, by the contract of the function that is named:
+//!
+//! - whether an event or the end stands next, or else a silent step or a question, is told by the form of what stands next alone
+//!   ([`standing_is_told_by_form`]);
+//! - a task comes to the same whether or not it has left out what it goes past ([`settling_changes_nothing`]);
+//! - a task for which nothing is left has ended ([`ended_code_has_no_step`]);
+//! - a task's code traps with 1, 2 or 3, and meets the limits 3, 6 and 7 ([`traps_and_limits_are_known`]).
+//!
+//! In `proofs/` programs and expressions are computed: `Values` at the edges of numbers, arrays and loops, `Examples` with a loop, a recursion
+//! and a loop that is shared out, `Waiting` with locks, `single`, `barrier`, `masked` and sections, and `Tasks` with an explicit task.
+//! That the definitions are C's and OpenMP's is for their reader to judge.
+#![tactic(auto)]
+
+mod laws;
+mod limits;
+mod point;
+mod question;
+mod traps;
+mod view;
+
+pub use laws::{
+    ended_code_has_no_step, settling_changes_nothing, standing_is_told_by_form,
+    traps_and_limits_are_known,
+};
+pub use limits::{CALL_LIMIT, CALLS, CELL_LIMIT, CELLS, LINE_UNIT, LOCK_UNIT, TEXT, TEXT_LIMIT};
+pub use point::{MutexKind, Point, Schedule, SyncKind, SyncStage, Target, Work, WorkKind};
+pub use question::{Answer, Ask};
+pub use traps::{INDEX, OVERFLOW, ZERO_DIVIDE};
+pub use view::View;
