@@ -1,6 +1,5 @@
 -- What the links of the pool's nodes spell: the ready order forwards and backwards, and for each region its part of it.
-use Rattle.std.specs.Prelude.{◌≡◌, ℕ, zero, suc, ◌<◌, ◌≤◌, ◌==◌, Bool, true, false, if◌then◌else◌, List, [], ◌∷◌, length, map, filter, count_by}
-use mathlib.Core.List.{reverse}
+use Rattle.std.specs.Prelude.{◌≡◌, ℕ, zero, suc, ◌<◌, ◌≤◌, ◌==◌, Bool, true, false, if◌then◌else◌, List, [], ◌∷◌, length, map, reverse, filter, count_by}
 use Rattle.task_pool.specs.declared.task.Task.{Task}
 use Rattle.task_pool.specs.declared.node.Node.{Node}
 use Rattle.task_pool.specs.declared.task.TheConstants.{TASK_LIMIT}
