@@ -1,6 +1,6 @@
 -- Which ready task a thread starts next: the newest one of its region that descends from every task that it holds
 -- (OpenMP 5.2, 12.9, task scheduling constraints).
-use Rattle.std.specs.Prelude.{◌≡◌, ℕ, zero, suc, ◌==◌, ◌&&◌, ◌||◌, Bool, false, if◌then◌else◌, List, [], ◌∷◌, Option, Some, None}
+use Rattle.std.specs.Prelude.{ℕ, zero, suc, ◌≤◌, ◌<◌, ◌==◌, ◌&&◌, ◌||◌, Bool, false, if◌then◌else◌, List, [], ◌∷◌, length, Option, Some, None}
 use Rattle.std.specs.List.{list_all}
 use Rattle.task_pool.specs.declared.task.Task.{Task}
 use Rattle.task_pool.specs.Tasks.{task_at}
@@ -37,3 +37,12 @@ last_where test (first ∷ others) = later_of (if test first then Some first els
 
 abbrev pub newest_allowed : List Task → List ℕ → ℕ → List ℕ → Option ℕ
 newest_allowed tasks ready region held = last_where (is_allowed tasks region held) ready
+
+-- the same as a relation, a line for each way in which a task descends from another one
+pub data Descends (tasks : List Task) : ℕ → ℕ → Type 0 where
+  FromParent : (task : ℕ) → 1 ≤ task → task ≤ length tasks → Descends tasks task (parent_of tasks task)
+  FromAbove : (task from : ℕ) → 1 ≤ task → task ≤ length tasks → Descends tasks (parent_of tasks task) from → Descends tasks task from
+
+-- each task was made after its parent
+abbrev pub ParentsComeFirst : List Task → Type 0
+ParentsComeFirst tasks = (task : ℕ) → 1 ≤ task → parent_of tasks task < task

@@ -4,7 +4,7 @@ use Rattle.task_pool.specs.declared.task.Task.{Task}
 use Rattle.task_pool.specs.declared.node.Node.{Node}
 use Rattle.task_pool.specs.declared.task.TheConstants.{TASK_LIMIT}
 use Rattle.task_pool.specs.Tasks.{task_at, is_ready, open_children, unfinished}
-use Rattle.task_pool.specs.Allowed.{parent_of}
+use Rattle.task_pool.specs.Allowed.{ParentsComeFirst}
 use Rattle.task_pool.specs.Chain.{ChainView, node_at, region_at, last_of}
 use Rattle.task_pool.specs.View.{PoolView}
 
@@ -76,7 +76,7 @@ pub record CountsTasks (C : ChainView) (tasks : List Task) : Type 0 where
 
 -- parents come before their children, and each task has a region that has a place
 pub record AreInOrder (C : ChainView) (tasks : List Task) : Type 0 where
-  pub parents : (task : ℕ) → 1 ≤ task → parent_of tasks task < task
+  pub parents : ParentsComeFirst tasks
   pub regions : (task : ℕ) → 1 ≤ task → task ≤ length tasks → (task_at tasks task).region < length C.regions
   pub few : length tasks ≤ TASK_LIMIT
 
