@@ -1,4 +1,5 @@
--- What each call on locks answers. Where two faults hold, the one that stands first here is told (OpenMP 5.2, 18.9).
+-- What each call on locks answers. The routines are those of OpenMP 5.2, 18.9. It leaves open what a wrong use of them
+-- does; here each is a fault, and a lock that isn't initialised is told before anything else.
 use Rattle.std.specs.Prelude.{ℕ, ◌==◌, if◌then◌else◌, Bool, true, false, List, Option, Some, None, Result, Ok, Err}
 use Rattle.sync_objects.specs.declared.lock.Lock.{Lock}
 use Rattle.sync_objects.specs.declared.lock_fault.LockFault.{LockFault}

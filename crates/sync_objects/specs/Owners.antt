@@ -1,5 +1,5 @@
--- The list of the locks that are initialised, by rising wait identifier, and how it changes. A critical is a lock that is
--- initialised from the start.
+-- The list of the locks that are initialised, by rising wait identifier, and how it changes. A critical is a lock that
+-- is initialised from the start.
 use Rattle.std.specs.Prelude.{ℕ, zero, suc, ◌+◌, ◌==◌, nat_lt, if◌then◌else◌, List, [], ◌∷◌, ◌++◌, Option, Some, None}
 use Rattle.sync_objects.specs.declared.lock.Lock.{Lock}
 

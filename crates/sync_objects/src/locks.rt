@@ -1,7 +1,8 @@
 //! The locks and criticals of a run that are initialised.
 
-ghost use Rattle.std.specs.Prelude.{◌≡◌, ◌<◌, ◌-◌, Ok, IfOk, OnOk, OnErr, None, Some, true};
-ghost use Rattle.sync_objects.specs.Owners.{critical_locks, free_lock, in_order, without, with_owner};
+ghost use Rattle.std.specs.Prelude.{◌≡◌, ◌<◌, Ok, IfOk, OnOk, OnErr, None, Some, true};
+ghost use Rattle.sync_objects.specs.Owners.{critical_locks, free_lock, without, with_owner};
+ghost use Rattle.sync_objects.specs.View.{with_initialised};
 ghost use Rattle.sync_objects.specs.Answers.{answer_to_init, answer_to_destroy, answer_to_may_take, answer_to_give};
 ghost use Rattle.sync_objects.specs.Searching.{IsPlaceOf};
 
@@ -34,7 +35,8 @@ impl Model for Locks {
 
     ghost view = { λ locks. record { locks = locks.locks.items; room = locks.room } };
 
-    ghost invariant = { λ locks. (vec_len locks.locks + locks.room ≤ vec_capacity locks.locks) × IsRising locks.locks.items };
+    ghost invariant = { λ locks. (vec_len locks.locks + locks.room ≤ vec_capacity locks.locks)
+        × IsRising locks.locks.items };
 }
 
 impl Locks {
@@ -63,7 +65,7 @@ impl Locks {
     pub fn init(&mut self, id: u32) -> Result<(), LockFault>
         requires { 0 < self.old.room }
         ensures answer { result ≡ answer_to_init self.old.locks id }
-        ensures done { OnOk result (self.new ≡ record { locks = in_order self.old.locks (free_lock id); room = self.old.room - 1 }) }
+        ensures done { OnOk result (self.new ≡ with_initialised self.old id) }
         ensures fault { OnErr result (self.new ≡ self.old) }
     {
         match self.place_of(id) {
@@ -112,8 +114,8 @@ impl Locks {
         }
     }
 
-    /// The task gives the lock back, which is free from now on. Where the lock isn't initialised, or the task doesn't own
-    /// it, nothing changes.
+    /// The task gives the lock back, which is free from now on. Where the lock isn't initialised, or the task doesn't
+    /// own it, nothing changes.
     pub fn give(&mut self, id: u32, task: TaskId) -> Result<(), LockFault>
         ensures answer { result ≡ answer_to_give self.old.locks id task }
         ensures done { OnOk result (self.new ≡ record self.old { locks = with_owner self.old.locks id None }) }

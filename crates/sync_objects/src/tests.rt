@@ -1,5 +1,5 @@
-//! What no clause says: that the calls succeed, that the definitions mean what was meant, and that long lists of calls agree
-//! with a list that is searched from its front.
+//! What no clause says: that the calls succeed, that the definitions mean what was meant, and that long lists of calls
+//! agree with a list that is searched from its front.
 use super::*;
 use std::alloc::Global;
 use std::test::Fail;

@@ -14,8 +14,8 @@ descends_within tasks zero task from = false
 descends_within tasks (suc further) task from =
     parent_of tasks task == from || descends_within tasks further (parent_of tasks task) from
 
--- a task descends from its parent, and from each task that its parent descends from. A parent has a lesser identity than its
--- children, so there are no more ancestors than the task's identity says
+-- a task descends from its parent, and from each task that its parent descends from. A parent has a lesser identity
+-- than its children, so there are no more ancestors than the task's identity says
 abbrev pub descends : List Task → ℕ → ℕ → Bool
 descends tasks task from = descends_within tasks task task from
 
@@ -41,7 +41,8 @@ newest_allowed tasks ready region held = last_where (is_allowed tasks region hel
 -- the same as a relation, a line for each way in which a task descends from another one
 pub data Descends (tasks : List Task) : ℕ → ℕ → Type 0 where
   FromParent : (task : ℕ) → 1 ≤ task → task ≤ length tasks → Descends tasks task (parent_of tasks task)
-  FromAbove : (task from : ℕ) → 1 ≤ task → task ≤ length tasks → Descends tasks (parent_of tasks task) from → Descends tasks task from
+  FromAbove : (task from : ℕ) → 1 ≤ task → task ≤ length tasks → Descends tasks (parent_of tasks task) from →
+      Descends tasks task from
 
 -- each task was made after its parent
 abbrev pub ParentsComeFirst : List Task → Type 0

@@ -64,8 +64,10 @@ times_in ready task = count_by (λ (other : ℕ). other == task) ready
 pub record SpellsOrder (C : ChainView) (tasks : List Task) (ready : List ℕ) : Type 0 where
   pub forwards : Follows (next_of C) C.first ready
   pub backwards : Follows (previous_of C) C.last (reverse ready)
-  pub forwards_in_region : (region : ℕ) → Follows (next_in_region_of C) (first_of (part_of tasks ready region)) (part_of tasks ready region)
-  pub backwards_in_region : (region : ℕ) → Follows (previous_in_region_of C) (last_of C region) (reverse (part_of tasks ready region))
+  pub forwards_in_region : (region : ℕ) →
+      Follows (next_in_region_of C) (first_of (part_of tasks ready region)) (part_of tasks ready region)
+  pub backwards_in_region : (region : ℕ) →
+      Follows (previous_in_region_of C) (last_of C region) (reverse (part_of tasks ready region))
   -- each ready task is in it once, and no other is
   pub once : (task : ℕ) → times_in ready task ≡ one_if (is_ready (task_at tasks task).condition)
 

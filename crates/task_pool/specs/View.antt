@@ -1,5 +1,5 @@
 -- What a pool is seen as, and what its calls do to it.
-use Rattle.std.specs.Prelude.{ℕ, ◌+◌, ◌-◌, ◌<◌, ◌==◌, not, Bool, if◌then◌else◌, List, [], ◌∷◌, ◌++◌, length, filter, Result, Ok, Err}
+use Rattle.std.specs.Prelude.{ℕ, ◌+◌, ◌-◌, ◌<◌, ◌==◌, not, Bool, if◌then◌else◌, List, [], ◌∷◌, ◌++◌, length, filter, max, Result, Ok, Err}
 use Rattle.task_pool.specs.declared.task.Task.{Task}
 use Rattle.task_pool.specs.declared.task.TaskKind.{TaskKind}
 use Rattle.task_pool.specs.declared.task.Condition.TheVariants as condition
@@ -7,8 +7,8 @@ use Rattle.task_pool.specs.declared.task.Full.{Full}
 use Rattle.task_pool.specs.declared.task.TheConstants.{TASK_LIMIT}
 use Rattle.task_pool.specs.Tasks.{with_condition}
 
--- the tasks by identity, the identities of the ready ones in the order in which they became ready, for how many regions there
--- are places, and how many more tasks there is room for
+-- the tasks by identity, the identities of the ready ones in the order in which they became ready, for how many
+-- regions there are places, and how many more tasks there is room for
 pub record PoolView : Type 0 where
   pub tasks : List Task
   pub ready : List ℕ
@@ -17,6 +17,10 @@ pub record PoolView : Type 0 where
 
 abbrev pub no_pool : PoolView
 no_pool = record { tasks = []; ready = []; regions = 0; room = 0 }
+
+-- room is made for one task, and a place for the region
+abbrev pub with_room : PoolView → ℕ → PoolView
+with_room pool region = record pool { regions = max (region + 1) pool.regions; room = 1 }
 
 -- there is room for a task of this region
 pub record HasRoom (pool : PoolView) (region : ℕ) : Type 0 where

@@ -1,7 +1,7 @@
 //! The tasks and regions of the pool with their links, one change a call. What the links spell is the pool's matter.
 
-ghost use Rattle.std.specs.Prelude.{◌≡◌, ◌<◌, ◌≤◌, ◌+◌, ◌-◌, [], ◌∷◌, ◌++◌, IfOk, OnOk, OnErr, length, max};
-ghost use Rattle.task_pool.specs.Chain.{ChainView, no_chain, node_at, region_at, with_regions, node_made, next_set, previous_set, next_in_region_set, previous_in_region_set, links_set, condition_set, counted_up, counted_down};
+ghost use Rattle.std.specs.Prelude.{◌≡◌, ◌≢◌, ◌<◌, ◌+◌, ◌^◌, IfOk, OnOk, OnErr, length};
+ghost use Rattle.task_pool.specs.Chain.{no_chain, node_at, region_at, with_regions, node_made, next_set, previous_set, next_in_region_set, previous_in_region_set, links_set, condition_set, counted_up, counted_down};
 
 use crate::node::{Links, Node, RegionTasks, fresh_node, no_node, no_region};
 use crate::task::{Condition, Task, TaskId};
@@ -11,8 +11,8 @@ use std::marker::Model;
 /// How many tasks there is room for at first.
 const FIRST_ROOM: usize = 64;
 
-/// The tasks by identity, the regions by number, and the ends of the ready order. A task or a region that isn't there reads
-/// as one without anything.
+/// The tasks by identity, the regions by number, and the ends of the ready order. A task or a region that isn't there
+/// reads as one without anything.
 #[derive(Drop)]
 pub struct Chain {
     /// The tasks: the one with identity `k` at `k - 1`.
@@ -202,7 +202,8 @@ impl Chain {
         }
     }
 
-    /// Before the task, among the ready ones of the region, comes this one. Where there is no task after it, it is the last.
+    /// Before the task, among the ready ones of the region, comes this one. Where there is no task after it, it is the
+    /// last.
     pub fn set_previous_in_region(&mut self, region: u32, task: TaskId, previous: TaskId)
         ensures { self.new ≡ previous_in_region_set self.old region task previous }
     {

@@ -1,8 +1,8 @@
 //! The tasks of a run, and the order in which they became ready.
 
-ghost use Rattle.std.specs.Prelude.{◌≡◌, ◌≢◌, ◌<◌, ◌≤◌, ◌+◌, ◌∷◌, [], ◌++◌, IfOk, OnOk, OnErr, IfSome, IsTrue, ◌↔◌, length, max, Ok, Err, is_ok};
+ghost use Rattle.std.specs.Prelude.{◌≡◌, ◌≢◌, ◌≤◌, IfOk, OnOk, OnErr, length};
 ghost use Rattle.task_pool.specs.Tasks.{task_at, open_children, unfinished, is_explicit, MayBeParent};
-ghost use Rattle.task_pool.specs.View.{PoolView, no_pool, HasRoom, answer_to_add, with_added, with_ready, with_started, with_finished};
+ghost use Rattle.task_pool.specs.View.{no_pool, HasRoom, with_room, answer_to_add, with_added, with_ready, with_started, with_finished};
 ghost use Rattle.task_pool.specs.Allowed.{parent_of, descends, descends_from_all, newest_allowed};
 ghost use Rattle.task_pool.specs.Chain.{linked_last, unlinked};
 ghost use Rattle.task_pool.specs.Links.{tasks_of, AreInOrder};
@@ -20,9 +20,9 @@ pub type Memory = std::alloc::AllocError;
 
 /// The tasks of a run.
 ///
-/// Contracts see the list of the tasks by identity, the identities of the ready ones in the order in which they became ready,
-/// for how many regions there are places, and how many more tasks there is room for. Only [`Pool::new`], [`Pool::reserve`]
-/// and [`Pool::ready_list`] take memory.
+/// Contracts see the list of the tasks by identity, the identities of the ready ones in the order in which they became
+/// ready, for how many regions there are places, and how many more tasks there is room for. Only [`Pool::new`],
+/// [`Pool::reserve`] and [`Pool::ready_list`] take memory.
 #[derive(Drop)]
 pub struct Pool {
     /// Where its memory comes from.
@@ -53,7 +53,7 @@ impl Pool {
 
     /// Makes room for one task of the region, which stays until the next [`Pool::add`].
     pub fn reserve(&mut self, region: u32) -> Result<(), Memory>
-        ensures room { OnOk result (self.new ≡ record self.old { room = 1; regions = max (region + 1) self.old.regions }) }
+        ensures room { OnOk result (self.new ≡ with_room self.old region) }
         ensures memory { OnErr result (self.new ≡ self.old) }
     {
         self.chain.reserve(region)
@@ -116,11 +116,11 @@ impl Pool {
         }
     }
 
-    /// The newest ready task of the region that descends from every task of `held`: the one that became ready last. A task
-    /// descends from its parent, and from each task that its parent descends from (OpenMP 5.2, 12.9).
+    /// The newest ready task of the region that descends from every task of `held`: the one that became ready last. A
+    /// task descends from its parent, and from each task that its parent descends from (OpenMP 5.2, 12.9).
     ///
-    /// It costs, for each ready task of the region that isn't allowed, and for the one that is, a walk up its parents, as far as
-    /// the least identity that is held. The walk is shortest where `held` is by rising identity.
+    /// It costs, for each ready task of the region that isn't allowed, and for the one that is, a walk up its parents,
+    /// as far as the least identity that is held. The walk is shortest where `held` is by rising identity.
     pub fn newest_allowed(&self, region: u32, held: &[TaskId]) -> Option<TaskId>
         ensures { result ≡ newest_allowed self.now.tasks self.now.ready region held.now }
     {

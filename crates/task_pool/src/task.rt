@@ -17,8 +17,8 @@ pub enum TaskKind {
     Implicit,
     /// The task of a task construct, which any member of the team may start once it is ready.
     Explicit,
-    /// The task of a task construct whose `if` is 0, which the encountering thread starts next. It is an explicit task too
-    /// (OpenMP 5.2, 12.5).
+    /// The task of a task construct whose `if` is 0, which the encountering thread starts next. It is an explicit task
+    /// too (OpenMP 5.2, 12.5).
     Undeferred,
 }
 

@@ -1,10 +1,11 @@
-//! What no clause says: that the calls succeed, that the definitions mean what was meant, and that long lists of calls agree
-//! with plain lists that are searched from their ends.
+//! What no clause says: that the calls succeed, that the definitions mean what was meant, and that long lists of calls
+//! agree with plain lists that are searched from their ends.
 use super::*;
 use std::alloc::Global;
 use std::test::Fail;
 
-/// Tasks 1 to 4 of region 1, of which 4 is a child of 2 and the others are children of 1; 4, 2, 3 became ready in this order.
+/// Tasks 1 to 4 of region 1, of which 4 is a child of 2 and the others are children of 1; 4, 2, 3 became ready in this
+/// order.
 fn four_tasks(alloc: Global) -> Result<Pool, Fail> {
     let mut pool = Pool::new(alloc)?;
     for (parent, kind) in [

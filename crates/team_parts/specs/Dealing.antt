@@ -2,33 +2,33 @@
 use Rattle.std.specs.Prelude.{◌≡◌, ℕ, ◌+◌, ◌<◌, ◌≤◌, nat_le, nat_lt, ◌&&◌, Bool, true, false, List, [], ◌∷◌, ◌++◌, count_by, All, Option, Some, None}
 use Rattle.team_parts.specs.declared.meeting.Meeting.{Meeting}
 use Rattle.team_parts.specs.declared.meeting.TheConstants.{TEAM_LIMIT}
-use Rattle.team_parts.specs.Meetings.{Met, HasChunk}
+use Rattle.team_parts.specs.Meetings.{TeamMeeting, HasChunk}
 use Rattle.team_parts.specs.Chunks.{next_chunk_of}
-use Rattle.team_parts.specs.Team.{fresh_met, with_taken}
+use Rattle.team_parts.specs.Team.{fresh_meeting, with_taken}
 
 -- the meeting, and the chunks that were answered so far
-pub record Dealt : Type 0 where
-  pub met : Met
+pub record Deal : Type 0 where
+  pub met : TeamMeeting
   pub chunks : List (ℕ × ℕ)
 
-abbrev pub none_dealt : Meeting → Dealt
-none_dealt what = record { met = fresh_met what; chunks = [] }
+abbrev pub none_dealt : Meeting → Deal
+none_dealt what = record { met = fresh_meeting what; chunks = [] }
 
-abbrev pub with_chunk : Dealt → ℕ → Option (ℕ × ℕ) → Dealt
+abbrev pub with_chunk : Deal → ℕ → Option (ℕ × ℕ) → Deal
 with_chunk dealt member None = dealt
 with_chunk dealt member (Some chunk) = record { met = with_taken dealt.met member; chunks = dealt.chunks ++ chunk ∷ [] }
 
 -- one member asks
-abbrev pub after_asking : ℕ → Dealt → ℕ → Dealt
+abbrev pub after_asking : ℕ → Deal → ℕ → Deal
 after_asking size dealt member = with_chunk dealt member (next_chunk_of dealt.met size member)
 
 -- members ask in this order
-unfoldable pub after_all : ℕ → Dealt → List ℕ → Dealt
+unfoldable pub after_all : ℕ → Deal → List ℕ → Deal
 after_all size dealt [] = dealt
 after_all size dealt (member ∷ others) = after_all size (after_asking size dealt member) others
 
 -- nothing is left for any member
-abbrev pub IsOver : ℕ → Met → Type 0
+abbrev pub IsOver : ℕ → TeamMeeting → Type 0
 IsOver size met = (member : ℕ) → member < size → next_chunk_of met size member ≡ None
 
 -- the iteration is one of the chunk

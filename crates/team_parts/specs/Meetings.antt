@@ -1,5 +1,5 @@
 -- Meetings, and which of them are the same.
-use Rattle.std.specs.Prelude.{◌≡◌, ℕ, ◌≤◌, ◌==◌, ◌&&◌, Bool, true, false, List}
+use Rattle.std.specs.Prelude.{ℕ, ◌+◌, ◌≤◌, ◌==◌, ◌&&◌, Bool, true, false, List, slice_index_or, slice_set}
 use Rattle.std.specs.Ordering.{int_eq}
 use Rattle.team_parts.specs.declared.meeting.Schedule.{Schedule}
 use Rattle.team_parts.specs.declared.meeting.Schedule.TheVariants.{Static, Dynamic, Guided}
@@ -7,9 +7,13 @@ use Rattle.team_parts.specs.declared.meeting.Meeting.{Meeting}
 use Rattle.team_parts.specs.declared.meeting.Meeting.TheVariants.{Loop, Sections, Single, Barrier}
 
 -- a meeting of the team: what is met, and how many chunks or sections each member took in it
-pub record Met : Type 0 where
+pub record TeamMeeting : Type 0 where
   pub what : Meeting
   pub taken : List ℕ
+
+-- the member took one chunk or section more
+abbrev pub one_more : List ℕ → ℕ → List ℕ
+one_more taken member = slice_set taken member (slice_index_or taken member 0 + 1)
 
 abbrev pub is_same_schedule : Schedule → Schedule → Bool
 is_same_schedule (Static chunk) (Static other) = chunk == other

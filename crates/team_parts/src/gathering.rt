@@ -1,7 +1,7 @@
 //! A meeting of the team, with what its members took in it.
 
 ghost use Rattle.std.specs.Prelude.{◌≡◌, ◌≤◌, ◌<◌, ◌+◌, ◌^◌, length, slice_index_or};
-ghost use Rattle.team_parts.specs.Gatherings.{fresh_gathering, met_of, with_dealt, shared_length};
+ghost use Rattle.team_parts.specs.Gatherings.{fresh_gathering, meeting_of, with_dealt, shared_length};
 ghost use Rattle.team_parts.specs.Sound.{IsCounted};
 ghost use Rattle.team_parts.specs.Chunks.{next_chunk_of, next_section_of};
 
@@ -36,7 +36,7 @@ impl Gathering {
         requires size { 1 ≤ size }
         requires member { member < length self.now.taken }
         requires counted { IsCounted size self.now }
-        ensures { result ≡ next_chunk_of (met_of self.now) size member }
+        ensures { result ≡ next_chunk_of (meeting_of self.now) size member }
     {
         let Meeting::Loop {
             count,
@@ -59,7 +59,7 @@ impl Gathering {
     /// The next section, if there is one.
     pub fn next_section(&self, size: u64) -> Option<u32>
         requires { IsCounted size self.now }
-        ensures { result ≡ next_section_of (met_of self.now) }
+        ensures { result ≡ next_section_of (meeting_of self.now) }
     {
         match self.what {
             Meeting::Sections { count, .. } if self.dealt < u64::from(count) => {

@@ -7,8 +7,8 @@ ghost use Rattle.team_parts.specs.declared.meeting.Meeting.TheVariants.{Loop};
 ghost use Rattle.team_parts.specs.Meetings.{is_same};
 ghost use Rattle.team_parts.specs.Dealing.{IsDealtOut, chunks_dealt, times_dealt, one_if};
 
-/// Whichever members ask for the chunks of a loop in whichever order, until nothing is left for any of them: each iteration is
-/// in one chunk, and no chunk has anything else.
+/// Whichever members ask for the chunks of a loop in whichever order, until nothing is left for any of them: each
+/// iteration is in one chunk, and no chunk has anything else.
 pub fn each_iteration_once()
     ensures { (at : ℕ) (start : ℤ) (count : ℕ) (step : ℤ) (schedule : Schedule) (size : ℕ) (order : List ℕ) →
         let loop_met = Loop at start count step schedule in

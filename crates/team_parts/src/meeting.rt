@@ -16,7 +16,8 @@ pub enum Schedule {
     Guided(u32),
 }
 
-/// A worksharing construct or a barrier that a member has come to. Two members meet the same where all of it is the same.
+/// A worksharing construct or a barrier that a member has come to. Two members meet the same where all of it is the
+/// same.
 #[derive(Clone, Copy, Debug, PartialEq, Eq)]
 pub enum Meeting {
     /// A loop.

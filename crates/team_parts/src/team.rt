@@ -1,7 +1,7 @@
 //! A team: its members, and what they have met.
 
-ghost use Rattle.std.specs.Prelude.{◌≡◌, ◌<◌, ◌≤◌, ◌∷◌, [], ◌++◌, IfOk, OnOk, OnErr, IsTrue, length, replicate, take};
-ghost use Rattle.team_parts.specs.Team.{TeamView, new_member, IsInLoop, IsInSections, IsAtBarrier, answer_to_meet, with_met, next_chunk, after_chunk, next_section, after_section, with_begun, may_pass, with_passed, last_number};
+ghost use Rattle.std.specs.Prelude.{◌≡◌, ◌<◌, ◌≤◌, [], IfOk, OnOk, OnErr, IsTrue, length, replicate, take};
+ghost use Rattle.team_parts.specs.Team.{new_member, IsInLoop, IsInSections, IsAtBarrier, answer_to_meet, after_meeting, next_chunk, after_chunk, next_section, after_section, with_begun, may_pass, with_passed, last_number};
 ghost use Rattle.team_parts.specs.Meetings.{HasChunk};
 ghost use Rattle.team_parts.specs.Sound.{IsFewest};
 
@@ -16,10 +16,10 @@ pub type Memory = std::alloc::AllocError;
 
 /// A team of threads.
 ///
-/// All members meet the same things in the same order. So contracts see the list of the team's meetings, each with how many
-/// chunks or sections each member took in it, for each member how many of the meetings it has had, at how many barriers it
-/// has begun to wait and at how many its wait has ended, and beside these how many more meetings there is room for. Only
-/// [`Team::new`] and [`Team::reserve`] take memory.
+/// All members meet the same things in the same order. So contracts see the list of the team's meetings, each with how
+/// many chunks or sections each member took in it, for each member how many of the meetings it has had, at how many
+/// barriers it has begun to wait and at how many its wait has ended, and beside these how many more meetings there is
+/// room for. Only [`Team::new`] and [`Team::reserve`] take memory.
 #[derive(Drop)]
 pub struct Team {
     /// The members, by number.
@@ -37,14 +37,14 @@ pub struct Team {
 impl Model for Team {
     ghost use Rattle.std.specs.Prelude.{map};
     ghost use Rattle.team_parts.specs.Team.{TeamView};
-    ghost use Rattle.team_parts.specs.Gatherings.{met_of};
+    ghost use Rattle.team_parts.specs.Gatherings.{meeting_of};
     ghost use Rattle.team_parts.specs.Sound.{IsSound};
 
     ghost Value = { TeamView };
 
     ghost view = { λ team. record {
       members = team.members.items;
-      meetings = map met_of team.meetings.items;
+      meetings = map meeting_of team.meetings.items;
       room = team.room;
     } };
 
@@ -99,14 +99,14 @@ impl Team {
         Ok(())
     }
 
-    /// The member meets this next. Tells whether it is the first of the team here. Where another member has met something
-    /// else in this place, nothing changes.
+    /// The member meets this next. Tells whether it is the first of the team here. Where another member has met
+    /// something else in this place, nothing changes.
     pub fn meet(&mut self, member: u32, what: Meeting) -> Result<bool, Mismatch>
         requires member { member < length self.old.members }
         requires room { 0 < self.old.room }
         requires chunk { HasChunk what }
         ensures answer { result ≡ answer_to_meet self.old member what }
-        ensures met { OnOk result (self.new ≡ with_met self.old member what) }
+        ensures met { OnOk result (self.new ≡ after_meeting self.old member what) }
         ensures mismatch { OnErr result (self.new ≡ self.old) }
     {
         let number = self.members[member as usize].met as usize;
@@ -123,8 +123,8 @@ impl Team {
         Ok(is_first)
     }
 
-    /// The member takes the next chunk of the loop that it met last: its first iteration, counted from 0, and its length. There
-    /// is none where no iteration is left for the member.
+    /// The member takes the next chunk of the loop that it met last: its first iteration, counted from 0, and its
+    /// length. There is none where no iteration is left for the member.
     pub fn next_chunk(&mut self, member: u32) -> Option<(u64, u64)>
         requires { IsInLoop self.old member }
         ensures answer { result ≡ next_chunk self.old member }
@@ -141,8 +141,8 @@ impl Team {
         chunk
     }
 
-    /// The member takes the next section of the construct that it met last: its number, counted from 0. There is none where
-    /// each was taken.
+    /// The member takes the next section of the construct that it met last: its number, counted from 0. There is none
+    /// where each was taken.
     pub fn next_section(&mut self, member: u32) -> Option<u32>
         requires { IsInSections self.old member }
         ensures answer { result ≡ next_section self.old member }
@@ -168,9 +168,9 @@ impl Team {
         self.fewest_begun = fewest_begun(&self.members);
     }
 
-    /// Whether the member's wait at the barrier that it met last may end, while so many explicit tasks of the region are
-    /// unfinished: where all members have begun to wait here and none is unfinished, or where the wait of some member has
-    /// ended here (OpenMP 5.2, 15.3.1).
+    /// Whether the member's wait at the barrier that it met last may end, while so many explicit tasks of the region
+    /// are unfinished: where all members have begun to wait here and none is unfinished, or where the wait of some
+    /// member has ended here (OpenMP 5.2, 15.3.1).
     pub fn may_pass(&self, member: u32, unfinished: u32) -> bool
         requires { IsAtBarrier self.now member }
         ensures { result ≡ may_pass self.now member unfinished }

@@ -1,5 +1,5 @@
-//! What no clause says: that the calls succeed, that the definitions mean what was meant, and that long lists of calls agree
-//! with plain lists of all that each member met and took.
+//! What no clause says: that the calls succeed, that the definitions mean what was meant, and that long lists of calls
+//! agree with plain lists of all that each member met and took.
 use super::*;
 use std::alloc::Global;
 use std::test::Fail;
