@@ -1,5 +1,5 @@
 -- A meeting as the code keeps it, with how much was dealt to the members that asked.
-use Rattle.std.specs.Prelude.{◌≡◌, ℕ, ◌+◌, ◌≤◌, List, length, sum, replicate}
+use Rattle.std.specs.Prelude.{ℕ, ◌+◌, Bool, if◌then◌else◌, replicate}
 use Rattle.team_parts.specs.declared.meeting.Schedule.{Schedule}
 use Rattle.team_parts.specs.declared.meeting.Schedule.TheVariants.{Static, Dynamic, Guided}
 use Rattle.team_parts.specs.declared.meeting.Meeting.{Meeting}
@@ -8,6 +8,7 @@ use Rattle.team_parts.specs.declared.meeting.TheConstants.{TEAM_LIMIT}
 use Rattle.team_parts.specs.declared.gathering.Gathering.{Gathering}
 use Rattle.team_parts.specs.Meetings.{TeamMeeting, one_more}
 use Rattle.team_parts.specs.Chunks.{dealt_count}
+use Rattle.team_parts.specs.Team.{with_taken}
 
 abbrev pub meeting_of : Gathering → TeamMeeting
 meeting_of gathering = record { what = gathering.what; taken = gathering.taken }
@@ -43,3 +44,7 @@ shared_length (Barrier at kind) length = length
 abbrev pub with_dealt : Gathering → ℕ → ℕ → Gathering
 with_dealt gathering member dealt =
     record gathering { taken = one_more gathering.taken member; dealt = gathering.dealt + dealt }
+
+-- a meeting of which a member asked for a chunk or a section, and took one or found none
+abbrev pub with_taken_if : TeamMeeting → ℕ → Bool → TeamMeeting
+with_taken_if met member found = if found then with_taken met member else met

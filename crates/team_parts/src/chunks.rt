@@ -1,13 +1,14 @@
 //! The chunks of a loop.
 
-ghost use Rattle.std.specs.Prelude.{◌≡◌, ◌≤◌};
+ghost use Rattle.std.specs.Prelude.{◌≡◌, ◌≤◌, ◌<◌, ◌+◌, ◌^◌, IfSome};
 ghost use Rattle.team_parts.specs.Chunks.{chunk_at, own_chunk, next_length};
 
 use crate::meeting::Schedule;
 
 /// The chunk of a loop that begins at this iteration, of at most so many.
 pub fn chunk_at(start: u128, most: u64, count: u64) -> Option<(u64, u64)>
-    ensures { result ≡ chunk_at start most count }
+    ensures chunk { result ≡ chunk_at start most count }
+    ensures fits { IfSome result (λ chunk. chunk.0 + chunk.1 < 2 ^ 64) }
 {
     if start >= u128::from(count) {
         return None;
@@ -18,8 +19,10 @@ pub fn chunk_at(start: u128, most: u64, count: u64) -> Option<(u64, u64)>
 
 /// The next chunk of a member that has taken so many of a loop whose chunks come round and round.
 pub fn own_chunk(chunk: u32, size: u64, count: u64, member: u32, turn: u64) -> Option<(u64, u64)>
-    requires { 1 ≤ size }
-    ensures { result ≡ own_chunk chunk size count member turn }
+    requires some { 1 ≤ size }
+    requires few { size ≤ 16 }
+    ensures chunk { result ≡ own_chunk chunk size count member turn }
+    ensures fits { IfSome result (λ chunk. chunk.0 + chunk.1 < 2 ^ 64) }
 {
     if chunk > 0 {
         let before = u128::from(turn) * u128::from(size) + u128::from(member);

@@ -1,7 +1,7 @@
 //! A meeting of the team, with what its members took in it.
 
-ghost use Rattle.std.specs.Prelude.{◌≡◌, ◌≤◌, ◌<◌, ◌+◌, ◌^◌, length, slice_index_or};
-ghost use Rattle.team_parts.specs.Gatherings.{fresh_gathering, meeting_of, with_dealt, shared_length};
+ghost use Rattle.std.specs.Prelude.{◌≡◌, ◌≤◌, ◌<◌, ◌+◌, ◌^◌, length, slice_index_or, is_some, IfSome};
+ghost use Rattle.team_parts.specs.Gatherings.{fresh_gathering, meeting_of, with_dealt, shared_length, with_taken_if};
 ghost use Rattle.team_parts.specs.Sound.{IsCounted};
 ghost use Rattle.team_parts.specs.Chunks.{next_chunk_of, next_section_of};
 
@@ -31,12 +31,42 @@ pub fn fresh_gathering(what: Meeting) -> Gathering
 }
 
 impl Gathering {
+    /// The member takes its next chunk, if there is one for it.
+    pub fn take_chunk(&mut self, size: u64, member: u32) -> Option<(u64, u64)>
+        requires few { size ≤ 16 }
+        requires member { member < size }
+        requires counted { IsCounted size self.old }
+        ensures answer { result ≡ next_chunk_of (meeting_of self.old) size member }
+        ensures taken { meeting_of self.new ≡ with_taken_if (meeting_of self.old) member (is_some result) }
+        ensures counted { IsCounted size self.new }
+    {
+        let chunk = self.next_chunk(size, member)?;
+        let shared = self.shared_length(chunk.1);
+        self.take(member, shared);
+        Some(chunk)
+    }
+
+    /// The member takes the next section, if there is one.
+    pub fn take_section(&mut self, size: u64, member: u32) -> Option<u32>
+        requires few { size ≤ 16 }
+        requires member { member < size }
+        requires counted { IsCounted size self.old }
+        ensures answer { result ≡ next_section_of (meeting_of self.old) }
+        ensures taken { meeting_of self.new ≡ with_taken_if (meeting_of self.old) member (is_some result) }
+        ensures counted { IsCounted size self.new }
+    {
+        let section = self.next_section(size)?;
+        self.take(member, 1);
+        Some(section)
+    }
+
     /// The member's next chunk, if there is one for it.
-    pub fn next_chunk(&self, size: u64, member: u32) -> Option<(u64, u64)>
-        requires size { 1 ≤ size }
-        requires member { member < length self.now.taken }
+    fn next_chunk(&self, size: u64, member: u32) -> Option<(u64, u64)>
+        requires few { size ≤ 16 }
+        requires member { member < size }
         requires counted { IsCounted size self.now }
-        ensures { result ≡ next_chunk_of (meeting_of self.now) size member }
+        ensures chunk { result ≡ next_chunk_of (meeting_of self.now) size member }
+        ensures fits { IfSome result (λ chunk. chunk.0 + chunk.1 < 2 ^ 64) }
     {
         let Meeting::Loop {
             count,
@@ -57,7 +87,7 @@ impl Gathering {
     }
 
     /// The next section, if there is one.
-    pub fn next_section(&self, size: u64) -> Option<u32>
+    fn next_section(&self, size: u64) -> Option<u32>
         requires { IsCounted size self.now }
         ensures { result ≡ next_section_of (meeting_of self.now) }
     {
@@ -70,7 +100,7 @@ impl Gathering {
     }
 
     /// The member has taken a chunk, or a section, of so many of those that are dealt to the members that ask.
-    pub fn take(&mut self, member: u32, dealt: u64)
+    fn take(&mut self, member: u32, dealt: u64)
         requires member { member < length self.old.taken }
         requires taken { slice_index_or self.old.taken member 0 + 1 < 2 ^ 64 }
         requires dealt { self.old.dealt + dealt < 2 ^ 64 }
@@ -81,7 +111,7 @@ impl Gathering {
     }
 
     /// How many of those that are dealt to the members that ask a chunk has.
-    pub fn shared_length(&self, length: u64) -> u64
+    fn shared_length(&self, length: u64) -> u64
         ensures { result ≡ shared_length self.now.what length }
     {
         match self.what {

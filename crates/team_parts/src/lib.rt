@@ -40,8 +40,6 @@ mod laws;
 mod meeting;
 mod member;
 mod team;
-#[cfg(test)]
-mod tests;
 
 pub use laws::{each_iteration_once, same_is_equal};
 pub use meeting::{Meeting, Mismatch, Schedule, TEAM_LIMIT};

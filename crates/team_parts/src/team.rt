@@ -1,8 +1,9 @@
 //! A team: its members, and what they have met.
 
-ghost use Rattle.std.specs.Prelude.{◌≡◌, ◌<◌, ◌≤◌, [], IfOk, OnOk, OnErr, IsTrue, length, replicate, take};
-ghost use Rattle.team_parts.specs.Team.{new_member, IsInLoop, IsInSections, IsAtBarrier, answer_to_meet, after_meeting, next_chunk, after_chunk, next_section, after_section, with_begun, may_pass, with_passed, last_number};
+ghost use Rattle.std.specs.Prelude.{◌≡◌, ◌<◌, ◌≤◌, [], IfOk, OnOk, OnErr, IsTrue, length, replicate, take, map, slice_get};
+ghost use Rattle.team_parts.specs.Team.{new_member, IsInLoop, IsInSections, IsAtBarrier, meeting_answer, answer_to_meet, after_meeting, next_chunk, after_chunk, next_section, after_section, with_begun, may_pass, with_passed, last_number};
 ghost use Rattle.team_parts.specs.Meetings.{HasChunk};
+ghost use Rattle.team_parts.specs.Gatherings.{meeting_of};
 ghost use Rattle.team_parts.specs.Sound.{IsFewest};
 
 use crate::gathering::{Gathering, fresh_gathering};
@@ -10,6 +11,9 @@ use crate::meeting::{Meeting, Mismatch};
 use crate::member::{Member, new_member};
 use std::alloc::Global;
 use std::marker::Model;
+
+#[cfg(test)]
+mod tests;
 
 /// The error of a call that found no memory.
 pub type Memory = std::alloc::AllocError;
@@ -110,11 +114,7 @@ impl Team {
         ensures mismatch { OnErr result (self.new ≡ self.old) }
     {
         let number = self.members[member as usize].met as usize;
-        let is_first = match self.meetings.get(number) {
-            None => true,
-            Some(gathering) if gathering.what == what => false,
-            Some(_) => return Err(Mismatch),
-        };
+        let is_first = is_first(&self.meetings, number, what)?;
         if is_first {
             self.meetings.push(fresh_gathering(what)).unwrap();
             self.room -= 1;
@@ -133,12 +133,7 @@ impl Team {
         let size = self.members.len() as u64;
         let last = self.last_number(member);
         let gathering = &mut self.meetings[last];
-        let chunk = gathering.next_chunk(size, member);
-        if let Some((_, length)) = chunk {
-            let shared = gathering.shared_length(length);
-            gathering.take(member, shared);
-        }
-        chunk
+        gathering.take_chunk(size, member)
     }
 
     /// The member takes the next section of the construct that it met last: its number, counted from 0. There is none
@@ -151,11 +146,7 @@ impl Team {
         let size = self.members.len() as u64;
         let last = self.last_number(member);
         let gathering = &mut self.meetings[last];
-        let section = gathering.next_section(size);
-        if section.is_some() {
-            gathering.take(member, 1);
-        }
-        section
+        gathering.take_section(size, member)
     }
 
     /// The member begins to wait at the barrier that it met last.
@@ -199,12 +190,23 @@ impl Team {
     }
 }
 
+/// Whether a member that meets this is the first at the meeting with this number.
+fn is_first(meetings: &[Gathering], number: usize, what: Meeting) -> Result<bool, Mismatch>
+    ensures { result ≡ meeting_answer (slice_get (map meeting_of meetings.now) number) what }
+{
+    match meetings.get(number) {
+        None => Ok(true),
+        Some(gathering) if gathering.what == what => Ok(false),
+        Some(_) => Err(Mismatch),
+    }
+}
+
 /// At how many barriers each member has begun to wait.
 fn fewest_begun(members: &[Member]) -> u64
     requires { 1 ≤ length members.now }
     ensures { IsFewest members.now result }
 {
-    let mut fewest = members.first().map_or(0, |member| member.begun);
+    let mut fewest = members[0].begun;
     for member in members {
         fewest = fewest.min(member.begun);
     }
