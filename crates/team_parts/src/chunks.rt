@@ -2,6 +2,7 @@
 
 ghost use Rattle.std.specs.Prelude.{◌≡◌, ◌≤◌, ◌<◌, ◌+◌, ◌^◌, IfSome};
 ghost use Rattle.team_parts.specs.Chunks.{chunk_at, own_chunk, next_length};
+ghost use Rattle.team_parts.specs.declared.meeting.TheConstants.{TEAM_LIMIT};
 
 use crate::meeting::Schedule;
 
@@ -20,7 +21,7 @@ pub fn chunk_at(start: u128, most: u64, count: u64) -> Option<(u64, u64)>
 /// The next chunk of a member that has taken so many of a loop whose chunks come round and round.
 pub fn own_chunk(chunk: u32, size: u64, count: u64, member: u32, turn: u64) -> Option<(u64, u64)>
     requires some { 1 ≤ size }
-    requires few { size ≤ 16 }
+    requires few { size ≤ TEAM_LIMIT }
     ensures chunk { result ≡ own_chunk chunk size count member turn }
     ensures fits { IfSome result (λ chunk. chunk.0 + chunk.1 < 2 ^ 64) }
 {

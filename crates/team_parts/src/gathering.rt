@@ -33,7 +33,7 @@ pub fn fresh_gathering(what: Meeting) -> Gathering
 impl Gathering {
     /// The member takes its next chunk, if there is one for it.
     pub fn take_chunk(&mut self, size: u64, member: u32) -> Option<(u64, u64)>
-        requires few { size ≤ 16 }
+        requires few { size ≤ TEAM_LIMIT }
         requires member { member < size }
         requires counted { IsCounted size self.old }
         ensures answer { result ≡ next_chunk_of (meeting_of self.old) size member }
@@ -48,7 +48,7 @@ impl Gathering {
 
     /// The member takes the next section, if there is one.
     pub fn take_section(&mut self, size: u64, member: u32) -> Option<u32>
-        requires few { size ≤ 16 }
+        requires few { size ≤ TEAM_LIMIT }
         requires member { member < size }
         requires counted { IsCounted size self.old }
         ensures answer { result ≡ next_section_of (meeting_of self.old) }
@@ -62,7 +62,7 @@ impl Gathering {
 
     /// The member's next chunk, if there is one for it.
     fn next_chunk(&self, size: u64, member: u32) -> Option<(u64, u64)>
-        requires few { size ≤ 16 }
+        requires few { size ≤ TEAM_LIMIT }
         requires member { member < size }
         requires counted { IsCounted size self.now }
         ensures chunk { result ≡ next_chunk_of (meeting_of self.now) size member }

@@ -3,13 +3,14 @@
 //! All members of a team meet the same worksharing constructs and barriers in the same order. So contracts see a [`Team`]
 //! as the list of its meetings, each with how many chunks or sections each member took in it, and for each [`Member`] how
 //! many of these meetings it has had, at how many barriers it has begun to wait, and at how many its wait has ended.
-//! Beside these stands how many more meetings there is room for. None of the numbers ever falls.
+//! None of these numbers ever falls. Beside them stands how many more meetings there is room for.
 //!
 //! - `specs/Meetings.antt` has the meetings, and when two are the same;
 //! - `specs/Chunks.antt` has the next chunk of a loop and the next section. A static loop deals to each member by what
 //!   this member took, and any other one by what all members took;
 //! - `specs/Team.antt` has what each call answers and does, and when a wait at a barrier may end;
-//! - `specs/Dealing.antt` has a whole loop: members ask in some order until nothing is left for any of them.
+//! - `specs/Dealing.antt` has a whole loop: members ask in some order until nothing is left for any of them;
+//! - `specs/Gatherings.antt` and `specs/Sound.antt` have how the code keeps a meeting, and what is true of each team.
 //!
 //! The contracts say:
 //!
