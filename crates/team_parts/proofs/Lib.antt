@@ -1,0 +1,10 @@
+pub mod Asking
+pub mod Counted
+pub mod InTurn
+pub mod Members
+pub mod Orders
+pub mod Owned
+pub mod Owners
+pub mod Places
+pub mod Same
+pub mod Sound

@@ -1,0 +1,14 @@
+use Rattle.std.proofs.Common.{◌<◌, length, ap, arith}
+use Rattle.std.proofs.lemmas.List.{get_or_read}
+use Rattle.team_parts.specs.Team.{TeamView, new_member}
+use Rattle.team_parts.proofs.Sound.{sound-begun}
+use Rattle.team_parts.proofs.team.Team.arrive.Goals as goal
+
+pub invariant_of-self : goal.invariant_of-self
+invariant_of-self c =
+    let inside = c.self.inside in
+    let of_team : c.args.member < length inside.members.items = omega (arith, c.requires.of_team, ap (λ (team : TeamView). length team.members) c.self.view_is) in
+    let read = get_or_read inside.members.items c.args.member c.index.result.now of_team c.index.ensures new_member in
+    let written = get_or_read inside.members.items c.args.member c.index_mut.result.now of_team c.index_mut.ensures.value new_member in
+    let fewest = rw (c.deref.ensures.value, read, written) at c.fewest_begun-self-inside.ensures in
+    (c.self.invariant.0, rw (read, written) (sound-begun inside.members.items inside.meetings.items inside.fewest_begun inside.most_passed c.fewest_begun-self-inside.result c.args.member of_team fewest c.self.invariant.1))
