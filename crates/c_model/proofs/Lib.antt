@@ -1,6 +1,7 @@
 pub mod Watching
 pub mod Values
 pub mod Examples
+pub mod Hiding
 pub mod Waiting
 pub mod Tasks
 pub mod Criticals

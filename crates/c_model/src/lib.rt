@@ -14,14 +14,16 @@
 //! - `Step`: what a task does next: one line for each form;
 //! - `Standing`: which outcomes there are where an event or the end stands next;
 //! - `Known`: the traps and limits that a task's code can come to;
+//! - `Answers`: which answers are given to what a task asks;
 //! - `Going`: how it goes on after an answer or an event;
 //! - `Begin`: how the code of main, of a member of a team and of an explicit task begins.
 //!
 //! `docs/statements.md` tells the same in a page. `src/` has the types and numbers that the definitions share with the code. Nothing
 //! here runs a program: the interpreter is to be proved equal to `silent`, `after_answer` and `after_event`.
 //!
-//! The definitions are total. A child that is missing is an empty program, a name that nothing declares reads as 0 and can't be set, a
-//! form that can't stand where it stands is an empty statement. None of them is met in a program that breaks no rule, which isn't
+//! The definitions are total. A child that is missing is an empty program, a name that nothing declares reads as 0, traps with an
+//! index and can't be set, a form that can't stand where it stands is an empty statement, and an answer to what wasn't asked changes
+//! nothing. None of them is met in a program that breaks no rule, which isn't
 //! proved here.
 //!
 //! Proved, by the contract of the function that is named:
@@ -33,7 +35,8 @@
 //! - a task's code traps with 1, 2 or 3, and meets the limits 3, 6 and 7 ([`traps_and_limits_are_known`]).
 //!
 //! In `proofs/` programs and expressions are computed: `Values` at the edges of numbers, arrays and loops, `Examples` with a loop, a recursion
-//! and a loop that is shared out, `Waiting` with locks, `single`, `barrier`, `masked` and sections, and `Tasks` with an explicit task.
+//! and a loop that is shared out, `Waiting` with locks, `single`, `barrier`, `masked` and sections, `Criticals` with criticals, and `Tasks`
+//! with explicit tasks.
 //! That the definitions are C's and OpenMP's is for their reader to judge.
 #![tactic(auto)]
 
