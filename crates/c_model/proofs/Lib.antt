@@ -7,5 +7,6 @@ pub mod Tasks
 pub mod Criticals
 pub mod Standing
 pub mod Settled
+pub mod Answers
 pub mod KnownValues
 pub mod KnownOutcomes

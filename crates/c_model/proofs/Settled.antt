@@ -1,4 +1,4 @@
--- What a task goes past counts for nothing, a task for which nothing is left has ended, and an answer is given to a question.
+-- What a task goes past counts for nothing, and a task for which nothing is left has ended.
 use Rattle.std.specs.Prelude.{◌≡◌, if◌then◌else◌, Bool, true, false, List, [], ◌∷◌, pos, unwrap_or, refl}
 use Rattle.std.proofs.Common.{ap, ◌∙◌}
 use Rattle.c_syntax.specs.Numbered.{TreeView}

@@ -1,34 +1,49 @@
--- Which answers are given to what a task asks. What the definitions say of others is never met.
-use Rattle.std.specs.Prelude.{ℕ, ◌<◌, ◌≤◌, ◌+◌, List, [], ◌∷◌, length, Option, Some, None}
+-- Which answers are given to what a task asks. What the definitions say of others has no meaning.
+use Rattle.std.specs.Prelude.{ℕ, ◌<◌, ◌≤◌, ◌+◌, List, [], ◌∷◌, length, Some, None}
 use Rattle.c_model.specs.declared.question.Answer.{Answer}
 use Rattle.c_model.specs.declared.question.Answer.TheVariants as answer
+use Rattle.c_model.specs.declared.question.Ask.TheVariants as ask
 use Rattle.c_model.specs.declared.view.View.{View}
 use Rattle.c_model.specs.Clauses.{sections_of}
-use Rattle.c_model.specs.Task.{Item, Task}
+use Rattle.c_model.specs.Task.{Item, Outcome, Task}
 use Rattle.c_model.specs.Task.Item.{NextChunk, NextSection, TestLock}
+use Rattle.c_model.specs.Task.Outcome.{Asks}
 use Rattle.c_model.specs.Step.{settled_task}
 
--- a chunk has an iteration, and lies within the iterations of the loop
-unfoldable pub IsChunk : ℕ → Option (ℕ × ℕ) → Type 0
-IsChunk count None = Unit {0}
-IsChunk count (Some chunk) = (0 < chunk.1) × (chunk.0 + chunk.1 ≤ count)
+-- a chunk that is given has an iteration, and lies within the iterations of the loop, counted from 0
+unfoldable pub IsChunkAnswer : ℕ → Answer → Type 0
+IsChunkAnswer count (answer.Chunk None) = Unit {0}
+IsChunkAnswer count (answer.Chunk (Some chunk)) = (0 < chunk.1) × (chunk.0 + chunk.1 ≤ count)
+IsChunkAnswer count other = ⊥
 
--- a section is one of the construct's
-unfoldable pub IsSection : ℕ → Option ℕ → Type 0
-IsSection count None = Unit {0}
-IsSection count (Some section) = section < count
+-- a section that is given, counted from 0, is one of the construct's
+unfoldable pub IsSectionAnswer : ℕ → Answer → Type 0
+IsSectionAnswer count (answer.Section None) = Unit {0}
+IsSectionAnswer count (answer.Section (Some section)) = section < count
+IsSectionAnswer count other = ⊥
 
--- an answer is of the kind that is asked
-unfoldable pub AnswersItem : Answer → Item → Type 0
-AnswersItem (answer.Chunk chunk) (NextChunk loop) = IsChunk loop.count chunk
-AnswersItem (answer.Section section) (NextSection construct names) = IsSection (length (sections_of construct)) section
-AnswersItem (answer.Free free) (TestLock call id to) = Unit {0}
-AnswersItem given other = ⊥
+unfoldable pub IsLockAnswer : Answer → Type 0
+IsLockAnswer (answer.Free free) = Unit {0}
+IsLockAnswer other = ⊥
 
-unfoldable pub AnswersFirst : Answer → List Item → Type 0
-AnswersFirst given [] = ⊥
-AnswersFirst given (item ∷ items) = AnswersItem given item
+-- an answer to what stands next
+unfoldable pub AnswersItem : Item → Answer → Type 0
+AnswersItem (NextChunk loop) given = IsChunkAnswer loop.count given
+AnswersItem (NextSection construct names) given = IsSectionAnswer (length (sections_of construct)) given
+AnswersItem (TestLock call id to) given = IsLockAnswer given
+AnswersItem other given = ⊥
+
+unfoldable pub AnswersFirst : List Item → Answer → Type 0
+AnswersFirst [] given = ⊥
+AnswersFirst (item ∷ items) given = AnswersItem item given
 
 -- an answer is given to what a task asks
-abbrev pub Answers : View → Answer → Task → Type 0
-Answers view given task = AnswersFirst given (settled_task view task).todo
+abbrev pub Answers : View → Task → Answer → Type 0
+Answers view task given = AnswersFirst (settled_task view task).todo given
+
+-- a step asks for an answer of this kind
+unfoldable pub AsksFor : Outcome → Answer → Type 0
+AsksFor (Asks ask.Chunk tree) (answer.Chunk chunk) = Unit {0}
+AsksFor (Asks ask.Section tree) (answer.Section section) = Unit {0}
+AsksFor (Asks (ask.LockFree id) tree) (answer.Free free) = Unit {0}
+AsksFor other given = ⊥

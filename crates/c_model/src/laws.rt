@@ -5,6 +5,7 @@ ghost use Rattle.c_syntax.specs.Numbered.{TreeView};
 ghost use Rattle.c_model.specs.declared.view.View.{View as Seen};
 ghost use Rattle.c_model.specs.declared.point.Point.{Point as Event};
 ghost use Rattle.c_model.specs.declared.question.Answer.{Answer as Given};
+ghost use Rattle.c_model.specs.Answers.{Answers, AsksFor};
 ghost use Rattle.c_model.specs.Begin.{explicit_task};
 ghost use Rattle.c_model.specs.Going.{after_answer, after_event};
 ghost use Rattle.c_model.specs.Task.{Moment, Task};
@@ -46,4 +47,11 @@ pub fn ended_code_has_no_step()
 #[tactic(auto, using(crate::proofs::KnownOutcomes::known_silent))]
 pub fn traps_and_limits_are_known()
     ensures { (program : TreeView) (view : Seen) (now : Moment) → IsKnown (silent program view now) }
+{}
+
+/// What is answered was asked, with an answer of that kind.
+#[tactic(auto, using(crate::proofs::Answers::answered_asks))]
+pub fn answers_are_asked_for()
+    ensures { (program : TreeView) (view : Seen) (given : Given) (now : Moment) → Answers view now.task given →
+        AsksFor (silent program view now) given }
 {}
