@@ -12,14 +12,14 @@ use Rattle.c_syntax.specs.Numbered.{TreeView}
 use Rattle.c_model.specs.declared.point.Point.TheVariants as point
 use Rattle.c_model.specs.Parts.{trees_in, flat_declarations}
 use Rattle.c_model.specs.Program.{function_among, variables_among}
-use Rattle.c_model.specs.Cells.{last_named, with_declarators}
+use Rattle.c_model.specs.Cells.{first_named, last_named, with_declarators}
 use Rattle.c_model.specs.Value.{value, values, all_values}
 use Rattle.c_model.specs.Text.{printed_text, text_behind_percent, text_behind_backslash}
 use Rattle.c_model.specs.Clauses.{clauses_among, expression_among, listed_among, schedule_among, statements_among}
 use Rattle.c_model.specs.Copies.{combining_all, with_listed}
 use Rattle.c_model.specs.Calls.{with_parameters}
 use Rattle.c_model.specs.Step.{items_from_next, silent}
-use Rattle.c_model.proofs.Watching.{watched, children, alone, at_start, forked_in, plain, program_of}
+use Rattle.c_model.proofs.Watching.{watched, children, alone, at_start, reached, plain, program_of}
 use Rattle.c_model.proofs.Watching.Deed.{After, End}
 use Rattle.c_check.specs.Acts.{acts, each, outside_acts, statements}
 use Rattle.c_check.specs.Checked.{after_all}
@@ -77,5 +77,5 @@ guarding-runs :
     ∷ After 1 (point.MutexReleased 327681 1 mutex.Critical)
     ∷ End 2 (pos 0) []
     ∷ []
-unfolding watched forked_in silent children items_from_next trees_in flat_declarations function_among variables_among last_named with_declarators value values all_values printed_text text_behind_percent text_behind_backslash with_parameters digits clauses_among expression_among listed_among schedule_among statements_among combining_all with_listed after_all after acts each find still_in_scope names child_count outside_acts inside_acts statements mention is_among with_each slot_in slots_copied copies_around shared_by_rule unlisted_in loops_in statement_of with_slots last_of_slot number_among
+unfolding watched reached silent children items_from_next trees_in flat_declarations function_among variables_among first_named last_named with_declarators value values all_values printed_text text_behind_percent text_behind_backslash with_parameters digits clauses_among expression_among listed_among schedule_among statements_among combining_all with_listed after_all after acts each find still_in_scope names child_count outside_acts inside_acts statements mention is_among with_each slot_in slots_copied copies_around shared_by_rule unlisted_in loops_in statement_of with_slots last_of_slot number_among
 guarding-runs = refl

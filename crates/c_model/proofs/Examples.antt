@@ -25,7 +25,7 @@ use Rattle.c_model.specs.declared.point.WorkKind.TheVariants as work_kind
 use Rattle.c_model.specs.declared.question.Answer.TheVariants as answer
 use Rattle.c_model.specs.Parts.{trees_in, flat_declarations}
 use Rattle.c_model.specs.Program.{function_among, variables_among}
-use Rattle.c_model.specs.Cells.{last_named, with_declarators}
+use Rattle.c_model.specs.Cells.{first_named, last_named, with_declarators}
 use Rattle.c_model.specs.Value.{value, values, all_values}
 use Rattle.c_model.specs.Text.{printed_text, text_behind_percent, text_behind_backslash}
 use Rattle.c_check.specs.Statements.{statement_of}
@@ -34,7 +34,7 @@ use Rattle.c_model.specs.Copies.{combining_all, with_listed}
 use Rattle.c_model.specs.Calls.{with_parameters}
 use Rattle.c_model.specs.Task.{Moment}
 use Rattle.c_model.specs.Step.{items_from_next, silent}
-use Rattle.c_model.proofs.Watching.{watched, children, alone, at_start, forked_in, member_of, tree, plain, named, variable, literal, binary_of, function, program_of}
+use Rattle.c_model.proofs.Watching.{watched, children, alone, at_start, reached, member_of, tree, plain, named, variable, literal, binary_of, function, program_of}
 use Rattle.c_model.proofs.Watching.Deed.{After, End, Limit, Trap}
 
 -- int main(void) { int i, s = 0; for (i = 0; i < 3; i++) s = s + i * 2; printf("%d\n", s); return s - 6; }
@@ -58,7 +58,7 @@ looping = program_of 1 (function 1 [] looping_items ∷ [])
 
 -- The block, two declarators, the first part of the loop, four tests, three bodies, three third parts, the printf, the return.
 looping-runs : watched 100 looping alone [] 0 (at_start looping) ≡ End 16 (pos 0) (54 ∷ 10 ∷ []) ∷ []
-unfolding watched forked_in silent children items_from_next trees_in flat_declarations function_among variables_among last_named with_declarators value values all_values printed_text text_behind_percent text_behind_backslash with_parameters digits clauses_among expression_among listed_among schedule_among statements_among combining_all with_listed statement_of
+unfolding watched reached silent children items_from_next trees_in flat_declarations function_among variables_among first_named last_named with_declarators value values all_values printed_text text_behind_percent text_behind_backslash with_parameters digits clauses_among expression_among listed_among schedule_among statements_among combining_all with_listed statement_of
 looping-runs = refl
 
 -- int f(int n) { if (n < 1) return 7; return f(n - 1); }   int main(void) { int r = f(2); return r; }
@@ -78,7 +78,7 @@ recursive =
 -- In main the block, the declarator, the start of the call; in each of three calls the block, the test, and the start of the next call or the
 -- return; in each of the two that wait a return of their own; and main's return.
 recursive-runs : watched 100 recursive alone [] 0 (at_start recursive) ≡ End 15 (pos 7) [] ∷ []
-unfolding watched forked_in silent children items_from_next trees_in flat_declarations function_among variables_among last_named with_declarators value values all_values printed_text text_behind_percent text_behind_backslash with_parameters digits clauses_among expression_among listed_among schedule_among statements_among combining_all with_listed statement_of
+unfolding watched reached silent children items_from_next trees_in flat_declarations function_among variables_among first_named last_named with_declarators value values all_values printed_text text_behind_percent text_behind_backslash with_parameters digits clauses_among expression_among listed_among schedule_among statements_among combining_all with_listed statement_of
 recursive-runs = refl
 
 -- The same without an end. Main's block and statement stand in one call; 63 more may be open beside it, each with its start and its block; the
@@ -91,7 +91,7 @@ endless =
     ∷ [])
 
 endless-runs : watched 300 endless alone [] 0 (at_start endless) ≡ Limit 127 6 ∷ []
-unfolding watched forked_in silent children items_from_next trees_in flat_declarations function_among variables_among last_named with_declarators value values all_values printed_text text_behind_percent text_behind_backslash with_parameters digits clauses_among expression_among listed_among schedule_among statements_among combining_all with_listed statement_of
+unfolding watched reached silent children items_from_next trees_in flat_declarations function_among variables_among first_named last_named with_declarators value values all_values printed_text text_behind_percent text_behind_backslash with_parameters digits clauses_among expression_among listed_among schedule_among statements_among combining_all with_listed statement_of
 endless-runs = refl
 
 -- int s; int main(void) { int i;
@@ -124,12 +124,12 @@ sharing =
 -- Main forks after its block and its declarator, and goes on behind the region. Its member does nothing here.
 sharing-forks : watched 100 sharing alone [] 0 (at_start sharing)
     ≡ After 2 (point.ParallelBegin 131073 (pos 1)) ∷ After 0 (point.ParallelEnd 131073) ∷ End 1 (pos 0) [] ∷ []
-unfolding watched forked_in silent children items_from_next trees_in flat_declarations function_among variables_among last_named with_declarators value values all_values printed_text text_behind_percent text_behind_backslash with_parameters digits clauses_among expression_among listed_among schedule_among statements_among combining_all with_listed statement_of
+unfolding watched reached silent children items_from_next trees_in flat_declarations function_among variables_among first_named last_named with_declarators value values all_values printed_text text_behind_percent text_behind_backslash with_parameters digits clauses_among expression_among listed_among schedule_among statements_among combining_all with_listed statement_of
 sharing-forks = refl
 
 -- where main stands when the region is forked
 abbrev forked : Moment
-forked = forked_in sharing alone 3 (at_start sharing)
+forked = reached 3 sharing alone [] (at_start sharing)
 
 -- The member: it makes the cells of its own; takes the chunk of the first two iterations, each of which sets the variable and then executes the
 -- body; takes the chunk of the third one; asks once more, and combines.
@@ -147,7 +147,7 @@ sharing-member :
     ∷ After 0 (point.Sync 131073 sync.Parallel stage.RegionEnd)
     ∷ End 0 (pos 0) []
     ∷ []
-unfolding watched forked_in silent children items_from_next trees_in flat_declarations function_among variables_among last_named with_declarators value values all_values printed_text text_behind_percent text_behind_backslash with_parameters digits clauses_among expression_among listed_among schedule_among statements_among combining_all with_listed statement_of
+unfolding watched reached silent children items_from_next trees_in flat_declarations function_among variables_among first_named last_named with_declarators value values all_values printed_text text_behind_percent text_behind_backslash with_parameters digits clauses_among expression_among listed_among schedule_among statements_among combining_all with_listed statement_of
 sharing-member = refl
 
 -- int main(void) { int x = 2147483647; x = x + 1; return 0; }
@@ -162,7 +162,7 @@ overflowing =
     ∷ [])
 
 overflowing-runs : watched 100 overflowing alone [] 0 (at_start overflowing) ≡ Trap 2 1 ∷ []
-unfolding watched forked_in silent children items_from_next trees_in flat_declarations function_among variables_among last_named with_declarators value values all_values printed_text text_behind_percent text_behind_backslash with_parameters digits clauses_among expression_among listed_among schedule_among statements_among combining_all with_listed statement_of
+unfolding watched reached silent children items_from_next trees_in flat_declarations function_among variables_among first_named last_named with_declarators value values all_values printed_text text_behind_percent text_behind_backslash with_parameters digits clauses_among expression_among listed_among schedule_among statements_among combining_all with_listed statement_of
 overflowing-runs = refl
 
 -- int a[2]; int main(void) { int i = 0; for (;;) { a[i] = 7; i++; } }
@@ -183,5 +183,5 @@ leaving_array =
 -- The block, the declarator and the absent first part; twice the absent test, the block, two statements, its end and the absent third part; and
 -- once more the test and the block, before the index is 2.
 leaving-runs : watched 100 leaving_array alone [] 0 (at_start leaving_array) ≡ Trap 17 3 ∷ []
-unfolding watched forked_in silent children items_from_next trees_in flat_declarations function_among variables_among last_named with_declarators value values all_values printed_text text_behind_percent text_behind_backslash with_parameters digits clauses_among expression_among listed_among schedule_among statements_among combining_all with_listed statement_of
+unfolding watched reached silent children items_from_next trees_in flat_declarations function_among variables_among first_named last_named with_declarators value values all_values printed_text text_behind_percent text_behind_backslash with_parameters digits clauses_among expression_among listed_among schedule_among statements_among combining_all with_listed statement_of
 leaving-runs = refl

@@ -1,10 +1,12 @@
 pub mod Watching
 pub mod Values
 pub mod Examples
+pub mod Hiding
 pub mod Waiting
 pub mod Tasks
 pub mod Criticals
 pub mod Standing
 pub mod Settled
+pub mod Answers
 pub mod KnownValues
 pub mod KnownOutcomes

@@ -1,4 +1,4 @@
--- Locks, worksharing without loops, and tasks, computed step by step.
+-- Locks, barriers, and constructs without loops, computed step by step.
 use Rattle.std.specs.Prelude.{ℕ, ◌≡◌, true, false, List, [], ◌∷◌, Some, None, pos, refl}
 use Rattle.std.specs.Fmt.{digits}
 use Rattle.c_syntax.specs.declared.node.Bump.TheVariants as bump
@@ -22,16 +22,17 @@ use Rattle.c_model.specs.declared.point.Work.TheVariants as work
 use Rattle.c_model.specs.declared.point.WorkKind.TheVariants as work_kind
 use Rattle.c_model.specs.declared.question.Answer.TheVariants as answer
 use Rattle.c_model.specs.declared.view.View.{View}
+use Rattle.c_check.specs.Statements.{statement_of}
 use Rattle.c_model.specs.Parts.{trees_in, flat_declarations}
 use Rattle.c_model.specs.Program.{function_among, variables_among}
-use Rattle.c_model.specs.Cells.{last_named, with_declarators}
+use Rattle.c_model.specs.Cells.{first_named, last_named, with_declarators}
 use Rattle.c_model.specs.Value.{value, values, all_values}
 use Rattle.c_model.specs.Text.{printed_text, text_behind_percent, text_behind_backslash}
 use Rattle.c_model.specs.Clauses.{clauses_among, expression_among, listed_among, schedule_among, statements_among}
 use Rattle.c_model.specs.Copies.{combining_all, with_listed}
 use Rattle.c_model.specs.Calls.{with_parameters}
 use Rattle.c_model.specs.Step.{items_from_next, silent}
-use Rattle.c_model.proofs.Watching.{watched, children, alone, at_start, forked_in, tree, plain, named, variable, function, program_of}
+use Rattle.c_model.proofs.Watching.{watched, children, alone, at_start, reached, tree, plain, named, variable, function, program_of}
 use Rattle.c_model.proofs.Watching.Deed.{After, End}
 
 -- a tree at a place
@@ -71,33 +72,39 @@ testing-runs :
     ∷ After 1 (point.MutexAcquire 393221 65536 mutex.TestLock (target.Cell 1))
     ∷ End 2 (pos 0) []
     ∷ []
-unfolding watched forked_in silent children items_from_next trees_in flat_declarations function_among variables_among last_named with_declarators value values all_values printed_text text_behind_percent text_behind_backslash with_parameters digits clauses_among expression_among listed_among schedule_among statements_among combining_all with_listed
+unfolding watched reached silent children items_from_next trees_in flat_declarations function_among variables_among first_named last_named with_declarators value values all_values printed_text text_behind_percent text_behind_backslash with_parameters digits clauses_among expression_among listed_among schedule_among statements_among combining_all with_listed statement_of
 testing-runs = refl
 
--- int main(void) { omp_lock_t l; int r = omp_test_lock(&l); return omp_test_lock(&l); }
+-- int main(void) {
+-- omp_lock_t l; omp_init_lock(&l);
+-- int r = omp_test_lock(&l);
+-- return omp_test_lock(&l);
+-- }
 abbrev returning : TreeView
 returning =
     program_of 1 (
     function 1 [] (
     plain node.Locks (named node.Name 2 ∷ [])
-    ∷ plain node.Locals (tree node.LocalSet 3 0 (placed 2 9 node.TestLock (named node.Name 2 ∷ []) ∷ []) ∷ [])
-    ∷ plain node.Return (placed 3 8 node.TestLock (named node.Name 2 ∷ []) ∷ [])
+    ∷ placed 2 15 (node.LockCall lock.Init) (named node.Name 2 ∷ [])
+    ∷ plain node.Locals (tree node.LocalSet 3 0 (placed 3 9 node.TestLock (named node.Name 2 ∷ []) ∷ []) ∷ [])
+    ∷ plain node.Return (placed 4 8 node.TestLock (named node.Name 2 ∷ []) ∷ [])
     ∷ [])
     ∷ [])
 
--- The block and two declarators; the test of the second one ends with a step, and so does the test of the return, and then the return is one.
+-- The block and the lock; the variable; its test ends with a step, and so does the test of the return, and then the return is one.
 returning-runs :
     watched 100 returning alone (answer.Free true ∷ answer.Free false ∷ []) 0 (at_start returning)
-    ≡ After 3 (point.MutexAcquire 131081 65536 mutex.TestLock (target.Cell 1))
-    ∷ After 0 (point.MutexAcquired 131081 65536 mutex.TestLock)
-    ∷ After 1 (point.MutexAcquire 196616 65536 mutex.TestLock target.Return)
+    ≡ After 2 (point.LockInit 131087 65536)
+    ∷ After 1 (point.MutexAcquire 196617 65536 mutex.TestLock (target.Cell 1))
+    ∷ After 0 (point.MutexAcquired 196617 65536 mutex.TestLock)
+    ∷ After 1 (point.MutexAcquire 262152 65536 mutex.TestLock target.Return)
     ∷ End 2 (pos 0) []
     ∷ []
-unfolding watched forked_in silent children items_from_next trees_in flat_declarations function_among variables_among last_named with_declarators value values all_values printed_text text_behind_percent text_behind_backslash with_parameters digits clauses_among expression_among listed_among schedule_among statements_among combining_all with_listed
+unfolding watched reached silent children items_from_next trees_in flat_declarations function_among variables_among first_named last_named with_declarators value values all_values printed_text text_behind_percent text_behind_backslash with_parameters digits clauses_among expression_among listed_among schedule_among statements_among combining_all with_listed statement_of
 returning-runs = refl
 
 -- #pragma omp single nowait private(x)
--- x = x + 1;
+-- x++;
 abbrev counting : ℕ → Tree
 counting name = plain node.Step (plain (node.Bump bump.Increment side.Behind) (variable name ∷ []) ∷ [])
 
@@ -109,7 +116,7 @@ one_executes =
     placed 3 1 (node.Construct directive.Single) (
     clause_of node.Nowait [] ∷ clause_of (node.Data data_clause.Private) (named node.Name 3 ∷ []) ∷ counting 3 ∷ [])
 
--- int x; then the single, a barrier, and a section after a masked statement
+-- int x; then the single, a barrier, a masked statement, and two sections, of which the first is x++;
 abbrev working : TreeView
 working =
     program_of 1 (
@@ -124,7 +131,7 @@ working =
     ∷ [])
 
 -- The executor makes its copy and changes it, which nobody else sees. Of the two sections this task executes the first; a task that isn't the
--- first of its team would go past the masked statement.
+-- first of its team goes past the masked statement.
 working-runs :
     watched 100 working alone (answer.Section (Some 0) ∷ answer.Section None ∷ []) 0 (at_start working)
     ≡ After 2 (point.WorkBegin 196609 work.Single)
@@ -143,7 +150,7 @@ working-runs :
     ∷ After 0 (point.Sync 393217 sync.Worksharing stage.RegionEnd)
     ∷ End 1 (pos 1) []
     ∷ []
-unfolding watched forked_in silent children items_from_next trees_in flat_declarations function_among variables_among last_named with_declarators value values all_values printed_text text_behind_percent text_behind_backslash with_parameters digits clauses_among expression_among listed_among schedule_among statements_among combining_all with_listed
+unfolding watched reached silent children items_from_next trees_in flat_declarations function_among variables_among first_named last_named with_declarators value values all_values printed_text text_behind_percent text_behind_backslash with_parameters digits clauses_among expression_among listed_among schedule_among statements_among combining_all with_listed statement_of
 working-runs = refl
 
 -- The second of two threads makes a copy for the single that it doesn't execute, goes past the masked statement, and finds no section left.
@@ -166,5 +173,5 @@ working-on-second :
     ∷ After 0 (point.Sync 393217 sync.Worksharing stage.RegionEnd)
     ∷ End 1 (pos 0) []
     ∷ []
-unfolding watched forked_in silent children items_from_next trees_in flat_declarations function_among variables_among last_named with_declarators value values all_values printed_text text_behind_percent text_behind_backslash with_parameters digits clauses_among expression_among listed_among schedule_among statements_among combining_all with_listed
+unfolding watched reached silent children items_from_next trees_in flat_declarations function_among variables_among first_named last_named with_declarators value values all_values printed_text text_behind_percent text_behind_backslash with_parameters digits clauses_among expression_among listed_among schedule_among statements_among combining_all with_listed statement_of
 working-on-second = refl

@@ -16,7 +16,7 @@ use Rattle.c_model.specs.declared.question.Answer.TheVariants as answer
 use Rattle.c_model.specs.declared.view.View.{View}
 use Rattle.c_model.specs.Task.{Moment, Outcome}
 use Rattle.c_model.specs.Task.Outcome.{StepsTo, Asks, Occurs, Ends, Traps, Limits}
-use Rattle.c_model.specs.Step.{settled_task, silent}
+use Rattle.c_model.specs.Step.{silent}
 use Rattle.c_model.specs.Going.{after_answer, after_event}
 use Rattle.c_model.specs.Begin.{first_store, main_task, member_task}
 
@@ -34,19 +34,16 @@ abbrev pub steps_with : Answer → ℕ → ℕ
 steps_with (answer.Free true) steps = steps
 steps_with other steps = steps + 1
 
-abbrev pub settled : View → Moment → Moment
-settled view now = record now { task = settled_task view now.task }
-
 -- What is seen of one step, where `next` watches what comes behind it. The first thread of a team executes each `single`.
---
-abbrev pub told : (List Answer → ℕ → Moment → List Deed) → List Answer → ℕ → Moment → List Deed
-told next [] steps now = More ∷ []
-told next (given ∷ answers) steps now = next answers (steps_with given steps) (after_answer given now)
+abbrev pub told : View → (List Answer → ℕ → Moment → List Deed) → List Answer → ℕ → Moment → List Deed
+told view next [] steps now = More ∷ []
+told view next (given ∷ answers) steps now = next answers (steps_with given steps) (after_answer view given now)
 
 abbrev pub seen : View → (List Answer → ℕ → Moment → List Deed) → List Answer → ℕ → Moment → Outcome → List Deed
 seen view next answers steps now (StepsTo after) = next answers (steps + 1) after
-seen view next answers steps now (Asks ask tree) = told next answers steps now
-seen view next answers steps now (Occurs point tree) = After steps point ∷ next answers 0 (record now { task = after_event point (view.index == 0) now.task })
+seen view next answers steps now (Asks ask tree) = told view next answers steps now
+seen view next answers steps now (Occurs point tree) =
+    After steps point ∷ next answers 0 (record now { task = after_event view point (view.index == 0) now.task })
 seen view next answers steps now (Ends number) = End steps number now.store.text ∷ []
 seen view next answers steps now (Traps trap) = Trap steps trap ∷ []
 seen view next answers steps now (Limits limit) = Limit steps limit ∷ []
@@ -55,7 +52,7 @@ unfoldable pub watched : ℕ → TreeView → View → List Answer → ℕ → M
 watched zero program view answers steps now = More ∷ []
 watched (suc more) program view answers steps now =
     seen view (λ (answers : List Answer) (steps : ℕ) (now : Moment). watched more program view answers steps now)
-    answers steps (settled view now) (silent program view now)
+    answers steps now (silent program view now)
 
 -- one thread, alone in its team
 abbrev pub alone : View
@@ -64,15 +61,21 @@ alone = record { index = 0; team = 1; max = 1 }
 abbrev pub at_start : TreeView → Moment
 at_start program = record { task = main_task program; store = first_store program }
 
--- where a task stands behind so many steps and events that ask nothing
-abbrev pub behind : Moment → Outcome → Moment
-behind now (StepsTo next) = next
-behind now (Occurs point tree) = record now { task = after_event point true now.task }
-behind now other = now
+-- Where a task stands behind so many steps, answers and events.
+abbrev pub told_then : View → (List Answer → Moment → Moment) → List Answer → Moment → Moment
+told_then view next [] now = now
+told_then view next (given ∷ answers) now = next answers (after_answer view given now)
 
-unfoldable pub forked_in : TreeView → View → ℕ → Moment → Moment
-forked_in program view zero now = now
-forked_in program view (suc more) now = forked_in program view more (behind (settled view now) (silent program view now))
+abbrev pub behind : View → (List Answer → Moment → Moment) → List Answer → Moment → Outcome → Moment
+behind view next answers now (StepsTo after) = next answers after
+behind view next answers now (Asks ask tree) = told_then view next answers now
+behind view next answers now (Occurs point tree) = next answers (record now { task = after_event view point (view.index == 0) now.task })
+behind view next answers now other = now
+
+unfoldable pub reached : ℕ → TreeView → View → List Answer → Moment → Moment
+reached zero program view answers now = now
+reached (suc more) program view answers now =
+    behind view (λ (answers : List Answer) (now : Moment). reached more program view answers now) answers now (silent program view now)
 
 -- the member of the region that a task has forked
 abbrev pub member_of : Moment → Moment

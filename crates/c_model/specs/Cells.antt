@@ -17,7 +17,8 @@ pub record Entry : Type 0 where
   pub size : ℕ
   pub slot : ℕ
 
--- A name that nothing declares. Its cell would stand behind the last one that there may be, so it reads as 0, and it can't be set.
+-- A name that nothing declares. Its cell would stand behind the last one that there may be, so it reads as 0, and it can't be set. With an
+-- index it traps, since it has no elements.
 abbrev pub no_entry : Entry
 no_entry = record { name = 0; first = CELL_LIMIT; size = 0; slot = 0 }
 
@@ -28,6 +29,11 @@ last_named name found (entry ∷ entries) = last_named name (if entry.name == na
 
 abbrev pub entry_of : List Entry → ℕ → Entry
 entry_of env name = last_named name no_entry env
+
+-- the first entry of a name
+unfoldable pub first_named : ℕ → List Entry → Entry
+first_named name [] = no_entry
+first_named name (entry ∷ entries) = if entry.name == name then entry else first_named name entries
 
 -- the entry of the declaration with a slot: the last one counts, so that a construct's own copy comes before the variable around
 unfoldable pub last_of_slot : ℕ → Entry → List Entry → Entry

@@ -1,5 +1,5 @@
 -- The parts of a directive: its clauses, and its statement (OpenMP 5.2, 3.1 and 5).
-use Rattle.std.specs.Prelude.{ℕ, if◌then◌else◌, Bool, true, false, List, [], ◌∷◌, ◌++◌, map, slice_index_or, Option, Some, None}
+use Rattle.std.specs.Prelude.{ℕ, if◌then◌else◌, Bool, true, false, List, [], ◌∷◌, ◌++◌, map, Option, Some, None}
 use Rattle.std.specs.List.{list_any}
 use Rattle.c_syntax.specs.declared.node.Data.TheVariants as data_clause
 use Rattle.c_syntax.specs.declared.node.ReductionOp.{ReductionOp}
@@ -7,12 +7,11 @@ use Rattle.c_syntax.specs.declared.node.ScheduleKind.{ScheduleKind}
 use Rattle.c_syntax.specs.declared.node.ScheduleKind.TheVariants as kind
 use Rattle.c_syntax.specs.declared.node.NodeKind.{NodeKind}
 use Rattle.c_syntax.specs.declared.node.NodeKind.TheVariants as node
-use Rattle.c_syntax.specs.Tree.{Tree, kind_of, name_of, number_of}
-use Rattle.c_syntax.specs.Derivation.{nothing}
+use Rattle.c_syntax.specs.Tree.{Tree, children_of, kind_of, name_of, number_of}
 use Rattle.c_model.specs.declared.point.Schedule.{Schedule}
 use Rattle.c_model.specs.declared.point.Schedule.TheVariants.{Static, Dynamic, Guided}
 use Rattle.c_check.specs.Loops.{child_at}
-use Rattle.c_check.specs.Statements.{is_head}
+use Rattle.c_check.specs.Statements.{is_head, statement_of}
 use Rattle.c_model.specs.Parts.{parts}
 
 -- what the clauses are, in the order of the text
@@ -27,13 +26,14 @@ clauses_among (tree ∷ trees) = clause_in (kind_of tree) tree ++ clauses_among 
 abbrev pub clauses_of : Tree → List Tree
 clauses_of construct = clauses_among (parts construct)
 
--- the statement of a construct, which stands behind its clauses and the name of a critical, or the sections
+-- the statement of a construct
+abbrev pub construct_statement : Tree → Tree
+construct_statement construct = statement_of (children_of construct)
+
+-- what stands behind a construct's clauses: its statement, or its sections
 unfoldable pub statements_among : List Tree → List Tree
 statements_among [] = []
 statements_among (tree ∷ trees) = if is_head (kind_of tree) then statements_among trees else tree ∷ statements_among trees
-
-abbrev pub statement_of : Tree → Tree
-statement_of construct = slice_index_or (statements_among (parts construct)) 0 nothing
 
 -- what a section executes. The first one may be a statement without a `section` before it
 abbrev pub section_statement : NodeKind → Tree → Tree

@@ -1,6 +1,6 @@
 -- The stages of constructs, each by itself (OpenMP 5.2: parallel 10.1, masked 10.5, single 11.1, sections 11.3, worksharing-loop 11.5, task 12.5,
 -- critical 15.2, barrier and taskwait 15.3 and 15.5).
-use Rattle.std.specs.Prelude.{ℕ, ◌+◌, nat_lt, if◌then◌else◌, [], ◌∷◌, length, take, Option, Some, None, Result, Ok, ℤ, pos, ◌+ℤ◌, ◌*ℤ◌, int_le}
+use Rattle.std.specs.Prelude.{ℕ, ◌+◌, nat_lt, if◌then◌else◌, [], ◌∷◌, length, take, drop, Option, Some, None, Result, Ok, ℤ, pos, ◌+ℤ◌, ◌*ℤ◌, int_le}
 use Rattle.c_syntax.specs.declared.node.ReductionOp.{ReductionOp}
 use Rattle.c_syntax.specs.declared.node.ReductionOp.TheVariants as reduction
 use Rattle.c_syntax.specs.Tree.{Tree, name_of}
@@ -16,7 +16,7 @@ use Rattle.c_model.specs.declared.point.WorkKind.{WorkKind}
 use Rattle.c_model.specs.declared.question.Ask.TheVariants as ask
 use Rattle.c_check.specs.Seen.{critical_number}
 use Rattle.c_model.specs.Program.{place_of}
-use Rattle.c_model.specs.Cells.{cell_at, entry_of, has_too_many}
+use Rattle.c_model.specs.Cells.{cell_at, entry_of, first_named, has_too_many}
 use Rattle.c_model.specs.Value.{in_range, is_zero}
 use Rattle.c_model.specs.Clauses.{condition_of, requested_threads, schedule_of, sections_of}
 use Rattle.c_model.specs.Loops.{iteration_count, iteration_value, loop_of}
@@ -97,7 +97,8 @@ begin_iteration here loop at upto =
 abbrev pub next_section : Tree → Outcome
 next_section construct = Asks ask.Section construct
 
--- one reduction variable is combined with the one around (OpenMP 5.2, 5.5.5)
+-- One reduction variable is combined with the one around (OpenMP 5.2, 5.5.5). Among the construct's own names the first of this name is the
+-- copy: a loop that declares a variable of the same name has it behind the copies.
 abbrev pub reduction_result : ReductionOp → ℤ → ℤ → Result ℤ ℕ
 reduction_result reduction.Add around own = in_range (around +ℤ own)
 reduction_result reduction.Multiply around own = in_range (around *ℤ own)
@@ -107,7 +108,7 @@ reduction_result reduction.Min around own = Ok (if int_le around own then around
 abbrev pub combine : Here → ReductionOp → ℕ → ℕ → Outcome
 combine here operator name names =
     let around = (entry_of (take names here.task.env) name).first in
-    let own = (entry_of here.task.env name).first in
+    let own = (first_named name (drop names here.task.env)).first in
     with_result (reduction_result operator (cell_at here.store.cells around) (cell_at here.store.cells own)) (λ number. sets here around number [])
 
 abbrev pub end_work : Tree → WorkKind → ℕ → Outcome

@@ -1,5 +1,6 @@
 -- The cells that a construct makes of its own (OpenMP 5.2, 5.4 and 5.5): for its private, firstprivate and reduction variables and the variable
--- of the loop that it shares out, and in a task for what the task copies by rule. Each comes into scope under the name of the variable around.
+-- of the loop that it shares out, and in a task for what the task copies by rule. A copy comes into scope under the name of the variable around,
+-- and a variable that the loop declares under its own, behind the copies. It may have the name of one of them, which it then hides.
 use Rattle.std.specs.Prelude.{ℕ, ◌==◌, ◌||◌, ◌^◌, ◌-◌, if◌then◌else◌, Bool, true, false, not, List, [], ◌∷◌, ◌++◌, replicate, ℤ, pos, negsuc}
 use Rattle.std.specs.List.{filter}
 use Rattle.c_syntax.specs.declared.node.ReductionOp.{ReductionOp}
@@ -26,7 +27,7 @@ abbrev pub is_loop : Tree → Bool
 is_loop construct = is_loop_construct (kind_of construct)
 
 -- The variables that the clauses of a construct list. A loop's variable is private whatever its directive's clauses say of it, so a clause
--- that names it is passed over.
+-- that names it is passed over. Where the loop declares it, a clause of that name lists another variable, one around.
 abbrev pub is_own_loop_variable : Tree → ℕ → Bool
 is_own_loop_variable construct name =
     if is_loop construct

@@ -1,4 +1,5 @@
--- How a task goes on: after an answer, and after an event. Both are of a settled task, in which stands first what asked, or what the event is of.
+-- How a task goes on: after an answer, and after an event. What asked, or what the event is of, stands first when the task has left out what it
+-- goes past.
 use Rattle.std.specs.Prelude.{ℕ, ◌+◌, if◌then◌else◌, Bool, true, false, List, [], ◌∷◌, ◌++◌, length, slice_index_or, take, Option, Some, None, ℤ, pos}
 use Rattle.c_syntax.specs.declared.node.NodeKind.{NodeKind}
 use Rattle.c_syntax.specs.declared.node.NodeKind.TheVariants as node
@@ -18,13 +19,15 @@ use Rattle.c_model.specs.declared.point.Work.TheVariants as work
 use Rattle.c_model.specs.declared.point.WorkKind.TheVariants as work_kind
 use Rattle.c_model.specs.declared.question.Answer.{Answer}
 use Rattle.c_model.specs.declared.question.Answer.TheVariants as answer
+use Rattle.c_model.specs.declared.view.View.{View}
 use Rattle.c_check.specs.Loops.{child_at}
 use Rattle.c_model.specs.Cells.{Entry}
-use Rattle.c_model.specs.Clauses.{has_nowait, sections_of, statement_of}
+use Rattle.c_model.specs.Clauses.{construct_statement, has_nowait, sections_of}
 use Rattle.c_model.specs.Copies.{combines, makes_cells}
 use Rattle.c_model.specs.Constructs.{iterations_from}
 use Rattle.c_model.specs.Calls.{value_cells, value_items}
 use Rattle.c_model.specs.Task.{Item, Moment, SharedLoop, Task}
+use Rattle.c_model.specs.Step.{settled_moment, settled_task}
 use Rattle.c_model.specs.Task.Item.{Start, Initialise, Forked, Inside, NextChunk, NextSection, EndWork, EndMasked, Sync, Acquire, Release, TestLock, Tested}
 
 -- After an answer.
@@ -65,9 +68,13 @@ answered_at (item ∷ items) given now =
       store = record now.store { cells = cells_answered given item now.store.cells };
     }
 
+abbrev pub settled_after_answer : Answer → Moment → Moment
+settled_after_answer given now = answered_at now.task.todo given now
+
 -- What an answer makes of a task. It ends the silent step that asked, but where a lock is free: then no step was made, and the event stands next.
-abbrev pub after_answer : Answer → Moment → Moment
-after_answer given now = answered_at now.task.todo given now
+-- `Answers` says which answers are given to what is asked.
+abbrev pub after_answer : View → Answer → Moment → Moment
+after_answer view given now = settled_after_answer given (settled_moment view now)
 
 -- After an event, when what comes of it takes hold.
 
@@ -79,7 +86,7 @@ next_stage tree kind stage.RegionEnd = []
 
 -- the stages of a worksharing construct behind its begin. Of a `single` its statement is one where the task executes it
 abbrev pub single_items : Tree → ℕ → Bool → List Item
-single_items construct names true = Start (statement_of construct) ∷ EndWork construct work_kind.SingleExecutor 1 names ∷ []
+single_items construct names true = Start (construct_statement construct) ∷ EndWork construct work_kind.SingleExecutor 1 names ∷ []
 single_items construct names false = EndWork construct work_kind.SingleOther 1 names ∷ []
 
 abbrev pub work_items : Work → Tree → ℕ → Bool → List Item
@@ -95,7 +102,7 @@ barrier_items construct = if has_nowait construct then [] else Sync construct sy
 abbrev pub mutex_items : MutexKind → Tree → ℕ → Target → List Item
 mutex_items mutex.Lock tree id to = Acquire tree mutex.Lock id ∷ []
 mutex_items mutex.TestLock tree id to = TestLock tree id to ∷ []
-mutex_items mutex.Critical tree id to = Acquire tree mutex.Critical id ∷ Start (statement_of tree) ∷ Release tree id ∷ []
+mutex_items mutex.Critical tree id to = Acquire tree mutex.Critical id ∷ Start (construct_statement tree) ∷ Release tree id ∷ []
 
 -- the tree at which an event stands: a construct or directive, or the call in a statement
 abbrev pub call_in : NodeKind → Tree → Tree
@@ -121,7 +128,7 @@ items_after (TaskCreate codeptr undeferred) executes names item = []
 items_after (WorkBegin codeptr work) executes names item =
     makes_cells (tree_at_event item) ++ work_items work (tree_at_event item) names executes
 items_after (WorkEnd codeptr kind count) executes names item = barrier_items (tree_at_event item)
-items_after (MaskedBegin codeptr) executes names item = Start (statement_of (tree_at_event item)) ∷ EndMasked (tree_at_event item) ∷ []
+items_after (MaskedBegin codeptr) executes names item = Start (construct_statement (tree_at_event item)) ∷ EndMasked (tree_at_event item) ∷ []
 items_after (MaskedEnd codeptr) executes names item = []
 items_after (SyncPoint codeptr kind stage) executes names item = next_stage (tree_at_event item) kind stage
 items_after (MutexAcquire codeptr id kind to) executes names item = mutex_items kind (tree_at_event item) id to
@@ -141,6 +148,9 @@ passed_at [] point executes task = task
 passed_at (item ∷ items) point executes task =
     record task { todo = items_after point executes (length task.env) item ++ items; env = names_after point item task.env }
 
+abbrev pub settled_after_event : Point → Bool → Task → Task
+settled_after_event point executes task = passed_at task.todo point executes task
+
 -- What is left of a task behind an event. `executes` counts at the begin of a `single` alone, and says whether the task executes it.
-abbrev pub after_event : Point → Bool → Task → Task
-after_event point executes task = passed_at task.todo point executes task
+abbrev pub after_event : View → Point → Bool → Task → Task
+after_event view point executes task = settled_after_event point executes (settled_task view task)

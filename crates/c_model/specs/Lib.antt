@@ -12,6 +12,7 @@ pub mod Calls
 pub mod Statements
 pub mod Constructs
 pub mod Step
+pub mod Answers
 pub mod Going
 pub mod Standing
 pub mod Known

@@ -9,10 +9,11 @@ use Rattle.c_syntax.specs.Tree.{Tree, kind_of}
 use Rattle.c_syntax.specs.Derivation.{nothing}
 use Rattle.c_check.specs.LoopParts.{LoopParts, loop_parts}
 
--- the parts of the loop that a construct shares out; of one that shares out none they are missing, and it has no iteration
+-- where a construct shares out no loop all parts are missing: it would go from 0 up to 0, without an iteration
 abbrev pub no_loop : LoopParts
 no_loop = record { variable = nothing; start = nothing; end = nothing; body = nothing; comparison = binary.Less; step = pos 1 }
 
+-- the parts of the loop that a construct shares out
 abbrev pub loop_of : Tree → LoopParts
 loop_of construct = unwrap_or (loop_parts construct) no_loop
 

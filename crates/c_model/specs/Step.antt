@@ -105,6 +105,9 @@ items_from_next view (item ∷ items) = if is_passed_over item view then items_f
 abbrev pub settled_task : View → Task → Task
 settled_task view task = record task { todo = items_from_next view task.todo }
 
+abbrev pub settled_moment : View → Moment → Moment
+settled_moment view now = record now { task = settled_task view now.task }
+
 -- a task for which nothing is left has ended
 abbrev pub step_at : List Item → TreeView → View → Moment → Outcome
 step_at [] program view now = Ends (unwrap_or now.task.returned (pos 0))

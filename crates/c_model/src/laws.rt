@@ -1,13 +1,18 @@
 //! What follows from the definitions alone: each law is the contract of a function with an empty body.
 
-ghost use Rattle.std.specs.Prelude.{◌≡◌, [], pos, unwrap_or};
+ghost use Rattle.std.specs.Prelude.{◌≡◌, Bool, [], pos, unwrap_or};
 ghost use Rattle.c_syntax.specs.Numbered.{TreeView};
 ghost use Rattle.c_model.specs.declared.view.View.{View as Seen};
-ghost use Rattle.c_model.specs.Task.{Moment};
+ghost use Rattle.c_model.specs.declared.point.Point.{Point as Event};
+ghost use Rattle.c_model.specs.declared.question.Answer.{Answer as Given};
+ghost use Rattle.c_model.specs.Answers.{Answers, AsksFor};
+ghost use Rattle.c_model.specs.Begin.{explicit_task};
+ghost use Rattle.c_model.specs.Going.{after_answer, after_event};
+ghost use Rattle.c_model.specs.Task.{Moment, Task};
 ghost use Rattle.c_model.specs.Task.Outcome.{Ends};
 ghost use Rattle.c_model.specs.Standing.{Fits};
 ghost use Rattle.c_model.specs.Known.{IsKnown};
-ghost use Rattle.c_model.specs.Step.{settled_task, silent, stands};
+ghost use Rattle.c_model.specs.Step.{settled_moment, settled_task, silent, stands};
 
 /// What stands next tells by its form alone, without cells, whether an event or the end comes: then nothing is a silent step and
 /// nothing is asked, and else no event occurs and the code doesn't end. A trap or a limit may come in both cases.
@@ -16,11 +21,18 @@ pub fn standing_is_told_by_form()
     ensures { (program : TreeView) (view : Seen) (now : Moment) → Fits (silent program view now) (stands view now.task) }
 {}
 
-/// A task comes to the same whether or not it has left out what it goes past.
-#[tactic(auto, using(crate::proofs::Settled::settled_silent))]
+/// A task comes to the same whether or not it has left out what it goes past, goes on the same behind an answer and behind an event, and
+/// creates the same task.
+#[tactic(auto, using(crate::proofs::Settled::settled_silent, crate::proofs::Settled::settled_answer, crate::proofs::Settled::settled_event, crate::proofs::Settled::settled_creation))]
 pub fn settling_changes_nothing()
-    ensures { (program : TreeView) (view : Seen) (now : Moment) →
-        silent program view (record now { task = settled_task view now.task }) ≡ silent program view now }
+    ensures same_step { (program : TreeView) (view : Seen) (now : Moment) →
+        silent program view (settled_moment view now) ≡ silent program view now }
+    ensures same_after_answer { (view : Seen) (given : Given) (now : Moment) →
+        after_answer view given (settled_moment view now) ≡ after_answer view given now }
+    ensures same_after_event { (view : Seen) (point : Event) (executes : Bool) (task : Task) →
+        after_event view point executes (settled_task view task) ≡ after_event view point executes task }
+    ensures same_task { (program : TreeView) (view : Seen) (now : Moment) →
+        explicit_task program view (settled_moment view now) ≡ explicit_task program view now }
 {}
 
 /// A task for which nothing is left has ended, with the value of its last call, or 0.
@@ -35,4 +47,11 @@ pub fn ended_code_has_no_step()
 #[tactic(auto, using(crate::proofs::KnownOutcomes::known_silent))]
 pub fn traps_and_limits_are_known()
     ensures { (program : TreeView) (view : Seen) (now : Moment) → IsKnown (silent program view now) }
+{}
+
+/// What is answered was asked, with an answer of that kind.
+#[tactic(auto, using(crate::proofs::Answers::answered_asks))]
+pub fn answers_are_asked_for()
+    ensures { (program : TreeView) (view : Seen) (given : Given) (now : Moment) → Answers view now.task given →
+        AsksFor (silent program view now) given }
 {}

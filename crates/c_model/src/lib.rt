@@ -14,26 +14,30 @@
 //! - `Step`: what a task does next: one line for each form;
 //! - `Standing`: which outcomes there are where an event or the end stands next;
 //! - `Known`: the traps and limits that a task's code can come to;
+//! - `Answers`: which answers are given to what a task asks;
 //! - `Going`: how it goes on after an answer or an event;
 //! - `Begin`: how the code of main, of a member of a team and of an explicit task begins.
 //!
 //! `docs/statements.md` tells the same in a page. `src/` has the types and numbers that the definitions share with the code. Nothing
 //! here runs a program: the interpreter is to be proved equal to `silent`, `after_answer` and `after_event`.
 //!
-//! The definitions are total. A child that is missing is an empty program, a name that nothing declares reads as 0 and can't be set, a
-//! form that can't stand where it stands is an empty statement. None of them is met in a program that breaks no rule, which isn't
-//! proved here.
+//! The definitions are total. A child that is missing is an empty program, a name that nothing declares reads as 0, traps with an
+//! index and can't be set, a form that can't stand where it stands is an empty statement. None of them is met in a program that breaks no
+//! rule, which isn't proved here. An answer to what wasn't asked changes nothing; `Answers` says which answers are given.
 //!
 //! Proved, by the contract of the function that is named:
 //!
 //! - whether an event or the end stands next, or else a silent step or a question, is told by the form of what stands next alone
 //!   ([`standing_is_told_by_form`]);
-//! - a task comes to the same whether or not it has left out what it goes past ([`settling_changes_nothing`]);
+//! - a task comes to the same whether or not it has left out what it goes past, goes on the same and creates the same task
+//!   ([`settling_changes_nothing`]);
+//! - an answer to what stands next is of the kind that its step asks for ([`answers_are_asked_for`]);
 //! - a task for which nothing is left has ended ([`ended_code_has_no_step`]);
 //! - a task's code traps with 1, 2 or 3, and meets the limits 3, 6 and 7 ([`traps_and_limits_are_known`]).
 //!
 //! In `proofs/` programs and expressions are computed: `Values` at the edges of numbers, arrays and loops, `Examples` with a loop, a recursion
-//! and a loop that is shared out, `Waiting` with locks, `single`, `barrier`, `masked` and sections, and `Tasks` with an explicit task.
+//! and a loop that is shared out, `Hiding` with a loop whose variable has the name of one that it reduces, `Waiting` with locks, `single`,
+//! `barrier`, `masked` and sections, `Criticals` with criticals, and `Tasks` with explicit tasks.
 //! That the definitions are C's and OpenMP's is for their reader to judge.
 #![tactic(auto)]
 
@@ -45,8 +49,8 @@ mod traps;
 mod view;
 
 pub use laws::{
-    ended_code_has_no_step, settling_changes_nothing, standing_is_told_by_form,
-    traps_and_limits_are_known,
+    answers_are_asked_for, ended_code_has_no_step, settling_changes_nothing,
+    standing_is_told_by_form, traps_and_limits_are_known,
 };
 pub use limits::{CALL_LIMIT, CALLS, CELL_LIMIT, CELLS, LINE_UNIT, LOCK_UNIT, TEXT, TEXT_LIMIT};
 pub use point::{MutexKind, Point, Schedule, SyncKind, SyncStage, Target, Work, WorkKind};

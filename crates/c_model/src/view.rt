@@ -1,6 +1,6 @@
 //! What the thread that runs a task's code sees of its team.
 
-/// What the three routines of threads give (OpenMP 5.2, 18.2.1 to 18.2.4).
+/// What the three routines of threads give (OpenMP 5.2, 18.2.2 to 18.2.4).
 #[derive(Clone, Copy)]
 pub struct View {
     /// `omp_get_thread_num`: the thread's number in the team of its current region, from 0.
