@@ -1,10 +1,10 @@
 //! The locks and criticals of a run that are initialised.
 
-ghost use Rattle.std.specs.Prelude.{◌≡◌, ◌<◌, Ok, IfOk, OnOk, OnErr, None, Some, true};
+ghost use Rattle.std.specs.Prelude.{◌≡◌, ◌<◌, ◌≤◌, length, Ok, IfOk, OnOk, OnErr, None, Some, true};
 ghost use Rattle.sync_objects.specs.Owners.{critical_locks, free_lock, without, with_owner};
-ghost use Rattle.sync_objects.specs.View.{with_initialised};
+ghost use Rattle.sync_objects.specs.View.{with_initialised, IsRising};
 ghost use Rattle.sync_objects.specs.Answers.{answer_to_init, answer_to_destroy, answer_to_may_take, answer_to_give};
-ghost use Rattle.sync_objects.specs.Searching.{IsPlaceOf};
+ghost use Rattle.sync_objects.specs.Searching.{IsPlaceOf, rank};
 
 use crate::lock::Lock;
 use crate::lock_fault::LockFault;
@@ -131,14 +131,27 @@ impl Locks {
         }
     }
 
-    /// Where the lock is in the list, or where it would be put. The greatest of all is found at once.
+    /// Where the lock is in the list, or where it would be put.
     fn place_of(&self, id: u32) -> Result<usize, usize>
         ensures { IsPlaceOf self.now.locks id result }
     {
-        match self.locks.last() {
-            Some(last) if last.id < id => Err(self.locks.len()),
-            _ => self.locks.binary_search_by_key(&id, |lock| lock.id),
+        let place = rank(&self.locks, id);
+        match self.locks.get(place) {
+            Some(lock) if lock.id == id => Ok(place),
+            _ => Err(place),
         }
+    }
+}
+
+/// How many locks have lower identifiers. That all have is found at once.
+fn rank(locks: &[Lock], id: u32) -> usize
+    requires { IsRising locks.now }
+    ensures within { result ≤ length locks.now }
+    ensures rank { result ≡ rank locks.now id }
+{
+    match locks.last() {
+        Some(last) if last.id < id => locks.len(),
+        _ => locks.partition_point(|lock| lock.id < id),
     }
 }
 

@@ -27,7 +27,7 @@ abbrev pub no_node : Node
 no_node = fresh_node no_task
 
 abbrev pub no_region : RegionTasks
-no_region = record { last_ready = 0; unfinished = 0 }
+no_region = record { first_ready = 0; last_ready = 0; unfinished = 0 }
 
 abbrev pub node_at : List Node → ℕ → Node
 node_at nodes task = if task == 0 then no_node else slice_index_or nodes (task - 1) no_node
@@ -93,42 +93,14 @@ previous_set C task previous =
     if task == 0 then record C { last = previous }
     else with_node C task (record node { in_order = record node.in_order { previous = previous } })
 
-abbrev pub next_in_region_set : ChainView → ℕ → ℕ → ChainView
-next_in_region_set C task next =
+abbrev pub next_in_region_set : ChainView → ℕ → ℕ → ℕ → ChainView
+next_in_region_set C region task next =
     let node = node_at C.nodes task in
-    with_node C task (record node { in_region = record node.in_region { next = next } })
+    if task == 0 then with_region C region (record (region_at C.regions region) { first_ready = next })
+    else with_node C task (record node { in_region = record node.in_region { next = next } })
 
 abbrev pub previous_in_region_set : ChainView → ℕ → ℕ → ℕ → ChainView
 previous_in_region_set C region task previous =
     let node = node_at C.nodes task in
     if task == 0 then with_region C region (record (region_at C.regions region) { last_ready = previous })
     else with_node C task (record node { in_region = record node.in_region { previous = previous } })
-
-abbrev pub region_of : ChainView → ℕ → ℕ
-region_of C task = (node_at C.nodes task).task.region
-
-abbrev pub last_of : ChainView → ℕ → ℕ
-last_of C region = (region_at C.regions region).last_ready
-
--- the place after this one, with nothing behind it
-abbrev pub at_end : ℕ → Links
-at_end previous = record { previous = previous; next = 0 }
-
--- the task comes after the last one of the order, and after the last ready one of its region
-unfoldable pub linked_last : ChainView → ℕ → ChainView
-linked_last C task =
-    let region = region_of C task in
-    let before = C.last in
-    let before_in_region = last_of C region in
-    let alone_last = links_set C task (at_end before) (at_end before_in_region) in
-    let ordered = previous_set (next_set alone_last before task) 0 task in
-    previous_in_region_set (next_in_region_set ordered before_in_region task) region 0 task
-
--- the neighbours of this one become neighbours of one another
-unfoldable pub unlinked : ChainView → Node → ChainView
-unlinked C node =
-    let order = node.in_order in
-    let beside = node.in_region in
-    let mended = previous_set (next_set C order.previous order.next) order.next order.previous in
-    let mended_beside = next_in_region_set mended beside.previous beside.next in
-    previous_in_region_set mended_beside node.task.region beside.next beside.previous

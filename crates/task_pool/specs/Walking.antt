@@ -1,5 +1,5 @@
 -- What a walk up the parents of a task comes to.
-use Rattle.std.specs.Prelude.{◌≡◌, ℕ, ◌≤◌, ◌==◌, ◌||◌, Bool, IsTrue, List}
+use Rattle.std.specs.Prelude.{◌≡◌, ℕ, ◌==◌, ◌||◌, Bool, true, List}
 use Rattle.task_pool.specs.declared.task.Task.{Task}
 use Rattle.task_pool.specs.Allowed.{descends}
 
@@ -7,7 +7,7 @@ use Rattle.task_pool.specs.Allowed.{descends}
 abbrev pub reaches : List Task → ℕ → ℕ → Bool
 reaches tasks task from = task == from || descends tasks task from
 
--- an ancestor, or the task itself, from which all that is as far up as the bound is still to be met
+-- the walk comes by this ancestor, which is the bound itself wherever it comes by the bound
 pub record IsReached (tasks : List Task) (task bound ancestor : ℕ) : Type 0 where
-  pub on_the_way : IsTrue (reaches tasks task ancestor)
-  pub further : (from : ℕ) → from ≤ bound → reaches tasks task from ≡ reaches tasks ancestor from
+  pub on_the_way : reaches tasks task ancestor ≡ true
+  pub exactly : reaches tasks task bound ≡ (ancestor == bound)

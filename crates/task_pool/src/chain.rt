@@ -193,12 +193,17 @@ impl Chain {
         }
     }
 
-    /// After the task, among the ready ones of its region, comes this one.
-    pub fn set_next_in_region(&mut self, task: TaskId, next: TaskId)
-        ensures { self.new ≡ next_in_region_set self.old task next }
+    /// After the task, among the ready ones of the region, comes this one. Where there is no task before it, it is the
+    /// first.
+    pub fn set_next_in_region(&mut self, region: u32, task: TaskId, next: TaskId)
+        ensures { self.new ≡ next_in_region_set self.old region task next }
     {
-        if task != 0 && task as usize <= self.nodes.len() {
-            self.nodes[task as usize - 1].in_region.next = next;
+        if task != 0 {
+            if task as usize <= self.nodes.len() {
+                self.nodes[task as usize - 1].in_region.next = next;
+            }
+        } else if (region as usize) < self.regions.len() {
+            self.regions[region as usize].first_ready = next;
         }
     }
 

@@ -30,6 +30,8 @@ pub struct Node {
 /// What is kept of a region.
 #[derive(Clone, Copy, Debug, PartialEq, Eq)]
 pub struct RegionTasks {
+    /// The ready task of the region that became ready first, or 0.
+    pub first_ready: TaskId,
     /// The ready task of the region that became ready last, or 0.
     pub last_ready: TaskId,
     /// How many explicit tasks of the region are unfinished.
@@ -71,6 +73,7 @@ pub fn no_region() -> RegionTasks
     ensures { result ≡ no_region }
 {
     RegionTasks {
+        first_ready: 0,
         last_ready: 0,
         unfinished: 0,
     }

@@ -1,16 +1,15 @@
 //! The tasks of a run, and the order in which they became ready.
 
-ghost use Rattle.std.specs.Prelude.{◌≡◌, ◌≢◌, ◌≤◌, IfOk, OnOk, OnErr, length};
-ghost use Rattle.task_pool.specs.Tasks.{task_at, open_children, unfinished, is_explicit, MayBeParent};
+ghost use Rattle.std.specs.Prelude.{◌≡◌, ◌≢◌, ◌≤◌, IfOk, OnOk, OnErr, length, true};
+ghost use Rattle.task_pool.specs.Tasks.{task_at, IsMade, open_children, unfinished, is_explicit, is_ready, MayBeParent};
 ghost use Rattle.task_pool.specs.View.{no_pool, HasRoom, with_room, answer_to_add, with_added, with_ready, with_started, with_finished};
 ghost use Rattle.task_pool.specs.Allowed.{parent_of, descends, descends_from_all, newest_allowed};
-ghost use Rattle.task_pool.specs.Chain.{linked_last, unlinked};
-ghost use Rattle.task_pool.specs.Links.{tasks_of, AreInOrder};
+ghost use Rattle.task_pool.specs.Links.{tasks_of, rings_of, linked_last, unlinked, AreInOrder, IsLinked};
 ghost use Rattle.task_pool.specs.Walking.{IsReached};
 ghost use Rattle.task_pool.specs.declared.task.Condition.TheVariants as condition;
 
 use crate::chain::Chain;
-use crate::node::{Links, Node};
+use crate::node::Links;
 use crate::task::{Condition, Full, TASK_LIMIT, Task, TaskId, TaskKind};
 use std::alloc::Global;
 use std::marker::Model;
@@ -96,9 +95,8 @@ impl Pool {
         requires { (task_at self.old.tasks task).condition ≢ condition.Finished }
         ensures { self.new ≡ with_started self.old task }
     {
-        let node = self.chain.node(task);
-        if node.task.condition == Condition::Ready {
-            unlink(&mut self.chain, node);
+        if is_ready(self.chain.node(task).task.condition) {
+            unlink(&mut self.chain, task);
         }
         self.chain.set_condition(task, Condition::Started);
     }
@@ -186,9 +184,21 @@ fn is_explicit(kind: TaskKind) -> bool
     }
 }
 
+/// Whether a task that has come so far waits in the ready order.
+fn is_ready(condition: Condition) -> bool
+    ensures { result ≡ is_ready condition }
+{
+    match condition {
+        Condition::Ready => true,
+        Condition::Made | Condition::Started | Condition::Finished => false,
+    }
+}
+
 /// The task is put last in the ready order, and last among the ready ones of its region.
 fn link_last(chain: &mut Chain, task: TaskId)
-    ensures { chain.new ≡ linked_last chain.old task }
+    requires made { IsMade (tasks_of chain.old) task }
+    requires linked { IsLinked chain.old }
+    ensures { rings_of chain.new ≡ linked_last (rings_of chain.old) task }
 {
     let region = chain.node(task).task.region;
     let last = chain.last();
@@ -204,20 +214,24 @@ fn link_last(chain: &mut Chain, task: TaskId)
     chain.set_links(task, in_order, in_region);
     chain.set_next(last, task);
     chain.set_previous(0, task);
-    chain.set_next_in_region(last_of_region, task);
+    chain.set_next_in_region(region, last_of_region, task);
     chain.set_previous_in_region(region, 0, task);
 }
 
 /// The neighbours of the task become neighbours of one another, in the ready order and in its region.
-fn unlink(chain: &mut Chain, node: Node)
-    ensures { chain.new ≡ unlinked chain.old node }
+fn unlink(chain: &mut Chain, task: TaskId)
+    requires ready { is_ready (task_at (tasks_of chain.old) task).condition ≡ true }
+    requires linked { IsLinked chain.old }
+    ensures { rings_of chain.new ≡ unlinked (rings_of chain.old) task }
 {
+    let node = chain.node(task);
+    let region = node.task.region;
     let order = node.in_order;
+    let beside = node.in_region;
     chain.set_next(order.previous, order.next);
     chain.set_previous(order.next, order.previous);
-    let region = node.in_region;
-    chain.set_next_in_region(region.previous, region.next);
-    chain.set_previous_in_region(node.task.region, region.next, region.previous);
+    chain.set_next_in_region(region, beside.previous, beside.next);
+    chain.set_previous_in_region(region, beside.next, beside.previous);
 }
 
 /// The parent of the task, or 0.
@@ -229,9 +243,8 @@ fn parent_of(chain: &Chain, task: TaskId) -> TaskId
 
 /// The first of a task, its parent, its parent's parent and so on whose identity is at or below the other one.
 fn ancestor_within(chain: &Chain, task: TaskId, bound: TaskId) -> TaskId
-    requires { AreInOrder chain.now (tasks_of chain.now) }
-    ensures within { result ≤ bound }
-    ensures reached { IsReached (tasks_of chain.now) task bound result }
+    requires { AreInOrder (tasks_of chain.now) (length chain.now.regions) }
+    ensures { IsReached (tasks_of chain.now) task bound result }
 {
     let mut ancestor = task;
     while ancestor > bound {
@@ -242,7 +255,7 @@ fn ancestor_within(chain: &Chain, task: TaskId, bound: TaskId) -> TaskId
 
 /// Whether the task descends from the other one. Parents are made before their children.
 fn descends(chain: &Chain, task: TaskId, from: TaskId) -> bool
-    requires order { AreInOrder chain.now (tasks_of chain.now) }
+    requires order { AreInOrder (tasks_of chain.now) (length chain.now.regions) }
     requires made { 1 ≤ task }
     ensures { result ≡ descends (tasks_of chain.now) task from }
 {
@@ -251,7 +264,7 @@ fn descends(chain: &Chain, task: TaskId, from: TaskId) -> bool
 
 /// Whether the task descends from each of these. One walk serves all of them where they come by rising identity.
 fn descends_from_all(chain: &Chain, task: TaskId, held: &[TaskId]) -> bool
-    requires order { AreInOrder chain.now (tasks_of chain.now) }
+    requires order { AreInOrder (tasks_of chain.now) (length chain.now.regions) }
     requires made { 1 ≤ task }
     ensures { result ≡ descends_from_all (tasks_of chain.now) task held.now }
 {

@@ -1,0 +1,3 @@
+pub mod Becoming
+pub mod Places
+pub mod Rising

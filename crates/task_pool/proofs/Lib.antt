@@ -1,0 +1,13 @@
+pub mod Adding
+pub mod Ancestors
+pub mod Changing
+pub mod Circles
+pub mod Counting
+pub mod Following
+pub mod Leaving
+pub mod Linking
+pub mod Making
+pub mod Pooling
+pub mod Setting
+pub mod Spelling
+pub mod Times
