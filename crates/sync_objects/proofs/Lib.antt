@@ -1,3 +1,3 @@
-pub mod Becoming
 pub mod Places
 pub mod Rising
+pub mod Showing

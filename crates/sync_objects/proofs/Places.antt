@@ -1,147 +1,192 @@
--- The place of a lock in the list: what stands there, and that changes at it are the changes that are meant.
-use Rattle.std.proofs.Common.{◌≡◌, ◌≢◌, ℕ, zero, suc, ◌-◌, ◌<◌, ◌≤◌, ◌∙◌, List, [], ◌∷◌, length, slice_get, slice_set, slice_index_or, Option, Some, None, refl, sym, ap, subst, inl, inr, arith, lt-ltb, add-one}
-use Rattle.std.specs.List.{insert, remove}
+-- The place of an identifier in the list: what is known there, and that changes at it are the changes that are meant.
+use Rattle.std.proofs.Common.{◌≡◌, ◌≢◌, ℕ, zero, suc, ◌-◌, ◌<◌, ◌≤◌, ◌∙◌, List, [], ◌∷◌, length, slice_get, slice_set, slice_index_or, Some, None, refl, sym, ap, subst, inl, inr, arith, lt-ltb, add-one}
+use Rattle.std.specs.List.{insert}
+use Rattle.std.proofs.lemmas.Option.{slice_get_within, get_or_from_slice_get}
 use Rattle.std.proofs.lemmas.List.{get_or_default}
 use Rattle.std.proofs.lemmas.Bool.{cases_lt, eq-eqb, ne_eqb, le-ltb}
-use Rattle.sync_objects.specs.declared.lock.Lock.{Lock}
-use Rattle.sync_objects.specs.Owners.{free_lock, look_up, in_order, without, with_owner}
-use Rattle.sync_objects.specs.Searching.{rank, StandsAt, BelongsAt}
-use Rattle.sync_objects.specs.View.{AreAbove, IsRising}
-use Rattle.sync_objects.proofs.Rising.{above-lower, look_up-above}
+use Rattle.sync_objects.specs.declared.entry.Entry.{Entry}
+use Rattle.sync_objects.specs.declared.entry.Hold.{Hold}
+use Rattle.sync_objects.specs.declared.entry.Hold.TheVariants as hold
+use Rattle.sync_objects.specs.Places.{AreAbove, IsRising, rank, hold_of, with_hold, with_place, free_entry, StandsAt, BelongsAt}
+use Rattle.sync_objects.proofs.Rising.{above-lower, rising-before}
 
-rank-more : (lock : Lock) (locks : List Lock) (id : ℕ) → lock.id < id → rank (lock ∷ locks) id ≡ suc (rank locks id)
+rank-more : (entry : Entry) (entries : List Entry) (id : ℕ) → entry.id < id → rank (entry ∷ entries) id ≡ suc (rank entries id)
 unfolding rank
-rank-more lock locks id before = rw (lt-ltb lock.id id before) (add-one (rank locks id))
+rank-more entry entries id before = rw (lt-ltb entry.id id before) (add-one (rank entries id))
 
-rank-here : (lock : Lock) (locks : List Lock) (id : ℕ) → id ≤ lock.id → rank (lock ∷ locks) id ≡ 0
+rank-here : (entry : Entry) (entries : List Entry) (id : ℕ) → id ≤ entry.id → rank (entry ∷ entries) id ≡ 0
 unfolding rank
-rank-here lock locks id behind = rw (le-ltb lock.id id behind) refl
+rank-here entry entries id behind = rw (le-ltb entry.id id behind) refl
 
-pub rank-within : (locks : List Lock) (id : ℕ) → rank locks id ≤ length locks
+rank-within : (entries : List Entry) (id : ℕ) → rank entries id ≤ length entries
 unfolding rank
 rank-within [] id = omega arith
-rank-within (lock ∷ locks) id = elim (cases_lt lock.id id) [
-  | inl before ↦ omega (arith, rank-more lock locks id before, rank-within locks id)
-  | inr behind ↦ omega (arith, rank-here lock locks id behind)
+rank-within (entry ∷ entries) id = elim (cases_lt entry.id id) [
+  | inl before ↦ omega (arith, rank-more entry entries id before, rank-within entries id)
+  | inr behind ↦ omega (arith, rank-here entry entries id behind)
 ]
 
 -- the place between the lower ones and the others
-pub rank-point : (locks : List Lock) (id place : ℕ) → place ≤ length locks → ((k : ℕ) (d : Lock) → k < place → (slice_index_or locks k d).id < id) → ((k : ℕ) (d : Lock) → place ≤ k → k < length locks → id ≤ (slice_index_or locks k d).id) → place ≡ rank locks id
+pub rank-point : (entries : List Entry) (id place : ℕ) → place ≤ length entries → ((k : ℕ) (d : Entry) → k < place → (slice_index_or entries k d).id < id) → ((k : ℕ) (d : Entry) → place ≤ k → k < length entries → id ≤ (slice_index_or entries k d).id) → place ≡ rank entries id
 unfolding rank
 rank-point [] id place within before behind = omega arith
-rank-point (lock ∷ locks) id zero within before behind = sym (rank-here lock locks id (behind 0 lock (omega arith) (omega arith)))
-rank-point (lock ∷ locks) id (suc place) within before behind =
-    ap (λ (k : ℕ). suc k) (rank-point locks id place (omega arith) (λ k d less. before (suc k) d (omega arith)) (λ k d more less. behind (suc k) d (omega arith) (omega arith)))
-    ∙ sym (rank-more lock locks id (before 0 lock (omega arith)))
-
-above-at : (low : ℕ) (locks : List Lock) (k : ℕ) (d : Lock) → AreAbove low locks → k < length locks → low < (slice_index_or locks k d).id
-unfolding AreAbove
-above-at low [] k d above within = absurd (omega arith)
-above-at low (lock ∷ locks) zero d above within = above.0
-above-at low (lock ∷ locks) (suc k) d above within = above-at low locks k d above.1 (omega arith)
-
-some-none : (lock : Lock) → None ≡ Some lock → ⊥
-some-none lock same = cc
-
--- what rises is lower before a place where it is lower
-pub rising-before : (locks : List Lock) (id last k : ℕ) (d : Lock) → IsRising locks → k ≤ last → last < length locks → (slice_index_or locks last d).id < id → (slice_index_or locks k d).id < id
-unfolding IsRising
-rising-before [] id last k d rising less within lower = absurd (omega arith)
-rising-before (lock ∷ locks) id zero zero d rising less within lower = lower
-rising-before (lock ∷ locks) id zero (suc k) d rising less within lower = absurd (omega arith)
-rising-before (lock ∷ locks) id (suc last) zero d rising less within lower =
-    let higher = above-at lock.id locks last d rising.0 (omega arith) in omega (arith, higher, lower)
-rising-before (lock ∷ locks) id (suc last) (suc k) d rising less within lower = rising-before locks id last k d rising.1 (omega arith) (omega arith) lower
+rank-point (entry ∷ entries) id zero within before behind = sym (rank-here entry entries id (behind 0 entry (omega arith) (omega arith)))
+rank-point (entry ∷ entries) id (suc place) within before behind =
+    ap (λ (k : ℕ). suc k) (rank-point entries id place (omega arith) (λ k d less. before (suc k) d (omega arith)) (λ k d more less. behind (suc k) d (omega arith) (omega arith)))
+    ∙ sym (rank-more entry entries id (before 0 entry (omega arith)))
 
 -- where the last one is lower, all are
-pub rank-last : (locks : List Lock) (id : ℕ) (last : Lock) → IsRising locks → 0 < length locks → slice_index_or locks (length locks - 1) last ≡ last → last.id < id → length locks ≡ rank locks id
-rank-last locks id last rising some is lower =
-    rank-point locks id (length locks) (omega arith)
-    (λ k d less. let end : (slice_index_or locks (length locks - 1) d).id < id = subst (λ (lock : Lock). lock.id < id) (sym (get_or_default locks (length locks - 1) d last (omega arith) ∙ is)) lower in
-    rising-before locks id (length locks - 1) k d rising (omega arith) (omega arith) end)
+pub rank-last : (entries : List Entry) (id : ℕ) (last : Entry) → IsRising entries → 0 < length entries → slice_index_or entries (length entries - 1) last ≡ last → last.id < id → length entries ≡ rank entries id
+rank-last entries id last rising some is lower =
+    rank-point entries id (length entries) (omega arith)
+    (λ k d less. let end : (slice_index_or entries (length entries - 1) d).id < id = subst (λ (entry : Entry). entry.id < id) (sym (get_or_default entries (length entries - 1) d last (omega arith) ∙ is)) lower in
+    rising-before entries id (length entries - 1) k d rising (omega arith) (omega arith) end)
     (λ k d more less. absurd (omega arith))
 
-stands-here : (locks : List Lock) (id : ℕ) (lock : Lock) → slice_get locks (rank locks id) ≡ Some lock → lock.id ≡ id → look_up locks id ≡ Some lock
-unfolding look_up
-stands-here [] id lock there same = absurd (some-none lock there)
-stands-here (first ∷ locks) id lock there same = elim (cases_lt first.id id) [
-  | inl before ↦ rw (ne_eqb first.id id (λ one. omega arith))
-      (stands-here locks id lock (subst (λ (k : ℕ). slice_get (first ∷ locks) k ≡ Some lock) (rank-more first locks id before) there) same)
-  | inr behind ↦
-      let is : Some first ≡ Some lock = subst (λ (k : ℕ). slice_get (first ∷ locks) k ≡ Some lock) (rank-here first locks id behind) there in
-      let one : first ≡ lock = cc in
-      rw (eq-eqb first.id id (ap (λ (it : Lock). it.id) one ∙ same)) is
-]
+get-within : (entries : List Entry) (place : ℕ) (d : Entry) → place < length entries → slice_get entries place ≡ Some (slice_index_or entries place d)
+get-within [] place d within = absurd (omega arith)
+get-within (entry ∷ entries) zero d within = refl
+get-within (entry ∷ entries) (suc place) d within = get-within entries place d (omega arith)
 
-stands-not : (locks : List Lock) (id : ℕ) → IsRising locks → ((lock : Lock) → slice_get locks (rank locks id) ≡ Some lock → lock.id ≢ id) → look_up locks id ≡ None
-unfolding look_up IsRising
-stands-not [] id rising none = refl
-stands-not (first ∷ locks) id rising none = elim (cases_lt first.id id) [
-  | inl before ↦ rw (ne_eqb first.id id (λ one. omega arith))
-      (stands-not locks id rising.1 (λ lock there. none lock (subst (λ (k : ℕ). slice_get (first ∷ locks) k ≡ Some lock) (sym (rank-more first locks id before)) there)))
-  | inr behind ↦
-      let apart : first.id ≢ id = none first (subst (λ (k : ℕ). slice_get (first ∷ locks) k ≡ Some first) (sym (rank-here first locks id behind)) refl) in
-      rw (ne_eqb first.id id apart) (look_up-above id locks (above-lower id first.id locks behind rising.0))
-]
-
-pub stands-at : (locks : List Lock) (id place : ℕ) (lock : Lock) → place ≡ rank locks id → slice_get locks place ≡ Some lock → lock.id ≡ id → StandsAt locks id place
-stands-at locks id place lock ranked there same = record {
+pub stands-read : (entries : List Entry) (id place : ℕ) (entry : Entry) → place ≡ rank entries id → place < length entries → entry ≡ slice_index_or entries place entry → entry.id ≡ id → StandsAt entries id place
+stands-read entries id place entry ranked within is this = record {
   ranked = ranked;
-  found = there ∙ sym (stands-here locks id lock (subst (λ (k : ℕ). slice_get locks k ≡ Some lock) ranked there) same);
-  there = (lock, there, same);
+  there = (entry, get-within entries place entry within ∙ ap (λ (one : Entry). Some one) (sym is), this);
 }
 
-pub belongs-at : (locks : List Lock) (id place : ℕ) → IsRising locks → place ≡ rank locks id → ((lock : Lock) → slice_get locks place ≡ Some lock → lock.id ≢ id) → BelongsAt locks id place
-belongs-at locks id place rising ranked none = record {
+pub belongs-apart : (entries : List Entry) (id place : ℕ) (entry : Entry) → place ≡ rank entries id → entry ≡ slice_index_or entries place entry → entry.id ≢ id → BelongsAt entries id place
+belongs-apart entries id place entry ranked is apart = record {
   ranked = ranked;
-  within = omega (arith, ranked, rank-within locks id);
-  absent = stands-not locks id rising (λ lock there. none lock (subst (λ (k : ℕ). slice_get locks k ≡ Some lock) (sym ranked) there));
+  within = omega (arith, ranked, rank-within entries id);
+  apart = λ one there this. apart (ap (λ (it : Entry). it.id) (is ∙ get_or_from_slice_get entries place one entry there) ∙ this);
 }
 
--- a lock is put at its place
-put-here : (locks : List Lock) (fresh : Lock) → insert locks (rank locks fresh.id) fresh ≡ in_order locks fresh
-unfolding in_order rank
-put-here [] fresh = refl
-put-here (first ∷ locks) fresh = elim (cases_lt first.id fresh.id) [
-  | inl before ↦ rw (rank-more first locks fresh.id before, lt-ltb first.id fresh.id before) (ap (λ (others : List Lock). first ∷ others) (put-here locks fresh))
-  | inr behind ↦ rw (rank-here first locks fresh.id behind, le-ltb first.id fresh.id behind) refl
-]
+pub belongs-past : (entries : List Entry) (id place : ℕ) → place ≡ rank entries id → length entries ≤ place → BelongsAt entries id place
+belongs-past entries id place ranked past = record {
+  ranked = ranked;
+  within = omega (arith, ranked, rank-within entries id);
+  apart = λ one there this. absurd (omega (arith, slice_get_within entries place one there));
+}
 
-pub put-at : (locks : List Lock) (id place : ℕ) → place ≡ rank locks id → insert locks place (free_lock id) ≡ in_order locks (free_lock id)
-put-at locks id place ranked = ap (λ (k : ℕ). insert locks k (free_lock id)) ranked ∙ put-here locks (free_lock id)
+-- what is read at the place of an identifier
+pub stands-entry : (entries : List Entry) (id place : ℕ) (entry : Entry) → StandsAt entries id place → entry ≡ slice_index_or entries place entry → (slice_get entries (rank entries id) ≡ Some entry) × (entry.id ≡ id)
+stands-entry entries id place entry stands is =
+    let same : entry ≡ stands.there.0 = is ∙ get_or_from_slice_get entries place stands.there.0 entry stands.there.1 in (
+      subst (λ (k : ℕ). slice_get entries k ≡ Some entry) stands.ranked (stands.there.1 ∙ ap (λ (one : Entry). Some one) (sym same)),
+      ap (λ (one : Entry). one.id) same ∙ stands.there.2,
+    )
 
--- taken out from there
-out-here : (locks : List Lock) (id : ℕ) (lock : Lock) → slice_get locks (rank locks id) ≡ Some lock → lock.id ≡ id → remove locks (rank locks id) ≡ without locks id
-unfolding without
-out-here [] id lock there same = absurd (some-none lock there)
-out-here (first ∷ locks) id lock there same = elim (cases_lt first.id id) [
-  | inl before ↦ rw (rank-more first locks id before, ne_eqb first.id id (λ one. omega arith))
-      (ap (λ (others : List Lock). first ∷ others) (out-here locks id lock (subst (λ (k : ℕ). slice_get (first ∷ locks) k ≡ Some lock) (rank-more first locks id before) there) same))
+first-is : (first : Entry) (entries : List Entry) (id : ℕ) (entry : Entry) → id ≤ first.id → slice_get (first ∷ entries) (rank (first ∷ entries) id) ≡ Some entry → first ≡ entry
+first-is first entries id entry behind there =
+    let is : Some first ≡ Some entry = subst (λ (k : ℕ). slice_get (first ∷ entries) k ≡ Some entry) (rank-here first entries id behind) there in
+    cc
+
+rest-is : (first : Entry) (entries : List Entry) (id : ℕ) (entry : Entry) → first.id < id → slice_get (first ∷ entries) (rank (first ∷ entries) id) ≡ Some entry → slice_get entries (rank entries id) ≡ Some entry
+rest-is first entries id entry before there = subst (λ (k : ℕ). slice_get (first ∷ entries) k ≡ Some entry) (rank-more first entries id before) there
+
+none-there : (entry : Entry) → None ≡ Some entry → ⊥
+none-there entry there = cc
+
+pub hold-here : (entries : List Entry) (id : ℕ) (entry : Entry) → slice_get entries (rank entries id) ≡ Some entry → entry.id ≡ id → hold_of entries id ≡ entry.hold
+unfolding hold_of
+hold-here [] id entry there this = absurd (none-there entry there)
+hold-here (first ∷ entries) id entry there this = elim (cases_lt first.id id) [
+  | inl before ↦ rw (ne_eqb first.id id (λ same. omega arith)) (hold-here entries id entry (rest-is first entries id entry before there) this)
   | inr behind ↦
-      let is : Some first ≡ Some lock = subst (λ (k : ℕ). slice_get (first ∷ locks) k ≡ Some lock) (rank-here first locks id behind) there in
-      let one : first ≡ lock = cc in
-      rw (rank-here first locks id behind, eq-eqb first.id id (ap (λ (it : Lock). it.id) one ∙ same)) refl
+      let is = first-is first entries id entry behind there in
+      rw (eq-eqb first.id id (ap (λ (one : Entry). one.id) is ∙ this)) (ap (λ (one : Entry). one.hold) is)
 ]
 
-pub out-at : (locks : List Lock) (id place : ℕ) → StandsAt locks id place → remove locks place ≡ without locks id
-out-at locks id place stands = ap (remove locks) stands.ranked ∙ out-here locks id stands.there.0 (subst (λ (k : ℕ). slice_get locks k ≡ Some stands.there.0) stands.ranked stands.there.1) stands.there.2
+pub hold-above : (id : ℕ) (entries : List Entry) → AreAbove id entries → hold_of entries id ≡ hold.Absent
+unfolding AreAbove hold_of
+hold-above id [] above = refl
+hold-above id (entry ∷ entries) above = rw (ne_eqb entry.id id (λ same. omega (arith, above.0))) (hold-above id entries above.1)
 
--- and given another owner there
-owned-here : (locks : List Lock) (id : ℕ) (lock : Lock) (owner : Option ℕ) → slice_get locks (rank locks id) ≡ Some lock → lock.id ≡ id → slice_set locks (rank locks id) (record lock { owner = owner }) ≡ with_owner locks id owner
-unfolding with_owner
-owned-here [] id lock owner there same = refl
-owned-here (first ∷ locks) id lock owner there same = elim (cases_lt first.id id) [
-  | inl before ↦ rw (rank-more first locks id before, ne_eqb first.id id (λ one. omega arith))
-      (ap (λ (others : List Lock). first ∷ others) (owned-here locks id lock owner (subst (λ (k : ℕ). slice_get (first ∷ locks) k ≡ Some lock) (rank-more first locks id before) there) same))
+pub hold-none : (entries : List Entry) (id : ℕ) → IsRising entries → ((entry : Entry) → slice_get entries (rank entries id) ≡ Some entry → entry.id ≡ id → ⊥) → hold_of entries id ≡ hold.Absent
+unfolding hold_of IsRising
+hold-none [] id rising apart = refl
+hold-none (first ∷ entries) id rising apart = elim (cases_lt first.id id) [
+  | inl before ↦ rw (ne_eqb first.id id (λ same. omega arith))
+      (hold-none entries id rising.1 (λ entry there. apart entry (subst (λ (k : ℕ). slice_get (first ∷ entries) k ≡ Some entry) (sym (rank-more first entries id before)) there)))
   | inr behind ↦
-      let is : Some first ≡ Some lock = subst (λ (k : ℕ). slice_get (first ∷ locks) k ≡ Some lock) (rank-here first locks id behind) there in
-      let one : first ≡ lock = cc in
-      rw (rank-here first locks id behind, eq-eqb first.id id (ap (λ (it : Lock). it.id) one ∙ same))
-      (ap (λ (it : Lock). let changed : Lock = record it { owner = owner } in changed ∷ locks) (sym one))
+      let other : first.id ≢ id = apart first (subst (λ (k : ℕ). slice_get (first ∷ entries) k ≡ Some first) (sym (rank-here first entries id behind)) refl) in
+      rw (ne_eqb first.id id other) (hold-above id entries (above-lower id first.id entries behind rising.0))
 ]
 
-pub owned-at : (locks : List Lock) (id place : ℕ) (lock : Lock) (owner : Option ℕ) → StandsAt locks id place → slice_get locks place ≡ Some lock → slice_set locks place (record lock { owner = owner }) ≡ with_owner locks id owner
-owned-at locks id place lock owner stands there =
-    let is : Some stands.there.0 ≡ Some lock = sym stands.there.1 ∙ there in
-    let one : stands.there.0 ≡ lock = cc in
-    ap (λ (k : ℕ). slice_set locks k (record lock { owner = owner })) stands.ranked ∙ owned-here locks id lock owner (subst (λ (k : ℕ). slice_get locks k ≡ Some lock) stands.ranked there) (ap (λ (it : Lock). it.id) (sym one) ∙ stands.there.2)
+-- something else is known there
+pub set-here : (entries : List Entry) (id : ℕ) (entry : Entry) (known : Hold) → slice_get entries (rank entries id) ≡ Some entry → entry.id ≡ id → slice_set entries (rank entries id) (record entry { hold = known }) ≡ with_hold entries id known
+unfolding with_hold
+set-here [] id entry known there this = refl
+set-here (first ∷ entries) id entry known there this = elim (cases_lt first.id id) [
+  | inl before ↦ rw (rank-more first entries id before, ne_eqb first.id id (λ same. omega arith))
+      (ap (λ (others : List Entry). first ∷ others) (set-here entries id entry known (rest-is first entries id entry before there) this))
+  | inr behind ↦
+      let is = first-is first entries id entry behind there in
+      rw (rank-here first entries id behind, eq-eqb first.id id (ap (λ (one : Entry). one.id) is ∙ this))
+      (ap (λ (it : Entry). let changed : Entry = record it { hold = known } in changed ∷ entries) (sym is))
+]
+
+with_hold-above : (id : ℕ) (known : Hold) (entries : List Entry) → AreAbove id entries → with_hold entries id known ≡ entries
+unfolding AreAbove with_hold
+with_hold-above id known [] above = refl
+with_hold-above id known (entry ∷ entries) above = rw (ne_eqb entry.id id (λ same. omega (arith, above.0))) (ap (λ (others : List Entry). entry ∷ others) (with_hold-above id known entries above.1))
+
+pub set-none : (entries : List Entry) (id : ℕ) (known : Hold) → IsRising entries → ((entry : Entry) → slice_get entries (rank entries id) ≡ Some entry → entry.id ≡ id → ⊥) → with_hold entries id known ≡ entries
+unfolding with_hold IsRising
+set-none [] id known rising apart = refl
+set-none (first ∷ entries) id known rising apart = elim (cases_lt first.id id) [
+  | inl before ↦ rw (ne_eqb first.id id (λ same. omega arith))
+      (ap (λ (others : List Entry). first ∷ others) (set-none entries id known rising.1 (λ entry there. apart entry (subst (λ (k : ℕ). slice_get (first ∷ entries) k ≡ Some entry) (sym (rank-more first entries id before)) there))))
+  | inr behind ↦
+      let other : first.id ≢ id = apart first (subst (λ (k : ℕ). slice_get (first ∷ entries) k ≡ Some first) (sym (rank-here first entries id behind)) refl) in
+      rw (ne_eqb first.id id other) (ap (λ (others : List Entry). first ∷ others) (with_hold-above id known entries (above-lower id first.id entries behind rising.0)))
+]
+
+-- its lock is free there
+pub free-here : (entries : List Entry) (id : ℕ) (entry : Entry) → slice_get entries (rank entries id) ≡ Some entry → entry.id ≡ id → slice_set entries (rank entries id) (record entry { hold = hold.Free }) ≡ with_place entries id
+unfolding with_place
+free-here [] id entry there this = absurd (none-there entry there)
+free-here (first ∷ entries) id entry there this = elim (cases_lt first.id id) [
+  | inl before ↦ rw (rank-more first entries id before, lt-ltb first.id id before)
+      (ap (λ (others : List Entry). first ∷ others) (free-here entries id entry (rest-is first entries id entry before there) this))
+  | inr behind ↦
+      let is = first-is first entries id entry behind there in
+      rw (rank-here first entries id behind, le-ltb first.id id behind, eq-eqb first.id id (ap (λ (one : Entry). one.id) is ∙ this))
+      (ap (λ (it : ℕ). free_entry it ∷ entries) this)
+]
+
+pub free-new : (entries : List Entry) (id : ℕ) → ((entry : Entry) → slice_get entries (rank entries id) ≡ Some entry → entry.id ≡ id → ⊥) → insert entries (rank entries id) (free_entry id) ≡ with_place entries id
+unfolding with_place rank
+free-new [] id apart = refl
+free-new (first ∷ entries) id apart = elim (cases_lt first.id id) [
+  | inl before ↦ rw (rank-more first entries id before, lt-ltb first.id id before)
+      (ap (λ (others : List Entry). first ∷ others) (free-new entries id (λ entry there. apart entry (subst (λ (k : ℕ). slice_get (first ∷ entries) k ≡ Some entry) (sym (rank-more first entries id before)) there))))
+  | inr behind ↦
+      let other : first.id ≢ id = apart first (subst (λ (k : ℕ). slice_get (first ∷ entries) k ≡ Some first) (sym (rank-here first entries id behind)) refl) in
+      rw (rank-here first entries id behind, le-ltb first.id id behind, ne_eqb first.id id other) refl
+]
+
+-- the same at a place that was found, in a list that was read as another one
+pub set-at : (entries read : List Entry) (id place : ℕ) (entry : Entry) (known : Hold) → read ≡ entries → StandsAt read id place → entry ≡ slice_index_or entries place entry → slice_set entries place (record entry { hold = known }) ≡ with_hold entries id known
+set-at entries read id place entry known same stands is =
+    let stands_there : StandsAt entries id place = subst (λ (list : List Entry). StandsAt list id place) same stands in
+    let there = stands-entry entries id place entry stands_there is in
+    ap (λ (k : ℕ). slice_set entries k (record entry { hold = known })) stands_there.ranked ∙ set-here entries id entry known there.0 there.1
+
+pub free-at : (entries read : List Entry) (id place : ℕ) (entry : Entry) → read ≡ entries → StandsAt read id place → entry ≡ slice_index_or entries place entry → slice_set entries place (record entry { hold = hold.Free }) ≡ with_place entries id
+free-at entries read id place entry same stands is =
+    let stands_there : StandsAt entries id place = subst (λ (list : List Entry). StandsAt list id place) same stands in
+    let there = stands-entry entries id place entry stands_there is in
+    ap (λ (k : ℕ). slice_set entries k (record entry { hold = hold.Free })) stands_there.ranked ∙ free-here entries id entry there.0 there.1
+
+apart-at : (entries : List Entry) (id place : ℕ) → BelongsAt entries id place → (entry : Entry) → slice_get entries (rank entries id) ≡ Some entry → entry.id ≡ id → ⊥
+apart-at entries id place belongs entry there = belongs.apart entry (subst (λ (k : ℕ). slice_get entries k ≡ Some entry) (sym belongs.ranked) there)
+
+pub none-at : (entries read : List Entry) (id place : ℕ) (known : Hold) → read ≡ entries → IsRising entries → BelongsAt read id place → entries ≡ with_hold entries id known
+none-at entries read id place known same rising belongs =
+    sym (set-none entries id known rising (apart-at entries id place (subst (λ (list : List Entry). BelongsAt list id place) same belongs)))
+
+pub new-at : (entries read : List Entry) (id place : ℕ) → read ≡ entries → BelongsAt read id place → insert entries place (free_entry id) ≡ with_place entries id
+new-at entries read id place same belongs =
+    let belongs_there : BelongsAt entries id place = subst (λ (list : List Entry). BelongsAt list id place) same belongs in
+    ap (λ (k : ℕ). insert entries k (free_entry id)) belongs_there.ranked ∙ free-new entries id (apart-at entries id place belongs_there)

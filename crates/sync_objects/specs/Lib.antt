@@ -1,5 +1,5 @@
 pub mod Answers
 pub mod Faults
 pub mod Owners
-pub mod Searching
+pub mod Places
 pub mod View

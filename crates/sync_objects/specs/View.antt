@@ -1,5 +1,5 @@
 -- What the locks of a run are seen as: the list of them, and how many more there is room for.
-use Rattle.std.specs.Prelude.{ℕ, ◌-◌, ◌<◌, List, [], ◌∷◌}
+use Rattle.std.specs.Prelude.{ℕ, ◌-◌, List}
 use Rattle.sync_objects.specs.declared.lock.Lock.{Lock}
 use Rattle.sync_objects.specs.Owners.{free_lock, in_order}
 
@@ -10,13 +10,3 @@ pub record LocksView : Type 0 where
 -- one more lock is initialised, and is free
 abbrev pub with_initialised : LocksView → ℕ → LocksView
 with_initialised view id = record { locks = in_order view.locks (free_lock id); room = view.room - 1 }
-
--- all these locks have greater identifiers
-unfoldable pub AreAbove : ℕ → List Lock → Type 0
-AreAbove id [] = Unit {0}
-AreAbove id (lock ∷ locks) = (id < lock.id) × AreAbove id locks
-
--- each lock has a greater identifier than those before it
-unfoldable pub IsRising : List Lock → Type 0
-IsRising [] = Unit {0}
-IsRising (lock ∷ locks) = AreAbove lock.id locks × IsRising locks

@@ -14,12 +14,14 @@
 //!   want of memory nothing has changed. [`Locks::reserve`] makes room for one lock, and [`Locks::init`] uses it up;
 //! - [`LockFault::number`] is the number of the trap.
 //!
-//! The code keeps the list as it is seen, and searches it by halves; a lock with the greatest identifier of all is found
-//! and put at once. What is taken out moves those behind it: locks come and go last first, or one at a time. Neither cost
-//! is a clause. Tests try the faults in a row of calls, and long lists of calls beside a list that is searched from its
-//! front.
+//! The code keeps a place for each wait identifier that a lock has or had, by rising identifier, and searches them by
+//! halves; that the identifier is greater than all others is found at once. A lock that is destroyed leaves its place,
+//! which an [`Locks::init`] of the same identifier takes again, so that nothing behind it moves, in whichever order locks
+//! go. `specs/Places.antt` says what the places are seen as. What calls cost is no clause. Tests try the faults in a row
+//! of calls, and long lists of calls beside a list that is searched from its front.
 #![tactic(auto)]
 
+mod entry;
 mod lock;
 mod lock_fault;
 mod locks;

@@ -1,12 +1,12 @@
 //! The locks and criticals of a run that are initialised.
 
-ghost use Rattle.std.specs.Prelude.{◌≡◌, ◌<◌, ◌≤◌, length, Ok, IfOk, OnOk, OnErr, None, Some, true};
-ghost use Rattle.sync_objects.specs.Owners.{critical_locks, free_lock, without, with_owner};
-ghost use Rattle.sync_objects.specs.View.{with_initialised, IsRising};
+ghost use Rattle.std.specs.Prelude.{◌≡◌, ◌<◌, Ok, IfOk, OnOk, OnErr, None, Some, true};
+ghost use Rattle.sync_objects.specs.Owners.{critical_locks, look_up, without, with_owner};
+ghost use Rattle.sync_objects.specs.Places.{lock_of};
+ghost use Rattle.sync_objects.specs.View.{with_initialised};
 ghost use Rattle.sync_objects.specs.Answers.{answer_to_init, answer_to_destroy, answer_to_may_take, answer_to_give};
-ghost use Rattle.sync_objects.specs.Searching.{IsPlaceOf, rank};
 
-use crate::lock::Lock;
+use crate::entry::{Entry, Hold, hold_of, set_free, set_hold};
 use crate::lock_fault::LockFault;
 use std::alloc::Global;
 use std::marker::Model;
@@ -21,22 +21,24 @@ pub type Memory = std::alloc::AllocError;
 /// [`Locks::new`] and [`Locks::reserve`] take memory.
 #[derive(Drop)]
 pub struct Locks {
-    /// The locks by rising wait identifier.
-    locks: Vec<Lock>,
+    /// The wait identifiers that locks have or had, rising. A lock that is destroyed leaves its place, so that nothing
+    /// behind it moves.
+    entries: Vec<Entry>,
     /// How many more locks there is room for.
     room: usize,
 }
 
 impl Model for Locks {
     ghost use Rattle.std.specs.Prelude.{◌+◌, ◌≤◌, vec_len, vec_capacity};
-    ghost use Rattle.sync_objects.specs.View.{LocksView, IsRising};
+    ghost use Rattle.sync_objects.specs.View.{LocksView};
+    ghost use Rattle.sync_objects.specs.Places.{locks_of, IsRising};
 
     ghost Value = { LocksView };
 
-    ghost view = { λ locks. record { locks = locks.locks.items; room = locks.room } };
+    ghost view = { λ locks. record { locks = locks_of locks.entries.items; room = locks.room } };
 
-    ghost invariant = { λ locks. (vec_len locks.locks + locks.room ≤ vec_capacity locks.locks)
-        × IsRising locks.locks.items };
+    ghost invariant = { λ locks. (vec_len locks.entries + locks.room ≤ vec_capacity locks.entries)
+        × IsRising locks.entries.items };
 }
 
 impl Locks {
@@ -44,11 +46,14 @@ impl Locks {
     pub fn new(alloc: Global, criticals: u32) -> Result<Locks, Memory>
         ensures { IfOk result (λ locks. locks ≡ record { locks = critical_locks criticals; room = 0 }) }
     {
-        let mut locks = Vec::with_capacity(alloc, criticals as usize)?;
+        let mut entries = Vec::with_capacity(alloc, criticals as usize)?;
         for before in 0..criticals {
-            locks.push(free_lock(before + 1))?;
+            entries.push(Entry {
+                id: before + 1,
+                hold: Hold::Free,
+            })?;
         }
-        Ok(Locks { locks, room: 0 })
+        Ok(Locks { entries, room: 0 })
     }
 
     /// Makes room for one lock, which stays until the next [`Locks::init`].
@@ -56,7 +61,7 @@ impl Locks {
         ensures room { OnOk result (self.new ≡ record self.old { room = 1 }) }
         ensures memory { OnErr result (self.new ≡ self.old) }
     {
-        self.locks.reserve(1)?;
+        self.entries.reserve(1)?;
         self.room = 1;
         Ok(())
     }
@@ -68,13 +73,13 @@ impl Locks {
         ensures done { OnOk result (self.new ≡ with_initialised self.old id) }
         ensures fault { OnErr result (self.new ≡ self.old) }
     {
-        match self.place_of(id) {
-            Ok(_) => Err(LockFault::AlreadyInitialised),
-            Err(place) => {
-                self.locks.insert(place, free_lock(id)).unwrap();
+        match self.hold(id) {
+            Hold::Absent => {
+                set_free(&mut self.entries, id);
                 self.room -= 1;
                 Ok(())
             }
+            Hold::Free | Hold::Owned(_) => Err(LockFault::AlreadyInitialised),
         }
     }
 
@@ -84,11 +89,11 @@ impl Locks {
         ensures done { OnOk result (self.new ≡ record self.old { locks = without self.old.locks id }) }
         ensures fault { OnErr result (self.new ≡ self.old) }
     {
-        match self.place_of(id) {
-            Err(_) => Err(LockFault::NotInitialised),
-            Ok(place) if self.locks[place].owner.is_some() => Err(LockFault::StillHeld),
-            Ok(place) => {
-                let _ = self.locks.remove(place);
+        match self.hold(id) {
+            Hold::Absent => Err(LockFault::NotInitialised),
+            Hold::Owned(_) => Err(LockFault::StillHeld),
+            Hold::Free => {
+                set_hold(&mut self.entries, id, Hold::Absent);
                 Ok(())
             }
         }
@@ -98,9 +103,10 @@ impl Locks {
     pub fn may_take(&self, id: u32) -> Result<bool, LockFault>
         ensures { result ≡ answer_to_may_take self.now.locks id }
     {
-        match self.place_of(id) {
-            Err(_) => Err(LockFault::NotInitialised),
-            Ok(place) => Ok(self.locks[place].owner.is_none()),
+        match self.hold(id) {
+            Hold::Absent => Err(LockFault::NotInitialised),
+            Hold::Free => Ok(true),
+            Hold::Owned(_) => Ok(false),
         }
     }
 
@@ -109,9 +115,7 @@ impl Locks {
         requires { answer_to_may_take self.old.locks id ≡ Ok true }
         ensures { self.new ≡ record self.old { locks = with_owner self.old.locks id (Some task) } }
     {
-        if let Ok(place) = self.place_of(id) {
-            self.locks[place].owner = Some(task);
-        }
+        set_hold(&mut self.entries, id, Hold::Owned(task));
     }
 
     /// The task gives the lock back, which is free from now on. Where the lock isn't initialised, or the task doesn't
@@ -121,43 +125,20 @@ impl Locks {
         ensures done { OnOk result (self.new ≡ record self.old { locks = with_owner self.old.locks id None }) }
         ensures fault { OnErr result (self.new ≡ self.old) }
     {
-        match self.place_of(id) {
-            Err(_) => Err(LockFault::NotInitialised),
-            Ok(place) if self.locks[place].owner != Some(task) => Err(LockFault::NotOwner),
-            Ok(place) => {
-                self.locks[place].owner = None;
+        match self.hold(id) {
+            Hold::Absent => Err(LockFault::NotInitialised),
+            Hold::Owned(owner) if owner == task => {
+                set_hold(&mut self.entries, id, Hold::Free);
                 Ok(())
             }
+            Hold::Free | Hold::Owned(_) => Err(LockFault::NotOwner),
         }
     }
 
-    /// Where the lock is in the list, or where it would be put.
-    fn place_of(&self, id: u32) -> Result<usize, usize>
-        ensures { IsPlaceOf self.now.locks id result }
+    /// What is known of the identifier.
+    fn hold(&self, id: u32) -> Hold
+        ensures { look_up self.now.locks id ≡ lock_of id result }
     {
-        let place = rank(&self.locks, id);
-        match self.locks.get(place) {
-            Some(lock) if lock.id == id => Ok(place),
-            _ => Err(place),
-        }
+        hold_of(&self.entries, id)
     }
-}
-
-/// How many locks have lower identifiers. That all have is found at once.
-fn rank(locks: &[Lock], id: u32) -> usize
-    requires { IsRising locks.now }
-    ensures within { result ≤ length locks.now }
-    ensures rank { result ≡ rank locks.now id }
-{
-    match locks.last() {
-        Some(last) if last.id < id => locks.len(),
-        _ => locks.partition_point(|lock| lock.id < id),
-    }
-}
-
-/// The lock with this wait identifier, free.
-fn free_lock(id: u32) -> Lock
-    ensures { result ≡ free_lock id }
-{
-    Lock { id, owner: None }
 }

@@ -1,21 +1,16 @@
-use Rattle.std.proofs.Common.{◌∙◌, None, sym, ap}
-use Rattle.sync_objects.specs.Answers.{give_of}
+use Rattle.std.proofs.Common.{◌∙◌, None, refl, ap, arith}
+use Rattle.sync_objects.specs.declared.entry.Hold.TheVariants as hold
+use Rattle.sync_objects.specs.Places.{lock_of}
 use Rattle.sync_objects.specs.View.{LocksView}
-use Rattle.sync_objects.proofs.Becoming.{read-at, owned-becomes, give-other, give-own, view-equal}
+use Rattle.sync_objects.proofs.Showing.{shows-owner, view-equal}
 use Rattle.sync_objects.proofs.locks.Locks.give.Goals as goal
 
 pub invariant_of-self : goal.invariant_of-self
-invariant_of-self c = (c.self.invariant.0, (owned-becomes c.self.inside.locks.items c.args.self.now.locks c.args.id c.in-Ok.place c.index_mut.result.now (None) (ap (λ (seen : LocksView). seen.locks) c.self.view_is) c.self.invariant.1 c.in-Ok.ensures c.index_mut.ensures.value).rising)
+invariant_of-self c =
+    let shown = shows-owner c.self.inside.entries.items c.set_hold.new.entries.items c.args.self.now.locks c.args.id hold.Free None _ (ap (λ (seen : LocksView). seen.locks) c.self.view_is) c.self.invariant.1 (λ one. refl) (c.hold.ensures ∙ ap (lock_of c.args.id) c.in-Owned.is) c.set_hold.ensures.entries in
+    (omega (arith, c.set_hold.ensures.len, c.set_hold.ensures.capacity, c.self.invariant.0), shown.rising)
 
-pub returns-in-Ok-clause-answer : goal.returns-in-Ok-clause-answer
-returns-in-Ok-clause-answer c =
-    let read = read-at c.self.inside.locks.items c.args.self.now.locks c.args.id c.in-Ok.place c.index.result.now (ap (λ (seen : LocksView). seen.locks) c.self.view_is) c.in-Ok.ensures c.index.ensures in
-    sym (ap (give_of c.args.task) read ∙ give-other c.index.result.now c.args.task (sym c.ne.ensures ∙ c.if-ne.true))
-
-pub returns-in-Ok-2-clause-answer : goal.returns-in-Ok-2-clause-answer
-returns-in-Ok-2-clause-answer c =
-    let read = read-at c.self.inside.locks.items c.args.self.now.locks c.args.id c.in-Ok.place c.index.result.now (ap (λ (seen : LocksView). seen.locks) c.self.view_is) c.in-Ok.ensures c.index.ensures in
-    sym (ap (give_of c.args.task) read ∙ give-own c.index.result.now c.args.task (sym c.ne.ensures ∙ c.if-ne.false))
-
-pub returns-in-Ok-2-clause-done : goal.returns-in-Ok-2-clause-done
-returns-in-Ok-2-clause-done c = view-equal _ _ (owned-becomes c.self.inside.locks.items c.args.self.now.locks c.args.id c.in-Ok.place c.index_mut.result.now (None) (ap (λ (seen : LocksView). seen.locks) c.self.view_is) c.self.invariant.1 c.in-Ok.ensures c.index_mut.ensures.value).is (ap (λ (seen : LocksView). seen.room) c.self.view_is)
+pub returns-in-Owned-clause-done : goal.returns-in-Owned-clause-done
+returns-in-Owned-clause-done c =
+    let shown = shows-owner c.self.inside.entries.items c.set_hold.new.entries.items c.args.self.now.locks c.args.id hold.Free None _ (ap (λ (seen : LocksView). seen.locks) c.self.view_is) c.self.invariant.1 (λ one. refl) (c.hold.ensures ∙ ap (lock_of c.args.id) c.in-Owned.is) c.set_hold.ensures.entries in
+    view-equal _ _ shown.locks (ap (λ (seen : LocksView). seen.room) c.self.view_is)

@@ -1,10 +1,15 @@
-use Rattle.std.proofs.Common.{Some, ap}
+use Rattle.std.proofs.Common.{Some, refl, ap, arith}
+use Rattle.sync_objects.specs.declared.entry.Hold.TheVariants as hold
 use Rattle.sync_objects.specs.View.{LocksView}
-use Rattle.sync_objects.proofs.Becoming.{owned-becomes, view-equal}
+use Rattle.sync_objects.proofs.Showing.{shows-owner, taken-there, view-equal}
 use Rattle.sync_objects.proofs.locks.Locks.take.Goals as goal
 
 pub invariant_of-self : goal.invariant_of-self
-invariant_of-self c = (c.self.invariant.0, (owned-becomes c.self.inside.locks.items c.args.self.now.locks c.args.id c.in-Ok.place c.index_mut.result.now (Some c.args.task) (ap (λ (seen : LocksView). seen.locks) c.self.view_is) c.self.invariant.1 c.in-Ok.ensures c.index_mut.ensures.value).rising)
+invariant_of-self c =
+    let shown = shows-owner c.self.inside.entries.items c.set_hold.new.entries.items c.args.self.now.locks c.args.id (hold.Owned c.args.task) (Some c.args.task) (taken-there _ c.requires).0 (ap (λ (seen : LocksView). seen.locks) c.self.view_is) c.self.invariant.1 (λ one. refl) (taken-there _ c.requires).1 c.set_hold.ensures.entries in
+    (omega (arith, c.set_hold.ensures.len, c.set_hold.ensures.capacity, c.self.invariant.0), shown.rising)
 
-pub returns-in-Ok : goal.returns-in-Ok
-returns-in-Ok c = view-equal _ _ (owned-becomes c.self.inside.locks.items c.args.self.now.locks c.args.id c.in-Ok.place c.index_mut.result.now (Some c.args.task) (ap (λ (seen : LocksView). seen.locks) c.self.view_is) c.self.invariant.1 c.in-Ok.ensures c.index_mut.ensures.value).is (ap (λ (seen : LocksView). seen.room) c.self.view_is)
+pub returns : goal.returns
+returns c =
+    let shown = shows-owner c.self.inside.entries.items c.set_hold.new.entries.items c.args.self.now.locks c.args.id (hold.Owned c.args.task) (Some c.args.task) (taken-there _ c.requires).0 (ap (λ (seen : LocksView). seen.locks) c.self.view_is) c.self.invariant.1 (λ one. refl) (taken-there _ c.requires).1 c.set_hold.ensures.entries in
+    view-equal _ _ shown.locks (ap (λ (seen : LocksView). seen.room) c.self.view_is)
