@@ -62,18 +62,32 @@ struct PlainLocks {
 impl PlainLocks {
     fn with_criticals(alloc: Global, criticals: u32) -> Result<PlainLocks, Fail> {
         let mut locks = Vec::new(alloc);
-        for id in 1..criticals + 1 {
-            locks.push((id, None))?;
+        for before in 0..criticals {
+            locks.push((before + 1, None))?;
         }
         Ok(PlainLocks { locks })
     }
 
-    fn place(&self, id: u32) -> Option<usize> {
-        self.locks.iter().position(|lock| lock.0 == id)
+    /// The owner of the lock, if it is initialised.
+    fn owner(&self, id: u32) -> Result<Option<TaskId>, LockFault> {
+        for lock in &self.locks {
+            if lock.0 == id {
+                return Ok(lock.1);
+            }
+        }
+        Err(LockFault::NotInitialised)
+    }
+
+    fn set_owner(&mut self, id: u32, owner: Option<TaskId>) {
+        for lock in self.locks.iter_mut() {
+            if lock.0 == id {
+                lock.1 = owner;
+            }
+        }
     }
 
     fn init(&mut self, id: u32) -> Result<Result<(), LockFault>, Fail> {
-        if self.place(id).is_some() {
+        if self.owner(id).is_ok() {
             return Ok(Err(LockFault::AlreadyInitialised));
         }
         self.locks.push((id, None))?;
@@ -81,38 +95,31 @@ impl PlainLocks {
     }
 
     fn destroy(&mut self, id: u32) -> Result<(), LockFault> {
-        let Some(place) = self.place(id) else {
-            return Err(LockFault::NotInitialised);
-        };
-        if self.locks[place].1.is_some() {
+        if self.owner(id)?.is_some() {
             return Err(LockFault::StillHeld);
         }
-        let _ = self.locks.remove(place);
+        self.locks.retain(|lock| lock.0 != id);
         Ok(())
     }
 
     fn may_take(&self, id: u32) -> Result<bool, LockFault> {
-        match self.place(id) {
-            Some(place) => Ok(self.locks[place].1.is_none()),
-            None => Err(LockFault::NotInitialised),
-        }
-    }
-
-    fn take(&mut self, id: u32, task: TaskId) {
-        if let Some(place) = self.place(id) {
-            self.locks[place].1 = Some(task);
-        }
+        Ok(self.owner(id)?.is_none())
     }
 
     fn give(&mut self, id: u32, task: TaskId) -> Result<(), LockFault> {
-        let Some(place) = self.place(id) else {
-            return Err(LockFault::NotInitialised);
-        };
-        if self.locks[place].1 != Some(task) {
+        if self.owner(id)? != Some(task) {
             return Err(LockFault::NotOwner);
         }
-        self.locks[place].1 = None;
+        self.set_owner(id, None);
         Ok(())
+    }
+}
+
+/// The task takes the lock, where it may.
+fn take(locks: &mut Locks, plain: &mut PlainLocks, id: u32, task: TaskId) {
+    if let Ok(true) = locks.may_take(id) {
+        locks.take(id, task);
+        plain.set_owner(id, Some(task));
     }
 }
 
@@ -122,8 +129,8 @@ fn agrees_with_a_plain_list(rt: HostRuntime) -> Result<(), Fail> {
     let mut locks = Locks::new(rt.alloc(), 3)?;
     let mut plain = PlainLocks::with_criticals(rt.alloc(), 3)?;
     for call in 0..20_000u32 {
-        let id = 1 + draws.below(12);
-        let task = 1 + draws.below(3);
+        let id = draws.below(12).saturating_add(1);
+        let task = draws.below(3).saturating_add(1);
         match draws.below(4) {
             0 => {
                 locks.reserve()?;
@@ -131,12 +138,8 @@ fn agrees_with_a_plain_list(rt: HostRuntime) -> Result<(), Fail> {
             }
             1 => assert_eq!(rt; locks.destroy(id), plain.destroy(id), "destroy {call}"),
             2 => {
-                let answer = locks.may_take(id);
-                assert_eq!(rt; answer, plain.may_take(id), "may_take {call}");
-                if answer == Ok(true) {
-                    locks.take(id, task);
-                    plain.take(id, task);
-                }
+                assert_eq!(rt; locks.may_take(id), plain.may_take(id), "may_take {call}");
+                take(&mut locks, &mut plain, id, task);
             }
             _ => assert_eq!(rt; locks.give(id, task), plain.give(id, task), "give {call}"),
         }
