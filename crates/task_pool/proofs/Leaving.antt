@@ -6,7 +6,7 @@ use Rattle.task_pool.specs.declared.task.Condition.{Condition}
 use Rattle.task_pool.specs.declared.task.Condition.TheVariants as condition
 use Rattle.task_pool.specs.Tasks.{task_at, with_condition, is_ready}
 use Rattle.task_pool.specs.View.{is_other}
-use Rattle.task_pool.specs.Links.{Rings, SpellsOrder, IsRing, times_in, one_if, region_in, is_of_region, part_of, put, put_in, unlinked}
+use Rattle.task_pool.specs.Links.{Rings, SpellsOrder, IsRing, times_in, one_if, region_in, is_of_region, part_of, put, put_in, with_task_out}
 use Rattle.task_pool.proofs.Times.{times-part, times-no_part, without-absent, filter-swap}
 use Rattle.task_pool.proofs.Circles.{ring-neighbours, ring-near, ring-same, ring-without}
 use Rattle.task_pool.proofs.Changing.{changed-other, changed-here, changed-part}
@@ -43,7 +43,7 @@ out-beside R ready task region of spells once here apart =
     (spells.in_region of))
 
 abbrev pub taken_out : Rings → ℕ → Rings
-taken_out R task = record (unlinked R task) { tasks = with_condition R.tasks task condition.Started }
+taken_out R task = record (with_task_out R task) { tasks = with_condition R.tasks task condition.Started }
 
 pub spells-out : (R : Rings) (ready : List ℕ) (task : ℕ) → SpellsOrder R ready → (task_at R.tasks task).condition ≡ condition.Ready → SpellsOrder (taken_out R task) (filter (is_other task) ready)
 spells-out R ready task spells is_ready_now =

@@ -7,7 +7,7 @@ use Rattle.task_pool.specs.declared.node.Links.{Links}
 use Rattle.task_pool.specs.declared.node.Node.{Node}
 use Rattle.task_pool.specs.Tasks.{task_at, is_ready}
 use Rattle.task_pool.specs.Chain.{ChainView, node_at, region_at, links_set, next_set, previous_set, next_in_region_set, previous_in_region_set}
-use Rattle.task_pool.specs.Links.{Rings, of_node, of_region, task_of, next_part, previous_part, next_in_part, previous_in_part, first_part, last_part, rings_of, tasks_of, put, put_in, linked_last, unlinked, region_in, AreLinked, ready_of, times_in, one_if, is_of_region, part_of}
+use Rattle.task_pool.specs.Links.{Rings, of_node, of_region, task_of, next_part, previous_part, next_in_part, previous_in_part, first_part, last_part, rings_of, tasks_of, put, put_in, with_task_last, with_task_out, region_in, AreLinked, ready_of, times_in, one_if, is_of_region, part_of}
 use Rattle.task_pool.proofs.Setting.{links_set-rings, next_set-rings, previous_set-rings, next_in_set-rings, previous_in_set-rings}
 use Rattle.task_pool.proofs.Times.{times-part}
 use Rattle.task_pool.proofs.Circles.{ring-ends, ring-near}
@@ -31,7 +31,7 @@ put_last R task region last last_in = record R {
   previous_in = put_in region (put_in region R.previous_in task last_in) 0 task;
 }
 
-pub link_last-rings : (C C₁ C₂ C₃ C₄ C₅ : ChainView) (task region last last_in : ℕ) (order beside : Links) → AreLinked (rings_of C) → 1 ≤ task → task ≤ length (tasks_of C) → region ≡ (node_at C.nodes task).task.region → last ≡ C.last → last_in ≡ (region_at C.regions region).last_ready → order ≡ record { previous = last; next = 0 } → beside ≡ record { previous = last_in; next = 0 } → C₁ ≡ links_set C task order beside → C₂ ≡ next_set C₁ last task → C₃ ≡ previous_set C₂ 0 task → C₄ ≡ next_in_region_set C₃ region last_in task → C₅ ≡ previous_in_region_set C₄ region 0 task → rings_of C₅ ≡ linked_last (rings_of C) task
+pub link_last-rings : (C C₁ C₂ C₃ C₄ C₅ : ChainView) (task region last last_in : ℕ) (order beside : Links) → AreLinked (rings_of C) → 1 ≤ task → task ≤ length (tasks_of C) → region ≡ (node_at C.nodes task).task.region → last ≡ C.last → last_in ≡ (region_at C.regions region).last_ready → order ≡ record { previous = last; next = 0 } → beside ≡ record { previous = last_in; next = 0 } → C₁ ≡ links_set C task order beside → C₂ ≡ next_set C₁ last task → C₃ ≡ previous_set C₂ 0 task → C₄ ≡ next_in_region_set C₃ region last_in task → C₅ ≡ previous_in_region_set C₄ region 0 task → rings_of C₅ ≡ with_task_last (rings_of C) task
 link_last-rings C C₁ C₂ C₃ C₄ C₅ task region last last_in order beside linked above within is_region is_last is_last_in is_order is_beside one two three four five =
     let R : Rings = rings_of C in
     let made : task ≤ length C.nodes = omega (arith, length-map C.nodes task_of) in
@@ -73,7 +73,7 @@ mended R region before after before_in after_in = record R {
   previous_in = put_in region R.previous_in after_in before_in;
 }
 
-pub unlink-rings : (C C₁ C₂ C₃ C₄ : ChainView) (task region : ℕ) (order beside : Links) → AreLinked (rings_of C) → is_ready (task_at (tasks_of C) task).condition ≡ true → region ≡ (node_at C.nodes task).task.region → order ≡ (node_at C.nodes task).in_order → beside ≡ (node_at C.nodes task).in_region → C₁ ≡ next_set C order.previous order.next → C₂ ≡ previous_set C₁ order.next order.previous → C₃ ≡ next_in_region_set C₂ region beside.previous beside.next → C₄ ≡ previous_in_region_set C₃ region beside.next beside.previous → rings_of C₄ ≡ unlinked (rings_of C) task
+pub unlink-rings : (C C₁ C₂ C₃ C₄ : ChainView) (task region : ℕ) (order beside : Links) → AreLinked (rings_of C) → is_ready (task_at (tasks_of C) task).condition ≡ true → region ≡ (node_at C.nodes task).task.region → order ≡ (node_at C.nodes task).in_order → beside ≡ (node_at C.nodes task).in_region → C₁ ≡ next_set C order.previous order.next → C₂ ≡ previous_set C₁ order.next order.previous → C₃ ≡ next_in_region_set C₂ region beside.previous beside.next → C₄ ≡ previous_in_region_set C₃ region beside.next beside.previous → rings_of C₄ ≡ with_task_out (rings_of C) task
 unlink-rings C C₁ C₂ C₃ C₄ task region order beside linked ready_now is_region is_order is_beside one two three four =
     let R : Rings = rings_of C in
     let ready = ready_of R in

@@ -10,7 +10,7 @@ use Rattle.task_pool.specs.declared.task.TheConstants.{TASK_LIMIT}
 use Rattle.task_pool.specs.Tasks.{task_at, with_condition, is_ready, is_finished, is_explicit, MayBeParent}
 use Rattle.task_pool.specs.View.{PoolView, HasRoom, with_room, with_ready, with_started, with_finished, with_added, fresh_task, is_other}
 use Rattle.task_pool.specs.Chain.{ChainView, with_regions, node_made, condition_set, counted_up, counted_down}
-use Rattle.task_pool.specs.Links.{Rings, SpellsOrder, CountsTasks, AreInOrder, AreLinked, rings_of, ready_of, view_of_rings, pool_view, one_if, linked_last, unlinked}
+use Rattle.task_pool.specs.Links.{Rings, SpellsOrder, CountsTasks, AreInOrder, AreLinked, rings_of, ready_of, view_of_rings, pool_view, one_if, with_task_last, with_task_out}
 use Rattle.task_pool.proofs.Times.{without-absent}
 use Rattle.task_pool.proofs.Setting.{condition_set-rings}
 use Rattle.task_pool.proofs.Changing.{made-unfinished, changed-length}
@@ -51,23 +51,23 @@ not_ready condition.Finished apart = refl
 made-apart : (one : Condition) → one ≡ condition.Made → one ≢ condition.Finished
 made-apart one made finished = cc
 
-pub shows-ready : (C C₁ C₂ : ChainView) (task : ℕ) → AreLinked (rings_of C) → (task_at (pool_view C).tasks task).condition ≡ condition.Made → rings_of C₁ ≡ linked_last (rings_of C) task → C₂ ≡ condition_set C₁ task condition.Ready → Shows C₂ (with_ready (pool_view C) task)
+pub shows-ready : (C C₁ C₂ : ChainView) (task : ℕ) → AreLinked (rings_of C) → (task_at (pool_view C).tasks task).condition ≡ condition.Made → rings_of C₁ ≡ with_task_last (rings_of C) task → C₂ ≡ condition_set C₁ task condition.Ready → Shows C₂ (with_ready (pool_view C) task)
 shows-ready C C₁ C₂ task linked made put_last changed =
     let R : Rings = rings_of C in
     let there = made-unfinished R.tasks task (made-apart (task_at R.tasks task).condition made) in
-    let are : rings_of C₂ ≡ made_last R task = ap rings_of changed ∙ condition_set-rings C₁ (linked_last R task) task condition.Ready put_last there.0 there.1 in
+    let are : rings_of C₂ ≡ made_last R task = ap rings_of changed ∙ condition_set-rings C₁ (with_task_last R task) task condition.Ready put_last there.0 there.1 in
     shows C₂ (made_last R task) (ready_of R ++ task ∷ []) (with_ready (pool_view C) task) are
     (spells-last R (ready_of R) task linked.order there.0 there.1 made)
     (counts-changed R (made_last R task).next (made_last R task).previous (made_last R task).next_in (made_last R task).previous_in task condition.Ready linked.counts there.0 there.1 (sym (ap is_finished made)))
     (order-changed R.tasks R.regions task condition.Ready linked.sound there.0 there.1) refl
 
-pub shows-taken : (C C₁ C₂ : ChainView) (task : ℕ) → AreLinked (rings_of C) → is_ready (task_at (pool_view C).tasks task).condition ≡ true → rings_of C₁ ≡ unlinked (rings_of C) task → C₂ ≡ condition_set C₁ task condition.Started → Shows C₂ (with_started (pool_view C) task)
+pub shows-taken : (C C₁ C₂ : ChainView) (task : ℕ) → AreLinked (rings_of C) → is_ready (task_at (pool_view C).tasks task).condition ≡ true → rings_of C₁ ≡ with_task_out (rings_of C) task → C₂ ≡ condition_set C₁ task condition.Started → Shows C₂ (with_started (pool_view C) task)
 shows-taken C C₁ C₂ task linked waits out changed =
     let R : Rings = rings_of C in
     let ready : (task_at R.tasks task).condition ≡ condition.Ready = ready-is (task_at R.tasks task).condition waits in
     let apart : (task_at R.tasks task).condition ≢ condition.Finished = λ finished. cc in
     let there = made-unfinished R.tasks task apart in
-    let are : rings_of C₂ ≡ taken_out R task = ap rings_of changed ∙ condition_set-rings C₁ (unlinked R task) task condition.Started out there.0 there.1 in
+    let are : rings_of C₂ ≡ taken_out R task = ap rings_of changed ∙ condition_set-rings C₁ (with_task_out R task) task condition.Started out there.0 there.1 in
     shows C₂ (taken_out R task) (filter (is_other task) (ready_of R)) (with_started (pool_view C) task) are
     (spells-out R (ready_of R) task linked.order ready)
     (counts-changed R (taken_out R task).next (taken_out R task).previous (taken_out R task).next_in (taken_out R task).previous_in task condition.Started linked.counts there.0 there.1 (sym (ap is_finished ready)))

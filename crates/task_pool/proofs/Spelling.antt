@@ -8,7 +8,7 @@ use Rattle.task_pool.specs.declared.task.Task.{Task}
 use Rattle.task_pool.specs.declared.task.Condition.{Condition}
 use Rattle.task_pool.specs.declared.task.Condition.TheVariants as condition
 use Rattle.task_pool.specs.Tasks.{task_at, with_condition, is_ready}
-use Rattle.task_pool.specs.Links.{Rings, SpellsOrder, IsRing, ready_of, times_in, one_if, region_in, is_of_region, part_of, put, put_in, linked_last}
+use Rattle.task_pool.specs.Links.{Rings, SpellsOrder, IsRing, ready_of, times_in, one_if, region_in, is_of_region, part_of, put, put_in, with_task_last}
 use Rattle.task_pool.proofs.Times.{times-here, times-there, times-nil, times-append, times-passes, times-part-le, few}
 use Rattle.task_pool.proofs.Circles.{ring-closes, ring-ends, ring-same, ring-follow, ring-last}
 use Rattle.task_pool.proofs.Changing.{task_at-past, changed-other, changed-here, changed-part}
@@ -104,7 +104,7 @@ last-beside R ready task region of spells some absent here apart =
     (spells.in_region of)
 
 abbrev pub made_last : Rings → ℕ → Rings
-made_last R task = record (linked_last R task) { tasks = with_condition R.tasks task condition.Ready }
+made_last R task = record (with_task_last R task) { tasks = with_condition R.tasks task condition.Ready }
 
 pub spells-last : (R : Rings) (ready : List ℕ) (task : ℕ) → SpellsOrder R ready → 1 ≤ task → task ≤ length R.tasks → (task_at R.tasks task).condition ≡ condition.Made → SpellsOrder (made_last R task) (ready ++ task ∷ [])
 spells-last R ready task spells above within made =

@@ -86,8 +86,8 @@ abbrev pub region_in : List Task → ℕ → ℕ
 region_in tasks task = (task_at tasks task).region
 
 -- the task comes after the last one of the order, and after the last ready one of its region
-abbrev pub linked_last : Rings → ℕ → Rings
-linked_last R task =
+abbrev pub with_task_last : Rings → ℕ → Rings
+with_task_last R task =
     let region = region_in R.tasks task in
     let last = R.previous 0 in
     let last_in = R.previous_in region 0 in
@@ -99,8 +99,8 @@ linked_last R task =
     }
 
 -- the neighbours of this one become neighbours of one another
-abbrev pub unlinked : Rings → ℕ → Rings
-unlinked R task =
+abbrev pub with_task_out : Rings → ℕ → Rings
+with_task_out R task =
     let region = region_in R.tasks task in
     let before = R.previous task in
     let after = R.next task in

@@ -18,7 +18,7 @@
 //!
 //! The code keeps no list of ready tasks. Each task is a node with links to the one before it and the one after it, in
 //! the ready order and among the ready ones of its region, and with the number of its unfinished explicit children; each
-//! region has its last ready task and the number of its unfinished explicit tasks. The type's invariant, in
+//! region has its first and its last ready task and the number of its unfinished explicit tasks. The type's invariant, in
 //! `specs/Links.antt`, says that the links spell the ready order forwards and backwards, and each region's part of it. So
 //! no call but [`Pool::newest_allowed`] and [`Pool::ready_list`] has a loop. What calls cost is no clause.
 //!

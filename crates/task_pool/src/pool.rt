@@ -4,7 +4,7 @@ ghost use Rattle.std.specs.Prelude.{◌≡◌, ◌≢◌, ◌≤◌, IfOk, OnOk,
 ghost use Rattle.task_pool.specs.Tasks.{task_at, IsMade, open_children, unfinished, is_explicit, is_ready, MayBeParent};
 ghost use Rattle.task_pool.specs.View.{no_pool, HasRoom, with_room, answer_to_add, with_added, with_ready, with_started, with_finished};
 ghost use Rattle.task_pool.specs.Allowed.{parent_of, descends, descends_from_all, newest_allowed};
-ghost use Rattle.task_pool.specs.Links.{tasks_of, rings_of, linked_last, unlinked, AreInOrder, IsLinked};
+ghost use Rattle.task_pool.specs.Links.{tasks_of, rings_of, with_task_last, with_task_out, AreInOrder, IsLinked};
 ghost use Rattle.task_pool.specs.Walking.{IsReached};
 ghost use Rattle.task_pool.specs.declared.task.Condition.TheVariants as condition;
 
@@ -198,7 +198,7 @@ fn is_ready(condition: Condition) -> bool
 fn link_last(chain: &mut Chain, task: TaskId)
     requires made { IsMade (tasks_of chain.old) task }
     requires linked { IsLinked chain.old }
-    ensures { rings_of chain.new ≡ linked_last (rings_of chain.old) task }
+    ensures { rings_of chain.new ≡ with_task_last (rings_of chain.old) task }
 {
     let region = chain.node(task).task.region;
     let last = chain.last();
@@ -222,7 +222,7 @@ fn link_last(chain: &mut Chain, task: TaskId)
 fn unlink(chain: &mut Chain, task: TaskId)
     requires ready { is_ready (task_at (tasks_of chain.old) task).condition ≡ true }
     requires linked { IsLinked chain.old }
-    ensures { rings_of chain.new ≡ unlinked (rings_of chain.old) task }
+    ensures { rings_of chain.new ≡ with_task_out (rings_of chain.old) task }
 {
     let node = chain.node(task);
     let region = node.task.region;

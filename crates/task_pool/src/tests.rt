@@ -4,21 +4,84 @@ use super::*;
 use std::alloc::Global;
 use std::test::Fail;
 
+/// What stands where no task was made.
+const NONE: Task = Task {
+    parent: 0,
+    region: 0,
+    kind: TaskKind::Implicit,
+    condition: Condition::Finished,
+};
+
+/// A pool with its first task, of this region.
+fn first_task(alloc: Global, region: u32) -> Result<Pool, Fail> {
+    let mut pool = Pool::new(alloc)?;
+    pool.reserve(region)?;
+    let _ = pool.add(0, region, TaskKind::Initial)?;
+    Ok(pool)
+}
+
+/// One more task, of a parent that was made.
+fn add_child(
+    pool: &mut Pool,
+    parent: TaskId,
+    region: u32,
+    kind: TaskKind,
+) -> Result<Result<TaskId, Full>, Fail> {
+    pool.reserve(region)?;
+    if 1 <= parent && parent as usize <= pool.made_count() {
+        return Ok(pool.add(parent, region, kind));
+    }
+    Err(Fail::from("no such parent"))
+}
+
+/// The task is ready, where it was made and no more.
+fn ready(pool: &mut Pool, task: TaskId) -> bool {
+    match pool.task(task).condition {
+        Condition::Made => {
+            pool.ready(task);
+            true
+        }
+        Condition::Ready | Condition::Started | Condition::Finished => false,
+    }
+}
+
+/// The task starts, where it is made or ready.
+fn start(pool: &mut Pool, task: TaskId) -> bool {
+    match pool.task(task).condition {
+        Condition::Made => {
+            pool.start(task);
+            true
+        }
+        Condition::Ready => {
+            pool.start(task);
+            true
+        }
+        Condition::Started | Condition::Finished => false,
+    }
+}
+
+/// The task finishes, where it has started.
+fn finish(pool: &mut Pool, task: TaskId) -> bool {
+    match pool.task(task).condition {
+        Condition::Started => {
+            pool.finish(task);
+            true
+        }
+        Condition::Made | Condition::Ready | Condition::Finished => false,
+    }
+}
+
 /// Tasks 1 to 4 of region 1, of which 4 is a child of 2 and the others are children of 1; 4, 2, 3 became ready in this
 /// order.
 fn four_tasks(alloc: Global) -> Result<Pool, Fail> {
-    let mut pool = Pool::new(alloc)?;
-    for (parent, kind) in [
-        (0, TaskKind::Initial),
-        (1, TaskKind::Explicit),
-        (1, TaskKind::Explicit),
-        (2, TaskKind::Explicit),
-    ] {
-        pool.reserve(1)?;
-        let _ = pool.add(parent, 1, kind)?;
+    let mut pool = first_task(alloc, 1)?;
+    for parent in [1, 1, 2] {
+        let _ = add_child(&mut pool, parent, 1, TaskKind::Explicit)??;
     }
     for task in [4, 2, 3] {
-        pool.ready(task);
+        if !ready(&mut pool, task) {
+            return Err(Fail::from("not made"));
+        }
     }
     Ok(pool)
 }
@@ -34,13 +97,13 @@ fn newest_allowed_and_ready_list(rt: HostRuntime) -> Result<(), Fail> {
     assert_eq!(rt; pool.open_children(1), 2);
     assert_eq!(rt; pool.unfinished(1), 3);
     assert_eq!(rt; pool.ready_list()?.as_slice(), [4, 2, 3].as_slice());
-    pool.start(2);
+    assert!(rt; start(&mut pool, 2));
     assert_eq!(rt; pool.ready_list()?.as_slice(), [4, 3].as_slice());
     assert_eq!(rt; pool.newest_allowed(1, &[2]), Some(4));
-    pool.start(3);
-    pool.start(4);
+    assert!(rt; start(&mut pool, 3));
+    assert!(rt; start(&mut pool, 4));
     assert!(rt; pool.ready_list()?.is_empty());
-    pool.finish(4);
+    assert!(rt; finish(&mut pool, 4));
     assert_eq!(rt; pool.open_children(2), 0);
     assert_eq!(rt; pool.unfinished(1), 2);
     Ok(())
@@ -48,15 +111,13 @@ fn newest_allowed_and_ready_list(rt: HostRuntime) -> Result<(), Fail> {
 
 #[test]
 fn full_pool(rt: HostRuntime) -> Result<(), Fail> {
-    let mut pool = Pool::new(rt.alloc())?;
-    pool.reserve(1)?;
-    assert_eq!(rt; pool.add(0, 1, TaskKind::Initial), Ok(1));
+    let mut pool = first_task(rt.alloc(), 1)?;
     for task in 2..65_536u32 {
-        pool.reserve(1)?;
-        assert_eq!(rt; pool.add(1, 1, TaskKind::Explicit), Ok(task));
+        let made = add_child(&mut pool, 1, 1, TaskKind::Explicit)?;
+        assert_eq!(rt; made, Ok(task));
     }
-    pool.reserve(1)?;
-    assert_eq!(rt; pool.add(1, 1, TaskKind::Explicit), Err(Full));
+    let made = add_child(&mut pool, 1, 1, TaskKind::Explicit)?;
+    assert_eq!(rt; made, Err(Full));
     assert_eq!(rt; pool.open_children(1), 65_534);
     assert_eq!(rt; pool.made_count(), 65_535);
     Ok(())
@@ -77,6 +138,11 @@ impl Draws {
             .wrapping_add(1_442_695_040_888_963_407);
         ((self.state >> 33) % u64::from(bound.max(1))) as u32
     }
+
+    /// A task of these.
+    fn task(&mut self, made: u32) -> TaskId {
+        self.below(made).saturating_add(1)
+    }
 }
 
 /// The tasks and the ready ones, each a plain list.
@@ -88,11 +154,28 @@ struct PlainPool {
 
 impl PlainPool {
     fn task(&self, task: TaskId) -> Task {
-        self.tasks[task as usize - 1]
+        if task == 0 {
+            return NONE;
+        }
+        match self.tasks.get(task as usize - 1) {
+            Some(task) => *task,
+            None => NONE,
+        }
     }
 
     fn set_condition(&mut self, task: TaskId, condition: Condition) {
-        self.tasks[task as usize - 1].condition = condition;
+        if task == 0 {
+            return;
+        }
+        if let Some(task) = self.tasks.get_mut(task as usize - 1) {
+            task.condition = condition;
+        }
+    }
+
+    fn make_ready(&mut self, task: TaskId) -> Result<(), Fail> {
+        self.set_condition(task, Condition::Ready);
+        self.ready.push(task)?;
+        Ok(())
     }
 
     fn start(&mut self, task: TaskId) {
@@ -114,26 +197,37 @@ impl PlainPool {
         false
     }
 
+    fn is_allowed(&self, task: TaskId, region: u32, held: &[TaskId]) -> bool {
+        for from in held {
+            if !self.descends(task, *from) {
+                return false;
+            }
+        }
+        self.task(task).region == region
+    }
+
     fn newest_allowed(&self, region: u32, held: &[TaskId]) -> Option<TaskId> {
         let mut newest = None;
         for task in &self.ready {
-            let is_of_region = self.task(*task).region == region;
-            if is_of_region && held.iter().all(|from| self.descends(*task, *from)) {
+            if self.is_allowed(*task, region, held) {
                 newest = Some(*task);
             }
         }
         newest
     }
 
-    fn count_open(&self, counts: impl Fn(&Task) -> bool) -> u32 {
-        let mut open = 0;
+    /// The unfinished explicit children of the task, and the unfinished explicit tasks of the region.
+    fn counts(&self, parent: TaskId, region: u32) -> (u32, u32) {
+        let mut children = 0u32;
+        let mut unfinished = 0u32;
         for task in &self.tasks {
             let is_explicit = matches!(task.kind, TaskKind::Explicit | TaskKind::Undeferred);
-            if is_explicit && task.condition != Condition::Finished && counts(task) {
-                open += 1;
+            if is_explicit && task.condition != Condition::Finished {
+                children = children.saturating_add(u32::from(task.parent == parent));
+                unfinished = unfinished.saturating_add(u32::from(task.region == region));
             }
         }
-        open
+        (children, unfinished)
     }
 }
 
@@ -146,78 +240,83 @@ fn kind_of(draw: u32) -> TaskKind {
     }
 }
 
+/// A pool beside plain lists.
+#[derive(Drop)]
+struct Both {
+    pool: Pool,
+    plain: PlainPool,
+}
+
+impl Both {
+    fn new(alloc: Global) -> Result<Both, Fail> {
+        let mut tasks = Vec::new(alloc);
+        tasks.push(Task {
+            parent: 0,
+            region: 0,
+            kind: TaskKind::Initial,
+            condition: Condition::Made,
+        })?;
+        let ready = Vec::new(alloc);
+        Ok(Both {
+            pool: first_task(alloc, 0)?,
+            plain: PlainPool { tasks, ready },
+        })
+    }
+
+    /// A task of this parent is made. Tells its identity.
+    fn add(&mut self, parent: TaskId, region: u32, kind: TaskKind) -> Result<TaskId, Fail> {
+        self.plain.tasks.push(Task {
+            parent,
+            region,
+            kind,
+            condition: Condition::Made,
+        })?;
+        Ok(add_child(&mut self.pool, parent, region, kind)??)
+    }
+
+    /// The task goes on, where this draw says so and it can.
+    fn go_on(&mut self, draw: u32, task: TaskId) -> Result<(), Fail> {
+        if draw < 2 && ready(&mut self.pool, task) {
+            self.plain.make_ready(task)?;
+        }
+        if draw == 2 && start(&mut self.pool, task) {
+            self.plain.start(task);
+        }
+        if draw == 3 && finish(&mut self.pool, task) {
+            self.plain.set_condition(task, Condition::Finished);
+        }
+        Ok(())
+    }
+
+    /// Whether both answer the same of this task, region and two tasks that are held.
+    fn agree(&self, task: TaskId, region: u32, held: [TaskId; 2]) -> Result<bool, Fail> {
+        let counts = (self.pool.open_children(task), self.pool.unfinished(region));
+        let mut same = counts == self.plain.counts(task, region)
+            && self.pool.task(task) == self.plain.task(task);
+        same &= self.pool.newest_allowed(region, &held) == self.plain.newest_allowed(region, &held);
+        same &= self.pool.newest_allowed(region, &held[..1])
+            == self.plain.newest_allowed(region, &held[..1]);
+        Ok(same && self.pool.ready_list()?.as_slice() == self.plain.ready.as_slice())
+    }
+}
+
 #[test]
 fn agrees_with_plain_lists(rt: HostRuntime) -> Result<(), Fail> {
     let mut draws = Draws { state: 7 };
-    let mut pool = Pool::new(rt.alloc())?;
-    let mut plain = PlainPool {
-        tasks: Vec::new(rt.alloc()),
-        ready: Vec::new(rt.alloc()),
-    };
-    pool.reserve(0)?;
-    let _ = pool.add(0, 0, TaskKind::Initial)?;
-    let first = Task {
-        parent: 0,
-        region: 0,
-        kind: TaskKind::Initial,
-        condition: Condition::Made,
-    };
-    plain.tasks.push(first)?;
-    for call in 0..20_000u32 {
-        let task = 1 + draws.below(plain.tasks.len() as u32);
+    let mut both = Both::new(rt.alloc())?;
+    let mut made = 1u32;
+    for call in 0..8_000u32 {
+        let task = draws.task(made);
         let region = draws.below(3);
-        let condition = plain.task(task).condition;
-        match draws.below(8) {
-            0 if plain.tasks.len() < 400 => {
-                let kind = kind_of(draws.below(5));
-                pool.reserve(region)?;
-                let made = Task {
-                    parent: task,
-                    region,
-                    kind,
-                    condition: Condition::Made,
-                };
-                plain.tasks.push(made)?;
-                assert_eq!(rt; pool.add(task, region, kind), Ok(plain.tasks.len() as u32));
-            }
-            1 | 2 if condition == Condition::Made => {
-                pool.ready(task);
-                plain.set_condition(task, Condition::Ready);
-                plain.ready.push(task)?;
-            }
-            3 if condition != Condition::Finished && condition != Condition::Made => {
-                pool.start(task);
-                plain.start(task);
-            }
-            4 if condition == Condition::Started => {
-                pool.finish(task);
-                plain.set_condition(task, Condition::Finished);
-            }
-            5 => {
-                let held = [task, 1 + draws.below(plain.tasks.len() as u32)];
-                let held = &held[..draws.below(3) as usize];
-                let newest = pool.newest_allowed(region, held);
-                assert_eq!(rt;
-                    newest,
-                    plain.newest_allowed(region, held),
-                    "held at {call}"
-                );
-            }
-            6 => {
-                let children = plain.count_open(|other| other.parent == task);
-                assert_eq!(rt; pool.open_children(task), children, "children at {call}");
-                let unfinished = plain.count_open(|other| other.region == region);
-                assert_eq!(rt; pool.unfinished(region), unfinished, "unfinished at {call}");
-            }
-            _ => {
-                assert_eq!(rt;
-                    pool.ready_list()?.as_slice(),
-                    plain.ready.as_slice(),
-                    "at {call}"
-                );
-                assert_eq!(rt; pool.task(task), plain.task(task), "task at {call}");
-            }
+        if call % 20 == 0 && made < 400 {
+            let kind = kind_of(draws.below(5));
+            let added = both.add(task, region, kind)?;
+            assert_eq!(rt; added, made.saturating_add(1));
+            made = added;
         }
+        both.go_on(draws.below(6), task)?;
+        let held = [task, draws.task(made)];
+        assert!(rt; both.agree(task, region, held)?, "at {call}");
     }
     Ok(())
 }
