@@ -6,7 +6,16 @@ pub mod Waiting
 pub mod Tasks
 pub mod Criticals
 pub mod Standing
+pub mod Occurring
 pub mod Settled
 pub mod Answers
 pub mod KnownValues
 pub mod KnownOutcomes
+pub mod WidthNames
+pub mod WidthTrees
+pub mod WidthCells
+pub mod WidthBlocks
+pub mod WidthSettled
+pub mod WidthSteps
+pub mod WidthGoing
+pub mod WidthTasks
