@@ -20,37 +20,62 @@ const THREE: Word = Word {
     value: 0,
 };
 
+/// The calls of a program without a block.
+const EMPTY_CALLS: [Call; 4] = [
+    Call::ThreadBegin {
+        kind: 1,
+        thread: ONE,
+    },
+    Call::ImplicitTask {
+        endpoint: 1,
+        region: ONE,
+        task: ONE,
+        actual: 1,
+        index: 1,
+        flags: 1,
+    },
+    Call::ImplicitTask {
+        endpoint: 2,
+        region: NULL,
+        task: ONE,
+        actual: 0,
+        index: 1,
+        flags: 1,
+    },
+    Call::ThreadEnd { thread: ONE },
+];
+
 /// A program without a block: what the calls of the machine answer at each step.
 #[test]
 fn the_empty_program_runs(rt: HostRuntime) -> Result<(), Memory> {
     let no_blocks = Blocks(Vec::new(rt.alloc()));
     let mut machine = Machine::new(rt.alloc(), no_blocks, THREADS_AND_TASKS, 1, 1_000_000)?;
     assert_eq!(rt; machine.first_enabled(1), Some(0));
-    for call in [
-        Call::ThreadBegin {
-            kind: 1,
-            thread: ONE,
-        },
-        initial(1, ONE, 1),
-        initial(2, NULL, 0),
-        Call::ThreadEnd { thread: ONE },
-    ] {
-        assert!(rt; machine.enabled(0));
-        let went = machine.go(0)?;
-        assert!(rt;
-            matches!(went, Went::Told(told, _) if told == call),
-            "{call:?}"
-        );
-        assert!(rt; !machine.enabled(0), "inside {call:?}");
-        assert!(rt; machine.pending(0), "inside {call:?}");
-        machine.back(0);
+    for call in &EMPTY_CALLS {
+        is_told(&rt, &mut machine, call)?;
     }
+    has_ended(&rt, &machine);
+    Ok(())
+}
+
+/// The next event of thread 0 is told by this call, and the thread is not enabled until its Back.
+fn is_told(rt: &impl Abort, machine: &mut Machine, call: &Call) -> Result<(), Memory> {
+    assert!(rt; machine.enabled(0));
+    let went = machine.go(0)?;
+    assert!(rt; matches!(went, Went::Told(told, _) if told == *call));
+    assert!(rt; !machine.enabled(0));
+    assert!(rt; machine.pending(0));
+    machine.back(0);
+    Ok(())
+}
+
+/// The machine ended well.
+fn has_ended(rt: &impl Abort, machine: &Machine) {
     assert_eq!(rt; machine.whole(), Some(0));
     assert_eq!(rt; machine.cause(), Some(Cause::Done));
     assert!(rt; !machine.enabled(0));
     assert!(rt; !machine.halted());
     assert!(rt; !machine.stuck());
-    Ok(())
 }
 
 /// The second silent step meets a limit of one.
@@ -69,56 +94,91 @@ fn the_machine_halts_at_its_limit(rt: HostRuntime) -> Result<(), Memory> {
     Ok(())
 }
 
-/// Which words there are before and after the region of two begins, on one thread.
+/// Which words there are before a region of two begins, on one thread.
+const WORDS: &[(Target, bool)] = &[
+    (Target::Thread(0), true),
+    (Target::Thread(1), false),
+    (Target::Parallel(0), false),
+    (Target::Parallel(1), true),
+    (Target::Parallel(2), false),
+    (Target::Task(0), false),
+    (Target::Task(1), true),
+    (Target::Task(2), false),
+];
+
+/// A region has a word once it begins.
 #[test]
 fn words_are_there_once_they_are_made(rt: HostRuntime) -> Result<(), Memory> {
     let mut machine = Machine::new(rt.alloc(), two_threads(&rt)?, 0, 1, 1_000_000)?;
     for _event in 0..2 {
         untold(&rt, &mut machine)?;
     }
-    for (target, made) in [
-        (Target::Thread(0), true),
-        (Target::Thread(1), false),
-        (Target::Parallel(0), false),
-        (Target::Parallel(1), true),
-        (Target::Parallel(2), false),
-        (Target::Task(0), false),
-        (Target::Task(1), true),
-        (Target::Task(2), false),
-    ] {
-        assert_eq!(rt; machine.made(target), made, "{target:?}");
+    for (target, made) in WORDS {
+        assert!(rt; machine.made(*target) == *made, "{target:?}");
     }
     untold(&rt, &mut machine)?;
     assert!(rt; machine.made(Target::Parallel(2)));
     Ok(())
 }
 
+/// The level of the initial task around a region.
+const INITIAL: TaskLevel = TaskLevel {
+    flags: 1,
+    word: ONE,
+    frame: Frame {
+        exit: 0,
+        enter: 32_769,
+    },
+    region: ONE,
+    index: 0,
+};
+
+/// The levels of the worker's tasks in a region of two.
+const LEVELS: [TaskLevel; 2] = [
+    TaskLevel {
+        flags: 2,
+        word: THREE,
+        frame: Frame {
+            exit: 65_537,
+            enter: 0,
+        },
+        region: TWO,
+        index: 1,
+    },
+    INITIAL,
+];
+
+/// The regions around the initial task.
+const OUTER: RegionLevel = RegionLevel { word: ONE, team: 1 };
+
+/// The regions around the worker's task.
+const REGION_LEVELS: [RegionLevel; 2] = [RegionLevel { word: TWO, team: 2 }, OUTER];
+
 /// The worker of a region of two: what it can inquire where its implicit task begins, and where that task ends.
 #[test]
 fn a_worker_has_levels(rt: HostRuntime) -> Result<(), Memory> {
     let mut machine = Machine::new(rt.alloc(), two_threads(&rt)?, TASKS, 2, 1_000_000)?;
     let (begun, ended) = worker_snapshots(&mut machine)?;
+    has_begun(&rt, begun);
+    match ended {
+        Some(ended) => {
+            assert_eq!(rt; ended.get_state(), (0x100, 0));
+            assert!(rt; ended.tasks.0.is_empty() && ended.regions.0.is_empty());
+        }
+        None => panic!(rt; "the worker's end was not told"),
+    }
+    Ok(())
+}
+
+/// This is what the worker can inquire where its implicit task begins.
+fn has_begun(rt: &impl Abort, begun: Option<Snapshot>) {
     let Some(begun) = begun else {
         panic!(rt; "the worker's begin was not told");
     };
-    let Some(ended) = ended else {
-        panic!(rt; "the worker's end was not told");
-    };
     assert_eq!(rt; begun.get_state(), (0x001, 0));
     assert_eq!(rt; begun.get_thread_data(), TWO);
-    let levels = [
-        level(2, THREE, (65_537, 0), TWO, 1),
-        level(1, ONE, (0, 32_769), ONE, 0),
-    ];
-    assert_eq!(rt; begun.tasks.0.as_slice(), levels.as_slice());
-    let regions = [
-        RegionLevel { word: TWO, team: 2 },
-        RegionLevel { word: ONE, team: 1 },
-    ];
-    assert_eq!(rt; begun.regions.0.as_slice(), regions.as_slice());
-    assert_eq!(rt; ended.get_state(), (0x100, 0));
-    assert!(rt; ended.tasks.0.is_empty() && ended.regions.0.is_empty());
-    Ok(())
+    assert_eq!(rt; begun.tasks.0.as_slice(), LEVELS.as_slice());
+    assert_eq!(rt; begun.regions.0.as_slice(), REGION_LEVELS.as_slice());
 }
 
 /// The snapshot of the begin of a region is read when the region is under way, and says what it said.
@@ -133,19 +193,20 @@ fn a_snapshot_stays_as_it_was(rt: HostRuntime) -> Result<(), Memory> {
             }
         }
     }
-    let Some(begun) = begun else {
-        panic!(rt; "no region was told");
-    };
+    match begun {
+        Some(begun) => is_before_the_region(&rt, &begun),
+        None => panic!(rt; "no region was told"),
+    }
+    Ok(())
+}
+
+/// The snapshot is that of the begin of a region.
+fn is_before_the_region(rt: &impl Abort, begun: &Snapshot) {
     assert_eq!(rt; begun.get_state(), (0x101, 0));
     assert_eq!(rt; begun.get_thread_data(), ONE);
-    let initial = level(1, ONE, (0, 32_769), ONE, 0);
-    assert_eq!(rt; begun.get_task_info(0), Some(initial));
-    assert_eq!(rt; begun.get_task_info(1), None);
-    let outer = RegionLevel { word: ONE, team: 1 };
-    assert_eq!(rt; begun.get_parallel_info(0), Some(outer));
-    assert_eq!(rt; begun.get_parallel_info(1), None);
+    assert_eq!(rt; begun.tasks.0.as_slice(), [INITIAL].as_slice());
+    assert_eq!(rt; begun.regions.0.as_slice(), [OUTER].as_slice());
     assert_eq!(rt; begun.target(WordAt::Fresh), Some(Target::Parallel(2)));
-    Ok(())
 }
 
 /// What thread 1 of two can inquire at the begin and at the end of its implicit task, in a whole run.
@@ -195,27 +256,4 @@ fn two_threads(rt: &impl AllocGlobal) -> Result<Blocks, Memory> {
         codeptr: 131_073,
     };
     Ok(Blocks(Vec::from_array(rt.alloc(), [block])?))
-}
-
-/// The level of a task.
-fn level(flags: u32, word: Word, (exit, enter): (u32, u32), region: Word, index: u32) -> TaskLevel {
-    TaskLevel {
-        flags,
-        word,
-        frame: Frame { exit, enter },
-        region,
-        index,
-    }
-}
-
-/// An endpoint of the initial task, whose team has so many members where it begins.
-fn initial(endpoint: u32, region: Word, actual: u32) -> Call {
-    Call::ImplicitTask {
-        endpoint,
-        region,
-        task: ONE,
-        actual,
-        index: 1,
-        flags: 1,
-    }
 }
