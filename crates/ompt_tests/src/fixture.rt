@@ -135,7 +135,7 @@ pub(crate) fn ran_in<'a>(rt: &impl Abort, told: &'a Told) -> &'a Ran {
 pub(crate) fn has_entries(rt: &impl Abort, history: &History, expected: &[(usize, u8, What)]) {
     for &(position, thread, what) in expected {
         let found = history.entries().get(position);
-        assert_eq!(rt; found, Some(&Entry { thread, what }), "at {position}");
+        assert!(rt; found == Some(&Entry { thread, what }), "at {position}");
     }
 }
 

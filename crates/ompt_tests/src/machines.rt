@@ -4,6 +4,7 @@ use crate::listening::{NULL, ONE, TWO};
 use omp_machine::{Machine, Memory, Went};
 use omp_model::{Block, Blocks, Cause};
 use ompt_calls::{Call, Frame, RegionLevel, Snapshot, Target, TaskLevel, Word, WordAt};
+use std::alloc::Global;
 use std::process::Abort;
 
 /// The begin of regions alone.
@@ -50,7 +51,7 @@ const EMPTY_CALLS: [Call; 4] = [
 fn the_empty_program_runs(rt: HostRuntime) -> Result<(), Memory> {
     let no_blocks = Blocks(Vec::new(rt.alloc()));
     let mut machine = Machine::new(rt.alloc(), no_blocks, THREADS_AND_TASKS, 1, 1_000_000)?;
-    assert_eq!(rt; machine.first_enabled(1), Some(0));
+    assert!(rt; machine.first_enabled(1) == Some(0));
     for call in &EMPTY_CALLS {
         is_told(&rt, &mut machine, call)?;
     }
@@ -71,27 +72,11 @@ fn is_told(rt: &impl Abort, machine: &mut Machine, call: &Call) -> Result<(), Me
 
 /// The machine ended well.
 fn has_ended(rt: &impl Abort, machine: &Machine) {
-    assert_eq!(rt; machine.whole(), Some(0));
-    assert_eq!(rt; machine.cause(), Some(Cause::Done));
+    assert!(rt; machine.whole() == Some(0));
+    assert!(rt; machine.cause() == Some(Cause::Done));
     assert!(rt; !machine.enabled(0));
     assert!(rt; !machine.halted());
     assert!(rt; !machine.stuck());
-}
-
-/// The second silent step meets a limit of one.
-#[test]
-fn the_machine_halts_at_its_limit(rt: HostRuntime) -> Result<(), Memory> {
-    let no_blocks = Blocks(Vec::new(rt.alloc()));
-    let mut machine = Machine::new(rt.alloc(), no_blocks, 0, 1, 1)?;
-    for _event in 0..2 {
-        untold(&rt, &mut machine)?;
-    }
-    assert!(rt; machine.enabled(0));
-    let went = machine.go(0)?;
-    assert!(rt; matches!(went, Went::Limit(1)));
-    assert!(rt; machine.halted());
-    assert_eq!(rt; machine.cause(), Some(Cause::Limit(1)));
-    Ok(())
 }
 
 /// Which words there are before a region of two begins, on one thread.
@@ -109,12 +94,12 @@ const WORDS: &[(Target, bool)] = &[
 /// A region has a word once it begins.
 #[test]
 fn words_are_there_once_they_are_made(rt: HostRuntime) -> Result<(), Memory> {
-    let mut machine = Machine::new(rt.alloc(), two_threads(&rt)?, 0, 1, 1_000_000)?;
+    let mut machine = Machine::new(rt.alloc(), two_threads(rt.alloc())?, 0, 1, 1_000_000)?;
     for _event in 0..2 {
         untold(&rt, &mut machine)?;
     }
     for (target, made) in WORDS {
-        assert!(rt; machine.made(*target) == *made, "{target:?}");
+        assert!(rt; machine.made(*target) == *made);
     }
     untold(&rt, &mut machine)?;
     assert!(rt; machine.made(Target::Parallel(2)));
@@ -157,75 +142,68 @@ const REGION_LEVELS: [RegionLevel; 2] = [RegionLevel { word: TWO, team: 2 }, OUT
 /// The worker of a region of two: what it can inquire where its implicit task begins, and where that task ends.
 #[test]
 fn a_worker_has_levels(rt: HostRuntime) -> Result<(), Memory> {
-    let mut machine = Machine::new(rt.alloc(), two_threads(&rt)?, TASKS, 2, 1_000_000)?;
-    let (begun, ended) = worker_snapshots(&mut machine)?;
-    has_begun(&rt, begun);
-    match ended {
-        Some(ended) => {
-            assert_eq!(rt; ended.get_state(), (0x100, 0));
-            assert!(rt; ended.tasks.0.is_empty() && ended.regions.0.is_empty());
+    let snapshots = snapshots_of(rt.alloc(), TASKS, 1)?;
+    match snapshots.as_slice() {
+        [begun, ended] => {
+            has_levels(&rt, begun);
+            has_none(&rt, ended);
         }
-        None => panic!(rt; "the worker's end was not told"),
+        _ => panic!(rt; "the worker's begin and end were not told"),
     }
     Ok(())
 }
 
 /// This is what the worker can inquire where its implicit task begins.
-fn has_begun(rt: &impl Abort, begun: Option<Snapshot>) {
-    let Some(begun) = begun else {
-        panic!(rt; "the worker's begin was not told");
-    };
-    assert_eq!(rt; begun.get_state(), (0x001, 0));
-    assert_eq!(rt; begun.get_thread_data(), TWO);
-    assert_eq!(rt; begun.tasks.0.as_slice(), LEVELS.as_slice());
-    assert_eq!(rt; begun.regions.0.as_slice(), REGION_LEVELS.as_slice());
+fn has_levels(rt: &impl Abort, begun: &Snapshot) {
+    assert!(rt; begun.get_state() == (0x001, 0));
+    assert!(rt; begun.get_thread_data() == TWO);
+    assert!(rt; begun.tasks.0.as_slice() == LEVELS.as_slice());
+    assert!(rt; begun.regions.0.as_slice() == REGION_LEVELS.as_slice());
+}
+
+/// This is what the worker can inquire where its implicit task ends.
+fn has_none(rt: &impl Abort, ended: &Snapshot) {
+    assert!(rt; ended.get_state() == (0x100, 0));
+    assert!(rt; ended.tasks.0.is_empty() && ended.regions.0.is_empty());
 }
 
 /// The snapshot of the begin of a region is read when the region is under way, and says what it said.
 #[test]
 fn a_snapshot_stays_as_it_was(rt: HostRuntime) -> Result<(), Memory> {
-    let mut machine = Machine::new(rt.alloc(), two_threads(&rt)?, REGIONS, 2, 1_000_000)?;
-    let mut begun = None;
-    for _round in 0..6 {
-        for thread in [0, 1] {
-            if let Some((_, snapshot)) = turn(&mut machine, thread)? {
-                begun = Some(snapshot);
-            }
-        }
-    }
-    match begun {
-        Some(begun) => is_before_the_region(&rt, &begun),
-        None => panic!(rt; "no region was told"),
+    let snapshots = snapshots_of(rt.alloc(), REGIONS, 0)?;
+    match snapshots.as_slice() {
+        [begun] => is_before_the_region(&rt, begun),
+        _ => panic!(rt; "no region was told"),
     }
     Ok(())
 }
 
 /// The snapshot is that of the begin of a region.
 fn is_before_the_region(rt: &impl Abort, begun: &Snapshot) {
-    assert_eq!(rt; begun.get_state(), (0x101, 0));
-    assert_eq!(rt; begun.get_thread_data(), ONE);
-    assert_eq!(rt; begun.tasks.0.as_slice(), [INITIAL].as_slice());
-    assert_eq!(rt; begun.regions.0.as_slice(), [OUTER].as_slice());
-    assert_eq!(rt; begun.target(WordAt::Fresh), Some(Target::Parallel(2)));
+    assert!(rt; begun.get_state() == (0x101, 0));
+    assert!(rt; begun.get_thread_data() == ONE);
+    assert!(rt; begun.tasks.0.as_slice() == [INITIAL].as_slice());
+    assert!(rt; begun.regions.0.as_slice() == [OUTER].as_slice());
+    assert!(rt; begun.target(WordAt::Fresh) == Some(Target::Parallel(2)));
 }
 
-/// What thread 1 of two can inquire at the begin and at the end of its implicit task, in a whole run.
-fn worker_snapshots(machine: &mut Machine) -> Result<(Option<Snapshot>, Option<Snapshot>), Memory> {
-    let mut begun = None;
-    let mut ended = None;
-    for _round in 0..21 {
-        let _of_the_initial_thread = turn(machine, 0)?;
-        match turn(machine, 1)? {
-            Some((Call::ImplicitTask { endpoint: 1, .. }, snapshot)) => begun = Some(snapshot),
-            Some((_, snapshot)) => ended = Some(snapshot),
-            None => {}
+/// What this one of two threads can inquire at each call that it is told in a whole run of a region of two, with these callbacks.
+fn snapshots_of(alloc: Global, mask: u64, told: u8) -> Result<Vec<Snapshot>, Memory> {
+    let mut machine = Machine::new(alloc, two_threads(alloc)?, mask, 2, 1_000_000)?;
+    let mut snapshots = Vec::new(alloc);
+    for turn_number in 0..42 {
+        let thread = turn_number % 2;
+        if let Some(snapshot) = turn(&mut machine, thread)?
+            && thread == told
+        {
+            snapshots.push(snapshot)?;
         }
     }
-    Ok((begun, ended))
+    Ok(snapshots)
 }
 
-/// Does a turn of the thread, with the Back of its event, where the thread is enabled. Answers what was told, if anything was.
-fn turn(machine: &mut Machine, thread: u8) -> Result<Option<(Call, Snapshot)>, Memory> {
+/// Does a turn of the thread, with the Back of its event, where the thread is enabled. Answers what can be inquired, if a call was told.
+fn turn(machine: &mut Machine, thread: u8) -> Result<Option<Snapshot>, Memory> {
     if !machine.enabled(thread) {
         return Ok(None);
     }
@@ -234,7 +212,7 @@ fn turn(machine: &mut Machine, thread: u8) -> Result<Option<(Call, Snapshot)>, M
         machine.back(thread);
     }
     Ok(match went {
-        Went::Told(call, snapshot) => Some((call, snapshot)),
+        Went::Told(_, snapshot) => Some(snapshot),
         _ => None,
     })
 }
@@ -250,10 +228,10 @@ fn untold(rt: &impl Abort, machine: &mut Machine) -> Result<(), Memory> {
 }
 
 /// A program with one block, in line 2, that asks for two threads.
-fn two_threads(rt: &impl AllocGlobal) -> Result<Blocks, Memory> {
+fn two_threads(alloc: Global) -> Result<Blocks, Memory> {
     let block = Block {
         requested: 2,
         codeptr: 131_073,
     };
-    Ok(Blocks(Vec::from_array(rt.alloc(), [block])?))
+    Ok(Blocks(Vec::from_array(alloc, [block])?))
 }

@@ -57,7 +57,7 @@ impl ToolPart for Keeping {
 fn two_parts_hear_their_own(rt: HostRuntime) -> Result<(), Memory> {
     let parts = Vec::from_array(rt.alloc(), [new_part(&rt), new_part(&rt)])?;
     let ran = run_serial(rt.alloc(), two_threads(&rt)?, 2, 1_000_000, parts)?;
-    assert_eq!(rt; ran.cause, Cause::Done);
+    assert!(rt; ran.cause == Cause::Done);
     let [first, second] = ran.parts.as_slice() else {
         panic!(rt; "there are two parts");
     };
@@ -117,11 +117,11 @@ const MEMBER_WORDS: [(u32, Word, Word, Word); 3] = [
 #[test]
 fn a_reply_stores_thrice(rt: HostRuntime) -> Result<(), Memory> {
     let ran = run_with_stores(&rt)?;
-    assert_eq!(rt; ran.cause, Cause::Done);
+    assert!(rt; ran.cause == Cause::Done);
     has_entries(&rt, &ran.history, STORED_ENTRIES);
-    assert_eq!(rt; ran.parts.len(), 1);
+    assert!(rt; ran.parts.len() == 1);
     for part in &ran.parts {
-        assert_eq!(rt; part.heard.len(), 12);
+        assert!(rt; part.heard.len() == 12);
         for (heard, words) in part.heard.iter().skip(3).zip(&MEMBER_WORDS) {
             has_words(&rt, heard, words);
         }
@@ -135,10 +135,10 @@ fn has_words(
     heard: &Heard,
     (seq, thread, region, task): &(u32, Word, Word, Word),
 ) {
-    assert_eq!(rt; heard.seq, *seq);
-    assert_eq!(rt; heard.inquired.word, *thread);
+    assert!(rt; heard.seq == *seq);
+    assert!(rt; heard.inquired.word == *thread);
     let innermost = heard.inquired.tasks[0].map(|level| (level.region, level.word));
-    assert_eq!(rt; innermost, Some((*region, *task)), "at {seq}");
+    assert!(rt; innermost == Some((*region, *task)), "at {seq}");
 }
 
 /// A run on one thread, with three stores where the member's task begins. Where its barrier begins there are three more: that
@@ -180,9 +180,9 @@ fn two_threads(rt: &impl AllocGlobal) -> Result<Blocks, Memory> {
 
 /// The part heard of this thread alone, at these positions.
 fn heard_at(rt: &impl Abort, part: &Keeping, thread: u8, positions: &[u32]) {
-    assert_eq!(rt; part.heard.len(), positions.len());
+    assert!(rt; part.heard.len() == positions.len());
     for (heard, position) in part.heard.iter().zip(positions) {
-        assert_eq!(rt; (heard.seq, heard.thread), (*position, thread));
+        assert!(rt; (heard.seq, heard.thread) == (*position, thread));
     }
 }
 

@@ -125,8 +125,8 @@ const CASES: &[Case] = &[
 fn guests_hear_of_runs(rt: HostRuntime) -> Result<(), Fail> {
     for case in CASES {
         let told = told_in(&rt, case)?;
-        assert_eq!(rt; told.status, case.status);
-        assert_eq!(rt; told.err.bytes(), case.line);
+        assert!(rt; told.status == case.status);
+        assert!(rt; told.err.bytes() == case.line);
         went(&rt, ran_in(&rt, &told), case);
     }
     Ok(())
@@ -145,11 +145,11 @@ fn told_in<R: AllocGlobal>(rt: &R, case: &Case) -> Result<Told, Memory> {
 
 /// What ran is what the case says, and nothing was stored.
 fn went(rt: &impl Abort, ran: &Ran, case: &Case) {
-    assert_eq!(rt; ran.command, case.command);
-    assert_eq!(rt; ran.cause, case.cause);
-    assert_eq!(rt; ran.mask, case.mask);
-    assert_eq!(rt; ran.history.entries().len(), case.entries);
-    assert_eq!(rt; stores_in(ran), 0);
+    assert!(rt; ran.command == case.command);
+    assert!(rt; ran.cause == case.cause);
+    assert!(rt; ran.mask == case.mask);
+    assert!(rt; ran.history.entries().len() == case.entries);
+    assert!(rt; stores_in(ran) == 0);
     has_entries(rt, &ran.history, case.some);
     heard(rt, ran, case.heard);
 }
@@ -164,9 +164,9 @@ fn stores_in(ran: &Ran) -> usize {
 
 /// There is a guest for each of these: how many calls it got, how often it was started, and how often it was finished.
 fn heard(rt: &impl Abort, ran: &Ran, expected: &[[u64; 3]]) {
-    assert_eq!(rt; ran.guests.len(), expected.len());
+    assert!(rt; ran.guests.len() == expected.len());
     for (guest, counts) in ran.guests.iter().zip(expected) {
-        assert_eq!(rt; guest.counts, *counts);
+        assert!(rt; guest.counts == *counts);
     }
 }
 
@@ -214,11 +214,11 @@ fn a_guest_stores(rt: HostRuntime) -> Result<(), Fail> {
     guest.stores = 77;
     let guests = Vec::from_array(rt.alloc(), [guest])?;
     let told = tell_guests(&rt, RUN_ON_ONE, guests, &heard_of_a_region())?;
-    assert_eq!(rt; told.end, End::Done);
+    assert!(rt; told.end == End::Done);
     let ran = ran_in(&rt, &told);
-    assert_eq!(rt; ran.mask, 0x88);
-    assert_eq!(rt; ran.history.entries().len(), 25);
-    assert_eq!(rt; stores_in(ran), 1);
+    assert!(rt; ran.mask == 0x88);
+    assert!(rt; ran.history.entries().len() == 25);
+    assert!(rt; stores_in(ran) == 1);
     let put = What::Put(Target::Parallel(2), 77);
     has_entries(&rt, &ran.history, &[(5, 0, put)]);
     heard(&rt, ran, &[[5, 1, 1]]);
@@ -226,7 +226,7 @@ fn a_guest_stores(rt: HostRuntime) -> Result<(), Fail> {
     // The inquiries are those at 7.
     let heard = [(1, false), (2, false), (3, true), (4, false), (5, false)];
     for guest in &ran.guests {
-        assert_eq!(rt; guest.heard.as_slice(), heard.as_slice());
+        assert!(rt; guest.heard.as_slice() == heard.as_slice());
     }
     Ok(())
 }
@@ -237,10 +237,10 @@ fn a_run_meets_its_limit(rt: HostRuntime) -> Result<(), Fail> {
     let guest = Guest(Box::new(rt.alloc(), Listening::new(&rt, PROFILE_MASK, 1))?);
     let parts = Vec::from_array(rt.alloc(), [guest])?;
     let mut ran = run_serial(rt.alloc(), Blocks(Vec::new(rt.alloc())), 1, 1, parts)?;
-    assert_eq!(rt; ran.cause, Cause::Limit(1));
-    assert_eq!(rt; ran.history.entries().len(), 5);
+    assert!(rt; ran.cause == Cause::Limit(1));
+    assert!(rt; ran.history.entries().len() == 5);
     for guest in &mut ran.parts {
-        assert_eq!(rt; answers_of(&rt, &mut guest.0, &[])?.counts, [2, 1, 1]);
+        assert!(rt; answers_of(&rt, &mut guest.0, &[])?.counts == [2, 1, 1]);
     }
     Ok(())
 }

@@ -34,13 +34,13 @@ fn the_empty_program_has_eight_entries(rt: HostRuntime) -> Result<(), Fail> {
 
 /// The empty program was listed with so many threads.
 fn has_eight_entries(rt: &impl Abort, told: &Told, threads: u8) {
-    assert_eq!(rt; told.end, End::Done);
+    assert!(rt; told.end == End::Done);
     let ran = ran_in(rt, told);
-    assert_eq!(rt; ran.command, Command::List);
-    assert_eq!(rt; ran.cause, Cause::Done);
-    assert_eq!(rt; ran.mask, PROFILE_MASK);
-    assert_eq!(rt; ran.threads, threads);
-    assert_eq!(rt; ran.history.entries(), HISTORY.as_slice());
+    assert!(rt; ran.command == Command::List);
+    assert!(rt; ran.cause == Cause::Done);
+    assert!(rt; ran.mask == PROFILE_MASK);
+    assert!(rt; ran.threads == threads);
+    assert!(rt; ran.history.entries() == HISTORY.as_slice());
 }
 
 /// A source and an output that fail at their first call make no difference, and still fail at their first call afterwards.
@@ -50,11 +50,11 @@ fn other_words_touch_neither_source_nor_output(rt: HostRuntime) -> Result<(), Fa
     let out = MemSink::new(rt.alloc(), 10, failing(&rt)?)?;
     let words = ["list", "--serial"];
     let mut told = hand(&rt, &words, &mut source, out, Vec::new(rt.alloc()), &[])?;
-    assert_eq!(rt; told.end, End::Usage);
+    assert!(rt; told.end == End::Usage);
     assert!(rt; told.ran.is_none());
     let left = read_all(rt.alloc(), &mut source, 100);
     assert!(rt; matches!(left, Err(ReadAllFault::ReadFault)));
-    assert_eq!(rt; write_all(&mut told.out, b"x"), Err(WriteFault));
+    assert!(rt; write_all(&mut told.out, b"x") == Err(WriteFault));
     Ok(())
 }
 
@@ -73,11 +73,11 @@ fn two_regions_of_two_keep_their_worker(rt: HostRuntime) -> Result<(), Fail> {
     let mut source = source_of(&rt, TWO_REGIONS_OF_TWO)?;
     let told = tell(&rt, LIST_ON_TWO, &mut source)?;
     let ran = ran_in(&rt, &told);
-    assert_eq!(rt; ran.history.entries().len(), 69);
+    assert!(rt; ran.history.entries().len() == 69);
     let blocks = [131_073, 262_145].map(|codeptr| Block {
         requested: 2,
         codeptr,
     });
-    assert_eq!(rt; ran.blocks.list(), blocks.as_slice());
+    assert!(rt; ran.blocks.list() == blocks.as_slice());
     Ok(())
 }
