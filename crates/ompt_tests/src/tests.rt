@@ -67,6 +67,18 @@ return 0;
 }
 ";
 
+/// Its blocks.
+const TWO_BLOCKS: [Block; 2] = [
+    Block {
+        requested: 2,
+        codeptr: 131_073,
+    },
+    Block {
+        requested: 2,
+        codeptr: 262_145,
+    },
+];
+
 /// The second region has the worker of the first one. Each has the place of its own construct, in lines 2 and 4.
 #[test]
 fn two_regions_of_two_keep_their_worker(rt: HostRuntime) -> Result<(), Fail> {
@@ -74,10 +86,6 @@ fn two_regions_of_two_keep_their_worker(rt: HostRuntime) -> Result<(), Fail> {
     let told = tell(&rt, LIST_ON_TWO, &mut source)?;
     let ran = ran_in(&rt, &told);
     assert!(rt; ran.history.entries().len() == 69);
-    let blocks = [131_073, 262_145].map(|codeptr| Block {
-        requested: 2,
-        codeptr,
-    });
-    assert!(rt; ran.blocks.list() == blocks.as_slice());
+    assert!(rt; ran.blocks.list() == TWO_BLOCKS.as_slice());
     Ok(())
 }
