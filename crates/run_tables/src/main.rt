@@ -25,8 +25,7 @@
 //! | `err 5 50` | the same of standard error |
 //! | `unlike` | the row agrees where it comes to something else than it wants |
 //!
-//! A row needs no line but the first: its text is empty then, and it wants status 0 and nothing written. Such a row is told from one
-//! that is cut off by its name alone, so a row that wants nothing else says `status 0`.
+//! A row needs no line but the first: its text is empty then, and it wants status 0 and nothing written.
 //!
 //! # Bytes
 //!
