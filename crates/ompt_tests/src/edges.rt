@@ -4,7 +4,7 @@ use run_edges::{
     Got, MemSink, MemSource, ReadAllFault, Script, Source, StdSink, StdSource, WriteFault,
     read_all, write_all,
 };
-use std::alloc::Global;
+use std::alloc::{AllocError, Global};
 use std::io;
 use std::io::{ErrorKind, Read, Write};
 use std::test::Fail;
@@ -39,79 +39,101 @@ impl Write for TakesNothing {
     }
 }
 
-/// What `read_all` answers of "edges" under this script and limit.
-fn read_edges(alloc: Global, script: &[Script], limit: u32) -> Result<Vec<u8>, ReadAllFault> {
-    let bytes = b"edges".to_vec(alloc).map_err(|_| ReadAllFault::Memory)?;
-    let script = script.to_vec(alloc).map_err(|_| ReadAllFault::Memory)?;
-    read_all(alloc, &mut MemSource::new(bytes, script), limit)
-}
+/// A read of "edges" under a script and a limit, and what it comes to.
+type Reading = (&'static [Script], u32, Result<(), ReadAllFault>);
+
+const READINGS: &[Reading] = &[
+    (&[], 5, Ok(())),
+    (&[Script::Most(1)], 9, Ok(())),
+    (&[Script::Most(0), Script::Most(3)], 5, Ok(())),
+    (
+        &[Script::Most(5), Script::Fail],
+        5,
+        Err(ReadAllFault::ReadFault),
+    ),
+    (&[], 4, Err(ReadAllFault::TooLong)),
+];
 
 #[test]
 fn reads_in_scripts(rt: HostRuntime) -> Result<(), Fail> {
-    let fail = [Script::Most(5), Script::Fail];
-    for (script, limit, want) in [
-        ([].as_slice(), 5, Ok(())),
-        ([Script::Most(1)].as_slice(), 9, Ok(())),
-        ([Script::Most(0), Script::Most(3)].as_slice(), 5, Ok(())),
-        (fail.as_slice(), 5, Err(ReadAllFault::ReadFault)),
-        ([].as_slice(), 4, Err(ReadAllFault::TooLong)),
-    ] {
-        match read_edges(rt.alloc(), script, limit) {
-            Ok(bytes) => {
-                assert_eq!(rt; want, Ok(()), "at {limit}");
-                assert_eq!(rt; bytes.as_slice(), b"edges".as_slice());
-            }
-            Err(fault) => assert_eq!(rt; want, Err(fault), "at {limit}"),
-        }
+    for reading in READINGS {
+        let is_as_told = reads(rt.alloc(), reading)?;
+        assert!(rt; is_as_told, "at {}", reading.1);
     }
     Ok(())
 }
+
+/// Whether a read comes to what is told of it.
+fn reads(alloc: Global, (script, limit, want): &Reading) -> Result<bool, AllocError> {
+    let bytes = b"edges".to_vec(alloc)?;
+    let mut source = MemSource::new(bytes, script.to_vec(alloc)?);
+    Ok(match read_all(alloc, &mut source, *limit) {
+        Ok(bytes) => *want == Ok(()) && bytes.as_slice() == b"edges".as_slice(),
+        Err(fault) => *want == Err(fault),
+    })
+}
+
+/// A write of "edges" under a script into so much room, what it comes to, and what is held then.
+type Writing = (
+    &'static [Script],
+    usize,
+    Result<(), WriteFault>,
+    &'static [u8],
+);
+
+const WRITINGS: &[Writing] = &[
+    (&[Script::Most(0), Script::Most(2)], 9, Ok(()), b"edges"),
+    (&[Script::Most(2), Script::Fail], 5, Err(WriteFault), b"ed"),
+    (&[], 4, Err(WriteFault), b"edge"),
+];
 
 #[test]
 fn writes_in_scripts(rt: HostRuntime) -> Result<(), Fail> {
-    let slowly = [Script::Most(0), Script::Most(2)];
-    let fail = [Script::Most(2), Script::Fail];
-    for (script, room, want, held) in [
-        (slowly.as_slice(), 9, Ok(()), b"edges".as_slice()),
-        (fail.as_slice(), 5, Err(WriteFault), b"ed".as_slice()),
-        ([].as_slice(), 4, Err(WriteFault), b"edge".as_slice()),
-    ] {
-        let script = script.to_vec(rt.alloc())?;
-        let mut sink = MemSink::new(rt.alloc(), room, script)?;
-        assert_eq!(rt; write_all(&mut sink, b"edges"), want, "at {room}");
-        assert_eq!(rt; sink.bytes(), held, "at {room}");
+    for writing in WRITINGS {
+        let is_as_told = writes(rt.alloc(), writing)?;
+        assert!(rt; is_as_told, "at {}", writing.1);
     }
     Ok(())
 }
 
+/// Whether a write comes to what is told of it.
+fn writes(alloc: Global, (script, room, want, held): &Writing) -> Result<bool, AllocError> {
+    let mut sink = MemSink::new(alloc, *room, script.to_vec(alloc)?)?;
+    let written = write_all(&mut sink, b"edges");
+    Ok(written == *want && sink.bytes() == *held)
+}
+
 #[test]
-fn adapts_readers_and_writers(rt: HostRuntime) -> Result<(), Fail> {
+fn adapts_readers(rt: HostRuntime) -> Result<(), Fail> {
     let mut source = StdSource::new(b"edges".as_slice());
     let read = read_all(rt.alloc(), &mut source, 5)?;
-    assert_eq!(rt; read.as_slice(), b"edges".as_slice());
+    assert!(rt; read.as_slice() == b"edges".as_slice());
 
     let mut failing = StdSource::new(FailsOnce { has_failed: false });
     let mut buf = [0; 4];
-    assert_eq!(rt; failing.read(&mut buf), Got::Failed);
-    assert_eq!(rt; failing.read(&mut buf), Got::End);
+    assert!(rt; failing.read(&mut buf) == Got::Failed);
+    assert!(rt; failing.read(&mut buf) == Got::End);
+    Ok(())
+}
 
+#[test]
+fn adapts_writers(rt: HostRuntime) {
     let mut written = Vec::new(rt.alloc());
     let mut sink = StdSink::new(&mut written);
-    assert_eq!(rt; write_all(&mut sink, b"edges"), Ok(()));
+    assert!(rt; write_all(&mut sink, b"edges") == Ok(()));
     drop(sink);
-    assert_eq!(rt; written.as_slice(), b"edges".as_slice());
+    assert!(rt; written.as_slice() == b"edges".as_slice());
 
     let mut full = StdSink::new(TakesNothing);
-    assert_eq!(rt; write_all(&mut full, b"edges"), Err(WriteFault));
-    Ok(())
+    assert!(rt; write_all(&mut full, b"edges") == Err(WriteFault));
 }
 
 #[test]
 fn faults_have_names(rt: HostRuntime) -> Result<(), Fail> {
     let alloc = rt.alloc();
     let text = format!(in alloc; "{}, {}", ReadAllFault::ReadFault, WriteFault)?;
-    assert_eq!(rt; text.as_str(), "read fault, write fault");
+    assert!(rt; text.as_str() == "read fault, write fault");
     let text = format!(in alloc; "{}, {}", ReadAllFault::TooLong, ReadAllFault::Memory)?;
-    assert_eq!(rt; text.as_str(), "too long, memory");
+    assert!(rt; text.as_str() == "too long, memory");
     Ok(())
 }

@@ -1,5 +1,5 @@
-//! The tests of the crates below, and those that cross crates: worked rows, guests, and failing sources and sinks, through
-//! `ompt_cli::top`. They show what no clause says.
+//! The tests of the crates below, and those that cross crates: guests, and what is reported of a run, through `ompt_cli::top`. They show
+//! what no clause says. What a command writes is tested by the rows of `run_tables`.
 #![tactic(auto)]
 
 #[cfg(test)]
@@ -22,5 +22,3 @@ mod reports;
 mod runs;
 #[cfg(test)]
 mod tests;
-#[cfg(test)]
-mod texts;

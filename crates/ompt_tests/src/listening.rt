@@ -5,7 +5,7 @@
 
 use ompt_calls::{
     Call, Frame, RegionLevel, RegionLevels, Reply, Snapshot, Store, TaskLevel, TaskLevels, Word,
-    WordAt,
+    WordAt, is_registered,
 };
 use std::alloc::AllocError;
 use tool_api::{GuestTool, Memory, Registrar};
@@ -84,7 +84,7 @@ impl GuestTool for Listening {
     fn initialize(&mut self, registrar: &mut Registrar) -> u32 {
         self.initialized = self.initialized.saturating_add(1);
         for number in 0..64_u32 {
-            if (self.mask >> number) & 1 == 1 {
+            if is_registered(self.mask, number) {
                 registrar.set(number);
             }
         }
@@ -192,39 +192,54 @@ pub(crate) const STORED: Word = Word {
     value: 77,
 };
 
+/// The level of the member's task in a region of two, on one thread.
+const MEMBER: TaskLevel = TaskLevel {
+    flags: 2,
+    word: TWO,
+    frame: Frame { exit: 2, enter: 0 },
+    region: STORED,
+    index: 0,
+};
+
+/// The level of the initial task there.
+const INITIAL: TaskLevel = TaskLevel {
+    flags: 1,
+    word: ONE,
+    frame: Frame {
+        exit: 0,
+        enter: 32_769,
+    },
+    region: ONE,
+    index: 0,
+};
+
 /// What can be inquired on one thread at the begin of the member's task in a region of two. What the event makes is left out:
 /// no inquiry tells it.
 pub(crate) fn inside(rt: &impl AllocGlobal) -> Result<Snapshot, Memory> {
-    let member = TaskLevel {
-        flags: 2,
-        word: TWO,
-        frame: Frame { exit: 2, enter: 0 },
-        region: STORED,
-        index: 0,
-    };
-    let initial = TaskLevel {
-        flags: 1,
-        word: ONE,
-        frame: Frame {
-            exit: 0,
-            enter: 32_769,
-        },
-        region: ONE,
-        index: 0,
-    };
+    let tasks = Vec::from_array(rt.alloc(), [MEMBER, INITIAL])?;
+    Ok(inside_of(TaskLevels(tasks), regions_inside(rt)?))
+}
+
+/// The regions around the member's task.
+fn regions_inside(rt: &impl AllocGlobal) -> Result<RegionLevels, Memory> {
     let region = RegionLevel {
         word: STORED,
         team: 1,
     };
     let outer = RegionLevel { word: ONE, team: 1 };
-    Ok(Snapshot {
+    Ok(RegionLevels(Vec::from_array(rt.alloc(), [region, outer])?))
+}
+
+/// What can be inquired where the member's task begins, with these levels.
+fn inside_of(tasks: TaskLevels, regions: RegionLevels) -> Snapshot {
+    Snapshot {
         thread: ONE,
         state: 0x001,
         wait_id: 0,
-        tasks: TaskLevels(Vec::from_array(rt.alloc(), [member, initial])?),
-        regions: RegionLevels(Vec::from_array(rt.alloc(), [region, outer])?),
+        tasks,
+        regions,
         fresh: None,
-    })
+    }
 }
 
 /// What is kept of a call.

@@ -4,6 +4,7 @@ use crate::listening::{NULL, ONE, TWO};
 use omp_machine::{Machine, Memory, Went};
 use omp_model::{Block, Blocks, Cause};
 use ompt_calls::{Call, Frame, RegionLevel, Snapshot, Target, TaskLevel, Word, WordAt};
+use std::alloc::Global;
 use std::process::Abort;
 
 /// The begin of regions alone.
@@ -20,151 +21,189 @@ const THREE: Word = Word {
     value: 0,
 };
 
+/// The calls of a program without a block.
+const EMPTY_CALLS: [Call; 4] = [
+    Call::ThreadBegin {
+        kind: 1,
+        thread: ONE,
+    },
+    Call::ImplicitTask {
+        endpoint: 1,
+        region: ONE,
+        task: ONE,
+        actual: 1,
+        index: 1,
+        flags: 1,
+    },
+    Call::ImplicitTask {
+        endpoint: 2,
+        region: NULL,
+        task: ONE,
+        actual: 0,
+        index: 1,
+        flags: 1,
+    },
+    Call::ThreadEnd { thread: ONE },
+];
+
 /// A program without a block: what the calls of the machine answer at each step.
 #[test]
 fn the_empty_program_runs(rt: HostRuntime) -> Result<(), Memory> {
     let no_blocks = Blocks(Vec::new(rt.alloc()));
     let mut machine = Machine::new(rt.alloc(), no_blocks, THREADS_AND_TASKS, 1, 1_000_000)?;
-    assert_eq!(rt; machine.first_enabled(1), Some(0));
-    for call in [
-        Call::ThreadBegin {
-            kind: 1,
-            thread: ONE,
-        },
-        initial(1, ONE, 1),
-        initial(2, NULL, 0),
-        Call::ThreadEnd { thread: ONE },
-    ] {
-        assert!(rt; machine.enabled(0));
-        let went = machine.go(0)?;
-        assert!(rt;
-            matches!(went, Went::Told(told, _) if told == call),
-            "{call:?}"
-        );
-        assert!(rt; !machine.enabled(0), "inside {call:?}");
-        assert!(rt; machine.pending(0), "inside {call:?}");
-        machine.back(0);
+    assert!(rt; machine.first_enabled(1) == Some(0));
+    for call in &EMPTY_CALLS {
+        is_told(&rt, &mut machine, call)?;
     }
-    assert_eq!(rt; machine.whole(), Some(0));
-    assert_eq!(rt; machine.cause(), Some(Cause::Done));
+    has_ended(&rt, &machine);
+    Ok(())
+}
+
+/// The next event of thread 0 is told by this call, and the thread is not enabled until its Back.
+fn is_told(rt: &impl Abort, machine: &mut Machine, call: &Call) -> Result<(), Memory> {
+    assert!(rt; machine.enabled(0));
+    let went = machine.go(0)?;
+    assert!(rt; matches!(went, Went::Told(told, _) if told == *call));
+    assert!(rt; !machine.enabled(0));
+    assert!(rt; machine.pending(0));
+    machine.back(0);
+    Ok(())
+}
+
+/// The machine ended well.
+fn has_ended(rt: &impl Abort, machine: &Machine) {
+    assert!(rt; machine.whole() == Some(0));
+    assert!(rt; machine.cause() == Some(Cause::Done));
     assert!(rt; !machine.enabled(0));
     assert!(rt; !machine.halted());
     assert!(rt; !machine.stuck());
-    Ok(())
 }
 
-/// The second silent step meets a limit of one.
-#[test]
-fn the_machine_halts_at_its_limit(rt: HostRuntime) -> Result<(), Memory> {
-    let no_blocks = Blocks(Vec::new(rt.alloc()));
-    let mut machine = Machine::new(rt.alloc(), no_blocks, 0, 1, 1)?;
-    for _event in 0..2 {
-        untold(&rt, &mut machine)?;
-    }
-    assert!(rt; machine.enabled(0));
-    let went = machine.go(0)?;
-    assert!(rt; matches!(went, Went::Limit(1)));
-    assert!(rt; machine.halted());
-    assert_eq!(rt; machine.cause(), Some(Cause::Limit(1)));
-    Ok(())
-}
+/// Which words there are before a region of two begins, on one thread.
+const WORDS: &[(Target, bool)] = &[
+    (Target::Thread(0), true),
+    (Target::Thread(1), false),
+    (Target::Parallel(0), false),
+    (Target::Parallel(1), true),
+    (Target::Parallel(2), false),
+    (Target::Task(0), false),
+    (Target::Task(1), true),
+    (Target::Task(2), false),
+];
 
-/// Which words there are before and after the region of two begins, on one thread.
+/// A region has a word once it begins.
 #[test]
 fn words_are_there_once_they_are_made(rt: HostRuntime) -> Result<(), Memory> {
-    let mut machine = Machine::new(rt.alloc(), two_threads(&rt)?, 0, 1, 1_000_000)?;
+    let mut machine = Machine::new(rt.alloc(), two_threads(rt.alloc())?, 0, 1, 1_000_000)?;
     for _event in 0..2 {
         untold(&rt, &mut machine)?;
     }
-    for (target, made) in [
-        (Target::Thread(0), true),
-        (Target::Thread(1), false),
-        (Target::Parallel(0), false),
-        (Target::Parallel(1), true),
-        (Target::Parallel(2), false),
-        (Target::Task(0), false),
-        (Target::Task(1), true),
-        (Target::Task(2), false),
-    ] {
-        assert_eq!(rt; machine.made(target), made, "{target:?}");
+    for (target, made) in WORDS {
+        assert!(rt; machine.made(*target) == *made);
     }
     untold(&rt, &mut machine)?;
     assert!(rt; machine.made(Target::Parallel(2)));
     Ok(())
 }
 
+/// The level of the initial task around a region.
+const INITIAL: TaskLevel = TaskLevel {
+    flags: 1,
+    word: ONE,
+    frame: Frame {
+        exit: 0,
+        enter: 32_769,
+    },
+    region: ONE,
+    index: 0,
+};
+
+/// The levels of the worker's tasks in a region of two.
+const LEVELS: [TaskLevel; 2] = [
+    TaskLevel {
+        flags: 2,
+        word: THREE,
+        frame: Frame {
+            exit: 65_537,
+            enter: 0,
+        },
+        region: TWO,
+        index: 1,
+    },
+    INITIAL,
+];
+
+/// The regions around the initial task.
+const OUTER: RegionLevel = RegionLevel { word: ONE, team: 1 };
+
+/// The regions around the worker's task.
+const REGION_LEVELS: [RegionLevel; 2] = [RegionLevel { word: TWO, team: 2 }, OUTER];
+
 /// The worker of a region of two: what it can inquire where its implicit task begins, and where that task ends.
 #[test]
 fn a_worker_has_levels(rt: HostRuntime) -> Result<(), Memory> {
-    let mut machine = Machine::new(rt.alloc(), two_threads(&rt)?, TASKS, 2, 1_000_000)?;
-    let (begun, ended) = worker_snapshots(&mut machine)?;
-    let Some(begun) = begun else {
-        panic!(rt; "the worker's begin was not told");
-    };
-    let Some(ended) = ended else {
-        panic!(rt; "the worker's end was not told");
-    };
-    assert_eq!(rt; begun.get_state(), (0x001, 0));
-    assert_eq!(rt; begun.get_thread_data(), TWO);
-    let levels = [
-        level(2, THREE, (65_537, 0), TWO, 1),
-        level(1, ONE, (0, 32_769), ONE, 0),
-    ];
-    assert_eq!(rt; begun.tasks.0.as_slice(), levels.as_slice());
-    let regions = [
-        RegionLevel { word: TWO, team: 2 },
-        RegionLevel { word: ONE, team: 1 },
-    ];
-    assert_eq!(rt; begun.regions.0.as_slice(), regions.as_slice());
-    assert_eq!(rt; ended.get_state(), (0x100, 0));
-    assert!(rt; ended.tasks.0.is_empty() && ended.regions.0.is_empty());
+    let snapshots = snapshots_of(rt.alloc(), TASKS, 1)?;
+    match snapshots.as_slice() {
+        [begun, ended] => {
+            has_levels(&rt, begun);
+            has_none(&rt, ended);
+        }
+        _ => panic!(rt; "the worker's begin and end were not told"),
+    }
     Ok(())
+}
+
+/// This is what the worker can inquire where its implicit task begins.
+fn has_levels(rt: &impl Abort, begun: &Snapshot) {
+    assert!(rt; begun.get_state() == (0x001, 0));
+    assert!(rt; begun.get_thread_data() == TWO);
+    assert!(rt; begun.tasks.0.as_slice() == LEVELS.as_slice());
+    assert!(rt; begun.regions.0.as_slice() == REGION_LEVELS.as_slice());
+}
+
+/// This is what the worker can inquire where its implicit task ends.
+fn has_none(rt: &impl Abort, ended: &Snapshot) {
+    assert!(rt; ended.get_state() == (0x100, 0));
+    assert!(rt; ended.tasks.0.is_empty() && ended.regions.0.is_empty());
 }
 
 /// The snapshot of the begin of a region is read when the region is under way, and says what it said.
 #[test]
 fn a_snapshot_stays_as_it_was(rt: HostRuntime) -> Result<(), Memory> {
-    let mut machine = Machine::new(rt.alloc(), two_threads(&rt)?, REGIONS, 2, 1_000_000)?;
-    let mut begun = None;
-    for _round in 0..6 {
-        for thread in [0, 1] {
-            if let Some((_, snapshot)) = turn(&mut machine, thread)? {
-                begun = Some(snapshot);
-            }
-        }
+    let snapshots = snapshots_of(rt.alloc(), REGIONS, 0)?;
+    match snapshots.as_slice() {
+        [begun] => is_before_the_region(&rt, begun),
+        _ => panic!(rt; "no region was told"),
     }
-    let Some(begun) = begun else {
-        panic!(rt; "no region was told");
-    };
-    assert_eq!(rt; begun.get_state(), (0x101, 0));
-    assert_eq!(rt; begun.get_thread_data(), ONE);
-    let initial = level(1, ONE, (0, 32_769), ONE, 0);
-    assert_eq!(rt; begun.get_task_info(0), Some(initial));
-    assert_eq!(rt; begun.get_task_info(1), None);
-    let outer = RegionLevel { word: ONE, team: 1 };
-    assert_eq!(rt; begun.get_parallel_info(0), Some(outer));
-    assert_eq!(rt; begun.get_parallel_info(1), None);
-    assert_eq!(rt; begun.target(WordAt::Fresh), Some(Target::Parallel(2)));
     Ok(())
 }
 
-/// What thread 1 of two can inquire at the begin and at the end of its implicit task, in a whole run.
-fn worker_snapshots(machine: &mut Machine) -> Result<(Option<Snapshot>, Option<Snapshot>), Memory> {
-    let mut begun = None;
-    let mut ended = None;
-    for _round in 0..21 {
-        let _of_the_initial_thread = turn(machine, 0)?;
-        match turn(machine, 1)? {
-            Some((Call::ImplicitTask { endpoint: 1, .. }, snapshot)) => begun = Some(snapshot),
-            Some((_, snapshot)) => ended = Some(snapshot),
-            None => {}
-        }
-    }
-    Ok((begun, ended))
+/// The snapshot is that of the begin of a region.
+fn is_before_the_region(rt: &impl Abort, begun: &Snapshot) {
+    assert!(rt; begun.get_state() == (0x101, 0));
+    assert!(rt; begun.get_thread_data() == ONE);
+    assert!(rt; begun.tasks.0.as_slice() == [INITIAL].as_slice());
+    assert!(rt; begun.regions.0.as_slice() == [OUTER].as_slice());
+    assert!(rt; begun.target(WordAt::Fresh) == Some(Target::Parallel(2)));
 }
 
-/// Does a turn of the thread, with the Back of its event, where the thread is enabled. Answers what was told, if anything was.
-fn turn(machine: &mut Machine, thread: u8) -> Result<Option<(Call, Snapshot)>, Memory> {
+/// What this one of two threads can inquire at each call that it is told in a whole run of a region of two, with these callbacks.
+fn snapshots_of(alloc: Global, mask: u64, told: u8) -> Result<Vec<Snapshot>, Memory> {
+    let mut machine = Machine::new(alloc, two_threads(alloc)?, mask, 2, 1_000_000)?;
+    let mut snapshots = Vec::new(alloc);
+    for turn_number in 0..42 {
+        let thread = turn_number % 2;
+        if let Some(snapshot) = turn(&mut machine, thread)?
+            && thread == told
+        {
+            snapshots.push(snapshot)?;
+        }
+    }
+    Ok(snapshots)
+}
+
+/// Does a turn of the thread, with the Back of its event, where the thread is enabled. Answers what can be inquired, if a call was told.
+fn turn(machine: &mut Machine, thread: u8) -> Result<Option<Snapshot>, Memory> {
     if !machine.enabled(thread) {
         return Ok(None);
     }
@@ -173,7 +212,7 @@ fn turn(machine: &mut Machine, thread: u8) -> Result<Option<(Call, Snapshot)>, M
         machine.back(thread);
     }
     Ok(match went {
-        Went::Told(call, snapshot) => Some((call, snapshot)),
+        Went::Told(_, snapshot) => Some(snapshot),
         _ => None,
     })
 }
@@ -189,33 +228,10 @@ fn untold(rt: &impl Abort, machine: &mut Machine) -> Result<(), Memory> {
 }
 
 /// A program with one block, in line 2, that asks for two threads.
-fn two_threads(rt: &impl AllocGlobal) -> Result<Blocks, Memory> {
+fn two_threads(alloc: Global) -> Result<Blocks, Memory> {
     let block = Block {
         requested: 2,
         codeptr: 131_073,
     };
-    Ok(Blocks(Vec::from_array(rt.alloc(), [block])?))
-}
-
-/// The level of a task.
-fn level(flags: u32, word: Word, (exit, enter): (u32, u32), region: Word, index: u32) -> TaskLevel {
-    TaskLevel {
-        flags,
-        word,
-        frame: Frame { exit, enter },
-        region,
-        index,
-    }
-}
-
-/// An endpoint of the initial task, whose team has so many members where it begins.
-fn initial(endpoint: u32, region: Word, actual: u32) -> Call {
-    Call::ImplicitTask {
-        endpoint,
-        region,
-        task: ONE,
-        actual,
-        index: 1,
-        flags: 1,
-    }
+    Ok(Blocks(Vec::from_array(alloc, [block])?))
 }

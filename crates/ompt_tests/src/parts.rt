@@ -1,7 +1,8 @@
 //! Serial runs with parts of a tool that no guest is: what each part hears, and replies with several stores.
 
+use crate::fixture::has_entries;
 use crate::listening::{Heard, ONE, TWO, heard_of};
-use omp_model::{Block, Blocks, Cause, Entry, What};
+use omp_model::{Block, Blocks, Cause, What};
 use ompt_calls::{Call, Reply, Snapshot, Store, Target, Word, WordAt};
 use std::process::Abort;
 use team_run::{Memory, Ran, run_serial};
@@ -56,7 +57,7 @@ impl ToolPart for Keeping {
 fn two_parts_hear_their_own(rt: HostRuntime) -> Result<(), Memory> {
     let parts = Vec::from_array(rt.alloc(), [new_part(&rt), new_part(&rt)])?;
     let ran = run_serial(rt.alloc(), two_threads(&rt)?, 2, 1_000_000, parts)?;
-    assert_eq!(rt; ran.cause, Cause::Done);
+    assert!(rt; ran.cause == Cause::Done);
     let [first, second] = ran.parts.as_slice() else {
         panic!(rt; "there are two parts");
     };
@@ -65,44 +66,79 @@ fn two_parts_hear_their_own(rt: HostRuntime) -> Result<(), Memory> {
     Ok(())
 }
 
+/// Entries of a run with stores, and their positions.
+const STORED_ENTRIES: &[(usize, u8, What)] = &[
+    (6, 0, What::Go),
+    (7, 0, What::Put(Target::Thread(0), 11)),
+    (8, 0, What::Put(Target::Task(2), 22)),
+    (9, 0, What::Put(Target::Parallel(2), 33)),
+    (10, 0, What::Back),
+    (11, 0, What::Go),
+    (12, 0, What::Put(Target::Thread(0), 66)),
+    (13, 0, What::Back),
+];
+
+/// The word of region 2, into which 33 was stored.
+const STORED_REGION: Word = Word {
+    identity: 2,
+    value: 33,
+};
+
+/// The word of task 2, into which 22 was stored.
+const STORED_TASK: Word = Word {
+    identity: 2,
+    value: 22,
+};
+
+/// What a part hears of the member's task, from its fourth call on: the position, and the words of the thread, the region and the task.
+const MEMBER_WORDS: [(u32, Word, Word, Word); 3] = [
+    (6, ONE, TWO, TWO),
+    (
+        11,
+        Word {
+            identity: 1,
+            value: 11,
+        },
+        STORED_REGION,
+        STORED_TASK,
+    ),
+    (
+        14,
+        Word {
+            identity: 1,
+            value: 66,
+        },
+        STORED_REGION,
+        STORED_TASK,
+    ),
+];
+
 /// Three stores of one reply take effect in their order, and of three others the one whose place is there.
 #[test]
 fn a_reply_stores_thrice(rt: HostRuntime) -> Result<(), Memory> {
     let ran = run_with_stores(&rt)?;
-    assert_eq!(rt; ran.cause, Cause::Done);
-    for (position, expected) in [
-        (6, What::Go),
-        (7, What::Put(Target::Thread(0), 11)),
-        (8, What::Put(Target::Task(2), 22)),
-        (9, What::Put(Target::Parallel(2), 33)),
-        (10, What::Back),
-        (11, What::Go),
-        (12, What::Put(Target::Thread(0), 66)),
-        (13, What::Back),
-    ] {
-        let entry = Entry {
-            thread: 0,
-            what: expected,
-        };
-        let found = ran.history.entries().get(position);
-        assert_eq!(rt; found, Some(&entry), "at {position}");
-    }
-    let [part] = ran.parts.as_slice() else {
-        panic!(rt; "there is one part");
-    };
-    let [_, _, _, begun, at_barrier, waiting, ..] = part.heard.as_slice() else {
-        panic!(rt; "the member was not heard");
-    };
-    for (heard, seq, thread_word, team, task) in [
-        (begun, 6, ONE, TWO, TWO),
-        (at_barrier, 11, word(1, 11), word(2, 33), word(2, 22)),
-        (waiting, 14, word(1, 66), word(2, 33), word(2, 22)),
-    ] {
-        assert_eq!(rt; (heard.seq, heard.inquired.word), (seq, thread_word));
-        let innermost = heard.inquired.tasks[0].map(|level| (level.region, level.word));
-        assert_eq!(rt; innermost, Some((team, task)), "at {seq}");
+    assert!(rt; ran.cause == Cause::Done);
+    has_entries(&rt, &ran.history, STORED_ENTRIES);
+    assert!(rt; ran.parts.len() == 1);
+    for part in &ran.parts {
+        assert!(rt; part.heard.len() == 12);
+        for (heard, words) in part.heard.iter().skip(3).zip(&MEMBER_WORDS) {
+            has_words(&rt, heard, words);
+        }
     }
     Ok(())
+}
+
+/// What was heard has this position, and these words of the thread, the region and the task.
+fn has_words(
+    rt: &impl Abort,
+    heard: &Heard,
+    (seq, thread, region, task): &(u32, Word, Word, Word),
+) {
+    assert!(rt; heard.seq == *seq);
+    assert!(rt; heard.inquired.word == *thread);
+    let innermost = heard.inquired.tasks[0].map(|level| (level.region, level.word));
+    assert!(rt; innermost == Some((*region, *task)), "at {seq}");
 }
 
 /// A run on one thread, with three stores where the member's task begins. Where its barrier begins there are three more: that
@@ -144,18 +180,13 @@ fn two_threads(rt: &impl AllocGlobal) -> Result<Blocks, Memory> {
 
 /// The part heard of this thread alone, at these positions.
 fn heard_at(rt: &impl Abort, part: &Keeping, thread: u8, positions: &[u32]) {
-    assert_eq!(rt; part.heard.len(), positions.len());
+    assert!(rt; part.heard.len() == positions.len());
     for (heard, position) in part.heard.iter().zip(positions) {
-        assert_eq!(rt; (heard.seq, heard.thread), (*position, thread));
+        assert!(rt; (heard.seq, heard.thread) == (*position, thread));
     }
 }
 
 /// A store.
 fn store(place: WordAt, word: u64) -> Option<Store> {
     Some(Store { place, word })
-}
-
-/// A data word.
-fn word(identity: u32, value: u64) -> Word {
-    Word { identity, value }
 }

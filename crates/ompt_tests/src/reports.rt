@@ -32,12 +32,12 @@ fn a_lister_keeps_its_calls(rt: HostRuntime) -> Result<(), Memory> {
         wait_id: 3,
         call,
     });
-    assert_eq!(rt; lister.events(), kept.as_slice());
+    assert!(rt; lister.events() == kept.as_slice());
     Ok(())
 }
 
 #[test]
 fn no_listers_have_no_lines(rt: HostRuntime) -> Result<(), Memory> {
-    assert_eq!(rt; lines_text(rt.alloc(), &[])?.len(), 0);
+    assert!(rt; lines_text(rt.alloc(), &[])?.len() == 0);
     Ok(())
 }

@@ -3,7 +3,7 @@
 use crate::fixture::*;
 use crate::listening::{Listening, NULL, ONE, STORED, TWO, answers_of};
 use omp_codes::PROFILE_MASK;
-use omp_model::{Block, Blocks, Cause, Entry, What};
+use omp_model::{Blocks, Cause, What};
 use ompt_calls::{Call, Frame, Target, Word};
 use ompt_cli::{Command, End};
 use run_edges::Memory;
@@ -23,6 +23,152 @@ const REGIONS_AND_TASKS: u64 = 0x88;
 
 /// Implicit tasks.
 const TASKS: u64 = 0x80;
+
+/// A command over a region of two with equal guests, and what is reported of it.
+struct Case {
+    words: &'static [&'static str],
+    /// How many guests there are, and the callbacks and the answer of each.
+    guests: usize,
+    registers: u64,
+    answer: u32,
+    /// The call at which each finds no memory, counted from 1; 0 for none.
+    fails: usize,
+    status: u8,
+    line: &'static [u8],
+    command: Command,
+    cause: Cause,
+    mask: u64,
+    entries: usize,
+    /// Entries of the history, with their positions.
+    some: &'static [(usize, u8, What)],
+    /// For each guest how many calls it got, how often it was started, and how often it was finished.
+    heard: &'static [[u64; 3]],
+}
+
+/// A run on two threads without guests.
+const NO_GUESTS: Case = Case {
+    words: RUN_ON_TWO,
+    guests: 0,
+    registers: 0,
+    answer: 0,
+    fails: 0,
+    status: 0,
+    line: b"",
+    command: Command::Run,
+    cause: Cause::Done,
+    mask: 0,
+    entries: 41,
+    some: &[],
+    heard: &[],
+};
+
+const CASES: &[Case] = &[
+    NO_GUESTS,
+    // Guests that register and answer 0 hear nothing and aren't finished.
+    Case {
+        guests: 2,
+        registers: TASKS,
+        heard: &[[0, 1, 0], [0, 0, 0]],
+        ..NO_GUESTS
+    },
+    // Guests past the threads come back, and weren't started.
+    Case {
+        words: RUN_ON_ONE,
+        guests: 3,
+        registers: TASKS,
+        answer: 1,
+        mask: TASKS,
+        entries: 24,
+        heard: &[[4, 1, 1], [0, 0, 0], [0, 0, 0]],
+        ..NO_GUESTS
+    },
+    // One active guest on two threads hears the twelve events of its own thread. Those of the other thread have no part that
+    // could store, so the history is the one of 41 entries without a store.
+    Case {
+        guests: 1,
+        registers: PROFILE_MASK,
+        answer: 1,
+        mask: PROFILE_MASK,
+        heard: &[[12, 1, 1]],
+        ..NO_GUESTS
+    },
+    // A guest that finds no memory at its third call ends the run there, after the Go of that event, and is finished.
+    Case {
+        words: RUN_ON_ONE,
+        guests: 1,
+        registers: PROFILE_MASK,
+        answer: 1,
+        fails: 3,
+        status: 10,
+        line: b"memory\n",
+        cause: Cause::Memory,
+        mask: PROFILE_MASK,
+        entries: 5,
+        heard: &[[2, 1, 1]],
+        ..NO_GUESTS
+    },
+    // A listing gives its guests back, and calls none. In its history thread 0 has a turn without an event.
+    Case {
+        words: LIST_ON_TWO,
+        guests: 2,
+        registers: PROFILE_MASK,
+        answer: 1,
+        command: Command::List,
+        mask: PROFILE_MASK,
+        some: &[(34, 0, What::Go), (35, 1, What::Go)],
+        heard: &[[0, 0, 0], [0, 0, 0]],
+        ..NO_GUESTS
+    },
+];
+
+#[test]
+fn guests_hear_of_runs(rt: HostRuntime) -> Result<(), Fail> {
+    for case in CASES {
+        let told = told_in(&rt, case)?;
+        assert!(rt; told.status == case.status);
+        assert!(rt; told.err.bytes() == case.line);
+        went(&rt, ran_in(&rt, &told), case);
+    }
+    Ok(())
+}
+
+/// Hands the command what the case has.
+fn told_in<R: AllocGlobal>(rt: &R, case: &Case) -> Result<Told, Memory> {
+    let mut guests = Vec::new(rt.alloc());
+    for _guest in 0..case.guests {
+        let mut guest = Listening::new(rt, case.registers, case.answer);
+        guest.fails = case.fails;
+        guests.push(guest)?;
+    }
+    tell_guests(rt, case.words, guests, &[])
+}
+
+/// What ran is what the case says, and nothing was stored.
+fn went(rt: &impl Abort, ran: &Ran, case: &Case) {
+    assert!(rt; ran.command == case.command);
+    assert!(rt; ran.cause == case.cause);
+    assert!(rt; ran.mask == case.mask);
+    assert!(rt; ran.history.entries().len() == case.entries);
+    assert!(rt; stores_in(ran) == 0);
+    has_entries(rt, &ran.history, case.some);
+    heard(rt, ran, case.heard);
+}
+
+/// How many stores there are in the history.
+fn stores_in(ran: &Ran) -> usize {
+    let entries = ran.history.entries().iter();
+    entries
+        .filter(|entry| matches!(entry.what, What::Put(..)))
+        .count()
+}
+
+/// There is a guest for each of these: how many calls it got, how often it was started, and how often it was finished.
+fn heard(rt: &impl Abort, ran: &Ran, expected: &[[u64; 3]]) {
+    assert!(rt; ran.guests.len() == expected.len());
+    for (guest, counts) in ran.guests.iter().zip(expected) {
+        assert!(rt; guest.counts == *counts);
+    }
+}
 
 /// The region of the construct in line 2 begins. It asks for two threads.
 const REGION_BEGINS: Call = Call::ParallelBegin {
@@ -66,101 +212,22 @@ fn heard_of_a_region() -> [(u32, Call); 5] {
 fn a_guest_stores(rt: HostRuntime) -> Result<(), Fail> {
     let mut guest = Listening::new(&rt, REGIONS_AND_TASKS, 1);
     guest.stores = 77;
-    let told = tell_guests(
-        &rt,
-        RUN_ON_ONE,
-        Vec::from_array(rt.alloc(), [guest])?,
-        &heard_of_a_region(),
-    )?;
-    ended(&rt, &told, End::Done, 0, b"", b"", 0);
+    let guests = Vec::from_array(rt.alloc(), [guest])?;
+    let told = tell_guests(&rt, RUN_ON_ONE, guests, &heard_of_a_region())?;
+    assert!(rt; told.end == End::Done);
     let ran = ran_in(&rt, &told);
-    went(&rt, ran, Command::Run, Cause::Done, 0x88, 25, 1);
-    has_entry(&rt, ran, 5, 0, What::Put(Target::Parallel(2), 77));
+    assert!(rt; ran.mask == 0x88);
+    assert!(rt; ran.history.entries().len() == 25);
+    assert!(rt; stores_in(ran) == 1);
+    let put = What::Put(Target::Parallel(2), 77);
+    has_entries(&rt, &ran.history, &[(5, 0, put)]);
     heard(&rt, ran, &[[5, 1, 1]]);
 
     // The inquiries are those at 7.
     let heard = [(1, false), (2, false), (3, true), (4, false), (5, false)];
     for guest in &ran.guests {
-        assert_eq!(rt; guest.heard.as_slice(), heard.as_slice());
+        assert!(rt; guest.heard.as_slice() == heard.as_slice());
     }
-    Ok(())
-}
-
-/// Guests that register and answer 0 hear nothing and aren't finished.
-#[test]
-fn an_inactive_guest_hears_nothing(rt: HostRuntime) -> Result<(), Fail> {
-    let guests = listening(&rt, 2, TASKS, 0)?;
-    let told = tell_guests(&rt, RUN_ON_TWO, guests, &[])?;
-    ended(&rt, &told, End::Done, 0, b"", b"", 0);
-    let ran = ran_in(&rt, &told);
-    went(&rt, ran, Command::Run, Cause::Done, 0, 41, 0);
-    heard(&rt, ran, &[[0, 1, 0], [0, 0, 0]]);
-    Ok(())
-}
-
-/// A run with no guests.
-#[test]
-fn a_run_needs_no_guests(rt: HostRuntime) -> Result<(), Fail> {
-    let told = tell_text(&rt, RUN_ON_TWO, REGION_OF_TWO)?;
-    ended(&rt, &told, End::Done, 0, b"", b"", 0);
-    let ran = ran_in(&rt, &told);
-    went(&rt, ran, Command::Run, Cause::Done, 0, 41, 0);
-    heard(&rt, ran, &[]);
-    Ok(())
-}
-
-/// Guests past the threads come back, and weren't started.
-#[test]
-fn guests_past_the_threads_hear_nothing(rt: HostRuntime) -> Result<(), Fail> {
-    let guests = listening(&rt, 3, TASKS, 1)?;
-    let told = tell_guests(&rt, RUN_ON_ONE, guests, &[])?;
-    ended(&rt, &told, End::Done, 0, b"", b"", 0);
-    heard(&rt, ran_in(&rt, &told), &[[4, 1, 1], [0, 0, 0], [0, 0, 0]]);
-    Ok(())
-}
-
-/// One active guest on two threads hears the twelve events of its own thread. Those of the other thread have no part that could
-/// store, so the history is the one of 41 entries without a store.
-#[test]
-fn one_guest_runs_on_two_threads(rt: HostRuntime) -> Result<(), Fail> {
-    let guests = listening(&rt, 1, PROFILE_MASK, 1)?;
-    let told = tell_guests(&rt, RUN_ON_TWO, guests, &[])?;
-    ended(&rt, &told, End::Done, 0, b"", b"", 0);
-    let ran = ran_in(&rt, &told);
-    went(&rt, ran, Command::Run, Cause::Done, PROFILE_MASK, 41, 0);
-    heard(&rt, ran, &[[12, 1, 1]]);
-    Ok(())
-}
-
-/// A guest that finds no memory at its third call ends the run there, after the Go of that event, and is finished.
-#[test]
-fn a_guest_finds_no_memory(rt: HostRuntime) -> Result<(), Fail> {
-    let mut guest = Listening::new(&rt, PROFILE_MASK, 1);
-    guest.fails = 3;
-    let told = tell_guests(&rt, RUN_ON_ONE, Vec::from_array(rt.alloc(), [guest])?, &[])?;
-    ended(&rt, &told, End::Memory, 10, b"", b"memory\n", 0);
-    let ran = ran_in(&rt, &told);
-    went(&rt, ran, Command::Run, Cause::Memory, PROFILE_MASK, 5, 0);
-    heard(&rt, ran, &[[2, 1, 1]]);
-    Ok(())
-}
-
-/// A listing gives its guests back, and calls none. In its history thread 0 has a turn without an event.
-#[test]
-fn a_region_of_two_lists_twenty_lines(rt: HostRuntime) -> Result<(), Fail> {
-    let guests = listening(&rt, 2, PROFILE_MASK, 1)?;
-    let told = tell_guests(&rt, LIST_ON_TWO, guests, &[])?;
-    ended(&rt, &told, End::Done, 0, REGION_LISTING, b"", 0);
-    let ran = ran_in(&rt, &told);
-    went(&rt, ran, Command::List, Cause::Done, PROFILE_MASK, 41, 0);
-    let block = Block {
-        requested: 2,
-        codeptr: 131_073,
-    };
-    assert_eq!(rt; ran.blocks.list(), [block].as_slice());
-    has_entry(&rt, ran, 34, 0, What::Go);
-    has_entry(&rt, ran, 35, 1, What::Go);
-    heard(&rt, ran, &[[0, 0, 0], [0, 0, 0]]);
     Ok(())
 }
 
@@ -170,60 +237,10 @@ fn a_run_meets_its_limit(rt: HostRuntime) -> Result<(), Fail> {
     let guest = Guest(Box::new(rt.alloc(), Listening::new(&rt, PROFILE_MASK, 1))?);
     let parts = Vec::from_array(rt.alloc(), [guest])?;
     let mut ran = run_serial(rt.alloc(), Blocks(Vec::new(rt.alloc())), 1, 1, parts)?;
-    assert_eq!(rt; ran.cause, Cause::Limit(1));
-    assert_eq!(rt; ran.history.entries().len(), 5);
+    assert!(rt; ran.cause == Cause::Limit(1));
+    assert!(rt; ran.history.entries().len() == 5);
     for guest in &mut ran.parts {
-        assert_eq!(rt; answers_of(&rt, &mut guest.0, &[])?.counts, [2, 1, 1]);
+        assert!(rt; answers_of(&rt, &mut guest.0, &[])?.counts == [2, 1, 1]);
     }
     Ok(())
-}
-
-/// So many guests that have heard nothing, with these callbacks and this answer.
-fn listening<R: AllocGlobal>(
-    rt: &R,
-    count: usize,
-    mask: u64,
-    answer: u32,
-) -> Result<Vec<Listening>, Memory> {
-    let mut guests = Vec::new(rt.alloc());
-    for _guest in 0..count {
-        guests.push(Listening::new(rt, mask, answer))?;
-    }
-    Ok(guests)
-}
-
-/// What ran has this mask, so many entries, and so many stores among them.
-fn went(
-    rt: &impl Abort,
-    ran: &Ran,
-    command: Command,
-    cause: Cause,
-    mask: u64,
-    entries: usize,
-    puts: usize,
-) {
-    assert_eq!(rt; ran.command, command);
-    assert_eq!(rt; ran.cause, cause);
-    assert_eq!(rt; ran.mask, mask);
-    let history = ran.history.entries();
-    assert_eq!(rt; history.len(), entries);
-    let stores = history
-        .iter()
-        .filter(|entry| matches!(entry.what, What::Put(..)))
-        .count();
-    assert_eq!(rt; stores, puts);
-}
-
-/// The entry at this position.
-fn has_entry(rt: &impl Abort, ran: &Ran, position: usize, thread: u8, what: What) {
-    let expected = Entry { thread, what };
-    assert_eq!(rt; ran.history.entries().get(position), Some(&expected));
-}
-
-/// There is a guest for each of these: how many calls it got, how often it was started, and how often it was finished.
-fn heard(rt: &impl Abort, ran: &Ran, expected: &[[u64; 3]]) {
-    assert_eq!(rt; ran.guests.len(), expected.len());
-    for (guest, counts) in ran.guests.iter().zip(expected) {
-        assert_eq!(rt; guest.counts, *counts);
-    }
 }

@@ -3,7 +3,7 @@
 //! A table is read from the standard input. Each of its rows asks a question of a text: its tokens, its tree, its fault, the slots of
 //! its names, how its constructs see variables, what its tasks copy, the numbers of its criticals, or the parts of its loops. The
 //! program prints each row that differs from the answer that is wanted, and then how many rows there were and how many of them differ.
-//! A line that can't be read counts as a row that differs. `Tally::add` has clauses on its counts; the answers are only tested.
+//! A line that can't be read counts as a row that differs. The answers are only tested.
 //!
 //! # Lines
 //!
@@ -56,12 +56,11 @@ mod refusal;
 mod row_fault;
 mod seen;
 mod table;
-mod tally;
 mod tree_line;
 
+use row_tally::{Tally, Verdict};
 use std::io::{self, BufRead, BufReader};
 use table::{Outcome, Table};
-use tally::{Tally, Verdict};
 
 fn main(rt: HostRuntime) -> io::Result<()> {
     let mut table = Table::new(rt.alloc());

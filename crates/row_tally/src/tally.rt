@@ -6,7 +6,7 @@ use std::fmt;
 
 /// What a row turned out to be.
 #[derive(Clone, Copy)]
-pub(crate) enum Verdict {
+pub enum Verdict {
     /// The answer is the one that was wanted.
     Agrees,
     /// It is another one, or the row can't be read.
@@ -15,7 +15,7 @@ pub(crate) enum Verdict {
 
 /// How many rows there were, and how many of them differ from what was wanted. Each count stays at its greatest value.
 #[derive(Clone, Copy)]
-pub(crate) struct Tally {
+pub struct Tally {
     rows: u64,
     differing: u64,
 }
