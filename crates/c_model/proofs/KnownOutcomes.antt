@@ -16,7 +16,8 @@ use Rattle.c_model.specs.declared.question.Ask.{Ask}
 use Rattle.c_model.specs.declared.point.Target.{Target}
 use Rattle.c_model.specs.declared.point.Target.TheVariants as target
 use Rattle.c_model.specs.declared.view.View.{View}
-use Rattle.c_model.specs.Cells.{Bound, Entry}
+use Rattle.c_model.specs.declared.entry.Entry.{Entry}
+use Rattle.c_model.specs.Cells.{Bound}
 use Rattle.c_model.specs.Coming.{binds, with_result}
 use Rattle.c_model.specs.Calls.{begin_call, begin_right, begin_lock_call, begin_return_of, enters, returns_to}
 use Rattle.c_model.specs.Task.{Here, Item, Moment, OpenCall, Outcome}

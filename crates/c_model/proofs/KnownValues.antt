@@ -12,7 +12,8 @@ use Rattle.c_syntax.specs.Tree.Tree.{Node}
 use Rattle.c_syntax.specs.Tree.Children.{Over, Child, Absent}
 use Rattle.c_check.specs.Loops.{child_at}
 use Rattle.c_model.specs.Parts.{has_child}
-use Rattle.c_model.specs.Cells.{Entry, entry_of}
+use Rattle.c_model.specs.declared.entry.Entry.{Entry}
+use Rattle.c_model.specs.Cells.{entry_of}
 use Rattle.c_model.specs.Value.{Scope, all_values, binary_result, binary_value, cell_of, deciding_value, element, index_of, node_value, operand_value, place_cell, unary_value, value, value_at, value_before, value_of_cell, value_unless, values, with_right}
 use Rattle.c_model.specs.Known.{IsKnownResult, IsTrap}
 

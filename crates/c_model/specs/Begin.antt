@@ -11,7 +11,7 @@ use Rattle.c_model.specs.declared.point.SyncStage.TheVariants as stage
 use Rattle.c_model.specs.declared.point.Target.TheVariants.{Nowhere}
 use Rattle.c_model.specs.declared.view.View.{View}
 use Rattle.c_model.specs.Program.{body_of, function_named}
-use Rattle.c_model.specs.Cells.{Entry}
+use Rattle.c_model.specs.declared.entry.Entry.{Entry}
 use Rattle.c_model.specs.Clauses.{construct_statement}
 use Rattle.c_model.specs.Copies.{combines, makes_cells, with_task_cells}
 use Rattle.c_model.specs.Calls.{file_bound}
@@ -23,13 +23,13 @@ use Rattle.c_model.specs.Task.Item.{FallOff, Forked, Inside, Start, Sync}
 abbrev pub first_store : TreeView → Store
 first_store program = record { cells = (file_bound program).cells; text = [] }
 
--- the initial task: main's body, with the names of the file. Main is a call that is open
+-- the initial task: main's body, with the names of the file. Main is a call that is open, from outside all functions
 abbrev pub main_task : TreeView → Task
 main_task program =
     record {
       todo = Start (body_of (function_named program program.main)) ∷ FallOff ∷ [];
       env = (file_bound program).env;
-      calls = record { todo = []; env = []; to = Nowhere } ∷ [];
+      calls = record { todo = []; env = (file_bound program).env; to = Nowhere } ∷ [];
       returned = None;
     }
 

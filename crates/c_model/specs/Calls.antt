@@ -15,7 +15,8 @@ use Rattle.c_check.specs.Seen.{slot_of_name}
 use Rattle.c_check.specs.Loops.{child_at}
 use Rattle.c_model.specs.Parts.{flat_declarations, parts}
 use Rattle.c_model.specs.Program.{body_of, file_variables, function_named, parameters_of, place_of}
-use Rattle.c_model.specs.Cells.{Bound, Entry, entry_of, has_too_many, with_cells, with_declarators}
+use Rattle.c_model.specs.declared.entry.Entry.{Entry}
+use Rattle.c_model.specs.Cells.{Bound, entry_of, has_too_many, with_cells, with_declarators}
 use Rattle.c_model.specs.Value.{all_values, cell_of}
 use Rattle.c_model.specs.Task.{Here, Item, OpenCall, Outcome}
 use Rattle.c_model.specs.Task.Item.{FallOff, Return, Start}

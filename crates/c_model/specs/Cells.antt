@@ -6,16 +6,9 @@ use Rattle.c_syntax.specs.declared.node.NodeKind.{NodeKind}
 use Rattle.c_syntax.specs.declared.node.NodeKind.TheVariants as node
 use Rattle.c_syntax.specs.Tree.{Tree, kind_of, name_of, number_of}
 use Rattle.c_syntax.specs.Numbered.{TreeView}
+use Rattle.c_model.specs.declared.entry.Entry.{Entry}
 use Rattle.c_model.specs.declared.limits.TheConstants.{CELL_LIMIT}
 use Rattle.c_check.specs.Seen.{slot_of_name}
-
--- a name in scope: its first cell, how many it has, and the slot of its declaration. An int and a lock have one cell, an array one for
--- each element
-pub record Entry : Type 0 where
-  pub name : ℕ
-  pub first : ℕ
-  pub size : ℕ
-  pub slot : ℕ
 
 -- A name that nothing declares. Its cell would stand behind the last one that there may be, so it reads as 0, and it can't be set. With an
 -- index it traps, since it has no elements.

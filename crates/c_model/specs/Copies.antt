@@ -11,7 +11,8 @@ use Rattle.c_syntax.specs.Tree.{Tree, kind_of, name_of}
 use Rattle.c_syntax.specs.Numbered.{TreeView}
 use Rattle.c_check.specs.Statements.{shares_loop}
 use Rattle.c_check.specs.Seen.{slot_of_name, task_copies}
-use Rattle.c_model.specs.Cells.{Bound, Entry, entry_at_slot, entry_of, numbers_of, with_cells}
+use Rattle.c_model.specs.declared.entry.Entry.{Entry}
+use Rattle.c_model.specs.Cells.{Bound, entry_at_slot, entry_of, numbers_of, with_cells}
 use Rattle.c_model.specs.Clauses.{Copying, Listed, clauses_of, listed_among}
 use Rattle.c_model.specs.Clauses.Copying.{Private, First, Reduced}
 use Rattle.c_model.specs.Loops.{declares_variable, loop_of}

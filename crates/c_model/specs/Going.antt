@@ -21,7 +21,7 @@ use Rattle.c_model.specs.declared.question.Answer.{Answer}
 use Rattle.c_model.specs.declared.question.Answer.TheVariants as answer
 use Rattle.c_model.specs.declared.view.View.{View}
 use Rattle.c_check.specs.Loops.{child_at}
-use Rattle.c_model.specs.Cells.{Entry}
+use Rattle.c_model.specs.declared.entry.Entry.{Entry}
 use Rattle.c_model.specs.Clauses.{construct_statement, has_nowait, sections_of}
 use Rattle.c_model.specs.Copies.{combines, makes_cells}
 use Rattle.c_model.specs.Constructs.{iterations_from}

@@ -17,3 +17,5 @@ pub mod Going
 pub mod Standing
 pub mod Known
 pub mod Begin
+pub mod Occurring
+pub mod Width

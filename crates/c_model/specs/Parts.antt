@@ -8,10 +8,10 @@ use Rattle.c_syntax.specs.Tree.Children.{Over, Child, Absent}
 abbrev pub has_child : Tree → ℕ → Bool
 has_child tree place = is_some (child_of tree place)
 
--- the children that are there, in order
+-- the children in order, up to the first absent one
 unfoldable pub trees_in : Children → List Tree
 trees_in Over = []
-trees_in (Absent rest) = trees_in rest
+trees_in (Absent rest) = []
 trees_in (Child tree rest) = tree ∷ trees_in rest
 
 abbrev pub parts : Tree → List Tree

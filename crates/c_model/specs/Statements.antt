@@ -15,7 +15,7 @@ use Rattle.c_model.specs.Parts.{flat_declarations, has_child, parts}
 use Rattle.c_model.specs.Cells.{cell_at, has_too_many, new_entry, with_cells, with_declarator}
 use Rattle.c_model.specs.Value.{all_values, binary_value, cell_of, is_zero}
 use Rattle.c_model.specs.Text.{printed_text}
-use Rattle.c_model.specs.Task.{Here, Item, Outcome, starts}
+use Rattle.c_model.specs.Task.{Here, Item, Outcome, items_of_parts}
 use Rattle.c_model.specs.Task.Item.{Initialise, Leave, Start, Test, Third}
 use Rattle.c_model.specs.Task.Outcome.{Limits, StepsTo}
 use Rattle.c_model.specs.Coming.{binds, bound_of, goes_on, goes_on_with, scope_of, sets, value_here, with_result}
@@ -25,7 +25,7 @@ begin_empty here = goes_on here []
 
 -- a block is entered: its declarators and statements stand next, and then its end
 abbrev pub begin_block : Here → Tree → Outcome
-begin_block here tree = goes_on here (starts (flat_declarations (parts tree)) ++ Leave (length here.task.env) ∷ [])
+begin_block here tree = goes_on here (items_of_parts (flat_declarations (parts tree)) ++ Leave (length here.task.env) ∷ [])
 
 abbrev pub leave_block : Here → ℕ → Outcome
 leave_block here names = goes_on_with here names []
@@ -55,6 +55,11 @@ abbrev pub begin_local_set : NodeKind → Here → Tree → Outcome
 begin_local_set node.Call here tree = begin_set_to_call here tree
 begin_local_set node.TestLock here tree = begin_set_to_call here tree
 begin_local_set other here tree = begin_set_to_value here tree (child_at tree 0) []
+
+-- a declarator of a block: one that is set to a value, or another one
+abbrev pub declares : NodeKind → Here → Tree → Outcome
+declares node.LocalSet here tree = begin_local_set (kind_of (child_at tree 0)) here tree
+declares other here tree = begin_declarator here tree
 
 -- the branch of an `if` that is taken
 abbrev pub branch_taken : Tree → ℤ → List Item
@@ -88,19 +93,24 @@ assigns here which place right items =
     with_result (cell_of (scope_of here) place) (λ cell.
     with_result (new_number which (cell_at here.store.cells cell) right) (λ number. sets here cell number items))
 
--- a step of a loop's head, or that is a statement; one that is absent does nothing
+-- a step that is a statement, or the third part of a loop; one that is absent does nothing
 abbrev pub makes_step : NodeKind → Here → Tree → List Item → Outcome
 makes_step (node.Assign which) here tree items = assigns here which (child_at tree 0) (value_here here (child_at tree 1)) items
 makes_step (node.Bump which side) here tree items = assigns here (setting_of which) (child_at tree 0) (Ok (pos 1)) items
-makes_step node.Init here tree items = begin_set_to_value here (child_at tree 0) (child_at tree 1) items
 makes_step other here tree items = goes_on here items
+
+-- the first part of a loop, which may declare a variable; without a name it declares nothing
+abbrev pub makes_first_step : NodeKind → Here → Tree → List Item → Outcome
+makes_first_step node.Init here tree items =
+    if has_child tree 0 then begin_set_to_value here (child_at tree 0) (child_at tree 1) items else goes_on here items
+makes_first_step other here tree items = makes_step other here tree items
 
 abbrev pub begin_step : Here → Tree → Outcome
 begin_step here tree = makes_step (kind_of (child_at tree 0)) here (child_at tree 0) []
 
 -- a plain `for` begins with its first part, and then its test stands next
 abbrev pub begin_for : Here → Tree → Outcome
-begin_for here tree = makes_step (kind_of (child_at tree 0)) here (child_at tree 0) (Test tree (length here.task.env) ∷ [])
+begin_for here tree = makes_first_step (kind_of (child_at tree 0)) here (child_at tree 0) (Test tree (length here.task.env) ∷ [])
 
 -- a test that is absent is true
 abbrev pub test_value : Here → Tree → Result ℤ ℕ

@@ -13,9 +13,9 @@ use Rattle.c_model.specs.declared.point.SyncStage.TheVariants as stage
 use Rattle.c_model.specs.declared.question.Ask.TheVariants as ask
 use Rattle.c_model.specs.declared.view.View.{View}
 use Rattle.c_model.specs.Task.{Here, Item, Moment, Outcome, Task}
-use Rattle.c_model.specs.Task.Item.{Start, Leave, Test, Third, Initialise, Return, FallOff, Forked, Inside, MakeCells, NextChunk, Iterations, NextSection, Combine, EndWork, EndMasked, Sync, Acquire, Release, TestLock, Tested}
+use Rattle.c_model.specs.Task.Item.{Start, Declare, Leave, Test, Third, Initialise, Return, FallOff, Forked, Inside, MakeCells, NextChunk, Iterations, NextSection, Combine, EndWork, EndMasked, Sync, Acquire, Release, TestLock, Tested}
 use Rattle.c_model.specs.Task.Outcome.{Asks, Ends}
-use Rattle.c_model.specs.Statements.{begin_block, begin_declarator, begin_empty, begin_for, begin_if, begin_local_set, begin_print, begin_step, begin_while, leave_block, test_for, third_for}
+use Rattle.c_model.specs.Statements.{begin_block, begin_empty, begin_for, begin_if, begin_print, begin_step, begin_while, declares, leave_block, test_for, third_for}
 use Rattle.c_model.specs.Calls.{begin_called, begin_initialise, begin_lock_call, begin_return, begin_set_call, ends_test, returns}
 use Rattle.c_model.specs.Constructs.{acquires, begin_critical, begin_iteration, begin_loop, begin_masked, begin_parallel, begin_sections, begin_single, begin_task, combine, end_masked, end_parallel, end_work, make_cells, next_chunk, next_section, releases, synchronises}
 use Rattle.c_check.specs.Loops.{child_at}
@@ -37,12 +37,8 @@ begin_construct directive.Master here construct = begin_masked construct
 begin_construct directive.Critical here construct = begin_critical here construct
 begin_construct directive.Task here construct = begin_task here construct
 
--- a statement or declarator begins. What can't stand as one is an empty statement
+-- a statement begins. What can't stand as one is an empty statement
 abbrev pub begin_statement : NodeKind → Here → Tree → Outcome
-begin_statement node.Name here tree = begin_declarator here tree
-begin_statement node.LocalVar here tree = begin_declarator here tree
-begin_statement node.LocalArray here tree = begin_declarator here tree
-begin_statement node.LocalSet here tree = begin_local_set (kind_of (child_at tree 0)) here tree
 begin_statement node.Empty here tree = begin_empty here
 begin_statement node.Block here tree = begin_block here tree
 begin_statement node.If here tree = begin_if here tree
@@ -66,6 +62,7 @@ begin_inside other here construct = begin_empty here
 
 abbrev pub step_of : Item → Here → Outcome
 step_of (Start tree) here = begin_statement (kind_of tree) here tree
+step_of (Declare tree) here = declares (kind_of tree) here tree
 step_of (Leave names) here = leave_block here names
 step_of (Test tree names) here = test_for here tree names
 step_of (Third tree names) here = third_for here tree names

@@ -1,7 +1,9 @@
 -- What is left of a task's code, and what one step of it comes to.
-use Rattle.std.specs.Prelude.{ℕ, List, map, Option, ℤ}
+use Rattle.std.specs.Prelude.{ℕ, Bool, true, false, if◌then◌else◌, List, map, Option, ℤ}
+use Rattle.c_syntax.specs.declared.node.NodeKind.{NodeKind}
+use Rattle.c_syntax.specs.declared.node.NodeKind.TheVariants as node
 use Rattle.c_syntax.specs.declared.node.ReductionOp.{ReductionOp}
-use Rattle.c_syntax.specs.Tree.{Tree}
+use Rattle.c_syntax.specs.Tree.{Tree, kind_of}
 use Rattle.c_syntax.specs.Numbered.{TreeView}
 use Rattle.c_model.specs.declared.view.View.{View}
 use Rattle.c_model.specs.declared.question.Ask.{Ask}
@@ -11,7 +13,7 @@ use Rattle.c_model.specs.declared.point.SyncKind.{SyncKind}
 use Rattle.c_model.specs.declared.point.SyncStage.{SyncStage}
 use Rattle.c_model.specs.declared.point.Target.{Target}
 use Rattle.c_model.specs.declared.point.WorkKind.{WorkKind}
-use Rattle.c_model.specs.Cells.{Entry}
+use Rattle.c_model.specs.declared.entry.Entry.{Entry}
 
 -- A loop that is shared out: its directive, the variable's value in the first iteration, by how much it changes, how many iterations there
 -- are, and how many names stay in scope behind the loop.
@@ -24,8 +26,10 @@ pub record SharedLoop : Type 0 where
 
 -- What stands next in a task's code.
 pub data Item : Type 0 where
-  -- a statement, a declarator, or a directive begins
+  -- a statement or a directive begins
   Start : Tree → Item
+  -- a declarator of a block comes
+  Declare : Tree → Item
   -- a block ends, and so many names stay in scope
   Leave : ℕ → Item
   -- the test of a plain `for`, behind which so many names stay, and its third part
@@ -107,5 +111,16 @@ pub record Here : Type 0 where
   pub task : Task
   pub store : Store
 
-abbrev pub starts : List Tree → List Item
-starts trees = map Start trees
+-- what a part of a block is: a declarator, or else a statement
+abbrev pub is_declarator : NodeKind → Bool
+is_declarator node.Name = true
+is_declarator node.LocalVar = true
+is_declarator node.LocalArray = true
+is_declarator node.LocalSet = true
+is_declarator other = false
+
+abbrev pub item_of_part : Tree → Item
+item_of_part tree = if is_declarator (kind_of tree) then Declare tree else Start tree
+
+abbrev pub items_of_parts : List Tree → List Item
+items_of_parts trees = map item_of_part trees

@@ -16,7 +16,8 @@ use Rattle.c_model.specs.declared.traps.TheConstants.{OVERFLOW, ZERO_DIVIDE, IND
 use Rattle.c_model.specs.declared.view.View.{View}
 use Rattle.c_check.specs.Loops.{child_at}
 use Rattle.c_model.specs.Parts.{has_child}
-use Rattle.c_model.specs.Cells.{Entry, entry_of, cell_at, fits_cell}
+use Rattle.c_model.specs.declared.entry.Entry.{Entry}
+use Rattle.c_model.specs.Cells.{entry_of, cell_at, fits_cell}
 
 -- what an expression is evaluated in
 pub record Scope : Type 0 where

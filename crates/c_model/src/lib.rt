@@ -41,6 +41,7 @@
 //! That the definitions are C's and OpenMP's is for their reader to judge.
 #![tactic(auto)]
 
+mod entry;
 mod laws;
 mod limits;
 mod point;
@@ -48,6 +49,7 @@ mod question;
 mod traps;
 mod view;
 
+pub use entry::Entry;
 pub use laws::{
     answers_are_asked_for, ended_code_has_no_step, settling_changes_nothing,
     standing_is_told_by_form, traps_and_limits_are_known,
