@@ -1,0 +1,108 @@
+-- What the items and frames of a control stand for: the items of the definitions, over the trees that the nodes have the numbers of.
+use Rattle.std.specs.Prelude.{ℕ, ◌+◌, not, List, [], ◌∷◌, ◌++◌, length, drop, take}
+use Rattle.std.specs.List.{filter}
+use Rattle.c_syntax.specs.Tree.{Tree, kind_of}
+use Rattle.c_syntax.specs.Numbered.{TreeView, tree_at}
+use Rattle.c_model.specs.declared.entry.Entry.{Entry}
+use Rattle.c_model.specs.Parts.{declarators_in, flat_declarations, parts}
+use Rattle.c_model.specs.Clauses.{Listed, clause_in, clauses_among, listed_among}
+use Rattle.c_model.specs.Calls.{file_bound}
+use Rattle.c_model.specs.Copies.{combining_all, is_own_loop_variable}
+use Rattle.c_model.specs.Task.{Item, OpenCall, SharedLoop, items_of_parts}
+use Rattle.c_model.specs.Task.Item.{Start, Declare, Leave, Test, Third, Initialise, Return, FallOff, Forked, Inside, MakeCells, NextChunk, Iterations, NextSection, Combine, EndWork, EndMasked, Sync, Acquire, Release, TestLock, Tested}
+use Rattle.c_steps.specs.declared.item.Loop.{Loop}
+use Rattle.c_steps.specs.declared.item.Item as of_item
+use Rattle.c_steps.specs.declared.item.Item.TheVariants as item
+use Rattle.c_steps.specs.declared.frame.Frame.{Frame}
+use Rattle.c_steps.specs.declared.frame.Frame.TheVariants as frame
+use Rattle.c_steps.specs.Nodes.{part_at}
+
+-- the names of the file
+unfoldable pub file_names : TreeView → List Entry
+file_names program = (file_bound program).env
+
+-- names count without those of the file
+abbrev pub with_file : TreeView → ℕ → ℕ
+with_file program names = length (file_names program) + names
+
+abbrev pub loop_at : TreeView → Loop → SharedLoop
+loop_at program it =
+    record {
+      construct = tree_at program.trees it.construct;
+      start = it.start;
+      step = it.step;
+      count = it.count;
+      names = with_file program it.names;
+    }
+
+abbrev pub item_at : TreeView → of_item.Item → Item
+item_at program (item.Start part) = Start (part_at program.trees part)
+item_at program (item.Declare node) = Declare (tree_at program.trees node)
+item_at program (item.Leave names) = Leave (with_file program names)
+item_at program (item.Test node names) = Test (tree_at program.trees node) (with_file program names)
+item_at program (item.Third node names) = Third (tree_at program.trees node) (with_file program names)
+item_at program (item.Initialise node entry) = Initialise (tree_at program.trees node) entry
+item_at program (item.Return number) = Return number
+item_at program item.FallOff = FallOff
+item_at program (item.Forked node) = Forked (tree_at program.trees node)
+item_at program (item.Inside node) = Inside (tree_at program.trees node)
+item_at program (item.MakeCells node) = MakeCells (tree_at program.trees node)
+item_at program (item.NextChunk shared) = NextChunk (loop_at program shared)
+item_at program (item.Iterations shared at upto) = Iterations (loop_at program shared) at upto
+item_at program (item.NextSection node names) = NextSection (tree_at program.trees node) (with_file program names)
+item_at program (item.Combine operator name names) = Combine operator name (with_file program names)
+item_at program (item.EndWork node kind count names) = EndWork (tree_at program.trees node) kind count (with_file program names)
+item_at program (item.EndMasked node) = EndMasked (tree_at program.trees node)
+item_at program (item.Sync node kind stage) = Sync (tree_at program.trees node) kind stage
+item_at program (item.Acquire node kind id) = Acquire (tree_at program.trees node) kind id
+item_at program (item.Release node id) = Release (tree_at program.trees node) id
+item_at program (item.TestLock node id to) = TestLock (tree_at program.trees node) id to
+item_at program (item.Tested to) = Tested to
+
+-- of these children of a block, what is left behind so many declarators of the first
+unfoldable pub parts_left : ℕ → List Tree → List Tree
+parts_left at [] = []
+parts_left at (tree ∷ trees) = drop at (declarators_in (kind_of tree) tree) ++ flat_declarations trees
+
+-- of these children of a construct, the variables that are listed behind so many of the first
+unfoldable pub listed_left : ℕ → List Tree → List Listed
+listed_left at [] = []
+listed_left at (tree ∷ trees) = drop at (listed_among (clause_in (kind_of tree) tree)) ++ listed_among (clauses_among trees)
+
+abbrev pub combining_left : Tree → ℕ → ℕ → ℕ → List Item
+combining_left construct place at names =
+    combining_all names (filter (λ (listed : Listed). not (is_own_loop_variable construct listed.name)) (listed_left at (drop place (parts construct))))
+
+-- what stands next by a frame, before what the frames below it say
+abbrev pub items_at : TreeView → Frame → List Item
+items_at program (frame.One it) = item_at program it ∷ []
+items_at program (frame.Parts block place at names) =
+    items_of_parts (parts_left at (drop place (parts (tree_at program.trees block)))) ++ Leave (with_file program names) ∷ []
+items_at program (frame.Combining construct place at names) =
+    combining_left (tree_at program.trees construct) place at (with_file program names)
+items_at program (frame.Caller base to) = []
+
+-- what stands next in the function that was called last. The newest frame is the first
+unfoldable pub todo_at : TreeView → List Frame → List Item
+todo_at program [] = []
+todo_at program (frame.One it ∷ frames) = items_at program (frame.One it) ++ todo_at program frames
+todo_at program (frame.Parts block place at names ∷ frames) = items_at program (frame.Parts block place at names) ++ todo_at program frames
+todo_at program (frame.Combining construct place at names ∷ frames) = items_at program (frame.Combining construct place at names) ++ todo_at program frames
+todo_at program (frame.Caller base to ∷ frames) = []
+
+-- the calls that are open, the newest first, where those that called have these names
+unfoldable pub calls_at : TreeView → List Entry → List Frame → List OpenCall
+calls_at program names [] = []
+calls_at program names (frame.One it ∷ frames) = calls_at program names frames
+calls_at program names (frame.Parts block place at stay ∷ frames) = calls_at program names frames
+calls_at program names (frame.Combining construct place at stay ∷ frames) = calls_at program names frames
+calls_at program names (frame.Caller base to ∷ frames) =
+    record { todo = todo_at program frames; env = file_names program ++ drop base names; to = to } ∷ calls_at program (take base names) frames
+
+-- the frames when the item that stands next has begun
+abbrev pub begun : List Frame → List Frame
+begun [] = []
+begun (frame.One it ∷ frames) = frames
+begun (frame.Parts block place at names ∷ frames) = frame.Parts block place (at + 1) names ∷ frames
+begun (frame.Combining construct place at names ∷ frames) = frame.Combining construct place (at + 1) names ∷ frames
+begun (frame.Caller base to ∷ frames) = frame.Caller base to ∷ frames

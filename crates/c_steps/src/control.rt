@@ -1,0 +1,161 @@
+//! What is left of a task's code.
+
+ghost use Rattle.std.specs.Prelude.{◌≡◌, ◌<◌, ◌-◌};
+ghost use Rattle.c_steps.specs.Moves.{bound, cut, passing, pushed, stepping, then_item};
+
+mod settling;
+
+use crate::frame::Frame;
+use crate::item::Item;
+use crate::names::Names;
+use crate::stack::Stack;
+use c_model::Entry;
+use std::marker::Model;
+
+/// What is left of a task's code: what stands next, the names in scope, the calls that are open. Contracts see, by the numbers of nodes, what
+/// of a program stands next, and for how many silent steps and events there is room.
+#[derive(Drop)]
+pub struct Control {
+    stack: Stack<Frame>,
+    names: Names,
+    /// Where the names of the function that was called last begin.
+    base: usize,
+    /// What the last call that ended gave.
+    returned: Option<i32>,
+    /// For how many silent steps there is room.
+    spare: usize,
+    /// For how many events there is room.
+    passes: usize,
+    /// How many frames and names the step that is under way may add.
+    frames_now: usize,
+    names_now: usize,
+    /// How many names a step may bring.
+    step_names: usize,
+    /// How many names fit in all.
+    room: usize,
+}
+
+impl Model for Control {
+    ghost use Rattle.c_steps.specs.Held.{Held};
+    ghost use Rattle.c_steps.specs.Rooming.{HasRoomFor};
+
+    ghost Value = { Held };
+
+    ghost view = { λ control. record {
+        frames = control.stack.frames;
+        names = control.names.list;
+        base = control.base;
+        returned = control.returned;
+        spare = control.spare;
+        passes = control.passes;
+        frames_now = control.frames_now;
+        names_now = control.names_now;
+        step_names = control.step_names;
+        room = control.room;
+    } };
+
+    ghost invariant = { λ control. HasRoomFor control.stack.free control.names.free (record {
+        frames = control.stack.frames;
+        names = control.names.list;
+        base = control.base;
+        returned = control.returned;
+        spare = control.spare;
+        passes = control.passes;
+        frames_now = control.frames_now;
+        names_now = control.names_now;
+        step_names = control.step_names;
+        room = control.room;
+    }) };
+}
+
+impl Control {
+    /// The item that stands next begins.
+    fn begin(&mut self)
+        ensures { self.new ≡ record self.old { frames = begun self.old.frames } }
+    {
+        match self.stack.top() {
+            Some(Frame::One(_)) => {
+                self.stack.pop();
+            }
+            Some(Frame::Parts {
+                block,
+                place,
+                at,
+                names,
+            }) => self.stack.replace(Frame::Parts {
+                block,
+                place,
+                at: at + 1,
+                names,
+            }),
+            Some(Frame::Combining {
+                construct,
+                place,
+                at,
+                names,
+            }) => self.stack.replace(Frame::Combining {
+                construct,
+                place,
+                at: at + 1,
+                names,
+            }),
+            Some(Frame::Caller { .. }) | None => {}
+        }
+    }
+
+    /// A silent step begins, with the item that stands next.
+    fn step(&mut self)
+        requires { 0 < self.old.spare }
+        ensures { self.new ≡ stepping self.old }
+    {
+        self.begin();
+        self.spare -= 1;
+        self.frames_now = 3;
+        self.names_now = self.step_names;
+    }
+
+    /// An event is passed.
+    fn pass(&mut self)
+        requires { 0 < self.old.passes }
+        ensures { self.new ≡ passing self.old }
+    {
+        self.begin();
+        self.passes -= 1;
+        self.frames_now = 3;
+        self.names_now = 0;
+    }
+
+    /// A frame more.
+    fn push(&mut self, frame: Frame)
+        requires { 0 < self.old.frames_now }
+        ensures { self.new ≡ pushed frame self.old }
+    {
+        self.frames_now -= 1;
+        self.stack.push(frame);
+    }
+
+    /// An item more stands next.
+    fn then(&mut self, item: Item)
+        requires { 0 < self.old.frames_now }
+        ensures { self.new ≡ then_item item self.old }
+    {
+        self.push(Frame::One(item));
+    }
+
+    /// A name more is in scope.
+    fn bind(&mut self, entry: Entry)
+        requires { 0 < self.old.names_now }
+        ensures { self.new ≡ bound entry self.old }
+    {
+        self.names_now -= 1;
+        self.names.push(entry);
+    }
+
+    /// So many names of the function that was called last stay in scope.
+    fn cut(&mut self, count: usize)
+        ensures { self.new ≡ cut count self.old }
+    {
+        let own = self.names.len() - self.base;
+        self.names.truncate(self.base + count.min(own));
+    }
+}
