@@ -1,7 +1,7 @@
 -- What holds of the frames of a control, and where a step can be made.
-use Rattle.std.specs.Prelude.{ℕ, ◌+◌, ◌<◌, ◌≤◌, ◌≡◌, ◌^◌, true, List, [], ◌∷◌, length, Option, Some, None}
+use Rattle.std.specs.Prelude.{ℕ, ◌+◌, ◌<◌, ◌≤◌, ◌≡◌, ◌^◌, ℤ, true, List, [], ◌∷◌, length, drop}
 use Rattle.std.specs.List.{All}
-use Rattle.c_syntax.specs.Tree.{name_of}
+use Rattle.c_syntax.specs.Tree.{Tree, kind_of, name_of}
 use Rattle.c_syntax.specs.Numbered.{TreeView, tree_at}
 use Rattle.c_model.specs.declared.point.Work.{Work}
 use Rattle.c_model.specs.declared.point.Work.TheVariants as work
@@ -18,7 +18,10 @@ use Rattle.c_steps.specs.declared.frame.Frame.TheVariants as frame
 use Rattle.c_steps.specs.declared.next.Next.{Next}
 use Rattle.c_steps.specs.declared.next.Next.TheVariants as next
 use Rattle.c_steps.specs.Nodes.{IsPart, part_at}
-use Rattle.c_steps.specs.Items.{begun, item_at, todo_at}
+use Rattle.c_model.specs.declared.entry.Entry.{Entry}
+use Rattle.c_model.specs.Parts.{declarators_in, parts}
+use Rattle.c_model.specs.Clauses.{clause_in, listed_among}
+use Rattle.c_steps.specs.Items.{begun, calls_at, item_at, todo_at}
 use Rattle.c_steps.specs.Held.{Held}
 
 -- the numbers of a loop: each iteration has a value that a cell can hold
@@ -59,22 +62,61 @@ IsItem program (item.Release node id) = node < length program.trees
 IsItem program (item.TestLock node id to) = node < length program.trees
 IsItem program (item.Tested to) = Unit {0}
 
+-- so many of the first of these children are past
+unfoldable pub ArePast : (Tree → ℕ) → ℕ → List Tree → Type 0
+ArePast count at [] = Unit {0}
+ArePast count at (tree ∷ trees) = at ≤ count tree
+
+abbrev pub declarator_count : Tree → ℕ
+declarator_count tree = length (declarators_in (kind_of tree) tree)
+
+abbrev pub listed_count : Tree → ℕ
+listed_count tree = length (listed_among (clause_in (kind_of tree) tree))
+
+-- a place among the children of a node
+pub record IsAmong (program : TreeView) (count : Tree → ℕ) (node place at : ℕ) : Type 0 where
+  pub node : node < length program.trees
+  pub place : place ≤ length (parts (tree_at program.trees node))
+  pub past : ArePast count at (drop place (parts (tree_at program.trees node)))
+
 unfoldable pub IsFrame : TreeView → Frame → Type 0
 IsFrame program (frame.One it) = IsItem program it
-IsFrame program (frame.Parts block place at names) = block < length program.trees
-IsFrame program (frame.Combining construct place at names) = construct < length program.trees
+IsFrame program (frame.Parts block place at names) = IsAmong program declarator_count block place at
+IsFrame program (frame.Combining construct place at names) = IsAmong program listed_count construct place at
 IsFrame program (frame.Caller base to) = Unit {0}
 
 -- the frames are of this program
 abbrev pub AreFrames : TreeView → List Frame → Type 0
 AreFrames program frames = All (IsFrame program) frames
 
--- this stands next
-pub record IsFront (program : TreeView) (held : Held) (it : Item) : Type 0 where
-  pub is_item : IsItem program it
-  pub todo : todo_at program held.frames ≡ item_at program it ∷ todo_at program (begun held.frames)
+-- it has a place to go on
+unfoldable pub CanBegin : List Frame → Type 0
+CanBegin (frame.Parts block place at names ∷ frames) = at < 4294967295
+CanBegin (frame.Combining construct place at names ∷ frames) = at < 4294967295
+CanBegin other = Unit {0}
 
--- an answer but a silent step leaves control and cells as they were, and a silent step takes one from the spare
+-- this stands next
+pub record IsFront (program : TreeView) (frames : List Frame) (it : Item) : Type 0 where
+  pub is_item : IsItem program it
+  pub can_begin : CanBegin frames
+  pub todo : todo_at program frames ≡ item_at program it ∷ todo_at program (begun frames)
+  pub calls : (names : List Entry) → calls_at program names (begun frames) ≡ calls_at program names frames
+  pub begun : AreFrames program (begun frames)
+
+-- what a step can be made of
+pub record IsReady (program : TreeView) (held : Held) (it : Item) : Type 0 where
+  pub front : IsFront program held.frames it
+  pub frames : AreFrames program held.frames
+  pub spare : 0 < held.spare
+
+-- a silent step takes one from the spare
+pub record IsAfterStep (old new : Held) : Type 0 where
+  pub spare : new.spare + 1 ≡ old.spare
+  pub passes : new.passes ≡ old.passes
+  pub step_names : new.step_names ≡ old.step_names
+  pub room : new.room ≡ old.room
+
+-- an answer but a silent step leaves control and cells as they were
 unfoldable pub IsSettled : Next → Held → Store → Held → Store → Type 0
-IsSettled next.Quiet old cells new cells' = new.spare + 1 ≡ old.spare
-IsSettled other old cells new cells' = (new ≡ old) × (cells' ≡ cells)
+IsSettled next.Quiet old before new after = IsAfterStep old new
+IsSettled other old before new after = (new ≡ old) × (after ≡ before)

@@ -1,6 +1,8 @@
 //! What is left of a task's code.
 
 ghost use Rattle.std.specs.Prelude.{◌≡◌, ◌<◌, ◌-◌};
+ghost use Rattle.c_steps.specs.Items.{begun};
+ghost use Rattle.c_steps.specs.Ready.{CanBegin};
 ghost use Rattle.c_steps.specs.Moves.{bound, cut, passing, pushed, stepping, then_item};
 
 mod settling;
@@ -42,58 +44,63 @@ impl Model for Control {
     ghost Value = { Held };
 
     ghost view = { λ control. record {
-        frames = control.stack.frames;
-        names = control.names.list;
-        base = control.base;
-        returned = control.returned;
-        spare = control.spare;
-        passes = control.passes;
-        frames_now = control.frames_now;
-        names_now = control.names_now;
-        step_names = control.step_names;
-        room = control.room;
+      frames = control.stack.frames;
+      names = control.names.list;
+      base = control.base;
+      returned = control.returned;
+      spare = control.spare;
+      passes = control.passes;
+      frames_now = control.frames_now;
+      names_now = control.names_now;
+      step_names = control.step_names;
+      room = control.room;
     } };
 
     ghost invariant = { λ control. HasRoomFor control.stack.free control.names.free (record {
-        frames = control.stack.frames;
-        names = control.names.list;
-        base = control.base;
-        returned = control.returned;
-        spare = control.spare;
-        passes = control.passes;
-        frames_now = control.frames_now;
-        names_now = control.names_now;
-        step_names = control.step_names;
-        room = control.room;
+      frames = control.stack.frames;
+      names = control.names.list;
+      base = control.base;
+      returned = control.returned;
+      spare = control.spare;
+      passes = control.passes;
+      frames_now = control.frames_now;
+      names_now = control.names_now;
+      step_names = control.step_names;
+      room = control.room;
     }) };
 }
 
 impl Control {
     /// The item that stands next begins.
     fn begin(&mut self)
+        requires { CanBegin self.old.frames }
         ensures { self.new ≡ record self.old { frames = begun self.old.frames } }
     {
         match self.stack.top() {
             Some(Frame::One(_)) => {
                 self.stack.pop();
             }
-            Some(Frame::Parts {
-                block,
-                place,
-                at,
-                names,
-            }) => self.stack.replace(Frame::Parts {
+            Some(
+                Frame::Parts {
+                    block,
+                    place,
+                    at,
+                    names,
+                },
+            ) => self.stack.replace(Frame::Parts {
                 block,
                 place,
                 at: at + 1,
                 names,
             }),
-            Some(Frame::Combining {
-                construct,
-                place,
-                at,
-                names,
-            }) => self.stack.replace(Frame::Combining {
+            Some(
+                Frame::Combining {
+                    construct,
+                    place,
+                    at,
+                    names,
+                },
+            ) => self.stack.replace(Frame::Combining {
                 construct,
                 place,
                 at: at + 1,
@@ -105,7 +112,8 @@ impl Control {
 
     /// A silent step begins, with the item that stands next.
     fn step(&mut self)
-        requires { 0 < self.old.spare }
+        requires begin { CanBegin self.old.frames }
+        requires spare { 0 < self.old.spare }
         ensures { self.new ≡ stepping self.old }
     {
         self.begin();
@@ -116,7 +124,8 @@ impl Control {
 
     /// An event is passed.
     fn pass(&mut self)
-        requires { 0 < self.old.passes }
+        requires begin { CanBegin self.old.frames }
+        requires passes { 0 < self.old.passes }
         ensures { self.new ≡ passing self.old }
     {
         self.begin();

@@ -23,5 +23,8 @@ pub(crate) enum Frame {
         names: usize,
     },
     /// Below it stands what the function that called has left. Its names begin there, and the value goes to a target.
-    Caller { base: usize, to: Target },
+    Caller {
+        base: usize,
+        to: Target,
+    },
 }

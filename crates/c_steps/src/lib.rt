@@ -1,11 +1,15 @@
 //! What one task of a program does between events.
 #![tactic(auto)]
 
+mod code;
 mod control;
 mod frame;
 mod item;
+mod look;
 mod names;
 mod next;
 mod stack;
 
+pub use code::Code;
+pub use control::Control;
 pub use next::Next;

@@ -1,0 +1,96 @@
+//! What a frame says of what stands next.
+
+ghost use Rattle.std.specs.Prelude.{◌≡◌, ◌≤◌, ◌<◌, ◌+◌, ◌∷◌, [], length, drop, IfNone, IfSome};
+ghost use Rattle.c_syntax.specs.Tree.{kind_of};
+ghost use Rattle.c_syntax.specs.Numbered.{tree_at};
+ghost use Rattle.c_model.specs.Parts.{declarators_in};
+ghost use Rattle.c_steps.specs.Items.{item_at};
+ghost use Rattle.c_steps.specs.Looking.{Looks};
+ghost use Rattle.c_steps.specs.Ready.{IsFrame, IsItem};
+ghost use Rattle.c_model.specs.Task.{item_of_part};
+ghost use Rattle.c_steps.specs.declared.frame.Frame.TheVariants.{Parts as parts_frame};
+
+use crate::code::Code;
+use crate::frame::Frame;
+use crate::item::Item;
+use c_syntax::NodeKind;
+
+/// What a frame on top says of what stands next.
+#[derive(Clone, Copy)]
+pub(crate) enum Look {
+    /// This item stands next.
+    Found(Item),
+    /// Another frame says the same.
+    Instead(Frame),
+    /// Nothing is left of it.
+    Over,
+    /// Nothing stands next in this function.
+    Nothing,
+}
+
+/// What a frame on top says of what stands next.
+pub(crate) fn look(code: &Code, frame: Frame) -> Look
+    requires { IsFrame code.now frame }
+    ensures { Looks code.now frame result }
+{
+    match frame {
+        Frame::One(item) => Look::Found(item),
+        Frame::Parts {
+            block,
+            place,
+            at,
+            names,
+        } => look_at_parts(code, block, place, at, names),
+        Frame::Combining { .. } => Look::Over,
+        Frame::Caller { .. } => Look::Nothing,
+    }
+}
+
+/// What the parts of a block say that are left.
+fn look_at_parts(code: &Code, block: u32, place: u32, at: u32, names: usize) -> Look
+    requires { IsFrame code.now (parts_frame block place at names) }
+    ensures { Looks code.now (parts_frame block place at names) result }
+{
+    let Some(part) = code.child(Some(block), place) else {
+        return Look::Instead(Frame::One(Item::Leave(names)));
+    };
+    match declarator(code, part, at) {
+        None => Look::Instead(Frame::Parts {
+            block,
+            place: place + 1,
+            at: 0,
+            names,
+        }),
+        Some(node) => Look::Found(item_of_part(code, node)),
+    }
+}
+
+/// A part of a block as an item.
+fn item_of_part(code: &Code, node: u32) -> Item
+    requires { node < length code.now.trees }
+    ensures item { item_at code.now result ≡ item_of_part (tree_at code.now.trees node) }
+    ensures is_item { IsItem code.now result }
+{
+    match code.kind(Some(node)) {
+        NodeKind::Name | NodeKind::LocalVar | NodeKind::LocalArray | NodeKind::LocalSet => {
+            Item::Declare(node)
+        }
+        _ => Item::Start(Some(node)),
+    }
+}
+
+/// The declarator of a part of a block behind so many. What declares no names is its own only one.
+fn declarator(code: &Code, part: u32, at: u32) -> Option<u32>
+    requires part { part < length code.now.trees }
+    requires past { at ≤ length (declarators_in (kind_of (tree_at code.now.trees part)) (tree_at code.now.trees part)) }
+    ensures found { IfSome result (λ node. drop at (declarators_in (kind_of (tree_at code.now.trees part)) (tree_at code.now.trees part)) ≡ tree_at code.now.trees node ∷ drop (at + 1) (declarators_in (kind_of (tree_at code.now.trees part)) (tree_at code.now.trees part))) }
+    ensures none { IfNone result (drop at (declarators_in (kind_of (tree_at code.now.trees part)) (tree_at code.now.trees part)) ≡ []) }
+    ensures node { IfSome result (λ node. node < length code.now.trees) }
+    ensures fits { IfSome result (λ node. at < 4294967295) }
+{
+    match code.kind(Some(part)) {
+        NodeKind::Globals | NodeKind::Locals | NodeKind::Locks => code.child(Some(part), at),
+        _ if at == 0 => Some(part),
+        _ => None,
+    }
+}
