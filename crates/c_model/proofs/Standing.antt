@@ -72,7 +72,7 @@ fits-binds here bound items = fits-choice _ _ _ _ (fits-limit _ _) (fits-step _)
 fits-enters : (here : Here) (function : Tree) (call : OpenCall) (bound : Bound) → Fits (enters here function call bound) false
 fits-enters here function call bound = search (fits-choice, fits-limit, fits-step)
 
-fits-call : (here : Here) (call : Tree) (env : List Entry) (to : Target) → Fits (begin_call here call env to) false
+pub fits-call : (here : Here) (call : Tree) (env : List Entry) (to : Target) → Fits (begin_call here call env to) false
 fits-call here call env to = search (fits-result, fits-enters)
 
 fits-right : (kind : NodeKind) (here : Here) (call : Tree) (env : List Entry) (to : Target) → Fits (begin_right kind here call env to) (is_test kind)
@@ -90,7 +90,7 @@ fits-first-step : (kind : NodeKind) (here : Here) (tree : Tree) (items : List It
 fits-first-step node.Init here tree items = search fits
 fits-first-step other here tree items = fits-step-of other here tree items
 
-fits-return : (kind : NodeKind) (here : Here) (tree : Tree) → Fits (begin_return_of kind here tree) (is_test kind)
+pub fits-return : (kind : NodeKind) (here : Here) (tree : Tree) → Fits (begin_return_of kind here tree) (is_test kind)
 fits-return node.Call here tree = fits-call here tree here.task.env target.Return
 fits-return node.TestLock here tree = fits-event _ _
 fits-return other here tree = search fits
@@ -131,7 +131,7 @@ fits-inside (node.Construct directive.ParallelFor) here tree = search fits
 fits-inside (node.Construct directive.ParallelSections) here tree = fits-event _ _
 fits-inside other here tree = fits-step _
 
-fits-statement : (kind : NodeKind) (here : Here) (tree : Tree) → Fits (begin_statement kind here tree) (is_event_statement kind tree)
+pub fits-statement : (kind : NodeKind) (here : Here) (tree : Tree) → Fits (begin_statement kind here tree) (is_event_statement kind tree)
 fits-statement node.Empty here tree = fits-step _
 fits-statement node.Block here tree = fits-step _
 fits-statement node.If here tree = search fits
@@ -147,7 +147,7 @@ fits-statement (node.Standalone which) here tree = fits-standalone which tree
 fits-statement (node.Construct which) here tree = fits-construct which here tree
 fits-statement other here tree = fits-step _
 
-fits-item : (item : Item) (here : Here) → Fits (step_of item here) (is_event item)
+pub fits-item : (item : Item) (here : Here) → Fits (step_of item here) (is_event item)
 fits-item (Start tree) here = fits-statement (kind_of tree) here tree
 fits-item (Declare tree) here = fits-declares (kind_of tree) here tree
 fits-item (Leave names) here = fits-step _
