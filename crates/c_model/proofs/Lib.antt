@@ -6,6 +6,7 @@ pub mod Waiting
 pub mod Tasks
 pub mod Criticals
 pub mod Standing
+pub mod Occurring
 pub mod Settled
 pub mod Answers
 pub mod KnownValues

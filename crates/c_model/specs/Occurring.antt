@@ -1,4 +1,6 @@
 -- Of which item an event is.
+use Rattle.c_model.specs.declared.point.MutexKind.{MutexKind}
+use Rattle.c_model.specs.declared.point.MutexKind.TheVariants as mutex
 use Rattle.c_model.specs.declared.point.Point.{Point}
 use Rattle.c_model.specs.declared.point.Point.TheVariants.{LockDestroy, LockInit, MaskedBegin, MaskedEnd, MutexAcquire, MutexAcquired, MutexReleased, ParallelBegin, ParallelEnd, Sync as SyncPoint, TaskCreate, WorkBegin, WorkEnd}
 use Rattle.c_model.specs.declared.point.SyncStage.{SyncStage}
@@ -12,6 +14,11 @@ unfoldable pub IsFirstStage : SyncStage → Type 0
 IsFirstStage stage.RegionBegin = Unit {0}
 IsFirstStage other = ⊥
 
+-- what a declarator is set to is no lock's but a test's
+unfoldable pub IsOfTest : MutexKind → Type 0
+IsOfTest mutex.TestLock = Unit {0}
+IsOfTest other = ⊥
+
 unfoldable pub IsOfItem : Point → Item → Type 0
 IsOfItem (ParallelBegin codeptr requested) (Start tree) = Unit {0}
 IsOfItem (ParallelEnd codeptr) (Forked construct) = Unit {0}
@@ -24,7 +31,7 @@ IsOfItem (MaskedEnd codeptr) (EndMasked construct) = Unit {0}
 IsOfItem (SyncPoint codeptr kind stage) (Start tree) = IsFirstStage stage
 IsOfItem (SyncPoint codeptr kind stage) (Sync tree of at) = Unit {0}
 IsOfItem (MutexAcquire codeptr id kind to) (Start tree) = Unit {0}
-IsOfItem (MutexAcquire codeptr id kind to) (Initialise tree entry) = Unit {0}
+IsOfItem (MutexAcquire codeptr id kind to) (Initialise tree entry) = IsOfTest kind
 IsOfItem (MutexAcquired codeptr id kind) (Acquire tree of which) = Unit {0}
 IsOfItem (MutexReleased codeptr id kind) (Start tree) = Unit {0}
 IsOfItem (MutexReleased codeptr id kind) (Release tree which) = Unit {0}

@@ -17,12 +17,16 @@ use Rattle.c_model.specs.Calls.{file_bound}
 use Rattle.c_model.specs.Task.{Item, OpenCall, Task, is_declarator}
 use Rattle.c_model.specs.Task.Item.{Start, Declare, Leave, Test, Third, Initialise, Return, FallOff, Forked, Inside, MakeCells, NextChunk, Iterations, NextSection, Combine, EndWork, EndMasked, Sync, Acquire, Release, TestLock, Tested}
 
--- how many names a statement itself brings into scope: a block its declarators, a loop its variable, a construct its copies
+-- how many names a statement declares: a block those of its declarators, a loop and a directive's loop its variable
+abbrev pub declared_names : NodeKind → Tree → ℕ
+declared_names node.Block tree = count_by (λ (part : Tree). is_declarator (kind_of part)) (flat_declarations (parts tree))
+declared_names node.For tree = 1
+declared_names (node.Construct which) tree = 1
+declared_names other tree = 0
+
+-- how many names it brings into scope itself: beside those the copies that its clauses list, and those of a task by rule
 abbrev pub own_names : TreeView → NodeKind → Tree → ℕ
-own_names program node.Block tree = count_by (λ (part : Tree). is_declarator (kind_of part)) (flat_declarations (parts tree))
-own_names program node.For tree = 1
-own_names program (node.Construct which) tree = length (listed_among (clauses_of tree)) + 1 + length (task_copies program tree)
-own_names program other tree = 0
+own_names program kind tree = declared_names kind tree + length (listed_among (clauses_of tree)) + length (task_copies program tree)
 
 -- how many names there are at most beside those around a statement, while it is executed
 unfoldable mutual

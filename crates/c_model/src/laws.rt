@@ -2,6 +2,7 @@
 
 ghost use Rattle.std.specs.Prelude.{◌≡◌, Bool, [], pos, unwrap_or};
 ghost use Rattle.c_syntax.specs.Numbered.{TreeView};
+ghost use Rattle.c_syntax.specs.Tree.{Tree as Part};
 ghost use Rattle.c_model.specs.declared.view.View.{View as Seen};
 ghost use Rattle.c_model.specs.declared.point.Point.{Point as Event};
 ghost use Rattle.c_model.specs.declared.question.Answer.{Answer as Given};
@@ -9,9 +10,10 @@ ghost use Rattle.c_model.specs.Answers.{Answers, AsksFor};
 ghost use Rattle.c_model.specs.Begin.{explicit_task};
 ghost use Rattle.c_model.specs.Going.{after_answer, after_event};
 ghost use Rattle.c_model.specs.Task.{Moment, Task};
-ghost use Rattle.c_model.specs.Task.Outcome.{Ends};
+ghost use Rattle.c_model.specs.Task.Outcome.{Ends, Occurs};
 ghost use Rattle.c_model.specs.Standing.{Fits};
 ghost use Rattle.c_model.specs.Known.{IsKnown};
+ghost use Rattle.c_model.specs.Occurring.{IsOfNext};
 ghost use Rattle.c_model.specs.Step.{settled_moment, settled_task, silent, stands};
 
 /// What stands next tells by its form alone, without cells, whether an event or the end comes: then nothing is a silent step and
@@ -54,4 +56,11 @@ pub fn traps_and_limits_are_known()
 pub fn answers_are_asked_for()
     ensures { (program : TreeView) (view : Seen) (given : Given) (now : Moment) → Answers view now.task given →
         AsksFor (silent program view now) given }
+{}
+
+/// An event is of what stands next: which events an item may have is told by its form, and by the stage of a barrier or the kind of a lock.
+#[tactic(auto, using(crate::proofs::Occurring::event_is_of_next))]
+pub fn events_are_of_what_stands_next()
+    ensures { (program : TreeView) (view : Seen) (now : Moment) (point : Event) (tree : Part) →
+        silent program view now ≡ Occurs point tree → IsOfNext point (settled_task view now.task).todo }
 {}
