@@ -1,6 +1,6 @@
 -- The children of a node by their places, and its parts, which are those up to the first absent one.
 use Rattle.std.proofs.Math.Option.{some-injective}
-use Rattle.std.proofs.Common.{◌≡◌, ℕ, zero, suc, ◌+◌, ◌≤◌, List, [], ◌∷◌, length, drop, Option, Some, None, refl, ap, arith}
+use Rattle.std.proofs.Common.{◌≡◌, ℕ, zero, suc, ◌+◌, ◌≤◌, List, [], ◌∷◌, length, drop, Option, Some, None, refl, ap, arith, rules}
 use Rattle.c_syntax.specs.Tree.{Tree, Children, at_place}
 use Rattle.c_syntax.specs.Tree.Children.{Over, Child, Absent}
 use Rattle.c_model.specs.Parts.{trees_in}

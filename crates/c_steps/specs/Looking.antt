@@ -42,7 +42,7 @@ pub record IsOver (program : TreeView) (it : Frame) : Type 0 where
   pub calls : (names : List Entry) (frames : List Frame) → calls_at program names frames ≡ calls_at program names (it ∷ frames)
   pub less : 0 < weight program it
 
-unfoldable pub Looks : TreeView → Frame → Look → Type 0
+abbrev pub Looks : TreeView → Frame → Look → Type 0
 Looks program it (look.Found found) = ShowsItem program it found
 Looks program it (look.Instead other) = IsInPlaceOf program it other
 Looks program it look.Over = IsOver program it

@@ -9,6 +9,6 @@ part_at trees None = nothing
 part_at trees (Some node) = tree_at trees node
 
 -- it is a node of the trees, if there is one
-unfoldable pub IsPart : List Tree → Option ℕ → Type 0
+abbrev pub IsPart : List Tree → Option ℕ → Type 0
 IsPart trees None = Unit {0}
 IsPart trees (Some node) = node < length trees

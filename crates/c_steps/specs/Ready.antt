@@ -9,7 +9,7 @@ use Rattle.c_model.specs.declared.point.Point.{Point}
 use Rattle.c_model.specs.declared.point.Point.TheVariants as point
 use Rattle.c_model.specs.Cells.{fits_cell}
 use Rattle.c_model.specs.Loops.{iteration_value, loop_of}
-use Rattle.c_model.specs.Task.{Store}
+use Rattle.c_model.specs.Task.{Store, is_declarator}
 use Rattle.c_steps.specs.declared.item.Loop.{Loop}
 use Rattle.c_steps.specs.declared.item.Item.{Item}
 use Rattle.c_steps.specs.declared.item.Item.TheVariants as item
@@ -26,8 +26,8 @@ use Rattle.c_steps.specs.Held.{Held}
 
 -- the numbers of a loop: each iteration has a value that a cell can hold
 pub record AreLoopNumbers (start : ℤ) (count : ℕ) (step : ℤ) : Type 0 where
-  pub start : fits_cell start ≡ true
-  pub count : count ≤ 2 ^ 32
+  pub first : fits_cell start ≡ true
+  pub few : count ≤ 2 ^ 32
   pub values : (iteration : ℕ) → iteration < count → fits_cell (iteration_value start step iteration) ≡ true
 
 -- what is kept of a loop is the directive's
@@ -38,9 +38,9 @@ pub record IsLoop (program : TreeView) (it : Loop) : Type 0 where
   pub body : part_at program.trees it.body ≡ (loop_of (tree_at program.trees it.construct)).body
   pub numbers : AreLoopNumbers it.start it.count it.step
 
-unfoldable pub IsItem : TreeView → Item → Type 0
+abbrev pub IsItem : TreeView → Item → Type 0
 IsItem program (item.Start part) = IsPart program.trees part
-IsItem program (item.Declare node) = node < length program.trees
+IsItem program (item.Declare node) = (node < length program.trees) × (is_declarator (kind_of (tree_at program.trees node)) ≡ true)
 IsItem program (item.Leave names) = Unit {0}
 IsItem program (item.Test node names) = node < length program.trees
 IsItem program (item.Third node names) = node < length program.trees
@@ -63,7 +63,7 @@ IsItem program (item.TestLock node id to) = node < length program.trees
 IsItem program (item.Tested to) = Unit {0}
 
 -- so many of the first of these children are past
-unfoldable pub ArePast : (Tree → ℕ) → ℕ → List Tree → Type 0
+abbrev pub ArePast : (Tree → ℕ) → ℕ → List Tree → Type 0
 ArePast count at [] = Unit {0}
 ArePast count at (tree ∷ trees) = at ≤ count tree
 
@@ -75,11 +75,11 @@ listed_count tree = length (listed_among (clause_in (kind_of tree) tree))
 
 -- a place among the children of a node
 pub record IsAmong (program : TreeView) (count : Tree → ℕ) (node place at : ℕ) : Type 0 where
-  pub node : node < length program.trees
-  pub place : place ≤ length (parts (tree_at program.trees node))
-  pub past : ArePast count at (drop place (parts (tree_at program.trees node)))
+  pub is_node : node < length program.trees
+  pub is_place : place ≤ length (parts (tree_at program.trees node))
+  pub are_past : ArePast count at (drop place (parts (tree_at program.trees node)))
 
-unfoldable pub IsFrame : TreeView → Frame → Type 0
+abbrev pub IsFrame : TreeView → Frame → Type 0
 IsFrame program (frame.One it) = IsItem program it
 IsFrame program (frame.Parts block place at names) = IsAmong program declarator_count block place at
 IsFrame program (frame.Combining construct place at names) = IsAmong program listed_count construct place at
@@ -90,7 +90,7 @@ abbrev pub AreFrames : TreeView → List Frame → Type 0
 AreFrames program frames = All (IsFrame program) frames
 
 -- it has a place to go on
-unfoldable pub CanBegin : List Frame → Type 0
+abbrev pub CanBegin : List Frame → Type 0
 CanBegin (frame.Parts block place at names ∷ frames) = at < 4294967295
 CanBegin (frame.Combining construct place at names ∷ frames) = at < 4294967295
 CanBegin other = Unit {0}
@@ -117,6 +117,6 @@ pub record IsAfterStep (old new : Held) : Type 0 where
   pub room : new.room ≡ old.room
 
 -- an answer but a silent step leaves control and cells as they were
-unfoldable pub IsSettled : Next → Held → Store → Held → Store → Type 0
+abbrev pub IsSettled : Next → Held → Store → Held → Store → Type 0
 IsSettled next.Quiet old before new after = IsAfterStep old new
 IsSettled other old before new after = (new ≡ old) × (after ≡ before)

@@ -29,7 +29,7 @@ pub(crate) enum Look {
 }
 
 /// What a frame on top says of what stands next.
-pub(crate) fn look(code: &Code, frame: Frame) -> Look
+pub(crate) fn look_at(code: &Code, frame: Frame) -> Look
     requires { IsFrame code.now frame }
     ensures { Looks code.now frame result }
 {

@@ -9,7 +9,7 @@ ghost use Rattle.c_steps.specs.Ready.{AreFrames, IsFront, IsItem};
 use crate::code::Code;
 use crate::control::Control;
 use crate::item::Item;
-use crate::look::{Look, look};
+use crate::look::{Look, look_at};
 use c_model::View;
 use c_syntax::{Directive, NodeKind};
 
@@ -24,7 +24,7 @@ impl Control {
         ensures none { IfNone result (todo_at code.now self.new.frames ≡ []) }
     {
         while let Some(frame) = self.stack.top() {
-            match look(code, frame) {
+            match look_at(code, frame) {
                 Look::Nothing => return None,
                 Look::Over => {
                     self.stack.pop();
