@@ -1,0 +1,6 @@
+//! The interpreter of a task's code.
+#![tactic(auto)]
+
+mod cells;
+mod names;
+mod stack;
