@@ -1,5 +1,5 @@
 -- The parts of the loop that a construct shares out (OpenMP 5.2, 4.4.1).
-use Rattle.std.specs.Prelude.{ℕ, ℤ, pos, neg_ℤ, ◌≤◌, if◌then◌else◌, Option, Some, None}
+use Rattle.std.specs.Prelude.{ℕ, ℤ, pos, neg_ℤ, if◌then◌else◌, Option, Some, None}
 use Rattle.c_syntax.specs.declared.node.BinaryOp.{BinaryOp}
 use Rattle.c_syntax.specs.declared.node.Bump.TheVariants as bump
 use Rattle.c_syntax.specs.declared.node.Setting.TheVariants as setting
@@ -7,7 +7,6 @@ use Rattle.c_syntax.specs.declared.node.NodeKind.{NodeKind}
 use Rattle.c_syntax.specs.declared.node.NodeKind.TheVariants as node
 use Rattle.c_syntax.specs.Tree.{Tree, child_of, children_of, kind_of, number_of}
 use Rattle.c_check.specs.Loops.{child_at, has_head, loop_name}
-use Rattle.c_check.specs.NameLists.{child_count}
 use Rattle.c_check.specs.Statements.{shares_loop, statement_of}
 
 -- in `for (i = a; i < b; i += c) body`: i, a, b, the body, the comparison, and c, which is negative where the loop goes down
@@ -59,7 +58,3 @@ parts_by_kind other construct = None
 -- none for a node that is no `for` or `parallel for`
 abbrev pub loop_parts : Tree → Option LoopParts
 loop_parts construct = parts_by_kind (kind_of construct) construct
-
--- more children than have a place of 32 bits: no text has so many clauses
-abbrev pub HasTooManyChildren : Tree → Type 0
-HasTooManyChildren tree = 4294967295 ≤ child_count (children_of tree)

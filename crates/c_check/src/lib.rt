@@ -30,9 +30,8 @@
 //! - the fault of a tree is one that it has, none that it has comes before it, and there is none exactly where no rule is broken, by
 //!   [`first_fault`];
 //! - after any acts a name is that of the nearest enclosing declaration before it, by [`nearest_declaration`];
-//! - [`Program::slot`], [`Program::sharing`], [`Program::task_copies`], [`Program::critical_number`] and [`Program::critical_count`] answer
-//!   what the definitions have, and [`Program::shared_loop`] does, but that it may answer `None` for a construct with more than
-//!   4,294,967,294 children.
+//! - [`Program::slot`], [`Program::sharing`], [`Program::task_copies`], [`Program::critical_number`], [`Program::critical_count`] and
+//!   [`Program::shared_loop`] answer what the definitions have.
 //!
 //! That the loop of each `for` construct of a checked program has parts is not proved. Which sentences of `docs/rules.md` the definitions
 //! stand for is to be read. The time and the memory are no clauses.

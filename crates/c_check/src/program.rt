@@ -1,9 +1,9 @@
 //! A program that breaks no rule.
 
-ghost use Rattle.std.specs.Prelude.{◌≡◌, ◌<◌, ◌⊎◌, None, Some, length, IfNone, IfSome};
+ghost use Rattle.std.specs.Prelude.{◌≡◌, ◌<◌, None, Some, length, IfNone, IfSome};
 ghost use Rattle.c_syntax.specs.Numbered.{tree_at};
 ghost use Rattle.c_check.specs.Checked.{Checked, end_of};
-ghost use Rattle.c_check.specs.LoopParts.{HasTooManyChildren, loop_parts};
+ghost use Rattle.c_check.specs.LoopParts.{loop_parts};
 ghost use Rattle.c_check.specs.Seen.{critical_count, critical_number, sharing_by_node, slot_of_name, task_copies};
 ghost use Rattle.c_check.specs.SharedLoops.{IsBefore, loop_at};
 ghost use Rattle.c_check.specs.Standing.{Stands};
@@ -117,12 +117,12 @@ impl Program {
         }
     }
 
-    /// The parts of the loop that a construct shares out. `None` for a node that is no `for` or `parallel for`, and it may be for
-    /// one with more children than a `u32` counts. That each other one has parts is not proved.
+    /// The parts of the loop that a construct shares out. `None` for a node that is no `for` or `parallel for`. That each other one has
+    /// parts is not proved.
     pub fn shared_loop(&self, construct: u32) -> Option<SharedLoop>
         requires { construct < length self.now.trees }
         ensures parts { IfSome result (λ found. loop_parts (tree_at self.now.trees construct) ≡ Some (loop_at self.now.trees found)) }
-        ensures none { IfNone result ((loop_parts (tree_at self.now.trees construct) ≡ None) ⊎ HasTooManyChildren (tree_at self.now.trees construct)) }
+        ensures none { IfNone result (loop_parts (tree_at self.now.trees construct) ≡ None) }
         ensures before { IfSome result (λ found. IsBefore construct found) }
     {
         shared_loop(&self.tree, construct)

@@ -7,12 +7,10 @@ ghost use Rattle.c_syntax.specs.Derivation.{nothing};
 ghost use Rattle.c_syntax.specs.Numbered.{tree_at};
 ghost use Rattle.c_check.specs.Clauses as clauses;
 ghost use Rattle.c_check.specs.Statements as statements;
-ghost use Rattle.c_check.specs.LoopParts.{HasTooManyChildren};
 ghost use Rattle.c_check.specs.Loops.{has_form as is_of_form, loop_name as loop_name_of};
 ghost use Rattle.c_check.specs.Steps.{clause_in};
 
 use crate::acts::act::DataClause;
-use crate::acts::child_places::next_place;
 use crate::acts::node_acts::number_at;
 use crate::acts::role::Role;
 use crate::acts::shared_loops::{has_form, loop_name};
@@ -26,22 +24,17 @@ pub fn shares_loop(directive: Directive) -> bool
     matches!(directive, Directive::For | Directive::ParallelFor)
 }
 
-/// The name of the variable of the loop that a directive shares out, if it does and the loop has one. An error means that memory ran
-/// out.
-pub fn shared_loop_name(
-    tree: &Tree,
-    directive: Directive,
-    node: u32,
-) -> Result<Option<u32>, AllocError>
+/// The name of the variable of the loop that a directive shares out, if it does and the loop has one.
+pub fn shared_loop_name(tree: &Tree, directive: Directive, node: u32) -> Option<u32>
     requires { node < length tree.now.trees }
-    ensures { IfOk result (λ found. found ≡ (if statements.shares_loop directive then loop_name_of (statements.statement_of (children_of (tree_at tree.now.trees node))) else None)) }
+    ensures { result ≡ (if statements.shares_loop directive then loop_name_of (statements.statement_of (children_of (tree_at tree.now.trees node))) else None) }
 {
     if !shares_loop(directive) {
-        return Ok(None);
+        return None;
     }
-    match statement_of(tree, node)? {
-        Some(statement) => Ok(loop_name(tree, statement)),
-        None => Ok(None),
+    match statement_of(tree, node) {
+        Some(statement) => loop_name(tree, statement),
+        None => None,
     }
 }
 
@@ -58,7 +51,7 @@ pub fn has_odd_loop(
     if !shares_loop(directive) {
         return Ok(false);
     }
-    match statement_of(tree, node)? {
+    match statement_of(tree, node) {
         Some(statement) => Ok(!has_form(alloc, tree, statement)?),
         None => Ok(true),
     }
@@ -75,20 +68,19 @@ pub fn role_with(name: Option<u32>) -> Role
 }
 
 /// The statement of a construct, if there is one.
-pub fn statement_of(tree: &Tree, node: u32) -> Result<Option<u32>, AllocError>
+pub fn statement_of(tree: &Tree, node: u32) -> Option<u32>
     requires { node < length tree.now.trees }
-    ensures statement { IfOk result (λ found. unwrap_or (option_map (tree_at tree.now.trees) found) nothing ≡ statements.statement_of (children_of (tree_at tree.now.trees node))) }
-    ensures there { IfOk result (λ found. IfSome found (λ statement. statement < node)) }
-    ensures many { OnErr result (HasTooManyChildren (tree_at tree.now.trees node)) }
+    ensures statement { unwrap_or (option_map (tree_at tree.now.trees) result) nothing ≡ statements.statement_of (children_of (tree_at tree.now.trees node)) }
+    ensures there { IfSome result (λ statement. statement < node) }
 {
     let mut place = 0;
     while let Some(child) = tree.child(node, place) {
         if !is_head(tree.kind(child)) {
-            return Ok(Some(child));
+            return Some(child);
         }
-        place = next_place(place)?;
+        place += 1;
     }
-    Ok(None)
+    None
 }
 
 /// Whether a child of a construct stands before its statement.

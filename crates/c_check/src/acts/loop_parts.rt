@@ -1,12 +1,12 @@
 //! The parts of the loop that a construct shares out.
 
-ghost use Rattle.std.specs.Prelude.{◌≡◌, ◌<◌, ◌⊎◌, None, Some, length, pos, IfNone, IfSome};
+ghost use Rattle.std.specs.Prelude.{◌≡◌, ◌<◌, None, Some, length, pos, IfNone, IfSome};
 ghost use Rattle.std.specs.Option.{option_map};
 ghost use Rattle.c_syntax.specs.Tree.{number_of};
 ghost use Rattle.c_syntax.specs.Numbered.{tree_at};
 ghost use Rattle.c_check.specs.Loops.{child_at};
 ghost use Rattle.c_check.specs.SharedLoops.{IsBefore, loop_at};
-ghost use Rattle.c_check.specs.LoopParts.{HasTooManyChildren, comparison_of, loop_parts, parts_in, statement_parts, step_of};
+ghost use Rattle.c_check.specs.LoopParts.{comparison_of, loop_parts, parts_in, statement_parts, step_of};
 
 use crate::acts::directive::{shares_loop, statement_of};
 use crate::acts::shared_loops::{has_head, loop_name};
@@ -33,13 +33,13 @@ pub struct SharedLoop {
 pub fn shared_loop(tree: &Tree, construct: u32) -> Option<SharedLoop>
     requires { construct < length tree.now.trees }
     ensures parts { IfSome result (λ found. loop_parts (tree_at tree.now.trees construct) ≡ Some (loop_at tree.now.trees found)) }
-    ensures none { IfNone result ((loop_parts (tree_at tree.now.trees construct) ≡ None) ⊎ HasTooManyChildren (tree_at tree.now.trees construct)) }
+    ensures none { IfNone result (loop_parts (tree_at tree.now.trees construct) ≡ None) }
     ensures before { IfSome result (λ found. IsBefore construct found) }
 {
     match tree.kind(construct) {
         NodeKind::Construct(directive) if shares_loop(directive) => {
             match statement_of(tree, construct) {
-                Ok(Some(statement)) => statement_parts(tree, statement),
+                Some(statement) => statement_parts(tree, statement),
                 _ => None,
             }
         }

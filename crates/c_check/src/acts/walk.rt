@@ -332,7 +332,7 @@ impl Walk {
         requires there { AreThere tree.now.trees self.old }
         ensures { OnOk result (Puts tree.now.trees (texts.outside_acts (children_of (tree_at tree.now.trees node)) ++ Act.Enter (spot_of (tree_at tree.now.trees node)) directive (statements.name_of_critical (children_of (tree_at tree.now.trees node))) ∷ clauses.inside_acts (children_of (tree_at tree.now.trees node)) ++ statements.odd_loop directive (children_of (tree_at tree.now.trees node)) ++ texts.statements (statements.statement_role directive (children_of (tree_at tree.now.trees node))) (children_of (tree_at tree.now.trees node)) ++ Act.Leave ∷ []) (weight_below (tree_at tree.now.trees node)) self.old self.new) }
     {
-        let name = shared_loop_name(tree, directive, node)?;
+        let name = shared_loop_name(tree, directive, node);
         let odd = has_odd_loop(alloc, tree, directive, node)?;
         self.then(Task::Tell(Act::Leave))?;
         self.then(Task::Statements(role_with(name), node, 0))?;

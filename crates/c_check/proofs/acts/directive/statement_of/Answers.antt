@@ -2,7 +2,7 @@ use Rattle.std.proofs.Common.{◌+◌, refl, sym, ◌∙◌, arith}
 use Rattle.c_syntax.specs.Tree.{children_of}
 use Rattle.c_syntax.specs.Numbered.{tree_at}
 use Rattle.c_check.specs.Tasks.{from_place}
-use Rattle.c_check.proofs.Behind.{count_found, count_here, on_err, statement_none, statement_here, statement_behind}
+use Rattle.c_check.proofs.Behind.{count_found, count_here, statement_none, statement_here, statement_behind}
 use Rattle.c_check.proofs.acts.directive.statement_of.Goals as goal
 
 pub loop-child-init : goal.loop-child-init
@@ -16,18 +16,13 @@ returns-then-not-is_head-clause-statement c =
 
 pub loop-child-smaller : goal.loop-child-smaller
 loop-child-smaller c =
-    count_found c.args.tree.now.trees (children_of (tree_at c.args.tree.now.trees c.args.node)) c.loop-child.place c.in_ok-place.place c.in-Some.child c.in-Some.ensures.child c.in_ok-place.ensures.next
+    count_found c.args.tree.now.trees (children_of (tree_at c.args.tree.now.trees c.args.node)) c.loop-child.place (c.loop-child.place + 1) c.in-Some.child c.in-Some.ensures.child refl
 
 pub loop-child-preserved : goal.loop-child-preserved
 loop-child-preserved c = record {
-  statement = statement_behind c.args.tree.now.trees (children_of (tree_at c.args.tree.now.trees c.args.node)) c.loop-child.place c.in_ok-place.place c.in-Some.child c.in-Some.ensures.child c.in_ok-place.ensures.next (cc) ∙ c.loop-child.invariant.statement;
-  counted = omega (arith, count_here c.args.tree.now.trees (children_of (tree_at c.args.tree.now.trees c.args.node)) c.loop-child.place c.in_ok-place.place c.in-Some.child c.in-Some.ensures.child c.in_ok-place.ensures.next, c.loop-child.invariant.counted, c.in_ok-place.ensures.next);
+  statement = statement_behind c.args.tree.now.trees (children_of (tree_at c.args.tree.now.trees c.args.node)) c.loop-child.place (c.loop-child.place + 1) c.in-Some.child c.in-Some.ensures.child refl (cc) ∙ c.loop-child.invariant.statement;
+  counted = omega (arith, count_here c.args.tree.now.trees (children_of (tree_at c.args.tree.now.trees c.args.node)) c.loop-child.place (c.loop-child.place + 1) c.in-Some.child c.in-Some.ensures.child refl, c.loop-child.invariant.counted);
 }
-
-pub returns-in_err-place-clause-many : goal.returns-in_err-place-clause-many
-returns-in_err-place-clause-many c =
-    on_err c.from_residual.result
-    (omega (arith, count_here c.args.tree.now.trees (children_of (tree_at c.args.tree.now.trees c.args.node)) c.loop-child.place (c.loop-child.place + 1) c.in-Some.child c.in-Some.ensures.child refl, c.loop-child.invariant.counted, c.in_err-place.ensures.err))
 
 pub returns-clause-statement : goal.returns-clause-statement
 returns-clause-statement c =

@@ -14,7 +14,7 @@ returns c =
     let trees = c.args.tree.now.trees in
     let children = children_of (tree_at trees c.args.node) in
     let role : c.role_with.result ≡ statement_role c.args.directive children =
-    c.role_with.ensures ∙ shared_role c.args.directive children c.in_ok-name.name c.in_ok-name.ensures in
+    c.role_with.ensures ∙ shared_role c.args.directive children c.shared_loop_name-name.result c.shared_loop_name-name.ensures in
     on_ok_weaker c.then-5.result
     (λ put.
     let leave = c.in_ok-then.ensures trees tt c.requires.there in
