@@ -2,5 +2,6 @@
 #![tactic(auto)]
 
 mod cells;
+mod code;
 mod names;
 mod stack;
