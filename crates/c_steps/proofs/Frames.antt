@@ -7,7 +7,7 @@ use Rattle.c_steps.specs.Items.{parts_left}
 -- a block has all of its parts left when it is entered
 pub parts_left-whole : (trees : List Tree) → parts_left 0 trees ≡ flat_declarations trees
 parts_left-whole [] = refl
-parts_left-whole (tree ∷ trees) = refl
+parts_left-whole (tree ∷ trees) = ap (λ first. first ++ flat_declarations trees) (from-first (kind_of tree) tree)
 
 -- the first names stay where names go
 pub take-shorter : {X : Type 0} (base count : ℕ) (names : List X) → take base (take (base + count) names) ≡ take base names

@@ -1,11 +1,16 @@
 -- What the items and frames of a control stand for: the items of the definitions, over the trees that the nodes have the numbers of.
 use Rattle.std.specs.Prelude.{ℕ, ◌+◌, not, List, [], ◌∷◌, ◌++◌, length, drop, take}
 use Rattle.std.specs.List.{filter}
+use Rattle.c_syntax.specs.declared.node.Data.TheVariants as data_clause
+use Rattle.c_syntax.specs.declared.node.NodeKind.{NodeKind}
+use Rattle.c_syntax.specs.declared.node.NodeKind.TheVariants as node
 use Rattle.c_syntax.specs.Tree.{Tree, kind_of}
 use Rattle.c_syntax.specs.Numbered.{TreeView, tree_at}
 use Rattle.c_model.specs.declared.entry.Entry.{Entry}
-use Rattle.c_model.specs.Parts.{declarators_in, flat_declarations, parts}
-use Rattle.c_model.specs.Clauses.{Listed, clause_in, clauses_among, listed_among}
+use Rattle.c_check.specs.Loops.{child_at}
+use Rattle.c_model.specs.Parts.{flat_declarations}
+use Rattle.c_model.specs.Clauses.{Copying, Listed, clauses_among, listed_among, names_listed}
+use Rattle.c_model.specs.Clauses.Copying.{Private, First, Reduced}
 use Rattle.c_model.specs.Calls.{file_bound}
 use Rattle.c_model.specs.Copies.{combining_all, is_own_loop_variable}
 use Rattle.c_model.specs.Task.{Item, OpenCall, SharedLoop, items_of_parts}
@@ -16,6 +21,7 @@ use Rattle.c_steps.specs.declared.item.Item.TheVariants as item
 use Rattle.c_steps.specs.declared.frame.Frame.{Frame}
 use Rattle.c_steps.specs.declared.frame.Frame.TheVariants as frame
 use Rattle.c_steps.specs.Nodes.{part_at}
+use Rattle.c_steps.specs.Rests.{parts_from}
 
 -- the names of the file
 unfoldable pub file_names : TreeView → List Entry
@@ -59,25 +65,44 @@ item_at program (item.Release node id) = Release (tree_at program.trees node) id
 item_at program (item.TestLock node id to) = TestLock (tree_at program.trees node) id to
 item_at program (item.Tested to) = Tested to
 
--- of these children of a block, what is left behind so many declarators of the first
+-- the declarators for which a part of a block stands, behind so many
+abbrev pub declarators_from : NodeKind → Tree → ℕ → List Tree
+declarators_from node.Globals tree at = parts_from tree at
+declarators_from node.Locals tree at = parts_from tree at
+declarators_from node.Locks tree at = parts_from tree at
+declarators_from other tree at = drop at (tree ∷ [])
+
+-- of these parts of a block, what is left behind so many declarators of the first
 unfoldable pub parts_left : ℕ → List Tree → List Tree
 parts_left at [] = []
-parts_left at (tree ∷ trees) = drop at (declarators_in (kind_of tree) tree) ++ flat_declarations trees
+parts_left at (tree ∷ trees) = declarators_from (kind_of tree) tree at ++ flat_declarations trees
 
--- of these children of a construct, the variables that are listed behind so many of the first
+-- the names that a clause lists, behind so many
+abbrev pub listed_from : NodeKind → Tree → ℕ → List Listed
+listed_from (node.Data data_clause.Private) clause at = names_listed Private (parts_from clause at)
+listed_from (node.Data data_clause.Firstprivate) clause at = names_listed First (parts_from clause at)
+listed_from (node.Reduction operator) clause at = names_listed (Reduced operator) (parts_from clause at)
+listed_from other clause at = []
+
+abbrev pub listed_in : NodeKind → Tree → ℕ → List Listed
+listed_in (node.Clause lead) tree at = listed_from (kind_of (child_at tree 0)) (child_at tree 0) at
+listed_in other tree at = []
+
+-- of these parts of a construct, the variables that are listed behind so many of the first
 unfoldable pub listed_left : ℕ → List Tree → List Listed
 listed_left at [] = []
-listed_left at (tree ∷ trees) = drop at (listed_among (clause_in (kind_of tree) tree)) ++ listed_among (clauses_among trees)
+listed_left at (tree ∷ trees) = listed_in (kind_of tree) tree at ++ listed_among (clauses_among trees)
 
+-- the reductions of a construct that are left
 abbrev pub combining_left : Tree → ℕ → ℕ → ℕ → List Item
 combining_left construct place at names =
-    combining_all names (filter (λ (listed : Listed). not (is_own_loop_variable construct listed.name)) (listed_left at (drop place (parts construct))))
+    combining_all names (filter (λ (listed : Listed). not (is_own_loop_variable construct listed.name)) (listed_left at (parts_from construct place)))
 
 -- what stands next by a frame, before what the frames below it say
 abbrev pub items_at : TreeView → Frame → List Item
 items_at program (frame.One it) = item_at program it ∷ []
 items_at program (frame.Parts block place at names) =
-    items_of_parts (parts_left at (drop place (parts (tree_at program.trees block)))) ++ Leave (with_file program names) ∷ []
+    items_of_parts (parts_left at (parts_from (tree_at program.trees block) place)) ++ Leave (with_file program names) ∷ []
 items_at program (frame.Combining construct place at names) =
     combining_left (tree_at program.trees construct) place at (with_file program names)
 items_at program (frame.Caller base to) = []

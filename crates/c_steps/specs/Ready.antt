@@ -1,5 +1,5 @@
 -- What holds of the frames of a control, and where a step can be made.
-use Rattle.std.specs.Prelude.{ℕ, ◌+◌, ◌<◌, ◌≤◌, ◌≡◌, ◌^◌, ℤ, true, List, [], ◌∷◌, length, drop}
+use Rattle.std.specs.Prelude.{ℕ, ◌+◌, ◌<◌, ◌≤◌, ◌≡◌, ◌^◌, ℤ, true, List, [], ◌∷◌, length}
 use Rattle.std.specs.List.{All}
 use Rattle.c_syntax.specs.Tree.{Tree, kind_of, name_of}
 use Rattle.c_syntax.specs.Numbered.{TreeView, tree_at}
@@ -19,8 +19,6 @@ use Rattle.c_steps.specs.declared.next.Next.{Next}
 use Rattle.c_steps.specs.declared.next.Next.TheVariants as next
 use Rattle.c_steps.specs.Nodes.{IsPart, part_at}
 use Rattle.c_model.specs.declared.entry.Entry.{Entry}
-use Rattle.c_model.specs.Parts.{declarators_in, parts}
-use Rattle.c_model.specs.Clauses.{clause_in, listed_among}
 use Rattle.c_steps.specs.Items.{begun, calls_at, item_at, todo_at}
 use Rattle.c_steps.specs.Held.{Held}
 
@@ -62,27 +60,10 @@ IsItem program (item.Release node id) = node < length program.trees
 IsItem program (item.TestLock node id to) = node < length program.trees
 IsItem program (item.Tested to) = Unit {0}
 
--- so many of the first of these children are past
-abbrev pub ArePast : (Tree → ℕ) → ℕ → List Tree → Type 0
-ArePast count at [] = Unit {0}
-ArePast count at (tree ∷ trees) = at ≤ count tree
-
-abbrev pub declarator_count : Tree → ℕ
-declarator_count tree = length (declarators_in (kind_of tree) tree)
-
-abbrev pub listed_count : Tree → ℕ
-listed_count tree = length (listed_among (clause_in (kind_of tree) tree))
-
--- a place among the children of a node
-pub record IsAmong (program : TreeView) (count : Tree → ℕ) (node place at : ℕ) : Type 0 where
-  pub is_node : node < length program.trees
-  pub is_place : place ≤ length (parts (tree_at program.trees node))
-  pub are_past : ArePast count at (drop place (parts (tree_at program.trees node)))
-
 abbrev pub IsFrame : TreeView → Frame → Type 0
 IsFrame program (frame.One it) = IsItem program it
-IsFrame program (frame.Parts block place at names) = IsAmong program declarator_count block place at
-IsFrame program (frame.Combining construct place at names) = IsAmong program listed_count construct place at
+IsFrame program (frame.Parts block place at names) = block < length program.trees
+IsFrame program (frame.Combining construct place at names) = construct < length program.trees
 IsFrame program (frame.Caller base to) = Unit {0}
 
 -- the frames are of this program

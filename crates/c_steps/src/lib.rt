@@ -1,6 +1,7 @@
 //! What one task of a program does between events.
 #![tactic(auto)]
 
+mod cells;
 mod code;
 mod control;
 mod frame;
@@ -10,6 +11,7 @@ mod names;
 mod next;
 mod stack;
 
+pub use cells::Cells;
 pub use code::Code;
 pub use control::Control;
 pub use next::Next;

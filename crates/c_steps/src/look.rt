@@ -1,10 +1,9 @@
 //! What a frame says of what stands next.
 
-ghost use Rattle.std.specs.Prelude.{◌≡◌, ◌≤◌, ◌<◌, ◌+◌, ◌∷◌, [], length, drop, IfNone, IfSome};
+ghost use Rattle.std.specs.Prelude.{◌≡◌, ◌<◌, ◌+◌, ◌∷◌, [], length, IfNone, IfSome};
 ghost use Rattle.c_syntax.specs.Tree.{kind_of};
 ghost use Rattle.c_syntax.specs.Numbered.{tree_at};
-ghost use Rattle.c_model.specs.Parts.{declarators_in};
-ghost use Rattle.c_steps.specs.Items.{item_at};
+ghost use Rattle.c_steps.specs.Items.{declarators_from, item_at};
 ghost use Rattle.c_steps.specs.Looking.{Looks};
 ghost use Rattle.c_steps.specs.Ready.{IsFrame, IsItem};
 ghost use Rattle.c_model.specs.Task.{item_of_part};
@@ -48,10 +47,10 @@ pub(crate) fn look_at(code: &Code, frame: Frame) -> Look
 
 /// What the parts of a block say that are left.
 fn look_at_parts(code: &Code, block: u32, place: u32, at: u32, names: usize) -> Look
-    requires { IsFrame code.now (parts_frame block place at names) }
+    requires { block < length code.now.trees }
     ensures { Looks code.now (parts_frame block place at names) result }
 {
-    let Some(part) = code.child(Some(block), place) else {
+    let Some(part) = code.part(block, place) else {
         return Look::Instead(Frame::One(Item::Leave(names)));
     };
     match declarator(code, part, at) {
@@ -81,15 +80,14 @@ fn item_of_part(code: &Code, node: u32) -> Item
 
 /// The declarator of a part of a block behind so many. What declares no names is its own only one.
 fn declarator(code: &Code, part: u32, at: u32) -> Option<u32>
-    requires part { part < length code.now.trees }
-    requires past { at ≤ length (declarators_in (kind_of (tree_at code.now.trees part)) (tree_at code.now.trees part)) }
-    ensures found { IfSome result (λ node. drop at (declarators_in (kind_of (tree_at code.now.trees part)) (tree_at code.now.trees part)) ≡ tree_at code.now.trees node ∷ drop (at + 1) (declarators_in (kind_of (tree_at code.now.trees part)) (tree_at code.now.trees part))) }
-    ensures none { IfNone result (drop at (declarators_in (kind_of (tree_at code.now.trees part)) (tree_at code.now.trees part)) ≡ []) }
+    requires { part < length code.now.trees }
+    ensures found { IfSome result (λ node. declarators_from (kind_of (tree_at code.now.trees part)) (tree_at code.now.trees part) at ≡ tree_at code.now.trees node ∷ declarators_from (kind_of (tree_at code.now.trees part)) (tree_at code.now.trees part) (at + 1)) }
+    ensures none { IfNone result (declarators_from (kind_of (tree_at code.now.trees part)) (tree_at code.now.trees part) at ≡ []) }
     ensures node { IfSome result (λ node. node < length code.now.trees) }
     ensures fits { IfSome result (λ node. at < 4294967295) }
 {
     match code.kind(Some(part)) {
-        NodeKind::Globals | NodeKind::Locals | NodeKind::Locks => code.child(Some(part), at),
+        NodeKind::Globals | NodeKind::Locals | NodeKind::Locks => code.part(part, at),
         _ if at == 0 => Some(part),
         _ => None,
     }

@@ -74,9 +74,10 @@ impl<T: Copy + Drop> Stack<T> {
     pub(crate) fn replace(&mut self, frame: T)
         ensures { self.new ≡ record self.old { frames = slice_set self.old.frames 0 frame } }
     {
-        if let Some(top) = self.items.last_mut() {
-            *top = frame;
-        }
+        let Some(_) = self.items.pop() else {
+            return;
+        };
+        self.items.push(frame).unwrap();
     }
 
     /// Nothing is left on it.
