@@ -1,31 +1,12 @@
--- Frames and names of a control.
-use Rattle.std.proofs.Common.{◌≡◌, ℕ, zero, suc, ◌+◌, ◌≤◌, List, [], ◌∷◌, ◌++◌, length, take, drop, refl, ap}
-use Rattle.c_syntax.specs.Tree.{Tree}
-use Rattle.c_model.specs.Parts.{flat_declarations}
-use Rattle.c_steps.specs.Items.{parts_left}
+-- Names of a control.
+use Rattle.std.proofs.Common.{◌≡◌, ℕ, ◌+◌, List, ◌++◌, length, take, drop, sym, ap, ◌∙◌, arith}
+use Rattle.std.proofs.lemmas.List.{drop-take, take-take}
+use Rattle.std.proofs.Math.Seq.{take-append-add}
 
--- a block has all of its parts left when it is entered
-pub parts_left-whole : (trees : List Tree) → parts_left 0 trees ≡ flat_declarations trees
-parts_left-whole [] = refl
-parts_left-whole (tree ∷ trees) = ap (λ first. first ++ flat_declarations trees) (from-first (kind_of tree) tree)
+-- the names of the functions that called stay where names go
+pub take_shorter : {X : Type 0} (base count : ℕ) (names : List X) → take base (take (base + count) names) ≡ take base names
+take_shorter base count names = take-take base (base + count) names (omega arith)
 
--- the first names stay where names go
-pub take-shorter : {X : Type 0} (base count : ℕ) (names : List X) → take base (take (base + count) names) ≡ take base names
-take-shorter zero count names = refl
-take-shorter (suc base) count [] = refl
-take-shorter (suc base) count (name ∷ names) = ap (λ rest. name ∷ rest) (take-shorter base count names)
-
--- the names of a function that stay
-pub drop-shorter : {X : Type 0} (base count : ℕ) (names : List X) → drop base (take (base + count) names) ≡ take count (drop base names)
-drop-shorter zero count names = refl
-drop-shorter (suc base) count [] = take-nothing count
-  where
-    take-nothing : {X : Type 0} (count : ℕ) → [] ≡ take count []
-    take-nothing zero = refl
-    take-nothing (suc count) = refl
-drop-shorter (suc base) count (name ∷ names) = drop-shorter base count names
-
--- the names of the file stay
-pub take-behind : {X : Type 0} (count : ℕ) (file names : List X) → take (length file + count) (file ++ names) ≡ file ++ take count names
-take-behind count [] names = refl
-take-behind count (first ∷ file) names = ap (λ rest. first ∷ rest) (take-behind count file names)
+-- so many names of a function stay, and those of the file
+pub cut_names : {X : Type 0} (base count : ℕ) (file names : List X) → file ++ drop base (take (base + count) names) ≡ take (length file + count) (file ++ drop base names)
+cut_names base count file names = ap (λ own. file ++ own) (drop-take base count names) ∙ sym (take-append-add file (drop base names) count)

@@ -1,2 +1,4 @@
 mod Frames
+mod Looking
 mod Rests
+mod Settling

@@ -28,6 +28,7 @@ pub(crate) enum Look {
 }
 
 /// What a frame on top says of what stands next.
+#[tactic(auto, using(crate::proofs::Looking::shows_one, crate::proofs::Looking::caller_nothing))]
 pub(crate) fn look_at(code: &Code, frame: Frame) -> Look
     requires { IsFrame code.now frame }
     ensures { Looks code.now frame result }
@@ -46,6 +47,7 @@ pub(crate) fn look_at(code: &Code, frame: Frame) -> Look
 }
 
 /// What the parts of a block say that are left.
+#[tactic(auto, using(crate::proofs::Looking::shows_part, crate::proofs::Looking::instead_next, crate::proofs::Looking::instead_leave))]
 fn look_at_parts(code: &Code, block: u32, place: u32, at: u32, names: usize) -> Look
     requires { block < length code.now.trees }
     ensures { Looks code.now (parts_frame block place at names) result }

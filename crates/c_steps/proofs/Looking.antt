@@ -1,0 +1,87 @@
+-- What a frame on top says of what stands next.
+use Rattle.std.proofs.Common.{◌≡◌, ℕ, ◌+◌, ◌<◌, List, [], ◌∷◌, ◌++◌, length, refl, sym, ap, ◌∙◌, arith, length-append}
+use Rattle.c_syntax.specs.declared.node.NodeKind.{NodeKind}
+use Rattle.c_syntax.specs.declared.node.NodeKind.TheVariants as node
+use Rattle.c_syntax.specs.Tree.{Tree, kind_of}
+use Rattle.c_syntax.specs.Numbered.{TreeView, tree_at}
+use Rattle.c_check.specs.Tasks.{from_place}
+use Rattle.c_model.specs.Parts.{declarators_in, flat_declarations}
+use Rattle.c_model.specs.Task.{item_of_part, items_of_parts}
+use Rattle.c_model.specs.Task.Item.{Leave}
+use Rattle.c_steps.specs.declared.item.Item.{Item}
+use Rattle.c_steps.specs.declared.item.Item.TheVariants as item
+use Rattle.c_steps.specs.declared.frame.Frame.{Frame}
+use Rattle.c_steps.specs.declared.frame.Frame.TheVariants as frame
+use Rattle.c_steps.specs.Items.{begun, calls_at, declarators_from, item_at, parts_left, todo_at, with_file}
+use Rattle.c_steps.specs.Ready.{IsFrame, IsItem}
+use Rattle.c_steps.specs.Rests.{parts_from}
+use Rattle.c_steps.specs.Looking.{IsInPlaceOf, ShowsItem, weight, weights}
+use Rattle.std.proofs.lemmas.List.Elements.{All-cons}
+
+-- a part of a block has all of its declarators left at first
+from-first : (kind : NodeKind) (tree : Tree) → declarators_from kind tree 0 ≡ declarators_in kind tree
+unfolding from_place
+from-first node.Globals tree = refl
+from-first node.Locals tree = refl
+from-first node.Locks tree = refl
+from-first other tree = refl
+
+-- a block has all of its parts left when it is entered
+pub parts_left_whole : (trees : List Tree) → parts_left 0 trees ≡ flat_declarations trees
+unfolding parts_left flat_declarations
+parts_left_whole [] = refl
+parts_left_whole (tree ∷ trees) = ap (λ first. first ++ flat_declarations trees) (from-first (kind_of tree) tree)
+
+-- an item that is a frame of its own
+pub shows_one : (program : TreeView) (it : Item) → IsItem program it → ShowsItem program (frame.One it) it
+unfolding todo_at calls_at weight weights
+shows_one program it is = record {
+  front = λ frames are. record { is_item = is; can_begin = tt; todo = refl; calls = λ names. refl; begun = are };
+  less = λ frames. omega arith;
+}
+
+module _ (program : TreeView) (block place at names : ℕ) where
+  abbrev here : Frame
+  here = frame.Parts block place at names
+
+  abbrev from : ℕ → List Tree
+  from place = parts_from (tree_at program.trees block) place
+
+  -- a part of a block
+  pub shows_part : (part found : Tree) (it : Item) → block < length program.trees → at < 4294967295 → from place ≡ part ∷ from (place + 1) → declarators_from (kind_of part) part at ≡ found ∷ declarators_from (kind_of part) part (at + 1) → item_at program it ≡ item_of_part found → IsItem program it → ShowsItem program here it
+  unfolding todo_at calls_at weight weights parts_left
+  shows_part part found it within fits parts declarators same is = record {
+    front = λ frames are. record {
+      is_item = is;
+      can_begin = fits;
+      todo = rw (parts, declarators, same) refl;
+      calls = λ names. refl;
+      begun = All-cons (IsFrame program) _ _ within are;
+    };
+    less = λ frames. rw (parts, declarators) (omega (arith));
+  }
+
+  -- the declarators of a part are over
+  pub instead_next : (part : Tree) → block < length program.trees → from place ≡ part ∷ from (place + 1) → declarators_from (kind_of part) part at ≡ [] → IsInPlaceOf program here (frame.Parts block (place + 1) 0 names)
+  unfolding todo_at calls_at weight parts_left
+  instead_next part within parts declarators = record {
+    is_frame = within;
+    todo = λ frames. rw (parts, declarators, parts_left_whole (from (place + 1))) refl;
+    calls = λ names frames. refl;
+    less = rw (parts, declarators, parts_left_whole (from (place + 1))) (omega arith);
+  }
+
+  -- the parts are over
+  pub instead_leave : from place ≡ [] → IsInPlaceOf program here (frame.One (item.Leave names))
+  unfolding todo_at calls_at weight parts_left
+  instead_leave parts = record {
+    is_frame = tt;
+    todo = λ frames. rw parts refl;
+    calls = λ names frames. refl;
+    less = omega arith;
+  }
+
+-- nothing stands next in a function where the one that called it has left something
+pub caller_nothing : (program : TreeView) (base : ℕ) (to : _) (frames : List Frame) → todo_at program (frame.Caller base to ∷ frames) ≡ []
+unfolding todo_at
+caller_nothing program base to frames = refl

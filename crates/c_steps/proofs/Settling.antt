@@ -1,0 +1,73 @@
+-- What stands next, where frames that are over go, and statements that the task goes past.
+use Rattle.std.proofs.Common.{◌≡◌, ℕ, true, false, List, [], ◌∷◌, Option, Some, None, slice_get, drop, refl, sym, ap, ◌∙◌, subst, rules}
+use Rattle.std.proofs.lemmas.List.Elements.{All-cons, All-head, All-tail}
+use Rattle.c_syntax.specs.Numbered.{TreeView}
+use Rattle.c_model.specs.declared.entry.Entry.{Entry}
+use Rattle.c_model.specs.declared.view.View.{View}
+use Rattle.c_model.specs.Step.{is_passed_over, items_from_next, settled_task}
+use Rattle.c_model.specs.Task.{Item as SeenItem}
+use Rattle.c_steps.specs.declared.item.Item.{Item}
+use Rattle.c_steps.specs.declared.frame.Frame.{Frame}
+use Rattle.c_steps.specs.Held.{Held, task_at}
+use Rattle.c_steps.specs.Items.{begun, calls_at, item_at, todo_at}
+use Rattle.c_steps.specs.Looking.{IsInPlaceOf, IsOver}
+use Rattle.c_steps.specs.Ready.{AreFrames, IsFrame, IsFront}
+
+pub record SettlesTo (program : TreeView) (view : View) (old new : List Frame) : Type 0 where
+  pub are_frames : AreFrames program new
+  pub todo : items_from_next view (todo_at program new) ≡ items_from_next view (todo_at program old)
+  pub calls : (names : List Entry) → calls_at program names new ≡ calls_at program names old
+
+-- the newest frame
+pub top_frame : (frames : List Frame) (it : Frame) → Some it ≡ slice_get frames 0 → frames ≡ it ∷ drop 1 frames
+top_frame [] it top = absurd (search rules)
+top_frame (first ∷ frames) it top = ap (λ frame. frame ∷ frames) (search rules)
+
+module _ (view : View) where
+  passes : (item : SeenItem) (items : List SeenItem) → is_passed_over item view ≡ true → items_from_next view (item ∷ items) ≡ items_from_next view items
+  unfolding items_from_next
+  passes item items past = rw past refl
+
+  stands : (item : SeenItem) (items : List SeenItem) → is_passed_over item view ≡ false → items_from_next view (item ∷ items) ≡ item ∷ items
+  unfolding items_from_next
+  stands item items stays = rw stays refl
+
+  ends : items_from_next view [] ≡ []
+  unfolding items_from_next
+  ends = refl
+
+module _ (program : TreeView) (view : View) (old : List Frame) where
+  pub settles_none : AreFrames program old → SettlesTo program view old old
+  settles_none are = record { are_frames = are; todo = refl; calls = λ names. refl }
+
+  pub settles_instead : (it other : Frame) (frames : List Frame) → SettlesTo program view old (it ∷ frames) → IsInPlaceOf program it other → SettlesTo program view old (other ∷ frames)
+  settles_instead it other frames so same = record {
+    are_frames = All-cons (IsFrame program) other frames same.is_frame (All-tail (IsFrame program) it frames so.are_frames);
+    todo = ap (items_from_next view) (same.todo frames) ∙ so.todo;
+    calls = λ names. same.calls names frames ∙ so.calls names;
+  }
+
+  pub settles_over : (it : Frame) (frames : List Frame) → SettlesTo program view old (it ∷ frames) → IsOver program it → SettlesTo program view old frames
+  settles_over it frames so over = record {
+    are_frames = All-tail (IsFrame program) it frames so.are_frames;
+    todo = ap (items_from_next view) (over.todo frames) ∙ so.todo;
+    calls = λ names. over.calls names frames ∙ so.calls names;
+  }
+
+  pub settles_past : (frames : List Frame) (found : Item) → SettlesTo program view old frames → IsFront program frames found → is_passed_over (item_at program found) view ≡ true → SettlesTo program view old (begun frames)
+  settles_past frames found so front past = record {
+    are_frames = front.begun;
+    todo = sym (ap (items_from_next view) front.todo ∙ passes view (item_at program found) (todo_at program (begun frames)) past) ∙ so.todo;
+    calls = λ names. front.calls names ∙ so.calls names;
+  }
+
+  pub settled_front : (frames : List Frame) (found : Item) → SettlesTo program view old frames → IsFront program frames found → is_passed_over (item_at program found) view ≡ false → todo_at program frames ≡ items_from_next view (todo_at program old)
+  settled_front frames found so front stays =
+      front.todo ∙ sym (ap (items_from_next view) front.todo ∙ stands view (item_at program found) (todo_at program (begun frames)) stays) ∙ so.todo
+
+  pub settled_none : (frames : List Frame) → SettlesTo program view old frames → todo_at program frames ≡ [] → todo_at program frames ≡ items_from_next view (todo_at program old)
+  settled_none frames so none = none ∙ sym (ap (items_from_next view) none ∙ ends view) ∙ so.todo
+
+-- the task then
+pub settled_task_at : (program : TreeView) (view : View) (old new : Held) → new ≡ record old { frames = new.frames } → SettlesTo program view old.frames new.frames → todo_at program new.frames ≡ items_from_next view (todo_at program old.frames) → task_at program new ≡ settled_task view (task_at program old)
+settled_task_at program view old new rest so todo = rw (rest, todo, so.calls (take old.base old.names)) refl
