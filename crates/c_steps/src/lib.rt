@@ -2,6 +2,8 @@
 #![tactic(auto)]
 
 mod cells;
+mod clauses;
 mod code;
+mod listed;
 mod names;
 mod stack;
