@@ -2,3 +2,5 @@ mod Frames
 mod Looking
 mod Rests
 mod Settling
+pub mod Rests
+pub mod ListedNames

@@ -114,14 +114,18 @@ impl Code {
         self.program.slot(node)
     }
 
-    /// The child at a place, where those from there on are what is left.
-    #[tactic(auto, using(crate::proofs::Rests::part_here, crate::proofs::Rests::part_none))]
-    pub(crate) fn part(&self, node: u32, place: u32) -> Option<u32>
-        requires { node < length self.now.trees }
-        ensures parts { parts_from (tree_at self.now.trees node) place ≡ with_part self.now.trees (tree_at self.now.trees node) place result }
+    /// The child of a part at a place, where those from there on are what is left.
+    #[tactic(auto, using(crate::proofs::Rests::part_here, crate::proofs::Rests::part_none, crate::proofs::Rests::part_missing), unfolding(crate::specs::Nodes::IsPart))]
+    pub(crate) fn part(&self, whole: Option<u32>, place: u32) -> Option<u32>
+        requires { IsPart self.now.trees whole }
+        ensures parts { parts_from (part_at self.now.trees whole) place ≡ with_part self.now.trees (part_at self.now.trees whole) place result }
         ensures there { IfSome result (λ child. child < length self.now.trees) }
+        ensures is_part { IsPart self.now.trees result }
         ensures fits { IfSome result (λ child. place + 1 < 4294967295) }
     {
-        self.tree().child(node, place)
+        match whole {
+            Some(node) => self.tree().child(node, place),
+            None => None,
+        }
     }
 }

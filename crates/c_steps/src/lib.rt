@@ -2,11 +2,13 @@
 #![tactic(auto)]
 
 mod cells;
+mod clauses;
 mod code;
 mod control;
 mod frame;
 mod item;
 mod look;
+mod listed;
 mod names;
 mod next;
 mod stack;
