@@ -3,9 +3,10 @@ use Rattle.std.proofs.Common.{◌≡◌, ℕ, zero, suc, ◌+◌, ◌-◌, ◌<�
 use Rattle.std.specs.Prelude.{slice_range, IfSome}
 use Rattle.std.specs.Option.{option_map}
 use Rattle.std.specs.List.{All}
-use Rattle.std.proofs.lemmas.List.{take_all, take-append-le, drop-append-le, get_or_append_left, length-drop}
+use Rattle.std.proofs.lemmas.List.{length-take, take_all, take-append-le, drop-append-le, get_or_append_left, length-drop}
 use Rattle.std.proofs.Math.Seq.{drop-append_seam, get_or-append_seam}
 use Rattle.std.proofs.lemmas.Bool.{cases_lt}
+use Rattle.std.proofs.Math.Nat.{min-le_left}
 use Rattle.c_syntax.specs.declared.nodes.Node as row
 use Rattle.c_syntax.specs.Tree.{Tree, Children, at_place, child_of}
 use Rattle.c_syntax.specs.Tree.Tree.{Node}
@@ -30,6 +31,7 @@ module _ (children more : List (Option ℕ)) (texts bytes : List ℕ) where
     text_end = omega (arith, is.text_end, length-append texts bytes);
     children_start = is.children_start;
     children_end = omega (arith, is.children_end, length-append children more);
+    few_children = is.few_children;
     below = rw (part-stays children more node.children.start node.children.end is.children_start is.children_end) is.below;
   }
 
@@ -165,6 +167,16 @@ module _ (children : List (Option ℕ)) (texts : List ℕ) (trees : List Tree) (
       below None is = tt
       below (Some child) is = is
 
+  -- there is a place behind each child
+  pub child-fits : (child : Option ℕ) → StandsAt children texts trees number node → place < length own → IfSome child (λ child. place + 1 < 4294967295)
+  child-fits child at within =
+      let size : length own ≤ node.children.end - node.children.start = rw (length-take (node.children.end - node.children.start) (drop node.children.start children)) (min-le_left _ _) in
+      fits child (omega (arith, at.is.few_children, at.is.children_start))
+    where
+      fits : (child : Option ℕ) → place + 1 < 4294967295 → IfSome child (λ child. place + 1 < 4294967295)
+      fits None is = tt
+      fits (Some child) is = is
+
 -- a node whose text and children lie last in the table
 pub record LiesLast (children : List (Option ℕ)) (own : List (Option ℕ)) (texts text : List ℕ) (node : row.Node) : Type 0 where
   pub text_start : node.text.start ≡ length texts
@@ -179,19 +191,20 @@ last-part xs ys start end starts ends =
     ap (take (end - start)) rest ∙ take_all (end - start) ys whole
 
 module _ (children : List (Option ℕ)) (own : List (Option ℕ)) (texts text : List ℕ) (nodes : List row.Node) (node : row.Node) (lies : LiesLast children own texts text node) where
-  IsNode-last : (number : ℕ) → node.label.number ≤ 2147483647 → All (IsBelow number) own → IsNode (children ++ own) (texts ++ text) number node
-  IsNode-last number few below = record {
-    value = few;
+  IsNode-last : (number : ℕ) → node.label.number ≤ 2147483647 → length own < 4294967295 → All (IsBelow number) own → IsNode (children ++ own) (texts ++ text) number node
+  IsNode-last number value few below = record {
+    value = value;
     text_start = omega (arith, lies.text_start, lies.text_end, length-append texts text);
     text_end = omega (arith, lies.text_end);
     children_start = omega (arith, lies.children_start, lies.children_end, length-append children own);
     children_end = omega (arith, lies.children_end);
+    few_children = omega (arith, lies.children_start, lies.children_end, length-append children own);
     below = rw (last-part children own node.children.start node.children.end lies.children_start lies.children_end) below;
   }
 
-  pub AreNodes-added : AreNodes children texts nodes → node.label.number ≤ 2147483647 → All (IsBelow (length nodes)) own → AreNodes (children ++ own) (texts ++ text) (nodes ++ node ∷ [])
-  AreNodes-added are few below =
-      AreNodes-push (children ++ own) (texts ++ text) nodes node (AreNodes-longer children own texts text nodes are) (IsNode-last (length nodes) few below)
+  pub AreNodes-added : AreNodes children texts nodes → node.label.number ≤ 2147483647 → length own < 4294967295 → All (IsBelow (length nodes)) own → AreNodes (children ++ own) (texts ++ text) (nodes ++ node ∷ [])
+  AreNodes-added are value few below =
+      AreNodes-push (children ++ own) (texts ++ text) nodes node (AreNodes-longer children own texts text nodes are) (IsNode-last (length nodes) value few below)
 
   pub trees-added : (trees : List Tree) → trees_behind children texts [] nodes ≡ trees → AreNodes children texts nodes → trees_behind (children ++ own) (texts ++ text) [] (nodes ++ node ∷ []) ≡ trees ++ Node node.label.kind node.label.spot node.label.name node.label.number text (children_at trees own) ∷ []
   trees-added trees same are =

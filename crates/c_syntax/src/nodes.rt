@@ -1,6 +1,6 @@
 //! Nodes in a table, by their numbers.
 
-ghost use Rattle.std.specs.Prelude.{◌≡◌, ◌<◌, ◌≤◌, ◌++◌, ◌∷◌, [], length, IfOk, IfSome, OnErr};
+ghost use Rattle.std.specs.Prelude.{◌≡◌, ◌<◌, ◌+◌, ◌≤◌, ◌++◌, ◌∷◌, [], length, IfOk, IfSome, OnErr};
 ghost use Rattle.std.specs.Option.{option_map};
 ghost use Rattle.std.specs.List.{All};
 ghost use Rattle.c_syntax.specs.Tree.Tree.{Node as tree_node};
@@ -84,7 +84,7 @@ impl Nodes {
         self.nodes.len()
     }
 
-    /// Adds a node, and gives its number.
+    /// Adds a node, and gives its number. More nodes, or more children of one node, than a `u32` counts are want of memory too.
     pub fn add(
         &mut self,
         label: Label,
@@ -100,6 +100,9 @@ impl Nodes {
         let Ok(number) = u32::try_from(self.nodes.len()) else {
             return Err(AllocError);
         };
+        if children.len() >= u32::MAX as usize {
+            return Err(AllocError);
+        }
         let texts = self.texts.len();
         self.texts.extend_from_slice(text)?;
         let first = self.children.len();
@@ -135,6 +138,7 @@ impl Nodes {
         requires { node < length self.now }
         ensures child { option_map (tree_at self.now) result ≡ child_of (tree_at self.now node) place }
         ensures before { IfSome result (λ child. child < node) }
+        ensures fits { IfSome result (λ child. place + 1 < 4294967295) }
     {
         let span = self.nodes[node as usize].children;
         let children = &self.children[span.start..span.end];

@@ -1,6 +1,6 @@
 //! The tree of a program.
 
-ghost use Rattle.std.specs.Prelude.{◌≡◌, ◌<◌, length, pos, IfSome};
+ghost use Rattle.std.specs.Prelude.{◌≡◌, ◌<◌, ◌+◌, length, pos, IfSome};
 ghost use Rattle.std.specs.Option.{option_map};
 ghost use Rattle.c_syntax.specs.Tree.{kind_of, spot_of, name_of, number_of, text_of, child_of};
 ghost use Rattle.c_syntax.specs.Numbered.{tree_at};
@@ -61,6 +61,7 @@ impl Tree {
         requires { node < length self.now.trees }
         ensures child { option_map (tree_at self.now.trees) result ≡ child_of (tree_at self.now.trees node) place }
         ensures before { IfSome result (λ child. child < node) }
+        ensures fits { IfSome result (λ child. place + 1 < 4294967295) }
     {
         self.nodes.child(node, place)
     }

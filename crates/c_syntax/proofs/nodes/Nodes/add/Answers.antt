@@ -29,7 +29,7 @@ lies c = record {
 pub invariant_of-self-2 : goal.invariant_of-self-2
 invariant_of-self-2 c =
     let count : length c.args.self.now ≡ length c.self.inside.nodes.items = length-trees _ _ _ _ c.self.view_is in
-    rw (c.in_ok-push.ensures.items, c.in_ok-extend_from_slice-2.ensures.items, c.in_ok-extend_from_slice.ensures.items) (AreNodes-added _ _ _ _ _ _ (lies c) c.self.invariant c.requires.number (rw (← count) c.requires.children))
+    rw (c.in_ok-push.ensures.items, c.in_ok-extend_from_slice-2.ensures.items, c.in_ok-extend_from_slice.ensures.items) (AreNodes-added _ _ _ _ _ _ (lies c) c.self.invariant c.requires.number (omega arith) (rw (← count) c.requires.children))
 
 pub returns-clause-added : goal.returns-clause-added
 returns-clause-added c =

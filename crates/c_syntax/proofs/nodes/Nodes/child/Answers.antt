@@ -1,5 +1,5 @@
 use Rattle.std.proofs.Common.{◌≡◌, ◌≤◌, length, None, arith}
-use Rattle.c_syntax.proofs.Table.{length-trees, stands_at, child-at, child-before}
+use Rattle.c_syntax.proofs.Table.{length-trees, stands_at, child-at, child-before, child-fits}
 use Rattle.c_syntax.proofs.nodes.Nodes.child.Goals as goal
 
 pub index-requires : goal.index-requires
@@ -36,6 +36,7 @@ returns-in-Some c =
     record {
       child = child-at _ _ _ _ _ _ _ at (found.1 None);
       before = child-before _ _ _ _ _ _ _ at found.0 (found.1 None);
+      fits = child-fits _ _ _ _ _ _ _ at found.0;
     }
 
 pub returns-in-None-clause-child : goal.returns-in-None-clause-child
