@@ -1,0 +1,4 @@
+//! One step of a task's code.
+#![tactic(auto)]
+
+mod numbers;
