@@ -8,7 +8,7 @@ use Rattle.c_model.specs.Answers.{Answers, AnswersFirst, AnswersItem, AsksFor, I
 use Rattle.c_model.specs.Constructs.{next_chunk}
 use Rattle.c_model.specs.Step.{items_from_next, silent, step_at, step_of}
 use Rattle.c_model.specs.Task.{Here, Item, Moment, SharedLoop}
-use Rattle.c_model.specs.Task.Item.{Start, Leave, Test, Third, Initialise, Return, FallOff, Forked, Inside, MakeCells, NextChunk, Iterations, NextSection, Combine, EndWork, EndMasked, Sync, Acquire, Release, TestLock, Tested}
+use Rattle.c_model.specs.Task.Item.{Start, Declare, Leave, Test, Third, Initialise, Return, FallOff, Forked, Inside, MakeCells, NextChunk, Iterations, NextSection, Combine, EndWork, EndMasked, Sync, Acquire, Release, TestLock, Tested}
 
 asked-chunk : (loop : SharedLoop) (given : Answer) → IsChunkAnswer loop.count given → AsksFor (next_chunk loop) given
 unfolding IsChunkAnswer AsksFor
@@ -26,6 +26,7 @@ asked-item (TestLock call id to) (answer.Free free) here is = tt
 asked-item (TestLock call id to) (answer.Chunk chunk) here is = absurd is
 asked-item (TestLock call id to) (answer.Section section) here is = absurd is
 asked-item (Start tree) given here is = absurd is
+asked-item (Declare tree) given here is = absurd is
 asked-item (Leave names) given here is = absurd is
 asked-item (Test tree names) given here is = absurd is
 asked-item (Third tree names) given here is = absurd is

@@ -21,7 +21,7 @@ use Rattle.c_model.specs.Cells.{Bound}
 use Rattle.c_model.specs.Coming.{binds, with_result}
 use Rattle.c_model.specs.Calls.{begin_call, begin_right, begin_lock_call, begin_return_of, enters, returns_to}
 use Rattle.c_model.specs.Task.{Here, Item, Moment, OpenCall, Outcome}
-use Rattle.c_model.specs.Task.Item.{Start, Leave, Test, Third, Initialise, Return, FallOff, Forked, Inside, MakeCells, NextChunk, Iterations, NextSection, Combine, EndWork, EndMasked, Sync, Acquire, Release, TestLock, Tested}
+use Rattle.c_model.specs.Task.Item.{Start, Declare, Leave, Test, Third, Initialise, Return, FallOff, Forked, Inside, MakeCells, NextChunk, Iterations, NextSection, Combine, EndWork, EndMasked, Sync, Acquire, Release, TestLock, Tested}
 use Rattle.c_model.specs.Task.Outcome.{StepsTo, Asks, Occurs, Ends, Limits}
 use Rattle.std.specs.Prelude.{Option, Some, None, refl}
 use Rattle.std.proofs.Common.{inl, inr}
@@ -32,7 +32,7 @@ use Rattle.c_syntax.specs.declared.node.Setting.TheVariants as setting
 use Rattle.c_syntax.specs.declared.node.BinaryOp.TheVariants as binary
 use Rattle.c_model.specs.Parts.{has_child}
 use Rattle.c_model.specs.Coming.{scope_of, value_here}
-use Rattle.c_model.specs.Statements.{begin_local_set, makes_step, new_number, test_value}
+use Rattle.c_model.specs.Statements.{begin_local_set, declares, makes_first_step, makes_step, new_number, test_value}
 use Rattle.c_model.specs.Constructs.{reduction_result, value_or}
 use Rattle.c_model.specs.Step.{begin_construct, begin_inside, begin_standalone, begin_statement, items_from_next, silent, step_at, step_of}
 use Rattle.c_model.specs.Known.{IsKnown, IsKnownResult, IsLimit}
@@ -119,8 +119,11 @@ ruleset known = (known-step, known-question, known-event, known-end, known-resul
 known-step-of : (kind : NodeKind) (here : Here) (tree : Tree) (items : List Item) → IsKnown (makes_step kind here tree items)
 known-step-of (node.Assign which) here tree items = search known
 known-step-of (node.Bump which side) here tree items = search known
-known-step-of node.Init here tree items = search known
 known-step-of other here tree items = known-step _
+
+known-first-step : (kind : NodeKind) (here : Here) (tree : Tree) (items : List Item) → IsKnown (makes_first_step kind here tree items)
+known-first-step node.Init here tree items = search known
+known-first-step other here tree items = known-step-of other here tree items
 
 known-return : (kind : NodeKind) (here : Here) (tree : Tree) → IsKnown (begin_return_of kind here tree)
 known-return node.Call here tree = known-call here tree here.task.env target.Return
@@ -137,6 +140,10 @@ known-local : (kind : NodeKind) (here : Here) (tree : Tree) → IsKnown (begin_l
 known-local node.Call here tree = search known
 known-local node.TestLock here tree = search known
 known-local other here tree = search known
+
+known-declares : (kind : NodeKind) (here : Here) (tree : Tree) → IsKnown (declares kind here tree)
+known-declares node.LocalSet here tree = known-local (kind_of (child_at tree 0)) here tree
+known-declares other here tree = search known
 
 known-standalone : (which : Standalone) (tree : Tree) → IsKnown (begin_standalone which tree)
 known-standalone standalone.Barrier tree = known-event _ _
@@ -160,15 +167,11 @@ known-inside (node.Construct directive.ParallelSections) here tree = known-event
 known-inside other here tree = known-step _
 
 known-statement : (kind : NodeKind) (here : Here) (tree : Tree) → IsKnown (begin_statement kind here tree)
-known-statement node.Name here tree = search known
-known-statement node.LocalVar here tree = search known
-known-statement node.LocalArray here tree = search known
-known-statement node.LocalSet here tree = known-local (kind_of (child_at tree 0)) here tree
 known-statement node.Empty here tree = known-step _
 known-statement node.Block here tree = known-step _
 known-statement node.If here tree = search known
 known-statement node.While here tree = search known
-known-statement node.For here tree = known-step-of (kind_of (child_at tree 0)) here (child_at tree 0) (Test tree (length here.task.env) ∷ [])
+known-statement node.For here tree = known-first-step (kind_of (child_at tree 0)) here (child_at tree 0) (Test tree (length here.task.env) ∷ [])
 known-statement node.Return here tree = known-return (kind_of (child_at tree 0)) here (child_at tree 0)
 known-statement node.SetCall here tree = search known
 known-statement node.Step here tree = known-step-of (kind_of (child_at tree 0)) here (child_at tree 0) []
@@ -181,6 +184,7 @@ known-statement other here tree = known-step _
 
 known-item : (item : Item) (here : Here) → IsKnown (step_of item here)
 known-item (Start tree) here = known-statement (kind_of tree) here tree
+known-item (Declare tree) here = known-declares (kind_of tree) here tree
 known-item (Leave names) here = known-step _
 known-item (Test tree names) here = search known
 known-item (Third tree names) here = known-step-of (kind_of (child_at tree 2)) here (child_at tree 2) (Test tree names ∷ [])

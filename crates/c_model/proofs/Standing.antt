@@ -20,9 +20,9 @@ use Rattle.c_model.specs.declared.entry.Entry.{Entry}
 use Rattle.c_model.specs.Cells.{Bound}
 use Rattle.c_model.specs.Coming.{binds, with_result}
 use Rattle.c_model.specs.Calls.{begin_call, begin_right, begin_lock_call, begin_return_of, enters, returns_to}
-use Rattle.c_model.specs.Statements.{begin_local_set, makes_step}
+use Rattle.c_model.specs.Statements.{begin_local_set, declares, makes_first_step, makes_step}
 use Rattle.c_model.specs.Task.{Here, Item, Moment, OpenCall, Outcome}
-use Rattle.c_model.specs.Task.Item.{Start, Leave, Test, Third, Initialise, Return, FallOff, Forked, Inside, MakeCells, NextChunk, Iterations, NextSection, Combine, EndWork, EndMasked, Sync, Acquire, Release, TestLock, Tested}
+use Rattle.c_model.specs.Task.Item.{Start, Declare, Leave, Test, Third, Initialise, Return, FallOff, Forked, Inside, MakeCells, NextChunk, Iterations, NextSection, Combine, EndWork, EndMasked, Sync, Acquire, Release, TestLock, Tested}
 use Rattle.c_model.specs.Task.Outcome.{StepsTo, Asks, Occurs, Ends, Traps, Limits}
 use Rattle.c_model.specs.Step.{begin_standalone, begin_statement, begin_construct, begin_inside, is_event, is_event_statement, is_inside_event, is_test, items_from_next, silent, stands, step_at, step_of, stands_at}
 use Rattle.c_model.specs.Standing.{Fits}
@@ -84,8 +84,11 @@ ruleset fits = (fits-step, fits-question, fits-event, fits-end, fits-trap, fits-
 fits-step-of : (kind : NodeKind) (here : Here) (tree : Tree) (items : List Item) → Fits (makes_step kind here tree items) false
 fits-step-of (node.Assign which) here tree items = search fits
 fits-step-of (node.Bump which side) here tree items = search fits
-fits-step-of node.Init here tree items = search fits
 fits-step-of other here tree items = fits-step _
+
+fits-first-step : (kind : NodeKind) (here : Here) (tree : Tree) (items : List Item) → Fits (makes_first_step kind here tree items) false
+fits-first-step node.Init here tree items = search fits
+fits-first-step other here tree items = fits-step-of other here tree items
 
 fits-return : (kind : NodeKind) (here : Here) (tree : Tree) → Fits (begin_return_of kind here tree) (is_test kind)
 fits-return node.Call here tree = fits-call here tree here.task.env target.Return
@@ -102,6 +105,10 @@ fits-local : (kind : NodeKind) (here : Here) (tree : Tree) → Fits (begin_local
 fits-local node.Call here tree = search fits
 fits-local node.TestLock here tree = search fits
 fits-local other here tree = search fits
+
+fits-declares : (kind : NodeKind) (here : Here) (tree : Tree) → Fits (declares kind here tree) false
+fits-declares node.LocalSet here tree = fits-local (kind_of (child_at tree 0)) here tree
+fits-declares other here tree = search fits
 
 fits-standalone : (which : Standalone) (tree : Tree) → Fits (begin_standalone which tree) true
 fits-standalone standalone.Barrier tree = fits-event _ _
@@ -125,15 +132,11 @@ fits-inside (node.Construct directive.ParallelSections) here tree = fits-event _
 fits-inside other here tree = fits-step _
 
 fits-statement : (kind : NodeKind) (here : Here) (tree : Tree) → Fits (begin_statement kind here tree) (is_event_statement kind tree)
-fits-statement node.Name here tree = search fits
-fits-statement node.LocalVar here tree = search fits
-fits-statement node.LocalArray here tree = search fits
-fits-statement node.LocalSet here tree = fits-local (kind_of (child_at tree 0)) here tree
 fits-statement node.Empty here tree = fits-step _
 fits-statement node.Block here tree = fits-step _
 fits-statement node.If here tree = search fits
 fits-statement node.While here tree = search fits
-fits-statement node.For here tree = fits-step-of (kind_of (child_at tree 0)) here (child_at tree 0) (Test tree (length here.task.env) ∷ [])
+fits-statement node.For here tree = fits-first-step (kind_of (child_at tree 0)) here (child_at tree 0) (Test tree (length here.task.env) ∷ [])
 fits-statement node.Return here tree = fits-return (kind_of (child_at tree 0)) here (child_at tree 0)
 fits-statement node.SetCall here tree = search fits
 fits-statement node.Step here tree = fits-step-of (kind_of (child_at tree 0)) here (child_at tree 0) []
@@ -146,6 +149,7 @@ fits-statement other here tree = fits-step _
 
 fits-item : (item : Item) (here : Here) → Fits (step_of item here) (is_event item)
 fits-item (Start tree) here = fits-statement (kind_of tree) here tree
+fits-item (Declare tree) here = fits-declares (kind_of tree) here tree
 fits-item (Leave names) here = fits-step _
 fits-item (Test tree names) here = search fits
 fits-item (Third tree names) here = fits-step-of (kind_of (child_at tree 2)) here (child_at tree 2) (Test tree names ∷ [])
