@@ -41,20 +41,8 @@ pub(crate) fn deciding_value(operator: BinaryOp, left: i32) -> Option<i32>
     ensures { result ≡ deciding_value operator left }
 {
     match operator {
-        BinaryOp::Or => {
-            if left == 0 {
-                None
-            } else {
-                Some(1)
-            }
-        }
-        BinaryOp::And => {
-            if left == 0 {
-                Some(0)
-            } else {
-                None
-            }
-        }
+        BinaryOp::Or => { if left == 0 { None } else { Some(1) } }
+        BinaryOp::And => { if left == 0 { Some(0) } else { None } }
         _ => None,
     }
 }

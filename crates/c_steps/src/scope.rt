@@ -29,6 +29,7 @@ pub(crate) struct Scope<'a> {
 
 impl<'a> Scope<'a> {
     /// The entry of a name, the newest one. A name that nothing declares has one that no cell belongs to.
+    #[tactic(auto, using(crate::proofs::ValuesNamed::named_behind))]
     pub(crate) fn entry(&self, name: u32) -> Entry
         ensures { result ≡ entry_of (self.now.file.now ++ self.now.names.now) name }
     {
@@ -39,6 +40,7 @@ impl<'a> Scope<'a> {
     }
 
     /// The number of an expression, or its trap. One that is missing is 0.
+    #[tactic(auto, using(crate::proofs::Values::value_is), unfolding(crate::specs::Nodes::IsPart))]
     pub(crate) fn value(&self, part: Option<u32>) -> Result<i32, u8>
         requires part { IsPart self.now.tree.now.trees part }
         requires view { HasNumbers self.now.view }
@@ -51,6 +53,7 @@ impl<'a> Scope<'a> {
     }
 
     /// The cell of a place, or a trap.
+    #[tactic(auto, using(crate::proofs::Values::cell_is), unfolding(crate::specs::Nodes::IsPart))]
     pub(crate) fn place_cell(&self, place: Option<u32>) -> Result<usize, u8>
         requires place { IsPart self.now.tree.now.trees place }
         requires view { HasNumbers self.now.view }
@@ -63,6 +66,7 @@ impl<'a> Scope<'a> {
     }
 
     /// The first trap of the children of a node, from left to right up to the first that is absent.
+    #[tactic(auto, using(crate::proofs::ValuesAll::all_trap, crate::proofs::ValuesAll::all_next, crate::proofs::ValuesAll::all_without))]
     pub(crate) fn check_all(&self, node: u32) -> Result<(), u8>
         requires node { node < length self.now.tree.now.trees }
         requires view { HasNumbers self.now.view }
@@ -70,14 +74,16 @@ impl<'a> Scope<'a> {
     {
         let mut place = 0;
         while let Some(child) = self.tree.child(node, place) {
-            if let Err(trap) = self.node_value(child) {
-                return Err(trap);
+            match self.node_value(child) {
+                Err(trap) => return Err(trap),
+                Ok(_) => place += 1,
             }
-            place += 1;
         }
         Ok(())
     }
 
+    #[cycle(values)]
+    #[tactic(auto, using(crate::proofs::Values::value_is))]
     fn node_value(&self, node: u32) -> Result<i32, u8>
         requires node { node < length self.now.tree.now.trees }
         requires view { HasNumbers self.now.view }
@@ -98,6 +104,7 @@ impl<'a> Scope<'a> {
     }
 
     /// The number of an operand. One that is missing is 0.
+    #[cycle(values)]
     fn operand(&self, node: u32, place: u32) -> Result<i32, u8>
         requires node { node < length self.now.tree.now.trees }
         requires view { HasNumbers self.now.view }
@@ -109,6 +116,7 @@ impl<'a> Scope<'a> {
         }
     }
 
+    #[cycle(values)]
     fn node_cell(&self, node: u32) -> Result<usize, u8>
         requires node { node < length self.now.tree.now.trees }
         requires view { HasNumbers self.now.view }
@@ -124,6 +132,7 @@ impl<'a> Scope<'a> {
         }
     }
 
+    #[cycle(values)]
     fn unary(&self, operator: UnaryOp, node: u32) -> Result<i32, u8>
         requires node { node < length self.now.tree.now.trees }
         requires view { HasNumbers self.now.view }
@@ -136,6 +145,7 @@ impl<'a> Scope<'a> {
     }
 
     /// The right operand isn't looked at where the left one decides.
+    #[cycle(values)]
     fn binary(&self, operator: BinaryOp, node: u32) -> Result<i32, u8>
         requires node { node < length self.now.tree.now.trees }
         requires view { HasNumbers self.now.view }
@@ -155,6 +165,7 @@ impl<'a> Scope<'a> {
 }
 
 /// The newest entry of a name.
+#[tactic(auto, using(crate::proofs::ValuesNamed::named_last, crate::proofs::ValuesNamed::named_none))]
 fn newest_named(entries: &[Entry], name: u32) -> Option<Entry>
     ensures { (found : SeenEntry) → unwrap_or result found ≡ last_named name found entries.now }
 {
