@@ -9,7 +9,7 @@ ghost use Rattle.c_model.specs.Cells.{cell_at, entry_of, last_named, no_entry};
 ghost use Rattle.c_model.specs.Parts.{parts};
 ghost use Rattle.c_model.specs.Value.{all_values, binary_value, cell_of, element, getter_number, operand_value, place_cell, unary_value, value};
 ghost use Rattle.c_steps.specs.Nodes.{IsPart, part_at};
-ghost use Rattle.c_steps.specs.Scopes.{HasNumbers, scope_of, without_values};
+ghost use Rattle.c_steps.specs.Scopes.{HasNumbers, child_value, scope_of, without_values};
 
 use crate::numbers::{binary_result, deciding_value, unary_result};
 use c_model::{CELL_LIMIT, Entry, INDEX, View};
@@ -31,7 +31,7 @@ impl<'a> Scope<'a> {
     /// The entry of a name, the newest one. A name that nothing declares has one that no cell belongs to.
     #[tactic(auto, using(crate::proofs::ValuesNamed::named_behind))]
     pub(crate) fn entry(&self, name: u32) -> Entry
-        ensures { result ≡ entry_of (self.now.file.now ++ self.now.names.now) name }
+        ensures { result ≡ entry_of (scope_of self.now).env name }
     {
         match newest_named(self.names, name) {
             Some(entry) => entry,
@@ -44,7 +44,7 @@ impl<'a> Scope<'a> {
     pub(crate) fn value(&self, part: Option<u32>) -> Result<i32, u8>
         requires part { IsPart self.now.tree.now.trees part }
         requires view { HasNumbers self.now.view }
-        ensures { result ≡ value (scope_of self.now.file.now self.now.names.now self.now.cells.now self.now.view) (part_at self.now.tree.now.trees part) }
+        ensures { result ≡ value (scope_of self.now) (part_at self.now.tree.now.trees part) }
     {
         match part {
             Some(node) => self.node_value(node),
@@ -57,7 +57,7 @@ impl<'a> Scope<'a> {
     pub(crate) fn place_cell(&self, place: Option<u32>) -> Result<usize, u8>
         requires place { IsPart self.now.tree.now.trees place }
         requires view { HasNumbers self.now.view }
-        ensures { result ≡ cell_of (scope_of self.now.file.now self.now.names.now self.now.cells.now self.now.view) (part_at self.now.tree.now.trees place) }
+        ensures { result ≡ cell_of (scope_of self.now) (part_at self.now.tree.now.trees place) }
     {
         match place {
             Some(node) => self.node_cell(node),
@@ -70,7 +70,7 @@ impl<'a> Scope<'a> {
     pub(crate) fn check_all(&self, node: u32) -> Result<(), u8>
         requires node { node < length self.now.tree.now.trees }
         requires view { HasNumbers self.now.view }
-        ensures { result ≡ without_values (all_values (scope_of self.now.file.now self.now.names.now self.now.cells.now self.now.view) (parts (tree_at self.now.tree.now.trees node))) }
+        ensures { result ≡ without_values (all_values (scope_of self.now) (parts (tree_at self.now.tree.now.trees node))) }
     {
         let mut place = 0;
         while let Some(child) = self.tree.child(node, place) {
@@ -87,7 +87,7 @@ impl<'a> Scope<'a> {
     fn node_value(&self, node: u32) -> Result<i32, u8>
         requires node { node < length self.now.tree.now.trees }
         requires view { HasNumbers self.now.view }
-        ensures { result ≡ value (scope_of self.now.file.now self.now.names.now self.now.cells.now self.now.view) (tree_at self.now.tree.now.trees node) }
+        ensures { result ≡ value (scope_of self.now) (tree_at self.now.tree.now.trees node) }
     {
         match self.tree.kind(node) {
             NodeKind::Number => Ok(self.tree.number(node)),
@@ -108,7 +108,7 @@ impl<'a> Scope<'a> {
     fn operand(&self, node: u32, place: u32) -> Result<i32, u8>
         requires node { node < length self.now.tree.now.trees }
         requires view { HasNumbers self.now.view }
-        ensures { result ≡ operand_value (option_map (value (scope_of self.now.file.now self.now.names.now self.now.cells.now self.now.view)) (child_of (tree_at self.now.tree.now.trees node) place)) }
+        ensures { result ≡ operand_value (child_value self.now node place) }
     {
         match self.tree.child(node, place) {
             Some(child) => self.node_value(child),
@@ -120,7 +120,7 @@ impl<'a> Scope<'a> {
     fn node_cell(&self, node: u32) -> Result<usize, u8>
         requires node { node < length self.now.tree.now.trees }
         requires view { HasNumbers self.now.view }
-        ensures { result ≡ place_cell (entry_of (self.now.file.now ++ self.now.names.now) (name_of (tree_at self.now.tree.now.trees node))) (option_map (value (scope_of self.now.file.now self.now.names.now self.now.cells.now self.now.view)) (child_of (tree_at self.now.tree.now.trees node) 0)) }
+        ensures { result ≡ place_cell (entry_of (scope_of self.now).env (name_of (tree_at self.now.tree.now.trees node))) (child_value self.now node 0) }
     {
         let entry = self.entry(self.tree.name(node));
         match self.tree.child(node, 0) {
@@ -136,7 +136,7 @@ impl<'a> Scope<'a> {
     fn unary(&self, operator: UnaryOp, node: u32) -> Result<i32, u8>
         requires node { node < length self.now.tree.now.trees }
         requires view { HasNumbers self.now.view }
-        ensures { result ≡ unary_value operator (operand_value (option_map (value (scope_of self.now.file.now self.now.names.now self.now.cells.now self.now.view)) (child_of (tree_at self.now.tree.now.trees node) 0))) }
+        ensures { result ≡ unary_value operator (operand_value (child_value self.now node 0)) }
     {
         match self.operand(node, 0) {
             Err(trap) => Err(trap),
@@ -149,7 +149,7 @@ impl<'a> Scope<'a> {
     fn binary(&self, operator: BinaryOp, node: u32) -> Result<i32, u8>
         requires node { node < length self.now.tree.now.trees }
         requires view { HasNumbers self.now.view }
-        ensures { result ≡ binary_value operator (operand_value (option_map (value (scope_of self.now.file.now self.now.names.now self.now.cells.now self.now.view)) (child_of (tree_at self.now.tree.now.trees node) 0))) (operand_value (option_map (value (scope_of self.now.file.now self.now.names.now self.now.cells.now self.now.view)) (child_of (tree_at self.now.tree.now.trees node) 1))) }
+        ensures { result ≡ binary_value operator (operand_value (child_value self.now node 0)) (operand_value (child_value self.now node 1)) }
     {
         match self.operand(node, 0) {
             Err(trap) => Err(trap),

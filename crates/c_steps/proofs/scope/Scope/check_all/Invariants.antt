@@ -10,7 +10,7 @@ use Rattle.c_steps.proofs.scope.Scope.check_all.Given as goal
 abbrev pub invariant-loop-child : goal.invariant-loop-child
 invariant-loop-child l =
     let tree = tree_at l.self.tree.now.trees l.node in
-    let scope = scope_of l.self.file.now l.self.names.now l.self.cells.now l.self.view in
+    let scope = scope_of l.self in
     without_values (all_values scope (parts tree)) ≡ without_values (all_values scope (parts_behind l.place tree))
 
 abbrev pub decreases-loop-child : goal.decreases-loop-child
