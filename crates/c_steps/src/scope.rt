@@ -1,15 +1,14 @@
 //! What an expression is evaluated in, and its number.
 
-ghost use Rattle.std.specs.Prelude.{◌≡◌, ◌<◌, ◌^◌, ◌++◌, ℕ, length, pos, slice_index_or, MatchOption};
-ghost use Rattle.std.specs.Option.{option_map, unwrap_or};
-ghost use Rattle.c_syntax.specs.Tree.{child_of, kind_of, name_of};
+ghost use Rattle.std.specs.Prelude.{◌≡◌, ◌<◌, length, pos};
+ghost use Rattle.std.specs.Option.{unwrap_or};
 ghost use Rattle.c_syntax.specs.Numbered.{tree_at};
 ghost use Rattle.c_model.specs.declared.entry.Entry.{Entry as SeenEntry};
 ghost use Rattle.c_model.specs.Cells.{cell_at, entry_of, last_named, no_entry};
 ghost use Rattle.c_model.specs.Parts.{parts};
-ghost use Rattle.c_model.specs.Value.{all_values, binary_value, cell_of, element, getter_number, operand_value, place_cell, unary_value, value};
+ghost use Rattle.c_model.specs.Value.{all_values, binary_value, cell_of, element, getter_number, unary_value, value};
 ghost use Rattle.c_steps.specs.Nodes.{IsPart, part_at};
-ghost use Rattle.c_steps.specs.Scopes.{HasNumbers, child_value, scope_of, without_values};
+ghost use Rattle.c_steps.specs.Scopes.{HasNumbers, operand_at, scope_of, without_values};
 
 use crate::numbers::{binary_result, deciding_value, unary_result};
 use c_model::{CELL_LIMIT, Entry, INDEX, View};
@@ -83,7 +82,7 @@ impl<'a> Scope<'a> {
     }
 
     #[cycle(values)]
-    #[tactic(auto, using(crate::proofs::Values::value_is))]
+    #[tactic(auto, using(crate::proofs::Values::value_is, crate::proofs::Values::cell_is))]
     fn node_value(&self, node: u32) -> Result<i32, u8>
         requires node { node < length self.now.tree.now.trees }
         requires view { HasNumbers self.now.view }
@@ -108,7 +107,7 @@ impl<'a> Scope<'a> {
     fn operand(&self, node: u32, place: u32) -> Result<i32, u8>
         requires node { node < length self.now.tree.now.trees }
         requires view { HasNumbers self.now.view }
-        ensures { result ≡ operand_value (child_value self.now node place) }
+        ensures { result ≡ operand_at self.now node place }
     {
         match self.tree.child(node, place) {
             Some(child) => self.node_value(child),
@@ -117,10 +116,11 @@ impl<'a> Scope<'a> {
     }
 
     #[cycle(values)]
+    #[tactic(auto, using(crate::proofs::Values::cell_is))]
     fn node_cell(&self, node: u32) -> Result<usize, u8>
         requires node { node < length self.now.tree.now.trees }
         requires view { HasNumbers self.now.view }
-        ensures { result ≡ place_cell (entry_of (scope_of self.now).env (name_of (tree_at self.now.tree.now.trees node))) (child_value self.now node 0) }
+        ensures { result ≡ cell_of (scope_of self.now) (tree_at self.now.tree.now.trees node) }
     {
         let entry = self.entry(self.tree.name(node));
         match self.tree.child(node, 0) {
@@ -136,7 +136,7 @@ impl<'a> Scope<'a> {
     fn unary(&self, operator: UnaryOp, node: u32) -> Result<i32, u8>
         requires node { node < length self.now.tree.now.trees }
         requires view { HasNumbers self.now.view }
-        ensures { result ≡ unary_value operator (operand_value (child_value self.now node 0)) }
+        ensures { result ≡ unary_value operator (operand_at self.now node 0) }
     {
         match self.operand(node, 0) {
             Err(trap) => Err(trap),
@@ -149,7 +149,7 @@ impl<'a> Scope<'a> {
     fn binary(&self, operator: BinaryOp, node: u32) -> Result<i32, u8>
         requires node { node < length self.now.tree.now.trees }
         requires view { HasNumbers self.now.view }
-        ensures { result ≡ binary_value operator (operand_value (child_value self.now node 0)) (operand_value (child_value self.now node 1)) }
+        ensures { result ≡ binary_value operator (operand_at self.now node 0) (operand_at self.now node 1) }
     {
         match self.operand(node, 0) {
             Err(trap) => Err(trap),
