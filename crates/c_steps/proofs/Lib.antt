@@ -1,3 +1,5 @@
+mod PrintingNumbers
+mod PrintingText
 mod Values
 mod ValuesAll
 mod ValuesNamed

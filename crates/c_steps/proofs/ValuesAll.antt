@@ -5,17 +5,7 @@ use Rattle.c_syntax.specs.Tree.{Tree, Children, at_place, child_of, children_of}
 use Rattle.c_syntax.specs.Tree.Children.{Over, Child, Absent}
 use Rattle.c_model.specs.Parts.{trees_in}
 use Rattle.c_model.specs.Value.{Scope, all_values, value, value_before}
-use Rattle.c_steps.specs.Scopes.{without_values}
-
--- the children from a place on
-abbrev pub children_behind : ℕ → Children → Children
-children_behind zero children = children
-children_behind (suc place) Over = Over
-children_behind (suc place) (Child tree rest) = children_behind place rest
-children_behind (suc place) (Absent rest) = children_behind place rest
-
-abbrev pub parts_behind : ℕ → Tree → List Tree
-parts_behind place node = trees_in (children_behind place (children_of node))
+use Rattle.c_steps.specs.Arguments.{children_behind, parts_behind, without_values}
 
 parts_with : (children : Children) (place : ℕ) (tree : Tree) → at_place children place ≡ Some tree →
     trees_in (children_behind place children) ≡ tree ∷ trees_in (children_behind (suc place) children)

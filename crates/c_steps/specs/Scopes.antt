@@ -1,5 +1,5 @@
--- What expressions are evaluated in, and what a list of them comes to.
-use Rattle.std.specs.Prelude.{ℕ, ◌<◌, ◌^◌, List, ◌++◌, Result, Ok, Err, ℤ}
+-- What expressions are evaluated in.
+use Rattle.std.specs.Prelude.{ℕ, ◌<◌, ◌^◌, ◌++◌, Result, ℤ}
 use Rattle.std.specs.Option.{option_map}
 use Rattle.c_syntax.specs.Tree.{child_of}
 use Rattle.c_syntax.specs.Numbered.{tree_at}
@@ -20,8 +20,3 @@ pub record HasNumbers (view : View) : Type 0 where
   pub index : view.index < 2 ^ 31
   pub team : view.team < 2 ^ 31
   pub max : view.max < 2 ^ 31
-
--- whether there are values, or the trap
-abbrev pub without_values : Result (List ℤ) ℕ → Result (Unit {0}) ℕ
-without_values (Ok numbers) = Ok tt
-without_values (Err trap) = Err trap

@@ -2,4 +2,5 @@
 #![tactic(auto)]
 
 mod numbers;
+mod printing;
 mod scope;

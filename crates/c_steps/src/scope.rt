@@ -7,8 +7,9 @@ ghost use Rattle.c_model.specs.declared.entry.Entry.{Entry as SeenEntry};
 ghost use Rattle.c_model.specs.Cells.{cell_at, entry_of, last_named, no_entry};
 ghost use Rattle.c_model.specs.Parts.{parts};
 ghost use Rattle.c_model.specs.Value.{all_values, binary_value, cell_of, element, getter_number, unary_value, value};
+ghost use Rattle.c_steps.specs.Arguments.{without_values};
 ghost use Rattle.c_steps.specs.Nodes.{IsPart, part_at};
-ghost use Rattle.c_steps.specs.Scopes.{HasNumbers, operand_at, scope_of, without_values};
+ghost use Rattle.c_steps.specs.Scopes.{HasNumbers, operand_at, scope_of};
 
 use crate::numbers::{binary_result, deciding_value, unary_result};
 use c_model::{CELL_LIMIT, Entry, INDEX, View};
@@ -81,9 +82,10 @@ impl<'a> Scope<'a> {
         Ok(())
     }
 
+    /// The number of an expression, or its trap.
     #[cycle(values)]
     #[tactic(auto, using(crate::proofs::Values::value_is, crate::proofs::Values::cell_is))]
-    fn node_value(&self, node: u32) -> Result<i32, u8>
+    pub(crate) fn node_value(&self, node: u32) -> Result<i32, u8>
         requires node { node < length self.now.tree.now.trees }
         requires view { HasNumbers self.now.view }
         ensures { result ≡ value (scope_of self.now) (tree_at self.now.tree.now.trees node) }

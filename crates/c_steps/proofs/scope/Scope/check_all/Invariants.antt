@@ -2,8 +2,8 @@ use Rattle.std.proofs.Common.{◌≡◌, ◌-◌}
 use Rattle.c_syntax.specs.Numbered.{tree_at}
 use Rattle.c_model.specs.Parts.{parts}
 use Rattle.c_model.specs.Value.{all_values}
-use Rattle.c_steps.specs.Scopes.{scope_of, without_values}
-use Rattle.c_steps.proofs.ValuesAll.{parts_behind}
+use Rattle.c_steps.specs.Arguments.{parts_behind, without_values}
+use Rattle.c_steps.specs.Scopes.{scope_of}
 use Rattle.c_steps.proofs.scope.Scope.check_all.Given as goal
 
 -- the children before have no trap
