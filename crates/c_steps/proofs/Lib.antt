@@ -4,3 +4,8 @@ mod Rests
 mod Settling
 pub mod Rests
 pub mod ListedNames
+mod PrintingNumbers
+mod PrintingText
+mod Values
+mod ValuesAll
+mod ValuesNamed

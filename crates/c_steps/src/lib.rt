@@ -17,3 +17,9 @@ pub use cells::Cells;
 pub use code::Code;
 pub use control::Control;
 pub use next::Next;
+//! One step of a task's code.
+#![tactic(auto)]
+
+mod numbers;
+mod printing;
+mod scope;
