@@ -15,7 +15,13 @@ use Rattle.c_steps.specs.declared.frame.Frame.TheVariants as frame
 use Rattle.c_steps.specs.Items.{begun, calls_at, declarators_from, item_at, parts_left, todo_at, with_file}
 use Rattle.c_steps.specs.Ready.{IsFrame, IsItem}
 use Rattle.c_steps.specs.Rests.{parts_from}
-use Rattle.c_steps.specs.Looking.{IsInPlaceOf, ShowsItem, weight, weights}
+use Rattle.c_syntax.specs.declared.node.ReductionOp.{ReductionOp}
+use Rattle.c_model.specs.Clauses.{Listed}
+use Rattle.c_model.specs.Clauses.Copying.{Reduced}
+use Rattle.c_model.specs.Copies.{combining_all, combining_of}
+use Rattle.c_steps.specs.declared.listed.ListedPlace.{ListedPlace}
+use Rattle.c_steps.specs.ListedNames.{listed_from}
+use Rattle.c_steps.specs.Looking.{IsInPlaceOf, IsOver, ShowsItem, weight, weights}
 use Rattle.std.proofs.lemmas.List.Elements.{All-cons}
 
 -- a part of a block has all of its declarators left at first
@@ -79,6 +85,46 @@ module _ (program : TreeView) (block place at names : ℕ) where
     todo = λ frames. rw parts refl;
     calls = λ names frames. refl;
     less = omega arith;
+  }
+
+module _ (program : TreeView) (construct : ℕ) (names : ℕ) where
+  -- no reduction is left
+  pub reductions_over : (from : ListedPlace) → listed_from (tree_at program.trees construct) from ≡ [] → IsOver program (frame.Combining construct from names)
+  unfolding todo_at calls_at weight combining_all
+  reductions_over from none = record { todo = λ frames. rw none refl; calls = λ names frames. refl; less = omega arith }
+
+  -- a variable that is reduced
+  pub reduction_next : (from next : ListedPlace) (operator : ReductionOp) (name : ℕ) → construct < length program.trees → listed_from (tree_at program.trees construct) from ≡ record { name = name; copying = Reduced operator } ∷ listed_from (tree_at program.trees construct) next → IsInPlaceOf program (frame.Combining construct from names) (frame.Combines operator name construct next names)
+  unfolding todo_at calls_at weight combining_all
+  reduction_next from next operator name within found = record {
+    is_frame = within;
+    todo = λ frames. rw found refl;
+    calls = λ names frames. refl;
+    less = rw found (omega arith);
+  }
+
+  -- a variable that isn't
+  pub variable_next : (from next : ListedPlace) (listed : Listed) → construct < length program.trees → listed_from (tree_at program.trees construct) from ≡ listed ∷ listed_from (tree_at program.trees construct) next → ((names : ℕ) → combining_of names listed listed.copying ≡ []) → IsInPlaceOf program (frame.Combining construct from names) (frame.Combining construct next names)
+  unfolding todo_at calls_at weight combining_all
+  variable_next from next listed within found plain = record {
+    is_frame = within;
+    todo = λ frames. rw (found, plain (with_file program names)) refl;
+    calls = λ names frames. refl;
+    less = rw found (omega arith);
+  }
+
+  -- a reduction
+  pub shows_reduction : (operator : ReductionOp) (name : ℕ) (from : ListedPlace) → construct < length program.trees → ShowsItem program (frame.Combines operator name construct from names) (item.Combine operator name names)
+  unfolding todo_at calls_at weight weights
+  shows_reduction operator name from within = record {
+    front = λ frames are. record {
+      is_item = tt;
+      can_begin = tt;
+      todo = refl;
+      calls = λ names. refl;
+      begun = All-cons (IsFrame program) _ _ within are;
+    };
+    less = λ frames. omega arith;
   }
 
 -- nothing stands next in a function where the one that called it has left something

@@ -1,18 +1,13 @@
 -- What the items and frames of a control stand for: the items of the definitions, over the trees that the nodes have the numbers of.
-use Rattle.std.specs.Prelude.{ℕ, ◌+◌, not, List, [], ◌∷◌, ◌++◌, length, drop, take}
-use Rattle.std.specs.List.{filter}
-use Rattle.c_syntax.specs.declared.node.Data.TheVariants as data_clause
+use Rattle.std.specs.Prelude.{ℕ, ◌+◌, List, [], ◌∷◌, ◌++◌, length, drop, take}
 use Rattle.c_syntax.specs.declared.node.NodeKind.{NodeKind}
 use Rattle.c_syntax.specs.declared.node.NodeKind.TheVariants as node
 use Rattle.c_syntax.specs.Tree.{Tree, kind_of}
 use Rattle.c_syntax.specs.Numbered.{TreeView, tree_at}
 use Rattle.c_model.specs.declared.entry.Entry.{Entry}
-use Rattle.c_check.specs.Loops.{child_at}
 use Rattle.c_model.specs.Parts.{flat_declarations}
-use Rattle.c_model.specs.Clauses.{Copying, Listed, clauses_among, listed_among, names_listed}
-use Rattle.c_model.specs.Clauses.Copying.{Private, First, Reduced}
 use Rattle.c_model.specs.Calls.{file_bound}
-use Rattle.c_model.specs.Copies.{combining_all, is_own_loop_variable}
+use Rattle.c_model.specs.Copies.{combining_all}
 use Rattle.c_model.specs.Task.{Item, OpenCall, SharedLoop, items_of_parts}
 use Rattle.c_model.specs.Task.Item.{Start, Declare, Leave, Test, Third, Initialise, Return, FallOff, Forked, Inside, MakeCells, NextChunk, Iterations, NextSection, Combine, EndWork, EndMasked, Sync, Acquire, Release, TestLock, Tested}
 use Rattle.c_steps.specs.declared.item.Loop.{Loop}
@@ -21,6 +16,8 @@ use Rattle.c_steps.specs.declared.item.Item.TheVariants as item
 use Rattle.c_steps.specs.declared.frame.Frame.{Frame}
 use Rattle.c_steps.specs.declared.frame.Frame.TheVariants as frame
 use Rattle.c_steps.specs.Nodes.{part_at}
+use Rattle.c_steps.specs.declared.listed.ListedPlace.{ListedPlace}
+use Rattle.c_steps.specs.ListedNames.{listed_from}
 use Rattle.c_steps.specs.Rests.{parts_from}
 
 -- the names of the file
@@ -77,34 +74,18 @@ unfoldable pub parts_left : ℕ → List Tree → List Tree
 parts_left at [] = []
 parts_left at (tree ∷ trees) = declarators_from (kind_of tree) tree at ++ flat_declarations trees
 
--- the names that a clause lists, behind so many
-abbrev pub listed_from : NodeKind → Tree → ℕ → List Listed
-listed_from (node.Data data_clause.Private) clause at = names_listed Private (parts_from clause at)
-listed_from (node.Data data_clause.Firstprivate) clause at = names_listed First (parts_from clause at)
-listed_from (node.Reduction operator) clause at = names_listed (Reduced operator) (parts_from clause at)
-listed_from other clause at = []
-
-abbrev pub listed_in : NodeKind → Tree → ℕ → List Listed
-listed_in (node.Clause lead) tree at = listed_from (kind_of (child_at tree 0)) (child_at tree 0) at
-listed_in other tree at = []
-
--- of these parts of a construct, the variables that are listed behind so many of the first
-unfoldable pub listed_left : ℕ → List Tree → List Listed
-listed_left at [] = []
-listed_left at (tree ∷ trees) = listed_in (kind_of tree) tree at ++ listed_among (clauses_among trees)
-
--- the reductions of a construct that are left
-abbrev pub combining_left : Tree → ℕ → ℕ → ℕ → List Item
-combining_left construct place at names =
-    combining_all names (filter (λ (listed : Listed). not (is_own_loop_variable construct listed.name)) (listed_left at (parts_from construct place)))
+-- the reductions of a construct from a place on, with the variables among the first so many names
+abbrev pub combining_from : Tree → ListedPlace → ℕ → List Item
+combining_from construct from names = combining_all names (listed_from construct from)
 
 -- what stands next by a frame, before what the frames below it say
 abbrev pub items_at : TreeView → Frame → List Item
 items_at program (frame.One it) = item_at program it ∷ []
 items_at program (frame.Parts block place at names) =
     items_of_parts (parts_left at (parts_from (tree_at program.trees block) place)) ++ Leave (with_file program names) ∷ []
-items_at program (frame.Combining construct place at names) =
-    combining_left (tree_at program.trees construct) place at (with_file program names)
+items_at program (frame.Combining construct from names) = combining_from (tree_at program.trees construct) from (with_file program names)
+items_at program (frame.Combines operator name construct from names) =
+    Combine operator name (with_file program names) ∷ combining_from (tree_at program.trees construct) from (with_file program names)
 items_at program (frame.Caller base to) = []
 
 -- what stands next in the function that was called last. The newest frame is the first
@@ -112,7 +93,9 @@ unfoldable pub todo_at : TreeView → List Frame → List Item
 todo_at program [] = []
 todo_at program (frame.One it ∷ frames) = items_at program (frame.One it) ++ todo_at program frames
 todo_at program (frame.Parts block place at names ∷ frames) = items_at program (frame.Parts block place at names) ++ todo_at program frames
-todo_at program (frame.Combining construct place at names ∷ frames) = items_at program (frame.Combining construct place at names) ++ todo_at program frames
+todo_at program (frame.Combining construct from names ∷ frames) = items_at program (frame.Combining construct from names) ++ todo_at program frames
+todo_at program (frame.Combines operator name construct from names ∷ frames) =
+    items_at program (frame.Combines operator name construct from names) ++ todo_at program frames
 todo_at program (frame.Caller base to ∷ frames) = []
 
 -- the calls that are open, the newest first, where those that called have these names
@@ -120,7 +103,8 @@ unfoldable pub calls_at : TreeView → List Entry → List Frame → List OpenCa
 calls_at program names [] = []
 calls_at program names (frame.One it ∷ frames) = calls_at program names frames
 calls_at program names (frame.Parts block place at stay ∷ frames) = calls_at program names frames
-calls_at program names (frame.Combining construct place at stay ∷ frames) = calls_at program names frames
+calls_at program names (frame.Combining construct from stay ∷ frames) = calls_at program names frames
+calls_at program names (frame.Combines operator name construct from stay ∷ frames) = calls_at program names frames
 calls_at program names (frame.Caller base to ∷ frames) =
     record { todo = todo_at program frames; env = file_names program ++ drop base names; to = to } ∷ calls_at program (take base names) frames
 
@@ -129,5 +113,6 @@ abbrev pub begun : List Frame → List Frame
 begun [] = []
 begun (frame.One it ∷ frames) = frames
 begun (frame.Parts block place at names ∷ frames) = frame.Parts block place (at + 1) names ∷ frames
-begun (frame.Combining construct place at names ∷ frames) = frame.Combining construct place (at + 1) names ∷ frames
+begun (frame.Combining construct from names ∷ frames) = frame.Combining construct from names ∷ frames
+begun (frame.Combines operator name construct from names ∷ frames) = frame.Combining construct from names ∷ frames
 begun (frame.Caller base to ∷ frames) = frame.Caller base to ∷ frames

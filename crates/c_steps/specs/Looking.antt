@@ -1,5 +1,5 @@
 -- What a frame on top says of what stands next.
-use Rattle.std.specs.Prelude.{ℕ, ◌+◌, ◌<◌, ◌≡◌, List, [], ◌∷◌, length}
+use Rattle.std.specs.Prelude.{ℕ, ◌+◌, ◌*◌, ◌<◌, ◌≡◌, List, [], ◌∷◌, length}
 use Rattle.c_syntax.specs.Numbered.{TreeView, tree_at}
 use Rattle.c_model.specs.declared.entry.Entry.{Entry}
 use Rattle.c_steps.specs.declared.item.Item.{Item}
@@ -7,8 +7,9 @@ use Rattle.c_steps.specs.declared.frame.Frame.{Frame}
 use Rattle.c_steps.specs.declared.frame.Frame.TheVariants as frame
 use Rattle.c_steps.specs.declared.look.Look.{Look}
 use Rattle.c_steps.specs.declared.look.Look.TheVariants as look
+use Rattle.c_steps.specs.ListedNames.{listed_from}
 use Rattle.c_steps.specs.Rests.{parts_from}
-use Rattle.c_steps.specs.Items.{begun, calls_at, listed_left, parts_left, todo_at}
+use Rattle.c_steps.specs.Items.{begun, calls_at, parts_left, todo_at}
 use Rattle.c_steps.specs.Ready.{AreFrames, IsFrame, IsFront}
 
 -- how much there is to look through
@@ -16,8 +17,8 @@ unfoldable pub weight : TreeView → Frame → ℕ
 weight program (frame.One it) = 1
 weight program (frame.Parts block place at names) =
     let trees = parts_from (tree_at program.trees block) place in 2 + length (parts_left at trees) + length trees
-weight program (frame.Combining construct place at names) =
-    let trees = parts_from (tree_at program.trees construct) place in 1 + length (listed_left at trees) + length trees
+weight program (frame.Combining construct from names) = 1 + 2 * length (listed_from (tree_at program.trees construct) from)
+weight program (frame.Combines operator name construct from names) = 2 + 2 * length (listed_from (tree_at program.trees construct) from)
 weight program (frame.Caller base to) = 1
 
 unfoldable pub weights : TreeView → List Frame → ℕ

@@ -63,7 +63,8 @@ IsItem program (item.Tested to) = Unit {0}
 abbrev pub IsFrame : TreeView → Frame → Type 0
 IsFrame program (frame.One it) = IsItem program it
 IsFrame program (frame.Parts block place at names) = block < length program.trees
-IsFrame program (frame.Combining construct place at names) = construct < length program.trees
+IsFrame program (frame.Combining construct from names) = construct < length program.trees
+IsFrame program (frame.Combines operator name construct from names) = construct < length program.trees
 IsFrame program (frame.Caller base to) = Unit {0}
 
 -- the frames are of this program
@@ -73,7 +74,6 @@ AreFrames program frames = All (IsFrame program) frames
 -- it has a place to go on
 abbrev pub CanBegin : List Frame → Type 0
 CanBegin (frame.Parts block place at names ∷ frames) = at < 4294967295
-CanBegin (frame.Combining construct place at names ∷ frames) = at < 4294967295
 CanBegin other = Unit {0}
 
 -- this stands next

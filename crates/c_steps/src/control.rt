@@ -93,20 +93,17 @@ impl Control {
                 at: at + 1,
                 names,
             }),
-            Some(
-                Frame::Combining {
-                    construct,
-                    place,
-                    at,
-                    names,
-                },
-            ) => self.stack.replace(Frame::Combining {
+            Some(Frame::Combines {
                 construct,
-                place,
-                at: at + 1,
+                from,
+                names,
+                ..
+            }) => self.stack.replace(Frame::Combining {
+                construct,
+                from,
                 names,
             }),
-            Some(Frame::Caller { .. }) | None => {}
+            Some(Frame::Combining { .. } | Frame::Caller { .. }) | None => {}
         }
     }
 

@@ -7,19 +7,16 @@ mod code;
 mod control;
 mod frame;
 mod item;
-mod look;
 mod listed;
+mod look;
 mod names;
 mod next;
+mod numbers;
+mod printing;
+mod scope;
 mod stack;
 
 pub use cells::Cells;
 pub use code::Code;
 pub use control::Control;
 pub use next::Next;
-//! One step of a task's code.
-#![tactic(auto)]
-
-mod numbers;
-mod printing;
-mod scope;

@@ -7,11 +7,12 @@ ghost use Rattle.c_steps.specs.Items.{declarators_from, item_at};
 ghost use Rattle.c_steps.specs.Looking.{Looks};
 ghost use Rattle.c_steps.specs.Ready.{IsFrame, IsItem};
 ghost use Rattle.c_model.specs.Task.{item_of_part};
-ghost use Rattle.c_steps.specs.declared.frame.Frame.TheVariants.{Parts as parts_frame};
+ghost use Rattle.c_steps.specs.declared.frame.Frame.TheVariants.{Parts as parts_frame, Combining as reductions_frame};
 
 use crate::code::Code;
 use crate::frame::Frame;
 use crate::item::Item;
+use crate::listed::{Copying, ListedPlace, next_listed};
 use c_syntax::NodeKind;
 
 /// What a frame on top says of what stands next.
@@ -28,7 +29,7 @@ pub(crate) enum Look {
 }
 
 /// What a frame on top says of what stands next.
-#[tactic(auto, using(crate::proofs::Looking::shows_one, crate::proofs::Looking::caller_nothing))]
+#[tactic(auto, using(crate::proofs::Looking::shows_one, crate::proofs::Looking::shows_reduction, crate::proofs::Looking::caller_nothing))]
 pub(crate) fn look_at(code: &Code, frame: Frame) -> Look
     requires { IsFrame code.now frame }
     ensures { Looks code.now frame result }
@@ -41,7 +42,21 @@ pub(crate) fn look_at(code: &Code, frame: Frame) -> Look
             at,
             names,
         } => look_at_parts(code, block, place, at, names),
-        Frame::Combining { .. } => Look::Over,
+        Frame::Combining {
+            construct,
+            from,
+            names,
+        } => look_at_reductions(code, construct, from, names),
+        Frame::Combines {
+            operator,
+            name,
+            names,
+            ..
+        } => Look::Found(Item::Combine {
+            operator,
+            name,
+            names,
+        }),
         Frame::Caller { .. } => Look::Nothing,
     }
 }
@@ -52,7 +67,7 @@ fn look_at_parts(code: &Code, block: u32, place: u32, at: u32, names: usize) -> 
     requires { block < length code.now.trees }
     ensures { Looks code.now (parts_frame block place at names) result }
 {
-    let Some(part) = code.part(block, place) else {
+    let Some(part) = code.part(Some(block), place) else {
         return Look::Instead(Frame::One(Item::Leave(names)));
     };
     match declarator(code, part, at) {
@@ -63,6 +78,31 @@ fn look_at_parts(code: &Code, block: u32, place: u32, at: u32, names: usize) -> 
             names,
         }),
         Some(node) => Look::Found(item_of_part(code, node)),
+    }
+}
+
+/// What the reductions of a construct say that are left.
+#[tactic(auto, using(crate::proofs::Looking::reductions_over, crate::proofs::Looking::reduction_next, crate::proofs::Looking::variable_next))]
+fn look_at_reductions(code: &Code, construct: u32, from: ListedPlace, names: usize) -> Look
+    requires { construct < length code.now.trees }
+    ensures { Looks code.now (reductions_frame construct from names) result }
+{
+    match next_listed(code, construct, from) {
+        None => Look::Over,
+        Some(found) => match found.listed.copying {
+            Copying::Reduced(operator) => Look::Instead(Frame::Combines {
+                operator,
+                name: found.listed.name,
+                construct,
+                from: found.next,
+                names,
+            }),
+            _ => Look::Instead(Frame::Combining {
+                construct,
+                from: found.next,
+                names,
+            }),
+        },
     }
 }
 
@@ -89,7 +129,7 @@ fn declarator(code: &Code, part: u32, at: u32) -> Option<u32>
     ensures fits { IfSome result (λ node. at < 4294967295) }
 {
     match code.kind(Some(part)) {
-        NodeKind::Globals | NodeKind::Locals | NodeKind::Locks => code.part(part, at),
+        NodeKind::Globals | NodeKind::Locals | NodeKind::Locks => code.part(Some(part), at),
         _ if at == 0 => Some(part),
         _ => None,
     }
