@@ -11,3 +11,6 @@ pub mod Settled
 pub mod Answers
 pub mod KnownValues
 pub mod KnownOutcomes
+pub mod WidthNames
+pub mod WidthTrees
+pub mod WidthCells
