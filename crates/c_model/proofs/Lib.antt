@@ -14,3 +14,5 @@ pub mod KnownOutcomes
 pub mod WidthNames
 pub mod WidthTrees
 pub mod WidthCells
+pub mod WidthBlocks
+pub mod WidthSteps
