@@ -15,4 +15,7 @@ pub mod WidthNames
 pub mod WidthTrees
 pub mod WidthCells
 pub mod WidthBlocks
+pub mod WidthSettled
 pub mod WidthSteps
+pub mod WidthGoing
+pub mod WidthTasks

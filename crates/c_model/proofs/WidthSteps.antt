@@ -35,6 +35,7 @@ use Rattle.c_model.specs.Standing.{Fits}
 use Rattle.c_model.specs.Width.{IsCallWithin, IsWithin, function_names, inner_names, most_behind, most_inside, most_names, most_of_functions, own_names, width}
 use Rattle.c_model.proofs.Standing.{fits-construct, fits-inside, fits-lock, fits-standalone}
 use Rattle.c_model.proofs.WidthNames.{grows, least}
+use Rattle.c_model.proofs.WidthSettled.{settled_is_within}
 use Rattle.c_model.proofs.WidthTrees.{child_below, most_of, of_body, of_child, of_flat, of_function, of_parts, split, split_at, within}
 use Rattle.c_model.proofs.WidthCells.{one_more, with_own_names, with_parameters_names}
 use Rattle.c_model.proofs.WidthBlocks.{block_names, branch_names, iteration_names, value_names}
@@ -354,27 +355,6 @@ stays-item (Acquire tree kind id) here room = tt
 stays-item (Release tree id) here room = tt
 stays-item (TestLock call id to) here room = tt
 stays-item (Tested to) here room = stays-tested here to room.enough room.calls
-
--- what a task goes past counts for no name
-settled-start : (program : TreeView) (passed : Bool) (tree : Tree) (items settled : List Item) (names : ℕ) → most_names program settled names ≤ most_names program items names → most_names program (if passed then settled else Start tree ∷ items) names ≤ most_names program (Start tree ∷ items) names
-unfolding most_names
-settled-start program true tree items settled names fewer = omega (arith, fewer)
-settled-start program false tree items settled names fewer = omega arith
-
-settled-by : (program : TreeView) (view : View) (item : Item) (items settled : List Item) (names : ℕ) → most_names program settled names ≤ most_names program items names → most_names program (if is_passed_over item view then settled else item ∷ items) names ≤ most_names program (item ∷ items) names
-unfolding most_names
-settled-by program view (Start tree) items settled names fewer = settled-start program (is_masked (kind_of tree) && not (view.index == 0)) tree items settled names fewer
-settled-by program view other items settled names fewer = omega arith
-
-settled-names : (program : TreeView) (view : View) (items : List Item) (names : ℕ) → most_names program (items_from_next view items) names ≤ most_names program items names
-unfolding items_from_next
-settled-names program view [] names = omega arith
-settled-names program view (item ∷ items) names =
-    settled-by program view item items (items_from_next view items) names (settled-names program view items names)
-
-pub settled_is_within : (program : TreeView) (view : View) (task : Task) → IsWithin program task → IsWithin program (settled_task view task)
-settled_is_within program view task is =
-    record { now = omega (arith, is.now, settled-names program view task.todo (length task.env)); calls = is.calls }
 
 -- the task as a whole
 stays-next : (items : List Item) (program : TreeView) (view : View) (now : Moment) → most_names program items (length now.task.env) ≤ width program → All (IsCallWithin program) now.task.calls → StaysWithin program (step_at items program view now)

@@ -52,7 +52,7 @@ mod view;
 pub use entry::Entry;
 pub use laws::{
     answers_are_asked_for, ended_code_has_no_step, events_are_of_what_stands_next,
-    settling_changes_nothing, standing_is_told_by_form, traps_and_limits_are_known,
+    no_environment_grows_past_the_width, settling_changes_nothing, standing_is_told_by_form, traps_and_limits_are_known,
 };
 pub use limits::{CALL_LIMIT, CALLS, CELL_LIMIT, CELLS, LINE_UNIT, LOCK_UNIT, TEXT, TEXT_LIMIT};
 pub use point::{MutexKind, Point, Schedule, SyncKind, SyncStage, Target, Work, WorkKind};
