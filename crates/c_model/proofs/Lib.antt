@@ -16,6 +16,9 @@ pub mod WidthTrees
 pub mod WidthCells
 pub mod WidthBlocks
 pub mod WidthSettled
+pub mod WidthComing
+pub mod WidthCalls
 pub mod WidthSteps
 pub mod WidthGoing
 pub mod WidthTasks
+pub mod WidthExamples

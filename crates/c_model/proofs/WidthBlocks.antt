@@ -14,7 +14,7 @@ use Rattle.c_model.specs.Loops.{loop_of}
 use Rattle.c_model.specs.Task.{Item, SharedLoop, is_declarator, items_of_parts}
 use Rattle.c_model.specs.Task.Item.{Start, Declare, Leave, Iterations, NextChunk}
 use Rattle.c_model.specs.Width.{inner_names, most_inside, most_names}
-use Rattle.c_model.proofs.WidthNames.{grows, least}
+use Rattle.c_model.proofs.WidthNames.{grows}
 use Rattle.c_model.proofs.WidthTrees.{most_of, of_child}
 
 abbrev pub declarator_count : List Tree → ℕ

@@ -26,9 +26,11 @@ pub with_parameters_names : (program : TreeView) (parameters : List Tree) (bound
 unfolding with_parameters
 with_parameters_names program [] bound numbers = omega arith
 with_parameters_names program (parameter ∷ parameters) bound numbers =
-    omega (arith,
-    with_parameters_names program parameters (with_cells bound (name_of parameter) (slot_of_name program parameter) (first_or_zero numbers ∷ [])) (behind_first numbers),
-    one_more bound.env)
+    omega (
+      arith,
+      with_parameters_names program parameters (with_cells bound (name_of parameter) (slot_of_name program parameter) (first_or_zero numbers ∷ [])) (behind_first numbers),
+      one_more bound.env,
+    )
 
 with-listed-names : (listed : List Listed) (around bound : Bound) → length (with_listed around bound listed).env ≡ length bound.env + length listed
 unfolding with_listed
@@ -45,9 +47,11 @@ with-slots-names (slot ∷ slots) around bound =
 -- no more variables are copied than clauses list
 listed-names : (construct : Tree) → length (listed_variables construct) ≤ length (listed_among (clauses_of construct))
 listed-names construct =
-    omega (arith,
-    length-filter (λ (listed : Listed). not (is_own_loop_variable construct listed.name)) (listed_among (clauses_of construct)),
-    count_by-le-length (λ (listed : Listed). not (is_own_loop_variable construct listed.name)) (listed_among (clauses_of construct)))
+    omega (
+      arith,
+      length-filter (λ (listed : Listed). not (is_own_loop_variable construct listed.name)) (listed_among (clauses_of construct)),
+      count_by-le-length (λ (listed : Listed). not (is_own_loop_variable construct listed.name)) (listed_among (clauses_of construct)),
+    )
 
 loop-chosen : (shares : Bool) (bound : Bound) (name slot : ℕ) → length (if shares then with_cells bound name slot (pos 0 ∷ []) else bound).env ≤ length bound.env + 1
 loop-chosen true bound name slot = omega (arith, one_more bound.env)
@@ -59,14 +63,18 @@ loop-names other construct bound name slot = omega arith
 
 pub with_own_names : (program : TreeView) (around : Bound) (construct : Tree) → length (with_own_cells program around construct).env ≤ length around.env + own_names program (kind_of construct) construct
 with_own_names program around construct =
-    omega (arith,
-    loop-names (kind_of construct) construct (with_listed around around (listed_variables construct)) (name_of (loop_of construct).variable) (loop_slot program around construct),
-    with-listed-names (listed_variables construct) around around,
-    listed-names construct)
+    omega (
+      arith,
+      loop-names (kind_of construct) construct (with_listed around around (listed_variables construct)) (name_of (loop_of construct).variable) (loop_slot program around construct),
+      with-listed-names (listed_variables construct) around around,
+      listed-names construct,
+    )
 
 pub with_task_names : (program : TreeView) (around : Bound) (construct : Tree) → length (with_task_cells program around construct).env ≤ length around.env + own_names program (kind_of construct) construct
 with_task_names program around construct =
-    omega (arith,
-    with-slots-names (task_copies program construct) around (with_listed around around (listed_variables construct)),
-    with-listed-names (listed_variables construct) around around,
-    listed-names construct)
+    omega (
+      arith,
+      with-slots-names (task_copies program construct) around (with_listed around around (listed_variables construct)),
+      with-listed-names (listed_variables construct) around around,
+      listed-names construct,
+    )

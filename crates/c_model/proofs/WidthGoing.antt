@@ -1,5 +1,5 @@
 -- No answer and no event leads beyond the width.
-use Rattle.std.specs.Prelude.{ℕ, ◌+◌, ◌≤◌, ◌≡◌, max, min, if◌then◌else◌, Bool, true, false, List, [], ◌∷◌, ◌++◌, length, take, Option, Some, None, pos, refl}
+use Rattle.std.specs.Prelude.{ℕ, ◌+◌, ◌≤◌, ◌≡◌, max, min, if◌then◌else◌, Bool, true, false, List, [], ◌∷◌, ◌++◌, length, Option, Some, None, pos, refl}
 use Rattle.std.proofs.Common.{arith, ◌∙◌}
 use Rattle.std.proofs.lemmas.List.{append_assoc, length-take}
 use Rattle.c_syntax.specs.declared.node.NodeKind.{NodeKind}
@@ -21,18 +21,18 @@ use Rattle.c_model.specs.declared.point.WorkKind.TheVariants as work_kind
 use Rattle.c_model.specs.declared.question.Answer.{Answer}
 use Rattle.c_model.specs.declared.question.Answer.TheVariants as answer
 use Rattle.c_model.specs.declared.view.View.{View}
-use Rattle.c_model.specs.Clauses.{Copying, Listed, construct_statement, has_nowait, sections_of}
+use Rattle.c_model.specs.Clauses.{Copying, Listed, has_nowait, sections_of}
 use Rattle.c_model.specs.Clauses.Copying.{Private, First, Reduced}
 use Rattle.c_model.specs.Copies.{combines, combining_all, combining_of, has_own_cells, listed_variables, makes_cells}
 use Rattle.c_model.specs.Going.{after_answer, after_event, answered_at, barrier_items, call_in, items_after, items_answered, items_of_chunk, items_of_section, items_of_test, mutex_items, names_after, next_stage, passed_at, single_items, work_items}
-use Rattle.c_model.specs.Occurring.{IsFirstStage, IsOfItem, IsOfNext, IsOfTest}
+use Rattle.c_model.specs.Occurring.{IsOfItem, IsOfNext, IsOfTest}
 use Rattle.c_model.specs.Step.{settled_moment, settled_task}
 use Rattle.c_model.specs.Task.{Item, Moment, SharedLoop, Task}
-use Rattle.c_model.specs.Task.Item.{Start, Declare, Leave, Test, Third, Initialise, Return, FallOff, Forked, Inside, MakeCells, NextChunk, Iterations, NextSection, Combine, EndWork, EndMasked, Sync, Acquire, Release, TestLock, Tested}
-use Rattle.c_model.specs.Width.{IsWithin, inner_names, most_behind, most_inside, most_names, own_names, width}
+use Rattle.c_model.specs.Task.Item.{Start, Initialise, Forked, Inside, MakeCells, NextChunk, NextSection, EndWork, EndMasked, Sync, Acquire, Release, TestLock}
+use Rattle.c_model.specs.Width.{IsWithin, inner_names, most_inside, most_names, own_names, width}
 use Rattle.c_model.proofs.WidthBlocks.{iteration_names, value_names}
 use Rattle.c_model.proofs.WidthCells.{one_more}
-use Rattle.c_model.proofs.WidthNames.{grows, least}
+use Rattle.c_model.proofs.WidthNames.{grows}
 use Rattle.c_model.proofs.WidthSettled.{settled_is_within}
 use Rattle.c_model.proofs.WidthTrees.{child_below, of_body, of_section, of_statement, split, within}
 
@@ -125,10 +125,12 @@ worked-names program work.Single construct executes items names more fewer = sin
 
 work-names : (program : TreeView) (kind : Work) (construct : Tree) (executes : Bool) (items : List Item) (names : ℕ) → most_names program ((makes_cells construct ++ work_items kind construct names executes) ++ items) names ≤ max (names + inner_names program construct) (most_names program items names)
 work-names program kind construct executes items names =
-    omega (arith,
-    split program construct,
-    making_names program construct (work_items kind construct names executes) items names,
-    worked-names program kind construct executes items names (names + own_names program (kind_of construct) construct) (omega arith))
+    omega (
+      arith,
+      split program construct,
+      making_names program construct (work_items kind construct names executes) items names,
+      worked-names program kind construct executes items names (names + own_names program (kind_of construct) construct) (omega arith),
+    )
 
 barrier-names : (program : TreeView) (nowait : Bool) (construct : Tree) (items : List Item) (names : ℕ) → nowait ≡ has_nowait construct → most_names program (barrier_items construct ++ items) names ≡ most_names program items names
 unfolding most_names

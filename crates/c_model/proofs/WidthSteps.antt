@@ -1,168 +1,42 @@
 -- No silent step leads beyond the width.
-use Rattle.std.specs.Prelude.{ℕ, ◌+◌, ◌≤◌, ◌≡◌, ◌==◌, ◌&&◌, not, min, if◌then◌else◌, Bool, true, false, List, [], ◌∷◌, ◌++◌, length, take, Result, Ok, Err, ℤ, pos, refl}
+use Rattle.std.specs.Prelude.{ℕ, ◌+◌, ◌≤◌, ◌≡◌, min, if◌then◌else◌, Bool, true, false, List, [], ◌∷◌, ◌++◌, length, Result, Ok, ℤ, pos, refl}
 use Rattle.std.specs.List.{All}
 use Rattle.std.proofs.Common.{arith, subst}
-use Rattle.std.proofs.lemmas.List.{append_assoc, length-take}
-use Rattle.std.proofs.lemmas.List.Elements.{All-cons, All-head, All-tail}
+use Rattle.std.proofs.lemmas.List.{append_assoc}
 use Rattle.c_syntax.specs.declared.node.Directive.TheVariants as directive
 use Rattle.c_syntax.specs.declared.node.ReductionOp.{ReductionOp}
 use Rattle.c_syntax.specs.declared.node.Setting.{Setting}
 use Rattle.c_syntax.specs.declared.node.NodeKind.{NodeKind}
 use Rattle.c_syntax.specs.declared.node.NodeKind.TheVariants as node
-use Rattle.c_syntax.specs.Tree.{Tree, children_of, kind_of, name_of}
-use Rattle.c_syntax.specs.Numbered.{TreeView, root_tree}
+use Rattle.c_syntax.specs.Tree.{Tree, kind_of, name_of}
+use Rattle.c_syntax.specs.Numbered.{TreeView}
 use Rattle.c_check.specs.Loops.{child_at}
 use Rattle.c_check.specs.Seen.{slot_of_name}
 use Rattle.c_model.specs.declared.entry.Entry.{Entry}
-use Rattle.c_model.specs.declared.point.Target.{Target}
 use Rattle.c_model.specs.declared.point.Target.TheVariants as target
 use Rattle.c_model.specs.declared.view.View.{View}
 use Rattle.c_model.specs.Parts.{flat_declarations, has_child, parts}
-use Rattle.c_model.specs.Program.{body_of, function_named, parameters_of}
-use Rattle.c_model.specs.Cells.{Bound, cell_at, with_cells}
+use Rattle.c_model.specs.Cells.{cell_at}
 use Rattle.c_model.specs.Value.{all_values, cell_of, is_zero}
-use Rattle.c_model.specs.Coming.{binds, bound_of, goes_on, goes_on_with, scope_of, sets, value_here, with_result}
-use Rattle.c_model.specs.Calls.{begin_call, begin_initialise, begin_lock_call, begin_return_of, begin_right, begin_set_call, bound_in, ends_test, enters, file_bound, open_call, returns_to, value_cells, value_items}
+use Rattle.c_model.specs.Coming.{bound_of, goes_on, goes_on_with, scope_of, value_here}
+use Rattle.c_model.specs.Calls.{begin_initialise, begin_lock_call, begin_set_call}
 use Rattle.c_model.specs.Copies.{with_own_cells}
 use Rattle.c_model.specs.Constructs.{begin_iteration, begin_loop, begin_sections, combine, iterations_from, make_cells, reduction_result}
 use Rattle.c_model.specs.Loops.{loop_of}
 use Rattle.c_model.specs.Statements.{assigns, begin_block, begin_for, begin_if, begin_local_set, begin_print, begin_set_to_call, begin_set_to_value, begin_while, branch_taken, declares, makes_first_step, makes_step, new_number, setting_of, test_for, test_value, third_for}
-use Rattle.c_model.specs.Task.{Here, Item, Moment, OpenCall, Outcome, SharedLoop, Task, items_of_parts}
+use Rattle.c_model.specs.Task.{Here, Item, Moment, SharedLoop, items_of_parts}
 use Rattle.c_model.specs.Task.Item.{Start, Declare, Leave, Test, Third, Initialise, Return, FallOff, Forked, Inside, MakeCells, NextChunk, Iterations, NextSection, Combine, EndWork, EndMasked, Sync, Acquire, Release, TestLock, Tested}
-use Rattle.c_model.specs.Task.Outcome.{StepsTo, Asks, Occurs, Ends, Traps, Limits}
-use Rattle.c_model.specs.Step.{begin_construct, begin_inside, begin_standalone, begin_statement, is_masked, is_passed_over, items_from_next, settled_task, silent, step_at, step_of}
-use Rattle.c_model.specs.Standing.{Fits}
-use Rattle.c_model.specs.Width.{IsCallWithin, IsWithin, function_names, inner_names, most_behind, most_inside, most_names, most_of_functions, own_names, width}
+use Rattle.c_model.specs.Task.Outcome.{StepsTo}
+use Rattle.c_model.specs.Step.{begin_construct, begin_inside, begin_standalone, begin_statement, items_from_next, settled_task, silent, step_at, step_of}
+use Rattle.c_model.specs.Width.{IsCallWithin, IsWithin, most_names, own_names, width}
 use Rattle.c_model.proofs.Standing.{fits-construct, fits-inside, fits-lock, fits-standalone}
-use Rattle.c_model.proofs.WidthNames.{grows, least}
+use Rattle.c_model.proofs.WidthNames.{grows}
 use Rattle.c_model.proofs.WidthSettled.{settled_is_within}
-use Rattle.c_model.proofs.WidthTrees.{child_below, most_of, of_body, of_child, of_flat, of_function, of_parts, split, split_at, within}
-use Rattle.c_model.proofs.WidthCells.{one_more, with_own_names, with_parameters_names}
-use Rattle.c_model.proofs.WidthBlocks.{block_names, branch_names, iteration_names, value_names}
-
--- a step that is made leads to a task within the width
-unfoldable StaysWithin : TreeView → Outcome → Type 0
-StaysWithin program (StepsTo next) = IsWithin program next.task
-StaysWithin program other = Unit {0}
-
--- with these items before what remains, and so many names, a task is within the width
-abbrev IsEnough : Here → List Item → ℕ → Type 0
-IsEnough here items names = most_names here.program (items ++ here.task.todo) names ≤ width here.program
-
-abbrev AreCallsWithin : Here → Type 0
-AreCallsWithin here = All (IsCallWithin here.program) here.task.calls
-
--- the task is within the width where this item stands before what remains
-record IsRoomFor (here : Here) (item : Item) : Type 0 where
-  enough : most_behind here.program (length here.task.env) item (most_names here.program here.task.todo) ≤ width here.program
-  calls : AreCallsWithin here
-
--- outcomes
-stays-unless : (program : TreeView) (choice : Bool) (limit : ℕ) (next : Moment) → IsWithin program next.task → StaysWithin program (if choice then Limits limit else StepsTo next)
-unfolding StaysWithin
-stays-unless program true limit next is = tt
-stays-unless program false limit next is = is
-
-stays-step : (program : TreeView) (next : Moment) → IsWithin program next.task → StaysWithin program (StepsTo next)
-unfolding StaysWithin
-stays-step program next is = is
-
-stays-limit : (program : TreeView) (limit : ℕ) → StaysWithin program (Limits limit)
-unfolding StaysWithin
-stays-limit program limit = tt
-
-stays-choice : (program : TreeView) (choice : Bool) (one other : Outcome) → StaysWithin program one → StaysWithin program other → StaysWithin program (if choice then one else other)
-stays-choice program true one other first second = first
-stays-choice program false one other first second = second
-
-stays-result : {A : Type 0} (program : TreeView) (result : Result A ℕ) (next : A → Outcome) → ((a : A) → StaysWithin program (next a)) → StaysWithin program (with_result result next)
-unfolding StaysWithin
-stays-result program (Ok a) next each = each a
-stays-result program (Err trap) next each = tt
-
--- an event isn't a step
-stays-event : (program : TreeView) (outcome : Outcome) → Fits outcome true → StaysWithin program outcome
-unfolding StaysWithin Fits
-stays-event program (StepsTo next) fits = absurd fits
-stays-event program (Asks ask tree) fits = tt
-stays-event program (Occurs point tree) fits = tt
-stays-event program (Ends number) fits = tt
-stays-event program (Traps trap) fits = tt
-stays-event program (Limits limit) fits = tt
-
--- the words of the forms
-stays-on : (here : Here) (items : List Item) → IsEnough here items (length here.task.env) → AreCallsWithin here → StaysWithin here.program (goes_on here items)
-unfolding StaysWithin
-stays-on here items enough calls = record { now = enough; calls = calls }
-
-stays-with : (here : Here) (names : ℕ) (items : List Item) → IsEnough here items (min names (length here.task.env)) → AreCallsWithin here → StaysWithin here.program (goes_on_with here names items)
-unfolding StaysWithin
-stays-with here names items enough calls = record { now = rw (length-take names here.task.env) enough; calls = calls }
-
-stays-sets : (here : Here) (cell : ℕ) (number : ℤ) (items : List Item) → IsEnough here items (length here.task.env) → AreCallsWithin here → StaysWithin here.program (sets here cell number items)
-unfolding StaysWithin
-stays-sets here cell number items enough calls = record { now = enough; calls = calls }
-
-stays-binds : (here : Here) (bound : Bound) (items : List Item) → IsEnough here items (length bound.env) → AreCallsWithin here → StaysWithin here.program (binds here bound items)
-stays-binds here bound items enough calls = stays-unless here.program _ _ _ (record { now = enough; calls = calls })
-
--- a name comes into scope
-stays-bound : (here : Here) (name slot : ℕ) (numbers : List ℤ) (items : List Item) → IsEnough here items (length here.task.env + 1) → AreCallsWithin here → StaysWithin here.program (binds here (with_cells (bound_of here) name slot numbers) items)
-stays-bound here name slot numbers items enough calls =
-    stays-binds here (with_cells (bound_of here) name slot numbers) items (rw (one_more here.task.env _) enough) calls
-
--- calls
--- a function's body, and its end
-pub body_enough : (program : TreeView) (tree : Tree) (names : ℕ) → names + inner_names program tree ≤ width program → most_names program (Start tree ∷ FallOff ∷ []) names ≤ width program
-unfolding most_names
-body_enough program tree names enough = omega (arith, enough)
-
-stays-enters : (here : Here) (function : Tree) (call : OpenCall) (bound : Bound) → length bound.env + inner_names here.program (body_of function) ≤ width here.program → IsCallWithin here.program call → AreCallsWithin here → StaysWithin here.program (enters here function call bound)
-stays-enters here function call bound enough is calls =
-    let entered : IsWithin here.program (record here.task { todo = Start (body_of function) ∷ FallOff ∷ []; env = bound.env; calls = call ∷ here.task.calls }) =
-        record {
-          now = body_enough here.program (body_of function) (length bound.env) enough;
-          calls = All-cons (IsCallWithin here.program) call here.task.calls is calls;
-        }
-    in
-    search (stays-choice, stays-limit, stays-step, entered)
-
-function-enough : (here : Here) (name : ℕ) (numbers : List ℤ) → length (bound_in here (function_named here.program name) numbers).env + inner_names here.program (body_of (function_named here.program name)) ≤ width here.program
-function-enough here name numbers =
-    omega (arith, of_function here.program name, with_parameters_names here.program (parameters_of (function_named here.program name)) (record { env = (file_bound here.program).env; cells = here.store.cells }) numbers)
-
-stays-call : (here : Here) (call : Tree) (env : List Entry) (to : Target) → IsEnough here [] (length env) → AreCallsWithin here → StaysWithin here.program (begin_call here call env to)
-stays-call here call env to enough calls =
-    stays-result here.program (all_values (scope_of here) (parts call)) _ (λ numbers.
-    stays-enters here (function_named here.program (name_of call)) (open_call here env to) (bound_in here (function_named here.program (name_of call)) numbers)
-    (function-enough here (name_of call) numbers) enough calls)
-
-stays-right : (kind : NodeKind) (here : Here) (call : Tree) (env : List Entry) (to : Target) → IsEnough here [] (length env) → AreCallsWithin here → StaysWithin here.program (begin_right kind here call env to)
-unfolding StaysWithin
-stays-right node.TestLock here call env to enough calls = tt
-stays-right other here call env to enough calls = stays-call here call env to enough calls
-
-stays-returns : (opened : List OpenCall) (here : Here) (number : ℤ) → IsEnough here [] (length here.task.env) → All (IsCallWithin here.program) opened → AreCallsWithin here → StaysWithin here.program (returns_to opened here number)
-unfolding StaysWithin most_names
-stays-returns [] here number enough opened calls =
-    record { now = omega (arith, enough, least here.program here.task.todo (length here.task.env)); calls = calls }
-stays-returns (call ∷ rest) here number enough opened calls =
-    record {
-      now = omega (arith, value_names here.program call.to number call.todo (length call.env), All-head (IsCallWithin here.program) call rest opened);
-      calls = All-tail (IsCallWithin here.program) call rest opened;
-    }
-
-stays-return : (kind : NodeKind) (here : Here) (right : Tree) → IsEnough here [] (length here.task.env) → AreCallsWithin here → StaysWithin here.program (begin_return_of kind here right)
-unfolding StaysWithin
-stays-return node.Call here right enough calls = stays-call here right here.task.env target.Return enough calls
-stays-return node.TestLock here right enough calls = tt
-stays-return other here right enough calls =
-    stays-result here.program (value_here here right) _ (λ number. stays-returns here.task.calls here number enough calls calls)
-
-stays-tested : (here : Here) (to : Target) → IsEnough here [] (length here.task.env) → AreCallsWithin here → StaysWithin here.program (ends_test here to)
-unfolding StaysWithin
-stays-tested here to enough calls =
-    record { now = omega (arith, enough, value_names here.program to (pos 1) here.task.todo (length here.task.env)); calls = calls }
+use Rattle.c_model.proofs.WidthTrees.{child_below, of_child, of_flat, of_parts, split_at, within}
+use Rattle.c_model.proofs.WidthCells.{one_more, with_own_names}
+use Rattle.c_model.proofs.WidthBlocks.{block_names, branch_names, iteration_names}
+use Rattle.c_model.proofs.WidthCalls.{stays-return, stays-returns, stays-right, stays-tested}
+use Rattle.c_model.proofs.WidthComing.{AreCallsWithin, IsEnough, IsRoomFor, StaysWithin, stays-binds, stays-bound, stays-choice, stays-event, stays-on, stays-result, stays-sets, stays-unless, stays-with}
 
 -- declarators
 stays-set-to-call : (here : Here) (tree : Tree) → IsEnough here [] (length here.task.env + 1) → AreCallsWithin here → StaysWithin here.program (begin_set_to_call here tree)
@@ -214,12 +88,14 @@ rest-enough here tree room = omega (arith, room.enough)
 block-enough : (here : Here) (tree : Tree) → kind_of tree ≡ node.Block → IsRoomFor here (Start tree) → most_names here.program ((items_of_parts (flat_declarations (parts tree)) ++ Leave (length here.task.env) ∷ []) ++ here.task.todo) (length here.task.env) ≤ width here.program
 block-enough here tree is room =
     rw (append_assoc (items_of_parts (flat_declarations (parts tree))) (Leave (length here.task.env) ∷ []) here.task.todo)
-    (omega (arith,
-    room.enough,
-    split_at here.program tree node.Block is,
-    block_names here.program (flat_declarations (parts tree)) here.task.todo (length here.task.env) (length here.task.env) (omega arith),
-    of_flat here.program (parts tree),
-    of_parts here.program tree))
+    (omega (
+      arith,
+      room.enough,
+      split_at here.program tree node.Block is,
+      block_names here.program (flat_declarations (parts tree)) here.task.todo (length here.task.env) (length here.task.env) (omega arith),
+      of_flat here.program (parts tree),
+      of_parts here.program tree,
+    ))
 
 while-enough : (here : Here) (tree : Tree) → IsRoomFor here (Start tree) → (over : Bool) → IsEnough here (if over then [] else Start (child_at tree 1) ∷ Start tree ∷ []) (length here.task.env)
 unfolding most_names
@@ -229,10 +105,12 @@ while-enough here tree room false = omega (arith, room.enough, child_below here.
 for-enough : (here : Here) (tree : Tree) → kind_of tree ≡ node.For → IsRoomFor here (Start tree) → IsEnough here (Test tree (length here.task.env) ∷ []) (length here.task.env + 1)
 unfolding most_names
 for-enough here tree is room =
-    omega (arith,
-    room.enough,
-    split_at here.program tree node.For is,
-    grows here.program here.task.todo (min (length here.task.env) (length here.task.env + 1)) (length here.task.env) (omega arith))
+    omega (
+      arith,
+      room.enough,
+      split_at here.program tree node.For is,
+      grows here.program here.task.todo (min (length here.task.env) (length here.task.env + 1)) (length here.task.env) (omega arith),
+    )
 
 test-enough : (here : Here) (tree : Tree) (names : ℕ) → IsRoomFor here (Test tree names) → IsEnough here (Start (child_at tree 3) ∷ Third tree names ∷ []) (length here.task.env)
 unfolding most_names

@@ -1,8 +1,6 @@
 -- The parts of a statement have no more names inside than it has, beside its own.
-use Rattle.std.specs.Prelude.{ℕ, zero, suc, ◌+◌, ◌≤◌, ◌≡◌, max, if◌then◌else◌, Bool, true, false, List, [], ◌∷◌, ◌++◌, map, length, cond, slice_index_or, unwrap_or, Option, Some, None, refl, ℤ}
-use Rattle.std.specs.List.{count_by}
+use Rattle.std.specs.Prelude.{ℕ, zero, suc, ◌+◌, ◌≤◌, ◌≡◌, max, if◌then◌else◌, Bool, true, false, List, [], ◌∷◌, ◌++◌, map, slice_index_or, unwrap_or, Option, Some, None, refl, ℤ}
 use Rattle.std.proofs.Common.{arith, ap, ◌∙◌}
-use Rattle.std.proofs.lemmas.List.Sums.{sum_by-cons}
 use Rattle.c_syntax.specs.declared.node.BinaryOp.{BinaryOp}
 use Rattle.c_syntax.specs.declared.node.NodeKind.{NodeKind}
 use Rattle.c_syntax.specs.declared.node.NodeKind.TheVariants as node
@@ -15,10 +13,10 @@ use Rattle.c_check.specs.LoopParts.{comparison_of, parts_by_kind, parts_if, part
 use Rattle.c_check.specs.Loops.{child_at, has_head, loop_name}
 use Rattle.c_check.specs.Statements.{is_head, shares_loop, statement_of}
 use Rattle.c_model.specs.Parts.{declarators_in, flat_declarations, parts, trees_in}
-use Rattle.c_model.specs.Program.{body_of, function_among, function_named, is_function_named}
+use Rattle.c_model.specs.Program.{function_among, function_named, is_function_named}
 use Rattle.c_model.specs.Clauses.{clauses_among, construct_statement, listed_among, section_statement, sections_of, statements_among}
 use Rattle.c_model.specs.Loops.{loop_of, no_loop}
-use Rattle.c_model.specs.Width.{declared_names, function_names, inner_names, most_inside, most_of_functions, own_names}
+use Rattle.c_model.specs.Width.{function_names, inner_names, most_inside, most_of_functions, own_names}
 
 pub split : (program : TreeView) (tree : Tree) → inner_names program tree ≡ own_names program (kind_of tree) tree + most_inside program (children_of tree)
 unfolding inner_names
