@@ -53,7 +53,7 @@ looping_items =
     ∷ plain node.Return (binary_of binary.Subtract (variable 3) (literal 6) ∷ [])
     ∷ []
 
-abbrev looping : TreeView
+abbrev pub looping : TreeView
 looping = program_of 1 (function 1 [] looping_items ∷ [])
 
 -- The block, two declarators, the first part of the loop, four tests, three bodies, three third parts, the printf, the return.
@@ -83,7 +83,7 @@ recursive-runs = refl
 
 -- The same without an end. Main's block and statement stand in one call; 63 more may be open beside it, each with its start and its block; the
 -- start of the next one meets the limit.
-abbrev endless : TreeView
+abbrev pub endless : TreeView
 endless =
     program_of 1 (
     function 2 (named node.Name 3 ∷ []) (plain node.Return (tree node.Call 2 0 (variable 3 ∷ []) ∷ []) ∷ [])
@@ -114,7 +114,7 @@ shared_loop =
     ∷ [])
     ∷ []))
 
-abbrev sharing : TreeView
+abbrev pub sharing : TreeView
 sharing =
     program_of 1 (
     plain node.Globals (named node.GlobalVar 2 ∷ [])
@@ -185,3 +185,12 @@ leaving_array =
 leaving-runs : watched 100 leaving_array alone [] 0 (at_start leaving_array) ≡ Trap 17 3 ∷ []
 unfolding watched reached silent children items_from_next trees_in flat_declarations function_among variables_among first_named last_named with_declarators value values all_values printed_text text_behind_percent text_behind_backslash with_parameters digits clauses_among expression_among listed_among schedule_among statements_among combining_all with_listed statement_of
 leaving-runs = refl
+
+-- A declarator where no block has it, which no text can have: main's `if` has one as its branch. It is an empty statement.
+abbrev misplaced : TreeView
+misplaced = program_of 1 (function 1 [] (plain node.If (literal 1 ∷ named node.LocalVar 2 ∷ []) ∷ []) ∷ [])
+
+-- The block, the test, the empty statement, the block's end, and main falls off.
+misplaced-runs : watched 100 misplaced alone [] 0 (at_start misplaced) ≡ End 5 (pos 0) [] ∷ []
+unfolding watched reached silent children items_from_next trees_in flat_declarations function_among variables_among first_named last_named with_declarators value values all_values printed_text text_behind_percent text_behind_backslash with_parameters digits clauses_among expression_among listed_among schedule_among statements_among combining_all with_listed statement_of
+misplaced-runs = refl

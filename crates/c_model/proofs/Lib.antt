@@ -11,3 +11,14 @@ pub mod Settled
 pub mod Answers
 pub mod KnownValues
 pub mod KnownOutcomes
+pub mod WidthNames
+pub mod WidthTrees
+pub mod WidthCells
+pub mod WidthBlocks
+pub mod WidthSettled
+pub mod WidthComing
+pub mod WidthCalls
+pub mod WidthSteps
+pub mod WidthGoing
+pub mod WidthTasks
+pub mod WidthExamples

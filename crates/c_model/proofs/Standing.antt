@@ -95,7 +95,7 @@ fits-return node.Call here tree = fits-call here tree here.task.env target.Retur
 fits-return node.TestLock here tree = fits-event _ _
 fits-return other here tree = search fits
 
-fits-lock : (which : LockCall) (here : Here) (tree : Tree) → Fits (begin_lock_call which here tree) true
+pub fits-lock : (which : LockCall) (here : Here) (tree : Tree) → Fits (begin_lock_call which here tree) true
 fits-lock lock.Init here tree = fits-event _ _
 fits-lock lock.Destroy here tree = fits-event _ _
 fits-lock lock.Set here tree = fits-event _ _
@@ -110,11 +110,11 @@ fits-declares : (kind : NodeKind) (here : Here) (tree : Tree) → Fits (declares
 fits-declares node.LocalSet here tree = fits-local (kind_of (child_at tree 0)) here tree
 fits-declares other here tree = search fits
 
-fits-standalone : (which : Standalone) (tree : Tree) → Fits (begin_standalone which tree) true
+pub fits-standalone : (which : Standalone) (tree : Tree) → Fits (begin_standalone which tree) true
 fits-standalone standalone.Barrier tree = fits-event _ _
 fits-standalone standalone.Taskwait tree = fits-event _ _
 
-fits-construct : (which : Directive) (here : Here) (tree : Tree) → Fits (begin_construct which here tree) true
+pub fits-construct : (which : Directive) (here : Here) (tree : Tree) → Fits (begin_construct which here tree) true
 fits-construct directive.Parallel here tree = search fits
 fits-construct directive.For here tree = search fits
 fits-construct directive.Sections here tree = fits-event _ _
@@ -126,7 +126,7 @@ fits-construct directive.Master here tree = fits-event _ _
 fits-construct directive.Critical here tree = fits-event _ _
 fits-construct directive.Task here tree = search fits
 
-fits-inside : (kind : NodeKind) (here : Here) (tree : Tree) → Fits (begin_inside kind here tree) (is_inside_event kind)
+pub fits-inside : (kind : NodeKind) (here : Here) (tree : Tree) → Fits (begin_inside kind here tree) (is_inside_event kind)
 fits-inside (node.Construct directive.ParallelFor) here tree = search fits
 fits-inside (node.Construct directive.ParallelSections) here tree = fits-event _ _
 fits-inside other here tree = fits-step _

@@ -63,7 +63,7 @@ creation =
     at 4 1 node.Place 2 0 [] ∷ binary_of binary.Add (at 4 5 node.Place 2 0 []) (literal 1) ∷ []) ∷ [])
     ∷ [])
 
-abbrev creating : TreeView
+abbrev pub creating : TreeView
 creating =
     program_of 1 (
     plain (node.Function returns.Int) (

@@ -7,14 +7,15 @@ ghost use Rattle.c_model.specs.declared.view.View.{View as Seen};
 ghost use Rattle.c_model.specs.declared.point.Point.{Point as Event};
 ghost use Rattle.c_model.specs.declared.question.Answer.{Answer as Given};
 ghost use Rattle.c_model.specs.Answers.{Answers, AsksFor};
-ghost use Rattle.c_model.specs.Begin.{explicit_task};
+ghost use Rattle.c_model.specs.Begin.{explicit_task, main_task, member_task};
 ghost use Rattle.c_model.specs.Going.{after_answer, after_event};
 ghost use Rattle.c_model.specs.Task.{Moment, Task};
-ghost use Rattle.c_model.specs.Task.Outcome.{Ends, Occurs};
+ghost use Rattle.c_model.specs.Task.Outcome.{Ends, Occurs, StepsTo};
 ghost use Rattle.c_model.specs.Standing.{Fits};
 ghost use Rattle.c_model.specs.Known.{IsKnown};
 ghost use Rattle.c_model.specs.Occurring.{IsOfNext};
 ghost use Rattle.c_model.specs.Step.{settled_moment, settled_task, silent, stands};
+ghost use Rattle.c_model.specs.Width.{IsWithin};
 
 /// What stands next tells by its form alone, without cells, whether an event or the end comes: then nothing is a silent step and
 /// nothing is asked, and else no event occurs and the code doesn't end. A trap or a limit may come in both cases.
@@ -63,4 +64,21 @@ pub fn answers_are_asked_for()
 pub fn events_are_of_what_stands_next()
     ensures { (program : TreeView) (view : Seen) (now : Moment) (point : Event) (tree : Part) →
         silent program view now ≡ Occurs point tree → IsOfNext point (settled_task view now.task).todo }
+{}
+
+/// No task ever has more names in scope than the program's width, neither now nor in a function that goes on behind a call: main begins so, and
+/// it stays so in each silent step, behind each answer and behind each event of what stands next. The code of a member of a team and of an
+/// explicit task begins so, where the task that forks the region or creates the task is so.
+pub fn no_environment_grows_past_the_width()
+    ensures main { (program : TreeView) → IsWithin program (main_task program) }
+    ensures step { (program : TreeView) (view : Seen) (now next : Moment) → IsWithin program now.task →
+        silent program view now ≡ StepsTo next → IsWithin program next.task }
+    ensures answer { (program : TreeView) (view : Seen) (given : Given) (now : Moment) → IsWithin program now.task →
+        IsWithin program (after_answer view given now).task }
+    ensures event { (program : TreeView) (view : Seen) (point : Event) (executes : Bool) (task : Task) → IsWithin program task →
+        IsOfNext point (settled_task view task).todo → IsWithin program (after_event view point executes task) }
+    ensures member { (program : TreeView) (task : Task) → IsWithin program task → IsWithin program (member_task task) }
+    ensures explicit { (program : TreeView) (view : Seen) (now : Moment) → IsWithin program now.task →
+        IsWithin program (explicit_task program view now).task }
+    ensures settled { (program : TreeView) (view : Seen) (task : Task) → IsWithin program task → IsWithin program (settled_task view task) }
 {}

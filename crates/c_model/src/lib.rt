@@ -16,14 +16,17 @@
 //! - `Known`: the traps and limits that a task's code can come to;
 //! - `Answers`: which answers are given to what a task asks;
 //! - `Going`: how it goes on after an answer or an event;
-//! - `Begin`: how the code of main, of a member of a team and of an explicit task begins.
+//! - `Begin`: how the code of main, of a member of a team and of an explicit task begins;
+//! - `Occurring`: of which item an event is;
+//! - `Width`: how many names a task ever has in scope.
 //!
 //! `docs/statements.md` tells the same in a page. `src/` has the types and numbers that the definitions share with the code. Nothing
 //! here runs a program: the interpreter is to be proved equal to `silent`, `after_answer` and `after_event`.
 //!
 //! The definitions are total. A child that is missing is an empty program, a name that nothing declares reads as 0, traps with an
-//! index and can't be set, a form that can't stand where it stands is an empty statement. None of them is met in a program that breaks no
-//! rule, which isn't proved here. An answer to what wasn't asked changes nothing; `Answers` says which answers are given.
+//! index and can't be set, a form that can't stand where it stands is an empty statement, as a declarator that no block has. None of
+//! them is met in a program that breaks no rule, which isn't proved here. An answer to what wasn't asked changes nothing; `Answers`
+//! says which answers are given.
 //!
 //! Proved, by the contract of the function that is named:
 //!
@@ -33,11 +36,15 @@
 //!   ([`settling_changes_nothing`]);
 //! - an answer to what stands next is of the kind that its step asks for ([`answers_are_asked_for`]);
 //! - a task for which nothing is left has ended ([`ended_code_has_no_step`]);
-//! - a task's code traps with 1, 2 or 3, and meets the limits 3, 6 and 7 ([`traps_and_limits_are_known`]).
+//! - a task's code traps with 1, 2 or 3, and meets the limits 3, 6 and 7 ([`traps_and_limits_are_known`]);
+//! - an event is of the item that stands next ([`events_are_of_what_stands_next`]);
+//! - no task of a program ever has more names in scope than the program's width, and no call that is open has when it goes on
+//!   ([`no_environment_grows_past_the_width`]).
 //!
 //! In `proofs/` programs and expressions are computed: `Values` at the edges of numbers, arrays and loops, `Examples` with a loop, a recursion
 //! and a loop that is shared out, `Hiding` with a loop whose variable has the name of one that it reduces, `Waiting` with locks, `single`,
-//! `barrier`, `masked` and sections, `Criticals` with criticals, and `Tasks` with explicit tasks.
+//! `barrier`, `masked` and sections, `Criticals` with criticals, and `Tasks` with explicit tasks. `WidthExamples`
+//! has the widths of some of them.
 //! That the definitions are C's and OpenMP's is for their reader to judge.
 #![tactic(auto)]
 
@@ -52,7 +59,8 @@ mod view;
 pub use entry::Entry;
 pub use laws::{
     answers_are_asked_for, ended_code_has_no_step, events_are_of_what_stands_next,
-    settling_changes_nothing, standing_is_told_by_form, traps_and_limits_are_known,
+    no_environment_grows_past_the_width, settling_changes_nothing, standing_is_told_by_form,
+    traps_and_limits_are_known,
 };
 pub use limits::{CALL_LIMIT, CALLS, CELL_LIMIT, CELLS, LINE_UNIT, LOCK_UNIT, TEXT, TEXT_LIMIT};
 pub use point::{MutexKind, Point, Schedule, SyncKind, SyncStage, Target, Work, WorkKind};
