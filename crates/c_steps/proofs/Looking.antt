@@ -42,7 +42,7 @@ parts_left_whole (tree ∷ trees) = ap (λ first. first ++ flat_declarations tre
 pub shows_one : (program : TreeView) (it : Item) → IsItem program it → ShowsItem program (frame.One it) it
 unfolding todo_at calls_at weight weights
 shows_one program it is = record {
-  front = λ frames are. record { is_item = is; can_begin = tt; todo = refl; calls = λ names. refl; begun = are };
+  front = λ frames are. record { is_item = is; can_begin = tt; todo = refl; calls = λ names. refl; are_begun = are };
   less = λ frames. omega arith;
 }
 
@@ -62,7 +62,7 @@ module _ (program : TreeView) (block place at names : ℕ) where
       can_begin = fits;
       todo = rw (parts, declarators, same) refl;
       calls = λ names. refl;
-      begun = All-cons (IsFrame program) _ _ within are;
+      are_begun = All-cons (IsFrame program) _ _ within are;
     };
     less = λ frames. rw (parts, declarators) (omega (arith));
   }
@@ -122,7 +122,7 @@ module _ (program : TreeView) (construct : ℕ) (names : ℕ) where
       can_begin = tt;
       todo = refl;
       calls = λ names. refl;
-      begun = All-cons (IsFrame program) _ _ within are;
+      are_begun = All-cons (IsFrame program) _ _ within are;
     };
     less = λ frames. omega arith;
   }

@@ -56,7 +56,7 @@ module _ (program : TreeView) (view : View) (old : List Frame) where
 
   pub settles_past : (frames : List Frame) (found : Item) → SettlesTo program view old frames → IsFront program frames found → is_passed_over (item_at program found) view ≡ true → SettlesTo program view old (begun frames)
   settles_past frames found so front past = record {
-    are_frames = front.begun;
+    are_frames = front.are_begun;
     todo = sym (ap (items_from_next view) front.todo ∙ passes view (item_at program found) (todo_at program (begun frames)) past) ∙ so.todo;
     calls = λ names. front.calls names ∙ so.calls names;
   }

@@ -4,6 +4,7 @@ use Rattle.c_syntax.specs.Tree.{Tree}
 use Rattle.c_syntax.specs.Numbered.{TreeView, tree_at}
 use Rattle.c_model.specs.declared.entry.Entry.{Entry}
 use Rattle.c_model.specs.declared.view.View.{View}
+use Rattle.c_model.specs.Value.{Scope}
 use Rattle.c_model.specs.Task.{Here, Moment, Outcome, Store, Task}
 use Rattle.c_model.specs.Task.Outcome.{StepsTo, Asks, Occurs, Ends, Traps, Limits}
 use Rattle.c_steps.specs.declared.frame.Frame.{Frame}
@@ -59,3 +60,7 @@ outcome_at program (next.Event point node) now = Occurs point (tree_at program.t
 outcome_at program (next.Ended number) now = Ends number
 outcome_at program (next.Trap trap) now = Traps trap
 outcome_at program (next.Limit limit) now = Limits limit
+
+-- what the expressions of the function that was called last are evaluated in
+abbrev pub scope_in : TreeView → View → Held → Store → Scope
+scope_in program view held store = record { env = env_at program held; cells = store.cells; view = view }

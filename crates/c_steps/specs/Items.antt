@@ -1,5 +1,5 @@
 -- What the items and frames of a control stand for: the items of the definitions, over the trees that the nodes have the numbers of.
-use Rattle.std.specs.Prelude.{ℕ, ◌+◌, List, [], ◌∷◌, ◌++◌, length, drop, take}
+use Rattle.std.specs.Prelude.{ℕ, ◌+◌, List, [], ◌∷◌, ◌++◌, length, drop, take, Option, Some, None}
 use Rattle.c_syntax.specs.declared.node.NodeKind.{NodeKind}
 use Rattle.c_syntax.specs.declared.node.NodeKind.TheVariants as node
 use Rattle.c_syntax.specs.Tree.{Tree, kind_of}
@@ -116,3 +116,8 @@ begun (frame.Parts block place at names ∷ frames) = frame.Parts block place (a
 begun (frame.Combining construct from names ∷ frames) = frame.Combining construct from names ∷ frames
 begun (frame.Combines operator name construct from names ∷ frames) = frame.Combining construct from names ∷ frames
 begun (frame.Caller base to ∷ frames) = frame.Caller base to ∷ frames
+
+-- what stands next by an item, if there is one
+abbrev pub items_if : TreeView → Option of_item.Item → List Item
+items_if program None = []
+items_if program (Some it) = item_at program it ∷ []

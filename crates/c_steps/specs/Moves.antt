@@ -1,9 +1,12 @@
 -- The moves of a control, of which its steps are made.
-use Rattle.std.specs.Prelude.{ℕ, ◌+◌, ◌-◌, List, [], ◌∷◌, ◌++◌, take, min, length}
+use Rattle.std.specs.Prelude.{ℕ, ◌+◌, ◌-◌, ℤ, List, [], ◌∷◌, ◌++◌, length, min, take, Option, Some, None}
 use Rattle.c_model.specs.declared.entry.Entry.{Entry}
 use Rattle.c_steps.specs.declared.frame.Frame.{Frame}
 use Rattle.c_steps.specs.declared.frame.Frame.TheVariants as frame
+use Rattle.c_model.specs.declared.point.Target.{Target}
+use Rattle.c_model.specs.declared.point.Target.TheVariants as target
 use Rattle.c_steps.specs.declared.item.Item.{Item}
+use Rattle.c_steps.specs.declared.item.Item.TheVariants as item
 use Rattle.c_steps.specs.Held.{Held}
 use Rattle.c_steps.specs.Items.{begun}
 
@@ -27,6 +30,51 @@ then_item it held = pushed (frame.One it) held
 abbrev pub bound : Entry → Held → Held
 bound entry held = record held { names = held.names ++ entry ∷ []; names_now = held.names_now - 1 }
 
+-- a call is opened: its value goes there, and the names of the function that is called begin behind those in scope
+abbrev pub opened : Target → Held → Held
+opened to held = record (pushed (frame.Caller held.base to) held) { base = length held.names }
+
+-- the frames of the function that was called last go, and what its caller has kept stands there again
+unfoldable pub below_call : List Frame → List Frame
+below_call [] = []
+below_call (frame.One it ∷ frames) = below_call frames
+below_call (frame.Parts block place at names ∷ frames) = below_call frames
+below_call (frame.Combining construct from names ∷ frames) = below_call frames
+below_call (frame.Combines operator name construct from names ∷ frames) = below_call frames
+below_call (frame.Caller base to ∷ frames) = frames
+
+unfoldable pub last_call : List Frame → Option (ℕ × Target)
+last_call [] = None
+last_call (frame.One it ∷ frames) = last_call frames
+last_call (frame.Parts block place at names ∷ frames) = last_call frames
+last_call (frame.Combining construct from names ∷ frames) = last_call frames
+last_call (frame.Combines operator name construct from names ∷ frames) = last_call frames
+last_call (frame.Caller base to ∷ frames) = Some (base, to)
+
+abbrev pub closed_to : Option (ℕ × Target) → Held → Held
+closed_to None held = record held { frames = [] }
+closed_to (Some call) held =
+    record held { frames = below_call held.frames; names = take held.base held.names; base = min call.0 (length (take held.base held.names)) }
+
+abbrev pub closed : Held → Held
+closed held = closed_to (last_call held.frames) held
+
+-- the value of a call goes to its target
+abbrev pub delivered : Target → ℤ → Held → Held
+delivered target.Nowhere number held = held
+delivered (target.Cell cell) number held = held
+delivered target.Return number held = then_item (item.Return number) held
+
 -- so many names of the function stay in scope
 abbrev pub cut : ℕ → Held → Held
 cut count held = record held { names = take (held.base + count) held.names }
+
+-- an item more stands next, if there is one
+abbrev pub then_if : Option Item → Held → Held
+then_if None held = held
+then_if (Some it) held = then_item it held
+
+-- the names in scope with one that is declared, if one is
+abbrev pub env_with : Option Entry → List Entry → List Entry
+env_with None env = env
+env_with (Some entry) env = env ++ entry ∷ []

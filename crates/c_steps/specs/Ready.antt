@@ -18,6 +18,7 @@ use Rattle.c_steps.specs.declared.frame.Frame.TheVariants as frame
 use Rattle.c_steps.specs.declared.next.Next.{Next}
 use Rattle.c_steps.specs.declared.next.Next.TheVariants as next
 use Rattle.c_steps.specs.Nodes.{IsPart, part_at}
+use Rattle.c_steps.specs.Rooming.{IsEntry}
 use Rattle.c_model.specs.declared.entry.Entry.{Entry}
 use Rattle.c_steps.specs.Items.{begun, calls_at, item_at, todo_at}
 use Rattle.c_steps.specs.Held.{Held}
@@ -42,7 +43,7 @@ IsItem program (item.Declare node) = (node < length program.trees) × (is_declar
 IsItem program (item.Leave names) = Unit {0}
 IsItem program (item.Test node names) = node < length program.trees
 IsItem program (item.Third node names) = node < length program.trees
-IsItem program (item.Initialise node entry) = node < length program.trees
+IsItem program (item.Initialise node entry) = (node < length program.trees) × IsEntry entry
 IsItem program (item.Return number) = Unit {0}
 IsItem program item.FallOff = Unit {0}
 IsItem program (item.Forked node) = node < length program.trees
@@ -71,6 +72,11 @@ IsFrame program (frame.Caller base to) = Unit {0}
 abbrev pub AreFrames : TreeView → List Frame → Type 0
 AreFrames program frames = All (IsFrame program) frames
 
+-- it is no call
+abbrev pub IsPlain : Frame → Type 0
+IsPlain (frame.Caller base to) = ⊥
+IsPlain other = Unit {0}
+
 -- it has a place to go on
 abbrev pub CanBegin : List Frame → Type 0
 CanBegin (frame.Parts block place at names ∷ frames) = at < 4294967295
@@ -79,15 +85,17 @@ CanBegin other = Unit {0}
 -- this stands next
 pub record IsFront (program : TreeView) (frames : List Frame) (it : Item) : Type 0 where
   pub is_item : IsItem program it
-  pub can_begin : CanBegin frames
   pub todo : todo_at program frames ≡ item_at program it ∷ todo_at program (begun frames)
+  pub can_begin : CanBegin frames
+  pub are_begun : AreFrames program (begun frames)
   pub calls : (names : List Entry) → calls_at program names (begun frames) ≡ calls_at program names frames
-  pub begun : AreFrames program (begun frames)
 
--- what a step can be made of
-pub record IsReady (program : TreeView) (held : Held) (it : Item) : Type 0 where
-  pub front : IsFront program held.frames it
-  pub frames : AreFrames program held.frames
+-- a step can be made of what stands next
+pub record IsStepping (program : TreeView) (held : Held) : Type 0 where
+  pub are_frames : AreFrames program held.frames
+  pub can_begin : CanBegin held.frames
+  pub are_begun : AreFrames program (begun held.frames)
+  pub calls : (names : List Entry) → calls_at program names (begun held.frames) ≡ calls_at program names held.frames
   pub spare : 0 < held.spare
 
 -- a silent step takes one from the spare

@@ -2,8 +2,11 @@
 
 ghost use Rattle.std.specs.Prelude.{◌≡◌, ◌<◌, ◌-◌};
 ghost use Rattle.c_steps.specs.Items.{begun};
-ghost use Rattle.c_steps.specs.Ready.{CanBegin};
-ghost use Rattle.c_steps.specs.Moves.{bound, cut, passing, pushed, stepping, then_item};
+ghost use Rattle.c_steps.specs.Ready.{CanBegin, IsPlain};
+ghost use Rattle.std.specs.Option.{option_map};
+ghost use Rattle.c_model.specs.declared.limits.TheConstants.{CALL_LIMIT};
+ghost use Rattle.c_steps.specs.Rooming.{IsEntry, open_calls};
+ghost use Rattle.c_steps.specs.Moves.{bound, closed, cut, last_call, opened, passing, pushed, stepping, then_if, then_item};
 
 mod settling;
 
@@ -11,7 +14,7 @@ use crate::frame::Frame;
 use crate::item::Item;
 use crate::names::Names;
 use crate::stack::Stack;
-use c_model::Entry;
+use c_model::{Entry, Target};
 use std::marker::Model;
 
 /// What is left of a task's code: what stands next, the names in scope, the calls that are open. Contracts see, by the numbers of nodes, what
@@ -35,6 +38,8 @@ pub struct Control {
     step_names: usize,
     /// How many names fit in all.
     room: usize,
+    /// How many calls are open.
+    open_calls: usize,
 }
 
 impl Model for Control {
@@ -56,7 +61,7 @@ impl Model for Control {
       room = control.room;
     } };
 
-    ghost invariant = { λ control. HasRoomFor control.stack.free control.names.free (record {
+    ghost invariant = { λ control. HasRoomFor control.stack.free control.names.free control.open_calls (record {
       frames = control.stack.frames;
       names = control.names.list;
       base = control.base;
@@ -131,9 +136,10 @@ impl Control {
         self.names_now = 0;
     }
 
-    /// A frame more.
+    /// A frame more, which is no call.
     fn push(&mut self, frame: Frame)
-        requires { 0 < self.old.frames_now }
+        requires room { 0 < self.old.frames_now }
+        requires plain { IsPlain frame }
         ensures { self.new ≡ pushed frame self.old }
     {
         self.frames_now -= 1;
@@ -148,9 +154,20 @@ impl Control {
         self.push(Frame::One(item));
     }
 
+    /// An item more stands next, if there is one.
+    fn then_if(&mut self, item: Option<Item>)
+        requires { 0 < self.old.frames_now }
+        ensures { self.new ≡ then_if item self.old }
+    {
+        if let Some(item) = item {
+            self.then(item);
+        }
+    }
+
     /// A name more is in scope.
     fn bind(&mut self, entry: Entry)
-        requires { 0 < self.old.names_now }
+        requires room { 0 < self.old.names_now }
+        requires entry { IsEntry entry }
         ensures { self.new ≡ bound entry self.old }
     {
         self.names_now -= 1;
@@ -163,5 +180,34 @@ impl Control {
     {
         let own = self.names.len() - self.base;
         self.names.truncate(self.base + count.min(own));
+    }
+
+    /// A call is opened, whose value goes there.
+    fn open(&mut self, to: Target)
+        requires room { 0 < self.old.frames_now }
+        requires few { open_calls self.old.frames < CALL_LIMIT }
+        ensures { self.new ≡ opened to self.old }
+    {
+        let base = self.base;
+        self.frames_now -= 1;
+        self.open_calls += 1;
+        self.stack.push(Frame::Caller { base, to });
+        self.base = self.names.len();
+    }
+
+    /// The call that was opened last is closed, if one is open. Its value goes to what is given.
+    fn close(&mut self) -> Option<Target>
+        ensures closed { self.new ≡ closed self.old }
+        ensures to { result ≡ option_map (λ call. call.1) (last_call self.old.frames) }
+    {
+        while let Some(frame) = self.stack.pop() {
+            if let Frame::Caller { base, to } = frame {
+                self.open_calls -= 1;
+                self.names.truncate(self.base);
+                self.base = base.min(self.names.len());
+                return Some(to);
+            }
+        }
+        None
     }
 }
