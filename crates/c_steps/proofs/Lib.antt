@@ -1,2 +1,5 @@
 pub mod Rests
 pub mod ListedNames
+pub mod FileNames
+pub mod FirstFunctions
+pub mod InnerNames

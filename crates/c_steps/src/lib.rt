@@ -4,6 +4,10 @@
 mod cells;
 mod clauses;
 mod code;
+mod file;
+mod functions;
 mod listed;
 mod names;
+mod parts;
 mod stack;
+mod widths;
