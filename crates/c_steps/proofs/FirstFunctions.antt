@@ -1,10 +1,10 @@
 -- The first function of each name, in a list by the numbers of the names.
-use Rattle.std.proofs.Common.{◌≡◌, ℕ, ◌<◌, List, [], ◌∷◌, Option, Some, None, true, false, inl, inr, refl, sym, ap, ◌∙◌, get_or, length}
+use Rattle.std.proofs.Common.{◌≡◌, ℕ, ◌<◌, List, [], ◌∷◌, Option, Some, None, inl, inr, refl, sym, ◌∙◌, get_or, length}
 use Rattle.std.proofs.lemmas.Bool.{cases_Bool}
 use Rattle.std.specs.Option.{option_or}
 use Rattle.c_syntax.specs.Tree.{Tree}
 use Rattle.c_syntax.specs.Numbered.{TreeView, root_tree, tree_at}
-use Rattle.c_model.specs.Program.{function_among, function_named, is_function_named}
+use Rattle.c_model.specs.Program.{function_among, is_function_named}
 use Rattle.c_model.specs.Parts.{parts}
 use Rattle.c_steps.specs.Nodes.{IsPart, part_at}
 use Rattle.c_steps.specs.Functions.{AreFirst, AreFunctions, found_or, named_part}

@@ -1,10 +1,10 @@
 -- How many names nodes have at most, by their numbers.
-use Rattle.std.proofs.Common.{◌≡◌, ℕ, suc, ◌+◌, ◌<◌, ◌≤◌, max, List, [], ◌∷◌, ◌++◌, Option, Some, None, cond, length, map, take, drop, get_or, refl, sym, ap, ◌∙◌, arith}
-use Rattle.std.proofs.lemmas.List.{drop_more, get_or-map, get_or-take, get_or_past, length-map, length-take-le, map_more}
+use Rattle.std.proofs.Common.{◌≡◌, ℕ, ◌+◌, ◌<◌, max, List, [], ◌∷◌, ◌++◌, Option, Some, None, cond, length, map, take, drop, get_or, refl, sym, ap, ◌∙◌, arith}
+use Rattle.std.proofs.lemmas.List.{drop_more, get_or-map, get_or-take, length-take-le, map_more}
 use Rattle.std.proofs.lemmas.List.Elements.{All-head, All-tail}
 use Rattle.std.proofs.lemmas.List.Sums.{sum_by-append}
-use Rattle.std.specs.List.{All, count_by}
-use Rattle.c_syntax.specs.Tree.{Tree, Children, children_of, kind_of}
+use Rattle.std.specs.List.{All}
+use Rattle.c_syntax.specs.Tree.{Tree, children_of, kind_of}
 use Rattle.c_syntax.specs.Tree.Tree.{Node}
 use Rattle.c_syntax.specs.Derivation.{nothing}
 use Rattle.c_syntax.specs.Nodes.{IsBelow}

@@ -1,4 +1,4 @@
-use Rattle.std.proofs.Common.{◌≡◌, ℕ, drop, max}
+use Rattle.std.proofs.Common.{◌≡◌, drop, max}
 use Rattle.c_steps.specs.Widths.{most_among}
 use Rattle.c_steps.proofs.widths.most_among.Given as goal
 

@@ -1,4 +1,4 @@
-use Rattle.std.proofs.Common.{◌≡◌, ℕ, length, max}
+use Rattle.std.proofs.Common.{◌≡◌, length, max}
 use Rattle.c_syntax.specs.Numbered.{tree_at}
 use Rattle.c_model.specs.Parts.{parts}
 use Rattle.c_model.specs.Width.{most_of_functions}

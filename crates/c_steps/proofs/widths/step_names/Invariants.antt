@@ -1,4 +1,4 @@
-use Rattle.std.proofs.Common.{◌≡◌, ℕ, drop, max}
+use Rattle.std.proofs.Common.{◌≡◌, drop, max}
 use Rattle.c_steps.specs.Widths.{most_of_steps}
 use Rattle.c_steps.proofs.widths.step_names.Given as goal
 
