@@ -1,9 +1,12 @@
+pub mod FileNames
+pub mod FirstFunctions
 mod Frames
-mod Looking
-pub mod Rests
+pub mod InnerNames
 pub mod ListedNames
+mod Looking
 mod PrintingNumbers
 mod PrintingText
+pub mod Rests
 mod Settling
 mod Values
 mod ValuesAll
