@@ -5,47 +5,31 @@ use Rattle.c_steps.specs.Items.{item_at, todo_at}
 use Rattle.c_steps.specs.Ready.{AreFrames, IsFront, IsItem}
 use Rattle.c_steps.proofs.control.Control.settle.Goals as goal
 
--- src/control/settling.rt:28:34
-pub returns-in-Nothing-clause-task : goal.returns-in-Nothing-clause-task
-returns-in-Nothing-clause-task c = ?
-
--- src/control/settling.rt:26:9
+-- src/control/settling.rt:27:9
 pub loop-frame-smaller-in-Over : goal.loop-frame-smaller-in-Over
 loop-frame-smaller-in-Over c = ?
 
--- src/control/settling.rt:26:9
+-- src/control/settling.rt:27:9
 pub loop-frame-preserved-in-Over : goal.loop-frame-preserved-in-Over
 loop-frame-preserved-in-Over c = ?
 
--- src/control/settling.rt:26:9
+-- src/control/settling.rt:27:9
 pub loop-frame-smaller-in-Instead : goal.loop-frame-smaller-in-Instead
 loop-frame-smaller-in-Instead c = ?
 
 -- src/control/settling.rt:34:25
-pub is_passed_over-requires : goal.is_passed_over-requires
-is_passed_over-requires c = ?
-
--- src/control/settling.rt:35:25
 pub returns-then-not-is_passed_over-clause-task : goal.returns-then-not-is_passed_over-clause-task
 returns-then-not-is_passed_over-clause-task c = ?
 
--- src/control/settling.rt:35:25
+-- src/control/settling.rt:34:25
 pub returns-then-not-is_passed_over-clause-found :
     goal.returns-then-not-is_passed_over-clause-found
 returns-then-not-is_passed_over-clause-found c = ?
 
--- src/control/settling.rt:37:21
+-- src/control/settling.rt:36:21
 pub begin-requires : goal.begin-requires
 begin-requires c = ?
 
--- src/control/settling.rt:26:9
+-- src/control/settling.rt:27:9
 pub loop-frame-preserved : goal.loop-frame-preserved
 loop-frame-preserved c = ?
-
--- src/control/settling.rt:18:5
-pub returns-clause-task : goal.returns-clause-task
-returns-clause-task c = ?
-
--- src/control/settling.rt:18:5
-pub returns-clause-none : goal.returns-clause-none
-returns-clause-none c = ?
