@@ -11,6 +11,7 @@ ghost use Rattle.c_model.specs.Program.{function_named, place_of};
 ghost use Rattle.c_model.specs.Width.{most_of_functions};
 ghost use Rattle.c_steps.specs.Widths.{step_names};
 ghost use Rattle.c_steps.specs.Nodes.{IsPart, part_at};
+ghost use Rattle.c_steps.specs.Rooming.{AreEntries};
 ghost use Rattle.c_steps.specs.Rests.{parts_from, with_part};
 
 use crate::file::FileNames;
@@ -51,7 +52,7 @@ impl Model for Code {
 }
 
 impl Code {
-    /// Makes a program ready to run. Numbers that pass a `usize`, and more cells than a `u32` counts, are want of memory too.
+    /// Makes a program ready to run. Numbers that pass a `usize`, and more cells than there may be, are want of memory too.
     pub fn new(alloc: Global, program: Program) -> Result<Code, AllocError>
         ensures { IfOk result (λ code. code ≡ program) }
     {
@@ -71,7 +72,8 @@ impl Code {
 
     /// The names of the file.
     pub fn file(&self) -> &[Entry]
-        ensures { result.now ≡ (file_bound self.now).env }
+        ensures names { result.now ≡ (file_bound self.now).env }
+        ensures entries { AreEntries result.now }
     {
         self.file.names()
     }

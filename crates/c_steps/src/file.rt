@@ -8,10 +8,11 @@ ghost use Rattle.c_model.specs.Cells as cells;
 ghost use Rattle.c_model.specs.Cells.{with_declarator, with_declarators};
 ghost use Rattle.c_model.specs.Parts.{parts};
 ghost use Rattle.c_steps.specs.FileNames.{declared_by};
+ghost use Rattle.c_steps.specs.Rooming.{AreEntries};
 
 use crate::parts::next_part;
 use c_check::Program;
-use c_model::Entry;
+use c_model::{CELL_LIMIT, Entry};
 use c_syntax::{NodeKind, Sign};
 use std::alloc::{AllocError, Global};
 use std::marker::Model;
@@ -29,10 +30,14 @@ impl Model for FileNames {
     ghost Value = { Bound };
 
     ghost view = { λ file. record { env = file.names.items; cells = file.numbers.items } };
+
+    ghost use Rattle.c_steps.specs.Rooming.{AreEntries};
+
+    ghost invariant = { λ file. AreEntries file.names.items };
 }
 
 impl FileNames {
-    /// The names of a program's file. More cells than a `u32` counts are want of memory too.
+    /// The names of a program's file. More cells than there may be are want of memory too.
     #[tactic(auto, using(crate::proofs::FileNames::declared_more), unfolding(c_check::specs::Tasks::from_place, crate::specs::Nodes::IsPart))]
     pub(crate) fn new(alloc: Global, program: &Program) -> Result<FileNames, AllocError>
         ensures { IfOk result (λ file. file ≡ file_bound program.now) }
@@ -52,7 +57,8 @@ impl FileNames {
 
     /// The names.
     pub(crate) fn names(&self) -> &[Entry]
-        ensures { result.now ≡ self.now.env }
+        ensures names { result.now ≡ self.now.env }
+        ensures entries { AreEntries result.now }
     {
         &self.names
     }
@@ -101,6 +107,9 @@ impl FileNames {
         };
         let number = tree.number(declarator) as u32;
         let size = push_first(&mut self.numbers, tree.kind(declarator), number)?;
+        if self.numbers.len() > CELL_LIMIT {
+            return Err(AllocError);
+        }
         let entry = Entry {
             name: tree.name(declarator),
             first,
