@@ -83,3 +83,11 @@ then_if (Some it) held = then_item it held
 abbrev pub env_with : Option Entry → List Entry → List Entry
 env_with None env = env
 env_with (Some entry) env = env ++ entry ∷ []
+
+-- a name more is in scope, if there is one
+abbrev pub entries_if : Option Entry → List Entry
+entries_if None = []
+entries_if (Some entry) = entry ∷ []
+
+abbrev pub bound_if : Option Entry → Held → Held
+bound_if declared held = record held { names = held.names ++ entries_if declared; names_now = held.names_now - length (entries_if declared) }

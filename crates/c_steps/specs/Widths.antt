@@ -27,10 +27,10 @@ declarators_among trees = count_by (λ (part : Tree). is_declarator (kind_of par
 abbrev pub construct_names : TreeView → Tree → ℕ
 construct_names program tree = length (listed_among (clauses_of tree)) + 1 + length (task_copies program tree)
 
--- A step that begins a call brings the function's parameters into scope, the children of a tree, and a step that makes a construct's own
--- cells the variables that its clauses list, and its loop's variable.
+-- A step that begins a call brings the function's parameters into scope, the children of a tree, and the variable that the call sets, where
+-- that is a declarator's. A step that makes a construct's own cells brings the variables that its clauses list, and its loop's variable.
 abbrev pub names_of_step : Tree → ℕ
-names_of_step tree = max (length (parts tree)) (length (listed_among (clauses_of tree)) + 1)
+names_of_step tree = max (length (parts tree)) (length (listed_among (clauses_of tree)))
 
 unfoldable pub most_of_steps : List Tree → ℕ
 most_of_steps [] = 0
@@ -38,4 +38,4 @@ most_of_steps (tree ∷ trees) = max (names_of_step tree) (most_of_steps trees)
 
 -- no silent step brings more names into scope
 abbrev pub step_names : TreeView → ℕ
-step_names program = most_of_steps program.trees
+step_names program = most_of_steps program.trees + 1

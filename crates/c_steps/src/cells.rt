@@ -1,6 +1,6 @@
 //! What all tasks of a run share.
 
-ghost use Rattle.std.specs.Prelude.{◌≡◌, ◌+◌, ◌<◌, ◌≤◌, [], ◌∷◌, ◌++◌, length, drop, replicate, slice_set, take, IfOk};
+ghost use Rattle.std.specs.Prelude.{◌≡◌, ◌+◌, ◌<◌, ◌≤◌, [], ◌∷◌, ◌++◌, length, drop, nat_lt, not, replicate, slice_set, take, IfOk};
 ghost use Rattle.c_model.specs.Calls.{file_bound};
 ghost use Rattle.c_model.specs.Cells.{cell_at};
 
@@ -57,6 +57,13 @@ impl Cells {
         ensures { result ≡ length self.now.cells }
     {
         self.cells.len()
+    }
+
+    /// Whether there is room for so many new cells.
+    pub(crate) fn has_room(&self, count: usize) -> bool
+        ensures { result ≡ not (nat_lt CELL_LIMIT (length self.now.cells + count)) }
+    {
+        count <= CELL_LIMIT - self.cells.len()
     }
 
     /// The numbers in the cells.

@@ -1,19 +1,30 @@
 //! What an expression is evaluated in, and its number.
 
-ghost use Rattle.std.specs.Prelude.{◌≡◌, ◌<◌, length, pos};
+ghost use Rattle.std.specs.Prelude.{◌≡◌, ◌<◌, ◌≤◌, ◌++◌, length, pos, IfOk};
 ghost use Rattle.std.specs.Option.{unwrap_or};
 ghost use Rattle.c_syntax.specs.Numbered.{tree_at};
 ghost use Rattle.c_model.specs.declared.entry.Entry.{Entry as SeenEntry};
+ghost use Rattle.c_model.specs.declared.limits.TheConstants.{CELL_LIMIT};
 ghost use Rattle.c_model.specs.Cells.{cell_at, entry_of, last_named, no_entry};
 ghost use Rattle.c_model.specs.Parts.{parts};
 ghost use Rattle.c_model.specs.Value.{all_values, binary_value, cell_of, element, getter_number, unary_value, value};
 ghost use Rattle.c_steps.specs.Arguments.{without_values};
+ghost use Rattle.c_steps.specs.Entering.{HaveNumbers, IsNextArgument};
 ghost use Rattle.c_steps.specs.Nodes.{IsPart, part_at};
+ghost use Rattle.c_steps.specs.Rooming.{AreEntries, IsEntry};
 ghost use Rattle.c_steps.specs.Scopes.{HasNumbers, operand_at, scope_of};
 
 use crate::numbers::{binary_result, deciding_value, unary_result};
+use crate::parts::next_part;
 use c_model::{CELL_LIMIT, Entry, INDEX, View};
 use c_syntax::{BinaryOp, Getter, NodeKind, Tree, UnaryOp};
+
+/// The number of an argument of a call, and the place of the next one.
+#[derive(Clone, Copy)]
+pub(crate) struct Argument {
+    pub(crate) number: i32,
+    pub(crate) next: u32,
+}
 
 /// What an expression is evaluated in.
 #[derive(Clone, Copy)]
@@ -29,14 +40,12 @@ pub(crate) struct Scope<'a> {
 
 impl<'a> Scope<'a> {
     /// The entry of a name, the newest one. A name that nothing declares has one that no cell belongs to.
-    #[tactic(auto, using(crate::proofs::ValuesNamed::named_behind))]
+    #[tactic(auto, using(crate::proofs::Entries::is_entry))]
     pub(crate) fn entry(&self, name: u32) -> Entry
-        ensures { result ≡ entry_of (scope_of self.now).env name }
+        ensures entry { result ≡ entry_of (scope_of self.now).env name }
+        ensures cells { AreEntries (scope_of self.now).env → IsEntry result }
     {
-        match newest_named(self.names, name) {
-            Some(entry) => entry,
-            None => file_entry(self.file, name),
-        }
+        entry_among(self.file, self.names, name)
     }
 
     /// The number of an expression, or its trap. One that is missing is 0.
@@ -57,7 +66,8 @@ impl<'a> Scope<'a> {
     pub(crate) fn place_cell(&self, place: Option<u32>) -> Result<usize, u8>
         requires place { IsPart self.now.tree.now.trees place }
         requires view { HasNumbers self.now.view }
-        ensures { result ≡ cell_of (scope_of self.now) (part_at self.now.tree.now.trees place) }
+        ensures cell { result ≡ cell_of (scope_of self.now) (part_at self.now.tree.now.trees place) }
+        ensures within { AreEntries (scope_of self.now).env → IfOk result (λ cell. cell ≤ CELL_LIMIT) }
     {
         match place {
             Some(node) => self.node_cell(node),
@@ -80,6 +90,29 @@ impl<'a> Scope<'a> {
             }
         }
         Ok(())
+    }
+
+    /// The argument of a call at a place. Where there is none its number is 0, and none follow it. The arguments have no trap.
+    #[tactic(auto, using(crate::proofs::Entering::argument_trap))]
+    pub(crate) fn argument(&self, call: Option<u32>, place: u32) -> Argument
+        requires call { IsPart self.now.tree.now.trees call }
+        requires view { HasNumbers self.now.view }
+        requires values { HaveNumbers (scope_of self.now) (part_at self.now.tree.now.trees call) place }
+        ensures { IsNextArgument (scope_of self.now) (part_at self.now.tree.now.trees call) place result }
+    {
+        match next_part(self.tree, call, place) {
+            Some(child) => match self.node_value(child) {
+                Ok(number) => Argument {
+                    number,
+                    next: place + 1,
+                },
+                Err(_) => unreachable!(),
+            },
+            None => Argument {
+                number: 0,
+                next: place,
+            },
+        }
     }
 
     /// The number of an expression, or its trap.
@@ -163,6 +196,17 @@ impl<'a> Scope<'a> {
                 },
             },
         }
+    }
+}
+
+/// The newest entry of a name, those of the file coming before the others. A name that nothing declares has one that no cell belongs to.
+#[tactic(auto, using(crate::proofs::ValuesNamed::named_behind))]
+pub(crate) fn entry_among(file: &[Entry], names: &[Entry], name: u32) -> Entry
+    ensures { result ≡ entry_of (file.now ++ names.now) name }
+{
+    match newest_named(names, name) {
+        Some(entry) => entry,
+        None => file_entry(file, name),
     }
 }
 

@@ -193,10 +193,10 @@ pub(crate) fn step_names(tree: &Tree) -> Result<usize, AllocError>
     for node in 0..count {
         most = names_of_step(tree, node)?.max(most);
     }
-    Ok(most)
+    most.checked_add(1).ok_or(AllocError)
 }
 
-/// How many names a step at a node brings into scope at most.
+/// How many parts a node has, or how many variables its clauses list, whichever is more.
 #[tactic(auto, unfolding(crate::specs::Nodes::IsPart))]
 fn names_of_step(tree: &Tree, node: usize) -> Result<usize, AllocError>
     requires { node < length tree.now.trees }
@@ -206,6 +206,5 @@ fn names_of_step(tree: &Tree, node: usize) -> Result<usize, AllocError>
         return Err(AllocError);
     };
     let listed = listed_count(tree, node)?;
-    let copies = listed.checked_add(1).ok_or(AllocError)?;
-    Ok((part_count(tree, Some(node)) as usize).max(copies))
+    Ok((part_count(tree, Some(node)) as usize).max(listed))
 }
