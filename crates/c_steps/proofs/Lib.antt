@@ -1,3 +1,4 @@
+mod BeginCall
 mod Entered
 mod Entering
 mod Entries

@@ -3,4 +3,4 @@ use Rattle.c_steps.proofs.control.Control.returns.Goals as goal
 
 pub returns-clause-frames : goal.returns-clause-frames
 returns-clause-frames c =
-    returned_frames c.args.code.now c.args.view c.args.self.now c.args.cells.now c.args.number c.step.new.self c.give_back.new.self c.requires c.step.ensures c.give_back.ensures.held
+    returned_frames c.args.code.now c.args.view c.args.self.now c.args.cells.now _ c.step.new.self c.give_back.new.self c.requires c.step.ensures c.give_back.ensures.held
