@@ -1,5 +1,5 @@
 -- Names and frames of a control.
-use Rattle.std.proofs.Common.{◌≡◌, ℕ, ◌+◌, List, [], ◌∷◌, ◌++◌, length, take, drop, Option, Some, None, slice_get, refl, sym, ap, ◌∙◌, subst, arith, rules}
+use Rattle.std.proofs.Common.{◌≡◌, ℕ, ◌+◌, List, [], ◌∷◌, ◌++◌, length, take, drop, Option, Some, None, slice_get, slice_set, refl, sym, ap, ◌∙◌, subst, arith, rules}
 use Rattle.std.proofs.lemmas.List.{drop-take, take-take}
 use Rattle.std.proofs.Math.Seq.{take-append-add}
 use Rattle.c_syntax.specs.Numbered.{TreeView}
@@ -38,6 +38,14 @@ plain_first (frame.Caller base to) frames plain = absurd plain
 pub plain_top : (frames : List Frame) (it : Frame) → Some it ≡ slice_get frames 0 → IsPlain it → IsPlainTop frames
 plain_top [] it top plain = absurd (search rules)
 plain_top (first ∷ frames) it top plain = let same : it ≡ first = search rules in plain_first first frames (subst IsPlain same plain)
+
+same_count : (it other : Frame) (frames : List Frame) → IsPlain it → IsPlain other → open_calls (other ∷ frames) ≡ open_calls (it ∷ frames)
+same_count it other frames plain fine = sym (plain_first other frames fine).count ∙ (plain_first it frames plain).count
+
+-- another one in its place
+pub replaced_top : (frames : List Frame) (it other : Frame) → Some it ≡ slice_get frames 0 → IsPlain it → IsPlain other → open_calls (slice_set frames 0 other) ≡ open_calls frames
+replaced_top [] it other top plain fine = absurd (search rules)
+replaced_top (first ∷ frames) it other top plain fine = let same : it ≡ first = search rules in same_count first other frames (subst IsPlain same plain) fine
 
 -- a call on top
 pub record IsCallerTop (base : ℕ) (to : Target) (frames : List Frame) : Type 0 where

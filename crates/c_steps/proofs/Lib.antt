@@ -8,3 +8,6 @@ mod Settling
 mod Values
 mod ValuesAll
 mod ValuesNamed
+pub mod FileNames
+pub mod FirstFunctions
+pub mod InnerNames

@@ -1,8 +1,10 @@
 //! What all tasks of a run share.
 
 ghost use Rattle.std.specs.Prelude.{◌≡◌, ◌+◌, ◌<◌, ◌≤◌, [], ◌∷◌, ◌++◌, length, drop, replicate, slice_set, take, IfOk};
+ghost use Rattle.c_model.specs.Calls.{file_bound};
 ghost use Rattle.c_model.specs.Cells.{cell_at};
 
+use crate::code::Code;
 use c_model::{CELL_LIMIT, TEXT_LIMIT};
 use std::alloc::{AllocError, Global};
 use std::marker::Model;
@@ -30,8 +32,15 @@ impl Model for Cells {
 }
 
 impl Cells {
+    /// The cells of a program's file, and nothing printed. More cells than there may be are want of memory too.
+    pub fn new(alloc: Global, code: &Code) -> Result<Cells, AllocError>
+        ensures { IfOk result (λ all. all ≡ record { cells = (file_bound code.now).cells; text = [] }) }
+    {
+        Cells::with(alloc, code.file_numbers())
+    }
+
     /// The cells with these numbers, and nothing printed.
-    pub(crate) fn with(alloc: Global, numbers: &[i32]) -> Result<Cells, AllocError>
+    fn with(alloc: Global, numbers: &[i32]) -> Result<Cells, AllocError>
         ensures { IfOk result (λ all. all ≡ record { cells = numbers.now; text = [] }) }
     {
         if numbers.len() > CELL_LIMIT {

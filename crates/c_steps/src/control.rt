@@ -77,14 +77,13 @@ impl Model for Control {
 
 impl Control {
     /// The item that stands next begins.
+    #[tactic(auto, using(crate::proofs::Frames::plain_top, crate::proofs::Frames::replaced_top))]
     fn begin(&mut self)
         requires { CanBegin self.old.frames }
         ensures { self.new ≡ record self.old { frames = begun self.old.frames } }
     {
         match self.stack.top() {
-            Some(Frame::One(_)) => {
-                self.stack.pop();
-            }
+            Some(Frame::One(_)) => self.drop_top(),
             Some(
                 Frame::Parts {
                     block,
@@ -92,7 +91,7 @@ impl Control {
                     at,
                     names,
                 },
-            ) => self.stack.replace(Frame::Parts {
+            ) => self.replace_top(Frame::Parts {
                 block,
                 place,
                 at: at + 1,
@@ -103,7 +102,7 @@ impl Control {
                 from,
                 names,
                 ..
-            }) => self.stack.replace(Frame::Combining {
+            }) => self.replace_top(Frame::Combining {
                 construct,
                 from,
                 names,

@@ -1,9 +1,9 @@
 //! The variables that the clauses of a construct list.
 
-ghost use Rattle.std.specs.Prelude.{◌≡◌, ◌+◌, ◌<◌, length, IfSome};
+ghost use Rattle.std.specs.Prelude.{◌≡◌, ◌+◌, ◌<◌, length, IfOk, IfSome};
 ghost use Rattle.c_syntax.specs.Tree.{Tree as syntax_tree, kind_of};
 ghost use Rattle.c_syntax.specs.Numbered.{tree_at};
-ghost use Rattle.c_model.specs.Clauses.{listed_by};
+ghost use Rattle.c_model.specs.Clauses.{clauses_of, listed_among, listed_by};
 ghost use Rattle.c_model.specs.Copies as copies;
 ghost use Rattle.c_model.specs.Loops.{loop_of};
 ghost use Rattle.c_model.specs.Parts.{parts};
@@ -11,7 +11,9 @@ ghost use Rattle.c_steps.specs.Nodes.{IsPart, part_at};
 ghost use Rattle.c_steps.specs.ListedNames.{listed_from, listed_in, names_by, names_from, with_found, with_name, with_name_of_clause, with_name_of_part, without_first};
 
 use crate::code::Code;
-use c_syntax::{Data, Directive, NodeKind, ReductionOp};
+use crate::parts::{child_of_part, kind_of_part, name_of_part, next_part};
+use c_syntax::{Data, Directive, NodeKind, ReductionOp, Tree};
+use std::alloc::AllocError;
 
 /// How a construct has a variable of its own (OpenMP 5.2, 5.4 and 5.5).
 #[derive(Clone, Copy)]
@@ -44,7 +46,8 @@ pub(crate) struct FoundName {
 
 /// The place before all variables that a construct lists.
 pub(crate) fn first_listed() -> ListedPlace
-    ensures { (construct : syntax_tree) → listed_from construct result ≡ copies.listed_variables construct }
+    ensures listed { (construct : syntax_tree) → listed_from construct result ≡ copies.listed_variables construct }
+    ensures names { (construct : syntax_tree) → names_from construct result ≡ listed_among (clauses_of construct) }
 {
     ListedPlace { part: 0, name: 0 }
 }
@@ -55,7 +58,7 @@ pub(crate) fn next_listed(code: &Code, construct: u32, from: ListedPlace) -> Opt
     ensures { listed_from (tree_at code.now.trees construct) from ≡ with_found (tree_at code.now.trees construct) result }
 {
     let mut place = from;
-    while let Some(found) = next_name(code, construct, place) {
+    while let Some(found) = next_name(code.tree(), construct, place) {
         if !is_own_loop_variable(code, construct, found.listed.name) {
             return Some(found);
         }
@@ -66,13 +69,13 @@ pub(crate) fn next_listed(code: &Code, construct: u32, from: ListedPlace) -> Opt
 
 /// The next name that the clauses of a construct list, from a place on.
 #[tactic(auto, using(crate::proofs::ListedNames::listed_behind_start), unfolding(crate::specs::Nodes::IsPart))]
-fn next_name(code: &Code, construct: u32, from: ListedPlace) -> Option<FoundName>
-    requires { construct < length code.now.trees }
-    ensures { names_from (tree_at code.now.trees construct) from ≡ with_name (tree_at code.now.trees construct) result }
+pub(crate) fn next_name(tree: &Tree, construct: u32, from: ListedPlace) -> Option<FoundName>
+    requires { construct < length tree.now.trees }
+    ensures { names_from (tree_at tree.now.trees construct) from ≡ with_name (tree_at tree.now.trees construct) result }
 {
     let mut place = from;
-    while let Some(part) = code.part(Some(construct), place.part) {
-        if let Some(listed) = name_of_part(code, part, place.name) {
+    while let Some(part) = next_part(tree, Some(construct), place.part) {
+        if let Some(listed) = name_listed_by(tree, part, place.name) {
             let next = ListedPlace {
                 part: place.part,
                 name: place.name + 1,
@@ -89,28 +92,28 @@ fn next_name(code: &Code, construct: u32, from: ListedPlace) -> Option<FoundName
 
 /// The name that a part of a construct lists behind so many, if it is a clause that gives variables of its own.
 #[tactic(auto, unfolding(c_model::specs::Clauses::listed_among, crate::specs::Nodes::IsPart))]
-fn name_of_part(code: &Code, part: u32, count: u32) -> Option<ListedName>
-    requires { part < length code.now.trees }
-    ensures names { listed_in count (tree_at code.now.trees part) ≡ with_name_of_part count (tree_at code.now.trees part) result }
+fn name_listed_by(tree: &Tree, part: u32, count: u32) -> Option<ListedName>
+    requires { part < length tree.now.trees }
+    ensures names { listed_in count (tree_at tree.now.trees part) ≡ with_name_of_part count (tree_at tree.now.trees part) result }
     ensures fits { IfSome result (λ listed. count + 1 < 4294967295) }
 {
-    match code.kind(Some(part)) {
-        NodeKind::Clause(_) => name_of_clause(code, code.child(Some(part), 0), count),
+    match kind_of_part(tree, Some(part)) {
+        NodeKind::Clause(_) => name_of_clause(tree, child_of_part(tree, Some(part), 0), count),
         _ => None,
     }
 }
 
 /// The name that a clause lists behind so many, if it gives a construct variables of its own.
 #[tactic(auto, unfolding(crate::specs::Nodes::IsPart))]
-fn name_of_clause(code: &Code, clause: Option<u32>, count: u32) -> Option<ListedName>
-    requires { IsPart code.now.trees clause }
-    ensures names { listed_by (kind_of (part_at code.now.trees clause)) (without_first count (part_at code.now.trees clause)) ≡ with_name_of_clause count (part_at code.now.trees clause) result }
+fn name_of_clause(tree: &Tree, clause: Option<u32>, count: u32) -> Option<ListedName>
+    requires { IsPart tree.now.trees clause }
+    ensures names { listed_by (kind_of (part_at tree.now.trees clause)) (without_first count (part_at tree.now.trees clause)) ≡ with_name_of_clause count (part_at tree.now.trees clause) result }
     ensures fits { IfSome result (λ listed. count + 1 < 4294967295) }
 {
-    let copying = copying_by(code.kind(clause))?;
-    let name = code.part(clause, count)?;
+    let copying = copying_by(kind_of_part(tree, clause))?;
+    let name = next_part(tree, clause, count)?;
     Some(ListedName {
-        name: code.name(Some(name)),
+        name: name_of_part(tree, Some(name)),
         copying,
     })
 }
@@ -172,4 +175,18 @@ pub(crate) fn has_own_cells(code: &Code, construct: u32) -> bool
     ensures { result ≡ copies.has_own_cells (tree_at code.now.trees construct) }
 {
     is_loop(code, construct) || next_listed(code, construct, first_listed()).is_some()
+}
+
+/// How many variables the clauses of a construct list, the construct's own loop variable too. More than a `usize` counts are want of
+/// memory.
+pub(crate) fn listed_count(tree: &Tree, construct: u32) -> Result<usize, AllocError>
+    requires { construct < length tree.now.trees }
+    ensures { IfOk result (λ count. count ≡ length (listed_among (clauses_of (tree_at tree.now.trees construct)))) }
+{
+    let (mut count, mut place) = (0usize, first_listed());
+    while let Some(found) = next_name(tree, construct, place) {
+        count = count.checked_add(1).ok_or(AllocError)?;
+        place = found.next;
+    }
+    Ok(count)
 }

@@ -4,7 +4,7 @@ ghost use Rattle.std.specs.Prelude.{◌≡◌, ◌<◌, ◌+◌, ◌≤◌, ◌+
 ghost use Rattle.std.specs.Option.{option_map};
 ghost use Rattle.std.specs.List.{All};
 ghost use Rattle.c_syntax.specs.Tree.Tree.{Node as tree_node};
-ghost use Rattle.c_syntax.specs.Tree.{kind_of, spot_of, name_of, number_of, text_of, child_of};
+ghost use Rattle.c_syntax.specs.Tree.{kind_of, spot_of, name_of, number_of, text_of, child_of, children_of};
 ghost use Rattle.c_syntax.specs.Numbered.{tree_at, children_at};
 ghost use Rattle.c_syntax.specs.Nodes.{IsBelow};
 
@@ -146,6 +146,16 @@ impl Nodes {
             Some(child) => *child,
             None => None,
         }
+    }
+
+    /// The numbers of a node's children, each smaller than the node's. An absent child keeps its place.
+    pub fn children(&self, node: u32) -> &[Option<u32>]
+        requires { node < length self.now }
+        ensures children { children_of (tree_at self.now node) ≡ children_at self.now result.now }
+        ensures before { All (IsBelow node) result.now }
+    {
+        let span = self.nodes[node as usize].children;
+        &self.children[span.start..span.end]
     }
 
     /// The bytes of a node's text.

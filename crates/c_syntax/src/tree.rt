@@ -2,8 +2,10 @@
 
 ghost use Rattle.std.specs.Prelude.{◌≡◌, ◌<◌, ◌+◌, length, pos, IfSome};
 ghost use Rattle.std.specs.Option.{option_map};
-ghost use Rattle.c_syntax.specs.Tree.{kind_of, spot_of, name_of, number_of, text_of, child_of};
-ghost use Rattle.c_syntax.specs.Numbered.{tree_at};
+ghost use Rattle.c_syntax.specs.Tree.{kind_of, spot_of, name_of, number_of, text_of, child_of, children_of};
+ghost use Rattle.std.specs.List.{All};
+ghost use Rattle.c_syntax.specs.Nodes.{IsBelow};
+ghost use Rattle.c_syntax.specs.Numbered.{children_at, tree_at};
 
 use crate::node::NodeKind;
 use crate::nodes::Nodes;
@@ -48,6 +50,13 @@ impl Tree {
         }
     }
 
+    /// How many nodes there are.
+    pub fn len(&self) -> usize
+        ensures { result ≡ length self.now.trees }
+    {
+        self.nodes.len()
+    }
+
     /// What a node is.
     pub fn kind(&self, node: u32) -> NodeKind
         requires { node < length self.now.trees }
@@ -64,6 +73,15 @@ impl Tree {
         ensures fits { IfSome result (λ child. place + 1 < 4294967295) }
     {
         self.nodes.child(node, place)
+    }
+
+    /// The numbers of a node's children, each smaller than the node's. An absent child keeps its place.
+    pub fn children(&self, node: u32) -> &[Option<u32>]
+        requires { node < length self.now.trees }
+        ensures children { children_of (tree_at self.now.trees node) ≡ children_at self.now.trees result.now }
+        ensures before { All (IsBelow node) result.now }
+    {
+        self.nodes.children(node)
     }
 
     /// Where a node's first word is.

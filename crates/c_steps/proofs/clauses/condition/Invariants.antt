@@ -1,4 +1,4 @@
-use Rattle.std.proofs.Common.{◌≡◌, ℕ, length}
+use Rattle.std.proofs.Common.{◌≡◌, length}
 use Rattle.c_syntax.specs.Numbered.{tree_at}
 use Rattle.c_model.specs.Clauses.{condition_of, expression_among, is_if}
 use Rattle.c_steps.specs.Rests.{clauses_from}

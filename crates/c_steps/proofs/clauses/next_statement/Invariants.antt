@@ -1,4 +1,4 @@
-use Rattle.std.proofs.Common.{◌≡◌, ℕ, ◌≤◌, length}
+use Rattle.std.proofs.Common.{◌≡◌, ◌≤◌, length}
 use Rattle.c_syntax.specs.Numbered.{tree_at}
 use Rattle.c_steps.specs.Rests.{statements_from, parts_from}
 use Rattle.c_steps.proofs.clauses.next_statement.Given as goal

@@ -1,4 +1,4 @@
-use Rattle.std.proofs.Common.{◌≡◌, ℕ, ◌+◌, ◌≤◌, length}
+use Rattle.std.proofs.Common.{◌≡◌, length}
 use Rattle.c_syntax.specs.Numbered.{tree_at}
 use Rattle.std.specs.Prelude.{map, slice_index_or}
 use Rattle.c_syntax.specs.Tree.{Tree, kind_of}
