@@ -5,6 +5,7 @@ pub mod ListedNames
 mod PrintingNumbers
 mod PrintingText
 mod Settling
+mod Stepping
 mod Values
 mod ValuesAll
 mod ValuesNamed

@@ -5,7 +5,7 @@ use Rattle.c_syntax.specs.Tree.{Tree, Children, at_place, child_of, children_of}
 use Rattle.c_syntax.specs.Tree.Children.{Over, Child, Absent}
 use Rattle.c_model.specs.Parts.{trees_in}
 use Rattle.c_model.specs.Value.{Scope, all_values, value, value_before}
-use Rattle.c_steps.specs.Arguments.{children_behind, parts_behind, without_values}
+use Rattle.c_steps.specs.Arguments.{children_behind, parts_behind, values_in, without_values}
 
 parts_with : (children : Children) (place : ℕ) (tree : Tree) → at_place children place ≡ Some tree →
     trees_in (children_behind place children) ≡ tree ∷ trees_in (children_behind (suc place) children)
@@ -53,3 +53,12 @@ all_trap scope node place tree trap is traps = sym (ap without_values (all_with 
 pub all_next : (scope : Scope) (node : Tree) (place : ℕ) (tree : Tree) (number : ℤ) → Some tree ≡ child_of node place → Ok number ≡ value scope tree →
     without_values (all_values scope (parts_behind place node)) ≡ without_values (all_values scope (parts_behind (place + 1) node))
 all_next scope node place tree number is has = ap without_values (all_with scope node place tree (sym is)) ∙ next_trap number (value scope tree) _ has
+
+-- there are values, or there is the trap
+pub are_values : (results : Result (List ℤ) ℕ) → Ok tt ≡ without_values results → results ≡ Ok (values_in results)
+are_values (Ok numbers) is = refl
+are_values (Err trap) is = cc
+
+pub is_trap : (results : Result (List ℤ) ℕ) (trap : ℕ) → Err trap ≡ without_values results → results ≡ Err trap
+is_trap (Ok numbers) trap is = cc
+is_trap (Err other) trap is = cc
