@@ -24,11 +24,7 @@ use Rattle.c_steps.specs.Held.{Held, here_at, scope_in}
 use Rattle.c_steps.specs.Items.{calls_at}
 use Rattle.c_steps.specs.Rooming.{open_calls}
 use Rattle.c_steps.proofs.Frames.{calls_counted}
-use Rattle.c_steps.proofs.ValuesAll.{ok_values}
-
-not_not : (so : Bool) → not (not so) ≡ so
-not_not true = refl
-not_not false = refl
+use Rattle.c_steps.proofs.ValuesAll.{are_values}
 
 -- each parameter has a cell
 cells_more : (program : TreeView) (bound : Bound) (parameters : List Tree) (numbers : List ℤ) →
@@ -65,25 +61,25 @@ module _ (program : TreeView) (view : View) (held : Held) (store : Store) (call 
       ap (λ (tree : Tree). enters here tree (open_call here env to) (bound_in here tree numbers)) is
       ∙ ap (λ (results : Result (List ℤ) ℕ). with_result results (λ numbers.
           enters here (function_named program (name_of call)) (open_call here env to) (bound_in here (function_named program (name_of call)) numbers)))
-        (sym (ok_values (all_values (scope_in program view held store) (parts call)) ok))
+        (sym (are_values (all_values (scope_in program view held store) (parts call)) ok))
 
-  cells_is : (few : Bool) → few ≡ not (nat_lt CELL_LIMIT (length store.cells + length (parameters_of function))) → has_too_many (bound_in here function numbers).cells ≡ not few
+  cells_is : (few : Bool) → nat_lt CELL_LIMIT (length store.cells + length (parameters_of function)) ≡ not few → has_too_many (bound_in here function numbers).cells ≡ not few
   cells_is few is =
       ap (nat_lt CELL_LIMIT) (cells_more program (record { env = (file_bound program).env; cells = store.cells }) (parameters_of function) numbers)
-      ∙ sym (ap not is ∙ not_not (nat_lt CELL_LIMIT (length store.cells + length (parameters_of function))))
+      ∙ is
 
   calls_is : length here.task.calls ≡ open_calls held.frames
   calls_is = calls_counted program (take held.base held.names) held.frames
 
   -- too many cells
-  pub begins_cells : (few : Bool) → few ≡ not (nat_lt CELL_LIMIT (length store.cells + length (parameters_of function))) → few ≡ false →
+  pub begins_cells : (few : Bool) → nat_lt CELL_LIMIT (length store.cells + length (parameters_of function)) ≡ not few → few ≡ false →
       Ok tt ≡ without_values (all_values (scope_in program view held store) (parts call)) → function ≡ function_named program (name_of call) →
       Limits CELLS ≡ begin_call here call env to
   begins_cells few is none ok named =
       sym (ap (λ (many : Bool). entered_if many (nat_le CALL_LIMIT (length here.task.calls))) (cells_is few is ∙ ap not none)) ∙ begins ok named
 
   -- too many calls
-  pub begins_calls : (few : Bool) → few ≡ not (nat_lt CELL_LIMIT (length store.cells + length (parameters_of function))) → few ≡ true → CALL_LIMIT ≤ open_calls held.frames →
+  pub begins_calls : (few : Bool) → nat_lt CELL_LIMIT (length store.cells + length (parameters_of function)) ≡ not few → few ≡ true → CALL_LIMIT ≤ open_calls held.frames →
       Ok tt ≡ without_values (all_values (scope_in program view held store) (parts call)) → function ≡ function_named program (name_of call) →
       Limits CALLS ≡ begin_call here call env to
   begins_calls few is some many ok named =
@@ -91,7 +87,7 @@ module _ (program : TreeView) (view : View) (held : Held) (store : Store) (call 
         ∙ ap (λ (too_many : Bool). entered_if false too_many) (le-leb CALL_LIMIT (length here.task.calls) (omega (arith, many, calls_is))))
       ∙ begins ok named
 
-  pub begins_entered : (few : Bool) → few ≡ not (nat_lt CELL_LIMIT (length store.cells + length (parameters_of function))) → few ≡ true → open_calls held.frames < CALL_LIMIT →
+  pub begins_entered : (few : Bool) → nat_lt CELL_LIMIT (length store.cells + length (parameters_of function)) ≡ not few → few ≡ true → open_calls held.frames < CALL_LIMIT →
       Ok tt ≡ without_values (all_values (scope_in program view held store) (parts call)) → function ≡ function_named program (name_of call) →
       StepsTo (moment_entered here function (open_call here env to) (bound_in here function numbers)) ≡ begin_call here call env to
   begins_entered few is some within ok named =

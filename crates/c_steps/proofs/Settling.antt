@@ -125,6 +125,19 @@ unfolding todo_at
 none_top program [] top = refl
 none_top program (first ∷ frames) top = absurd (search rules)
 
+-- the control after one look
+pub record IsMoved (program : TreeView) (view : View) (old before after : Held) : Type 0 where
+  pub so : SettlesTo program view old.frames after.frames
+  pub rest : after ≡ record old { frames = after.frames }
+  pub less : weights program after.frames < weights program before.frames
+
+pub moved : (program : TreeView) (view : View) (old before after : Held) (frames : List Frame) → before ≡ record old { frames = before.frames } → after ≡ record before { frames = frames } → IsLookedThrough program view old.frames before.frames frames → IsMoved program view old before after
+moved program view old before after frames rest is next = subst (IsMoved program view old before) (sym is) (record {
+  so = next.so;
+  rest = ap (λ (held : Held). record held { frames = frames }) rest;
+  less = next.less;
+})
+
 -- the task then
 settled_task_at : (program : TreeView) (view : View) (old new : Held) → new ≡ record old { frames = new.frames } → SettlesTo program view old.frames new.frames → todo_at program new.frames ≡ items_from_next view (todo_at program old.frames) → task_at program new ≡ settled_task view (task_at program old)
 settled_task_at program view old new rest so todo = rw (rest, todo, so.calls (take old.base old.names)) refl

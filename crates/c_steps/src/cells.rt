@@ -59,13 +59,6 @@ impl Cells {
         self.cells.len()
     }
 
-    /// Whether there is room for so many new cells.
-    pub(crate) fn has_room(&self, count: usize) -> bool
-        ensures { result ≡ not (nat_lt CELL_LIMIT (length self.now.cells + count)) }
-    {
-        count <= CELL_LIMIT - self.cells.len()
-    }
-
     /// The numbers in the cells.
     pub(crate) fn items(&self) -> &[i32]
         ensures { result.now ≡ self.now.cells }
@@ -79,6 +72,23 @@ impl Cells {
         ensures { result ≡ cell_at self.now.cells cell }
     {
         self.cells[cell as usize]
+    }
+
+    /// The number in a cell, 0 where it wasn't made.
+    pub(crate) fn number(&self, cell: usize) -> i32
+        ensures { result ≡ cell_at self.now.cells cell }
+    {
+        match self.cells.get(cell) {
+            Some(number) => *number,
+            None => 0,
+        }
+    }
+
+    /// Whether there may be so many more cells.
+    pub(crate) fn has_room(&self, count: usize) -> bool
+        ensures { nat_lt CELL_LIMIT (length self.now.cells + count) ≡ not result }
+    {
+        count <= CELL_LIMIT - self.cells.len()
     }
 
     /// The bytes that were printed.

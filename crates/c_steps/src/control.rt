@@ -1,6 +1,6 @@
 //! What is left of a task's code.
 
-ghost use Rattle.std.specs.Prelude.{◌≡◌, ◌<◌, ◌+◌, ◌-◌, drop, slice_set};
+ghost use Rattle.std.specs.Prelude.{◌≡◌, ◌<◌, ◌≤◌, ◌+◌, ◌-◌, drop, length, slice_set};
 ghost use Rattle.c_steps.specs.Items.{begun};
 ghost use Rattle.c_steps.specs.Ready.{CanBegin, IsPlain};
 ghost use Rattle.std.specs.Option.{option_map};
@@ -9,9 +9,13 @@ ghost use Rattle.c_steps.specs.Rooming.{IsEntry, open_calls};
 ghost use Rattle.c_steps.specs.Moves.{bound, closed, cut, ended, last_call, opened, passing, pushed, stepping, then_if, then_item};
 
 mod calls;
+mod declaring;
 mod entering;
 mod evaluating;
+mod prints;
 mod settling;
+mod statements;
+mod steps;
 
 use crate::frame::Frame;
 use crate::item::Item;
@@ -80,14 +84,13 @@ impl Model for Control {
 
 impl Control {
     /// The item that stands next begins.
+    #[tactic(auto, using(crate::proofs::Frames::plain_top, crate::proofs::Frames::replaced_top))]
     fn begin(&mut self)
         requires { CanBegin self.old.frames }
         ensures { self.new ≡ record self.old { frames = begun self.old.frames } }
     {
         match self.stack.top() {
-            Some(Frame::One(_)) => {
-                self.stack.pop();
-            }
+            Some(Frame::One(_)) => self.drop_top(),
             Some(
                 Frame::Parts {
                     block,
@@ -95,20 +98,18 @@ impl Control {
                     at,
                     names,
                 },
-            ) => self.stack.replace(Frame::Parts {
+            ) => self.replace_top(Frame::Parts {
                 block,
                 place,
                 at: at + 1,
                 names,
             }),
-            Some(
-                Frame::Combines {
-                    construct,
-                    from,
-                    names,
-                    ..
-                },
-            ) => self.stack.replace(Frame::Combining {
+            Some(Frame::Combines {
+                construct,
+                from,
+                names,
+                ..
+            }) => self.replace_top(Frame::Combining {
                 construct,
                 from,
                 names,
@@ -142,6 +143,7 @@ impl Control {
     }
 
     /// A frame more, which is no call.
+    #[tactic(auto, using(crate::proofs::Frames::plain_count))]
     fn push(&mut self, frame: Frame)
         requires room { 0 < self.old.frames_now }
         requires plain { IsPlain frame }
@@ -173,7 +175,8 @@ impl Control {
     fn bind(&mut self, entry: Entry)
         requires room { 0 < self.old.names_now }
         requires entry { IsEntry entry }
-        ensures { self.new ≡ bound entry self.old }
+        ensures held { self.new ≡ bound entry self.old }
+        ensures base { self.old.base ≤ length self.old.names }
     {
         self.names_now -= 1;
         self.names.push(entry);
@@ -188,6 +191,7 @@ impl Control {
     }
 
     /// A call is opened, whose value goes there.
+    #[tactic(auto, using(crate::proofs::Frames::caller_count))]
     fn open(&mut self, to: Target)
         requires room { 0 < self.old.frames_now }
         requires few { open_calls self.old.frames < CALL_LIMIT }

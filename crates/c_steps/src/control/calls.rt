@@ -236,7 +236,7 @@ impl Control {
         ensures { result ≡ without_values (all_values (scope_in code.now view self.now cells.now) (parts (part_at code.now.trees call))) }
     {
         match call {
-            Some(node) => self.scope(code, cells, view).check_all(node),
+            Some(node) => self.scope(code, cells.items(), view).check_all(node),
             None => Ok(()),
         }
     }
@@ -286,7 +286,6 @@ impl Control {
     }
 
     /// The end of an `omp_test_lock` that came to own its lock.
-    #[tactic(auto, using(crate::proofs::Returning::test_ended))]
     pub(super) fn end_test(
         &mut self,
         code: &Code,

@@ -18,16 +18,17 @@ use c_model::{Entry, View};
 impl Control {
     /// What the expressions of the function that was called last are evaluated in.
     #[tactic(auto, using(crate::proofs::Entries::are_together), unfolding(crate::specs::Items::file_names))]
-    pub(super) fn scope<'a>(&'a self, code: &'a Code, cells: &'a Cells, view: View) -> Scope<'a>
+    pub(super) fn scope<'a>(&'a self, code: &'a Code, cells: &'a [i32], view: View) -> Scope<'a>
         ensures tree { result.tree.now ≡ code.now }
-        ensures scope { scope_of result ≡ scope_in code.now view self.now cells.now }
+        ensures scope { scope_of result ≡ record { env = env_at code.now self.now; cells = cells.now; view = view } }
+        ensures view { result.view ≡ view }
         ensures entries { AreEntries (scope_of result).env }
     {
         Scope {
             tree: code.tree(),
             file: code.file(),
             names: self.own_entries(),
-            cells: cells.items(),
+            cells,
             view,
         }
     }
@@ -62,7 +63,7 @@ impl Control {
         requires view { HasNumbers view }
         ensures { result ≡ values.value (scope_in code.now view self.now cells.now) (part_at code.now.trees part) }
     {
-        self.scope(code, cells, view).value(part)
+        self.scope(code, cells.items(), view).value(part)
     }
 
     /// The cell of a place, or a trap.
@@ -78,7 +79,7 @@ impl Control {
         ensures cell { result ≡ values.cell_of (scope_in code.now view self.now cells.now) (part_at code.now.trees place) }
         ensures within { IfOk result (λ cell. cell ≤ CELL_LIMIT) }
     {
-        self.scope(code, cells, view).place_cell(place)
+        self.scope(code, cells.items(), view).place_cell(place)
     }
 
     /// How many names of the function that was called last are in scope.

@@ -12,14 +12,14 @@ use Rattle.c_steps.proofs.control.Control.begin_call.Goals as goal
 pub returns-then-not-has_room-clause-step : goal.returns-then-not-has_room-clause-step
 returns-then-not-has_room-clause-step c =
     let trees = c.args.code.now.trees in
-    let few : c.has_room.result ≡ not (nat_lt CELL_LIMIT (length c.args.cells.now.cells + length (parameters_of (part_at trees c.function-function.result)))) = search rules in
+    let few : nat_lt CELL_LIMIT (length c.args.cells.now.cells + length (parameters_of (part_at trees c.function-function.result))) ≡ not c.has_room.result = search rules in
     begins_cells c.args.code.now c.args.view c.args.self.now c.args.cells.now (part_at trees c.args.call) (part_at trees c.function-function.result) (env_with c.args.declared (env_at c.args.code.now c.args.self.now)) c.args.to
     c.has_room.result few (search rules) (search rules) (search rules)
 
 pub returns-then-self-ge-CALL_LIMIT-clause-step : goal.returns-then-self-ge-CALL_LIMIT-clause-step
 returns-then-self-ge-CALL_LIMIT-clause-step c =
     let trees = c.args.code.now.trees in
-    let few : c.has_room.result ≡ not (nat_lt CELL_LIMIT (length c.args.cells.now.cells + length (parameters_of (part_at trees c.function-function.result)))) = search rules in
+    let few : nat_lt CELL_LIMIT (length c.args.cells.now.cells + length (parameters_of (part_at trees c.function-function.result))) ≡ not c.has_room.result = search rules in
     let many : CALL_LIMIT ≤ open_calls c.args.self.now.frames = search rules in
     begins_calls c.args.code.now c.args.view c.args.self.now c.args.cells.now (part_at trees c.args.call) (part_at trees c.function-function.result) (env_with c.args.declared (env_at c.args.code.now c.args.self.now)) c.args.to
     c.has_room.result few (search rules) many (search rules) (search rules)
@@ -31,7 +31,7 @@ enter-requires-clause-values c =
 pub returns-else-self-ge-CALL_LIMIT-clause-step : goal.returns-else-self-ge-CALL_LIMIT-clause-step
 returns-else-self-ge-CALL_LIMIT-clause-step c =
     let trees = c.args.code.now.trees in
-    let few : c.has_room.result ≡ not (nat_lt CELL_LIMIT (length c.args.cells.now.cells + length (parameters_of (part_at trees c.function-function.result)))) = search rules in
+    let few : nat_lt CELL_LIMIT (length c.args.cells.now.cells + length (parameters_of (part_at trees c.function-function.result))) ≡ not c.has_room.result = search rules in
     let within : open_calls c.args.self.now.frames < CALL_LIMIT = search rules in
     ap StepsTo c.enter.ensures.step
     ∙ begins_entered c.args.code.now c.args.view c.args.self.now c.args.cells.now (part_at trees c.args.call) (part_at trees c.function-function.result) (env_with c.args.declared (env_at c.args.code.now c.args.self.now)) c.args.to
