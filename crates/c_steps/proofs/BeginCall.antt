@@ -32,9 +32,11 @@ cells_more : (program : TreeView) (bound : Bound) (parameters : List Tree) (numb
 unfolding with_parameters
 cells_more program bound [] numbers = omega arith
 cells_more program bound (parameter ∷ parameters) numbers =
-    omega (arith,
+    omega (
+      arith,
       cells_more program (with_cells bound (name_of parameter) (slot_of_name program parameter) (first_or_zero numbers ∷ [])) parameters (behind_first numbers),
-      length-append bound.cells (first_or_zero numbers ∷ []))
+      length-append bound.cells (first_or_zero numbers ∷ []),
+    )
 
 -- arguments without a trap
 pub have_numbers : (scope : Scope) (call : Tree) → Ok tt ≡ without_values (all_values scope (parts call)) → HaveNumbers scope call 0
@@ -60,8 +62,8 @@ module _ (program : TreeView) (view : View) (held : Held) (store : Store) (call 
   begins ok is =
       ap (λ (tree : Tree). enters here tree (open_call here env to) (bound_in here tree numbers)) is
       ∙ ap (λ (results : Result (List ℤ) ℕ). with_result results (λ numbers.
-          enters here (function_named program (name_of call)) (open_call here env to) (bound_in here (function_named program (name_of call)) numbers)))
-        (sym (are_values (all_values (scope_in program view held store) (parts call)) ok))
+      enters here (function_named program (name_of call)) (open_call here env to) (bound_in here (function_named program (name_of call)) numbers)))
+      (sym (are_values (all_values (scope_in program view held store) (parts call)) ok))
 
   cells_is : (few : Bool) → nat_lt CELL_LIMIT (length store.cells + length (parameters_of function)) ≡ not few → has_too_many (bound_in here function numbers).cells ≡ not few
   cells_is few is =
@@ -84,7 +86,7 @@ module _ (program : TreeView) (view : View) (held : Held) (store : Store) (call 
       Limits CALLS ≡ begin_call here call env to
   begins_calls few is some many ok named =
       sym (ap (λ (too_many : Bool). entered_if too_many (nat_le CALL_LIMIT (length here.task.calls))) (cells_is few is ∙ ap not some)
-        ∙ ap (λ (too_many : Bool). entered_if false too_many) (le-leb CALL_LIMIT (length here.task.calls) (omega (arith, many, calls_is))))
+      ∙ ap (λ (too_many : Bool). entered_if false too_many) (le-leb CALL_LIMIT (length here.task.calls) (omega (arith, many, calls_is))))
       ∙ begins ok named
 
   pub begins_entered : (few : Bool) → nat_lt CELL_LIMIT (length store.cells + length (parameters_of function)) ≡ not few → few ≡ true → open_calls held.frames < CALL_LIMIT →
@@ -92,5 +94,5 @@ module _ (program : TreeView) (view : View) (held : Held) (store : Store) (call 
       StepsTo (moment_entered here function (open_call here env to) (bound_in here function numbers)) ≡ begin_call here call env to
   begins_entered few is some within ok named =
       sym (ap (λ (too_many : Bool). entered_if too_many (nat_le CALL_LIMIT (length here.task.calls))) (cells_is few is ∙ ap not some)
-        ∙ ap (λ (too_many : Bool). entered_if false too_many) (lt-leb CALL_LIMIT (length here.task.calls) (omega (arith, within, calls_is))))
+      ∙ ap (λ (too_many : Bool). entered_if false too_many) (lt-leb CALL_LIMIT (length here.task.calls) (omega (arith, within, calls_is))))
       ∙ begins ok named

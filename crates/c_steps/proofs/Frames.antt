@@ -1,7 +1,6 @@
 -- Names and frames of a control.
 use Rattle.std.proofs.Common.{◌≡◌, ℕ, ◌+◌, List, [], ◌∷◌, ◌++◌, length, take, drop, Option, Some, None, slice_get, slice_set, refl, sym, ap, ◌∙◌, subst, arith, rules, ◌<◌, max, length-append, append_assoc, ◌≤◌}
 use Rattle.std.proofs.lemmas.List.{drop-append-le, drop-take, take-append-le, take-take}
-use Rattle.std.proofs.Math.Nat.{le-max_left, le-max_right}
 use Rattle.std.proofs.Math.Seq.{take-append-add}
 use Rattle.c_syntax.specs.Numbered.{TreeView}
 use Rattle.c_model.specs.declared.entry.Entry.{Entry}
@@ -14,7 +13,6 @@ use Rattle.c_steps.specs.Moves.{below_call, last_call}
 use Rattle.c_syntax.specs.Tree.{Tree}
 use Rattle.c_syntax.specs.Numbered.{tree_at}
 use Rattle.c_check.specs.Tasks.{from_place}
-use Rattle.c_model.specs.Clauses.{clauses_of, listed_among}
 use Rattle.c_model.specs.Parts.{flat_declarations, parts}
 use Rattle.c_model.specs.Task.{items_of_parts}
 use Rattle.c_model.specs.Task.Item.{Leave}

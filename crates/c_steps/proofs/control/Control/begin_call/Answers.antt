@@ -35,4 +35,4 @@ returns-else-self-ge-CALL_LIMIT-clause-step c =
     let within : open_calls c.args.self.now.frames < CALL_LIMIT = search rules in
     ap StepsTo c.enter.ensures.step
     ∙ begins_entered c.args.code.now c.args.view c.args.self.now c.args.cells.now (part_at trees c.args.call) (part_at trees c.function-function.result) (env_with c.args.declared (env_at c.args.code.now c.args.self.now)) c.args.to
-      c.has_room.result few (search rules) within (search rules) (search rules)
+    c.has_room.result few (search rules) within (search rules) (search rules)
