@@ -104,12 +104,14 @@ impl Control {
                 at: at + 1,
                 names,
             }),
-            Some(Frame::Combines {
-                construct,
-                from,
-                names,
-                ..
-            }) => self.replace_top(Frame::Combining {
+            Some(
+                Frame::Combines {
+                    construct,
+                    from,
+                    names,
+                    ..
+                },
+            ) => self.replace_top(Frame::Combining {
                 construct,
                 from,
                 names,
