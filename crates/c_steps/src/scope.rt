@@ -49,7 +49,7 @@ impl<'a> Scope<'a> {
     }
 
     /// The number of an expression, or its trap. One that is missing is 0.
-    #[tactic(auto, using(crate::proofs::Values::value_is), unfolding(crate::specs::Nodes::IsPart))]
+    #[tactic(auto, using(crate::proofs::Values::value_is))]
     pub(crate) fn value(&self, part: Option<u32>) -> Result<i32, u8>
         requires part { IsPart self.now.tree.now.trees part }
         requires view { HasNumbers self.now.view }
@@ -62,7 +62,7 @@ impl<'a> Scope<'a> {
     }
 
     /// The cell of a place, or a trap.
-    #[tactic(auto, using(crate::proofs::Values::cell_is), unfolding(crate::specs::Nodes::IsPart))]
+    #[tactic(auto, using(crate::proofs::Values::cell_is))]
     pub(crate) fn place_cell(&self, place: Option<u32>) -> Result<usize, u8>
         requires place { IsPart self.now.tree.now.trees place }
         requires view { HasNumbers self.now.view }

@@ -223,7 +223,7 @@ impl Control {
     }
 
     /// The first trap of the arguments of a call.
-    #[tactic(auto, unfolding(crate::specs::Nodes::IsPart, c_model::specs::Value::all_values, c_model::specs::Parts::trees_in))]
+    #[tactic(auto, unfolding(c_model::specs::Value::all_values, c_model::specs::Parts::trees_in))]
     fn check_arguments(
         &self,
         code: &Code,
