@@ -8,6 +8,9 @@ ghost use Rattle.c_model.specs.declared.limits.TheConstants.{CALL_LIMIT};
 ghost use Rattle.c_steps.specs.Rooming.{IsEntry, open_calls};
 ghost use Rattle.c_steps.specs.Moves.{bound, closed, cut, last_call, opened, passing, pushed, stepping, then_if, then_item};
 
+mod evaluating;
+mod events;
+mod own_cells;
 mod settling;
 
 use crate::frame::Frame;
@@ -98,12 +101,14 @@ impl Control {
                 at: at + 1,
                 names,
             }),
-            Some(Frame::Combines {
-                construct,
-                from,
-                names,
-                ..
-            }) => self.stack.replace(Frame::Combining {
+            Some(
+                Frame::Combines {
+                    construct,
+                    from,
+                    names,
+                    ..
+                },
+            ) => self.stack.replace(Frame::Combining {
                 construct,
                 from,
                 names,
