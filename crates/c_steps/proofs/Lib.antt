@@ -3,14 +3,15 @@ pub mod FileNames
 pub mod FirstFunctions
 mod Frames
 pub mod InnerNames
-pub mod ListedNames
 pub mod Iterating
+pub mod ListedNames
 mod Looking
 pub mod OwnNames
 mod PrintingNumbers
 mod PrintingText
 pub mod Rests
 mod Settling
+mod Stepping
 mod Values
 mod ValuesAll
 mod ValuesNamed

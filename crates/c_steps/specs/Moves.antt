@@ -1,5 +1,5 @@
 -- The moves of a control, of which its steps are made.
-use Rattle.std.specs.Prelude.{ℕ, ◌+◌, ◌-◌, ℤ, List, [], ◌∷◌, ◌++◌, length, min, take, Option, Some, None}
+use Rattle.std.specs.Prelude.{ℕ, ◌+◌, ◌-◌, ℤ, List, [], ◌∷◌, ◌++◌, drop, length, min, take, Option, Some, None}
 use Rattle.c_model.specs.declared.entry.Entry.{Entry}
 use Rattle.c_steps.specs.declared.frame.Frame.{Frame}
 use Rattle.c_steps.specs.declared.frame.Frame.TheVariants as frame
@@ -51,6 +51,11 @@ last_call (frame.Combining construct from names ∷ frames) = last_call frames
 last_call (frame.Combines operator name construct from names ∷ frames) = last_call frames
 last_call (frame.Caller base to ∷ frames) = Some (base, to)
 
+-- the frame on top goes, which is a call, and the names of the function that called begin there
+abbrev pub ended : ℕ → Held → Held
+ended base held =
+    record held { frames = drop 1 held.frames; names = take held.base held.names; base = min base (length (take held.base held.names)) }
+
 abbrev pub closed_to : Option (ℕ × Target) → Held → Held
 closed_to None held = record held { frames = [] }
 closed_to (Some call) held =
@@ -70,9 +75,16 @@ abbrev pub cut : ℕ → Held → Held
 cut count held = record held { names = take (held.base + count) held.names }
 
 -- an item more stands next, if there is one
+abbrev pub frames_if : Option Item → List Frame → List Frame
+frames_if None frames = frames
+frames_if (Some it) frames = frame.One it ∷ frames
+
+abbrev pub count_if : Option Item → ℕ → ℕ
+count_if None count = count
+count_if (Some it) count = count - 1
+
 abbrev pub then_if : Option Item → Held → Held
-then_if None held = held
-then_if (Some it) held = then_item it held
+then_if it held = record held { frames = frames_if it held.frames; frames_now = count_if it held.frames_now }
 
 -- the names in scope with one that is declared, if one is
 abbrev pub env_with : Option Entry → List Entry → List Entry

@@ -1,17 +1,21 @@
 //! What is left of a task's code.
 
-ghost use Rattle.std.specs.Prelude.{◌≡◌, ◌<◌, ◌-◌};
+ghost use Rattle.std.specs.Prelude.{◌≡◌, ◌<◌, ◌≤◌, ◌+◌, ◌-◌, drop, length, slice_set};
 ghost use Rattle.c_steps.specs.Items.{begun};
 ghost use Rattle.c_steps.specs.Ready.{CanBegin, IsPlain};
 ghost use Rattle.std.specs.Option.{option_map};
 ghost use Rattle.c_model.specs.declared.limits.TheConstants.{CALL_LIMIT};
 ghost use Rattle.c_steps.specs.Rooming.{IsEntry, open_calls};
-ghost use Rattle.c_steps.specs.Moves.{bound, closed, cut, last_call, opened, passing, pushed, stepping, then_if, then_item};
+ghost use Rattle.c_steps.specs.Moves.{bound, closed, cut, ended, last_call, opened, passing, pushed, stepping, then_if, then_item};
 
+mod declaring;
 mod evaluating;
 mod events;
 mod own_cells;
+mod prints;
 mod settling;
+mod statements;
+mod steps;
 
 use crate::frame::Frame;
 use crate::item::Item;
@@ -80,14 +84,13 @@ impl Model for Control {
 
 impl Control {
     /// The item that stands next begins.
+    #[tactic(auto, using(crate::proofs::Frames::plain_top, crate::proofs::Frames::replaced_top))]
     fn begin(&mut self)
         requires { CanBegin self.old.frames }
         ensures { self.new ≡ record self.old { frames = begun self.old.frames } }
     {
         match self.stack.top() {
-            Some(Frame::One(_)) => {
-                self.stack.pop();
-            }
+            Some(Frame::One(_)) => self.drop_top(),
             Some(
                 Frame::Parts {
                     block,
@@ -95,20 +98,18 @@ impl Control {
                     at,
                     names,
                 },
-            ) => self.stack.replace(Frame::Parts {
+            ) => self.replace_top(Frame::Parts {
                 block,
                 place,
                 at: at + 1,
                 names,
             }),
-            Some(
-                Frame::Combines {
-                    construct,
-                    from,
-                    names,
-                    ..
-                },
-            ) => self.stack.replace(Frame::Combining {
+            Some(Frame::Combines {
+                construct,
+                from,
+                names,
+                ..
+            }) => self.replace_top(Frame::Combining {
                 construct,
                 from,
                 names,
@@ -142,6 +143,7 @@ impl Control {
     }
 
     /// A frame more, which is no call.
+    #[tactic(auto, using(crate::proofs::Frames::plain_count))]
     fn push(&mut self, frame: Frame)
         requires room { 0 < self.old.frames_now }
         requires plain { IsPlain frame }
@@ -173,7 +175,8 @@ impl Control {
     fn bind(&mut self, entry: Entry)
         requires room { 0 < self.old.names_now }
         requires entry { IsEntry entry }
-        ensures { self.new ≡ bound entry self.old }
+        ensures held { self.new ≡ bound entry self.old }
+        ensures base { self.old.base ≤ length self.old.names }
     {
         self.names_now -= 1;
         self.names.push(entry);
@@ -188,6 +191,7 @@ impl Control {
     }
 
     /// A call is opened, whose value goes there.
+    #[tactic(auto, using(crate::proofs::Frames::caller_count))]
     fn open(&mut self, to: Target)
         requires room { 0 < self.old.frames_now }
         requires few { open_calls self.old.frames < CALL_LIMIT }
@@ -201,18 +205,47 @@ impl Control {
     }
 
     /// The call that was opened last is closed, if one is open. Its value goes to what is given.
+    #[tactic(auto, using(crate::proofs::Frames::plain_top, crate::proofs::Frames::caller_top, crate::proofs::Frames::no_top))]
     fn close(&mut self) -> Option<Target>
         ensures closed { self.new ≡ closed self.old }
         ensures to { result ≡ option_map (λ call. call.1) (last_call self.old.frames) }
     {
-        while let Some(frame) = self.stack.pop() {
-            if let Frame::Caller { base, to } = frame {
-                self.open_calls -= 1;
-                self.names.truncate(self.base);
-                self.base = base.min(self.names.len());
-                return Some(to);
+        while let Some(frame) = self.stack.top() {
+            match frame {
+                Frame::Caller { base, to } => {
+                    self.end_call(base);
+                    return Some(to);
+                }
+                _ => self.drop_top(),
             }
         }
         None
+    }
+
+    /// The frame on top goes, which is no call.
+    fn drop_top(&mut self)
+        requires { open_calls (drop 1 self.old.frames) ≡ open_calls self.old.frames }
+        ensures { self.new ≡ record self.old { frames = drop 1 self.old.frames } }
+    {
+        self.stack.pop();
+    }
+
+    /// Another frame stands in place of the one on top. Neither is a call.
+    fn replace_top(&mut self, frame: Frame)
+        requires { open_calls (slice_set self.old.frames 0 frame) ≡ open_calls self.old.frames }
+        ensures { self.new ≡ record self.old { frames = slice_set self.old.frames 0 frame } }
+    {
+        self.stack.replace(frame);
+    }
+
+    /// The frame on top goes, which is a call. The names of the function that called begin there.
+    fn end_call(&mut self, base: usize)
+        requires { open_calls self.old.frames ≡ open_calls (drop 1 self.old.frames) + 1 }
+        ensures { self.new ≡ ended base self.old }
+    {
+        self.stack.pop();
+        self.open_calls -= 1;
+        self.names.truncate(self.base);
+        self.base = base.min(self.names.len());
     }
 }

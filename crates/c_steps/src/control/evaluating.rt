@@ -1,10 +1,8 @@
 //! The numbers of expressions.
 
 ghost use Rattle.std.specs.Prelude.{◌≡◌, ◌<◌, length, drop};
-ghost use Rattle.c_syntax.specs.Numbered.{tree_at};
-ghost use Rattle.c_model.specs.Parts.{parts};
 ghost use Rattle.c_model.specs.Value as values;
-ghost use Rattle.c_steps.specs.Held.{scope_in};
+ghost use Rattle.c_steps.specs.Held.{env_at, scope_in};
 ghost use Rattle.c_steps.specs.Nodes.{IsPart, part_at};
 ghost use Rattle.c_steps.specs.Scopes.{HasNumbers, scope_of};
 
@@ -17,15 +15,16 @@ use c_model::View;
 impl Control {
     /// What the expressions of the function that was called last are evaluated in.
     #[tactic(auto, unfolding(crate::specs::Items::file_names))]
-    pub(super) fn scope<'a>(&'a self, code: &'a Code, cells: &'a Cells, view: View) -> Scope<'a>
+    pub(super) fn scope<'a>(&'a self, code: &'a Code, cells: &'a [i32], view: View) -> Scope<'a>
         ensures tree { result.tree.now ≡ code.now }
-        ensures scope { scope_of result ≡ scope_in code.now view self.now cells.now }
+        ensures scope { scope_of result ≡ record { env = env_at code.now self.now; cells = cells.now; view = view } }
+        ensures view { result.view ≡ view }
     {
         Scope {
             tree: code.tree(),
             file: code.file(),
             names: &self.names.items()[self.base..],
-            cells: cells.items(),
+            cells,
             view,
         }
     }
@@ -42,7 +41,7 @@ impl Control {
         requires view { HasNumbers view }
         ensures { result ≡ values.value (scope_in code.now view self.now cells.now) (part_at code.now.trees part) }
     {
-        self.scope(code, cells, view).value(part)
+        self.scope(code, cells.items(), view).value(part)
     }
 
     /// The cell of a place, or a trap.
@@ -57,7 +56,7 @@ impl Control {
         requires view { HasNumbers view }
         ensures { result ≡ values.cell_of (scope_in code.now view self.now cells.now) (part_at code.now.trees place) }
     {
-        self.scope(code, cells, view).place_cell(place)
+        self.scope(code, cells.items(), view).place_cell(place)
     }
 
     /// How many names of the function that was called last are in scope.
