@@ -12,6 +12,8 @@ mod calls;
 mod declaring;
 mod entering;
 mod evaluating;
+mod events;
+mod own_cells;
 mod prints;
 mod settling;
 mod statements;

@@ -5,7 +5,7 @@ ghost use Rattle.std.specs.Option.{unwrap_or};
 ghost use Rattle.c_syntax.specs.Numbered.{tree_at};
 ghost use Rattle.c_model.specs.declared.entry.Entry.{Entry as SeenEntry};
 ghost use Rattle.c_model.specs.declared.limits.TheConstants.{CELL_LIMIT};
-ghost use Rattle.c_model.specs.Cells.{cell_at, entry_of, last_named, no_entry};
+ghost use Rattle.c_model.specs.Cells.{cell_at, entry_at_slot, entry_of, last_named, last_of_slot, no_entry};
 ghost use Rattle.c_model.specs.Parts.{parts};
 ghost use Rattle.c_model.specs.Value.{all_values, binary_value, cell_of, element, getter_number, unary_value, value};
 ghost use Rattle.c_steps.specs.Arguments.{without_values};
@@ -46,6 +46,13 @@ impl<'a> Scope<'a> {
         ensures cells { AreEntries (scope_of self.now).env → IsEntry result }
     {
         entry_among(self.file, self.names, name)
+    }
+
+    /// The entry of the declaration with a slot, the newest one. A slot that nothing has gives one that no cell belongs to.
+    pub(crate) fn entry_at_slot(&self, slot: u32) -> Entry
+        ensures { result ≡ entry_at_slot (scope_of self.now).env slot }
+    {
+        slot_entry(self.file, self.names, slot)
     }
 
     /// The number of an expression, or its trap. One that is missing is 0.
@@ -210,6 +217,17 @@ pub(crate) fn entry_among(file: &[Entry], names: &[Entry], name: u32) -> Entry
     }
 }
 
+/// The entry of a slot, the newest one, where the names of the file come first.
+#[tactic(auto, using(crate::proofs::ValuesOfSlots::slot_behind))]
+pub(crate) fn slot_entry(file: &[Entry], names: &[Entry], slot: u32) -> Entry
+    ensures { result ≡ entry_at_slot (file.now ++ names.now) slot }
+{
+    match newest_of_slot(names, slot) {
+        Some(entry) => entry,
+        None => file_entry_of_slot(file, slot),
+    }
+}
+
 /// The newest entry of a name.
 #[tactic(auto, using(crate::proofs::ValuesNamed::named_last, crate::proofs::ValuesNamed::named_none))]
 fn newest_named(entries: &[Entry], name: u32) -> Option<Entry>
@@ -230,6 +248,36 @@ fn file_entry(entries: &[Entry], name: u32) -> Entry
     ensures { result ≡ last_named name no_entry entries.now }
 {
     match newest_named(entries, name) {
+        Some(entry) => entry,
+        None => Entry {
+            name: 0,
+            first: CELL_LIMIT as u32,
+            size: 0,
+            slot: 0,
+        },
+    }
+}
+
+/// The newest entry of a slot.
+#[tactic(auto, using(crate::proofs::ValuesOfSlots::slot_last, crate::proofs::ValuesOfSlots::slot_none))]
+fn newest_of_slot(entries: &[Entry], slot: u32) -> Option<Entry>
+    ensures { (found : SeenEntry) → unwrap_or result found ≡ last_of_slot slot found entries.now }
+{
+    let mut older = entries;
+    while let Some((entry, rest)) = older.split_last() {
+        if entry.slot == slot {
+            return Some(*entry);
+        }
+        older = rest;
+    }
+    None
+}
+
+/// The newest entry of a slot, or that of a name that nothing declares.
+fn file_entry_of_slot(entries: &[Entry], slot: u32) -> Entry
+    ensures { result ≡ last_of_slot slot no_entry entries.now }
+{
+    match newest_of_slot(entries, slot) {
         Some(entry) => entry,
         None => Entry {
             name: 0,
