@@ -1,3 +1,4 @@
+mod Combining
 pub mod Counting
 pub mod FileNames
 pub mod FirstFunctions

@@ -110,12 +110,12 @@ module _ (program : TreeView) (view : View) (old frames : List Frame) (it : Fram
 
   pub past_top : (found : Item) → ShowsItem program it found → is_passed_over (item_at program found) view ≡ true → IsLookedThrough program view old frames (begun frames)
   past_top found shows past = subst (λ before. IsLookedThrough program view old before (begun before)) (sym whole) (
-    let front = shows.front rest (All-tail (IsFrame program) it rest so_whole.are_frames) in
-    record {
-      count = same_count program (it ∷ rest) (begun (it ∷ rest)) front.calls;
-      so = settles_past program view old (it ∷ rest) found so_whole front past;
-      less = shows.less rest;
-    })
+      let front = shows.front rest (All-tail (IsFrame program) it rest so_whole.are_frames) in
+      record {
+        count = same_count program (it ∷ rest) (begun (it ∷ rest)) front.calls;
+        so = settles_past program view old (it ∷ rest) found so_whole front past;
+        less = shows.less rest;
+      })
 
   pub nothing_top : ((frames : List Frame) → todo_at program (it ∷ frames) ≡ []) → todo_at program frames ≡ []
   nothing_top none = subst (λ at. todo_at program at ≡ []) (sym whole) (none rest)

@@ -11,6 +11,7 @@ ghost use Rattle.c_steps.specs.Moves.{bound, closed, cut, ended, last_call, open
 mod declaring;
 mod evaluating;
 mod events;
+mod iterations;
 mod own_cells;
 mod prints;
 mod settling;
@@ -104,12 +105,14 @@ impl Control {
                 at: at + 1,
                 names,
             }),
-            Some(Frame::Combines {
-                construct,
-                from,
-                names,
-                ..
-            }) => self.replace_top(Frame::Combining {
+            Some(
+                Frame::Combines {
+                    construct,
+                    from,
+                    names,
+                    ..
+                },
+            ) => self.replace_top(Frame::Combining {
                 construct,
                 from,
                 names,

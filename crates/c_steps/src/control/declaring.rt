@@ -28,13 +28,7 @@ use c_syntax::NodeKind;
 
 impl Control {
     /// A declarator of a block.
-    pub(super) fn declare(
-        &mut self,
-        code: &Code,
-        cells: &mut Cells,
-        view: View,
-        node: u32,
-    ) -> Next
+    pub(super) fn declare(&mut self, code: &Code, cells: &mut Cells, view: View, node: u32) -> Next
         requires ready { IsStepping code.now self.old }
         requires node { node < length code.now.trees }
         requires declarator { is_declarator (kind_of (tree_at code.now.trees node)) ≡ true }

@@ -57,7 +57,13 @@ impl Control {
 
     /// A block ends, and so many names stay in scope.
     #[tactic(auto, using(crate::proofs::Frames::cut_names, crate::proofs::Frames::take_shorter))]
-    pub(super) fn leave_block(&mut self, code: &Code, cells: &Cells, view: View, names: usize) -> Next
+    pub(super) fn leave_block(
+        &mut self,
+        code: &Code,
+        cells: &Cells,
+        view: View,
+        names: usize,
+    ) -> Next
         requires { IsStepping code.now self.old }
         ensures step { outcome_at code.now result (moment_at code.now self.new cells.now) ≡ statements.leave_block (here_at code.now view self.old cells.now) (with_file code.now names) }
         ensures settled { IsSettled result self.old cells.now self.new cells.now }
@@ -235,4 +241,3 @@ fn branch_taken(code: &Code, node: u32, number: i32) -> Option<Item>
         None => None,
     }
 }
-

@@ -65,7 +65,15 @@ impl Control {
                 self.assign(code, cells, view, which, code.child(part, 0), right, then)
             }
             NodeKind::Bump(which, _) => {
-                self.assign(code, cells, view, setting_of(which), code.child(part, 0), Ok(1), then)
+                self.assign(
+                    code,
+                    cells,
+                    view,
+                    setting_of(which),
+                    code.child(part, 0),
+                    Ok(1),
+                    then,
+                )
             }
             _ => {
                 self.step();
