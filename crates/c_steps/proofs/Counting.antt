@@ -102,7 +102,7 @@ numbers_before first size count cells =
     elim (cases_lt count first) [
       | inl past ↦ numbers_past first size count cells past
       | inr from ↦
-        sym (ap (take size) (range_of first count cells from) ∙ take_least size (count - first) (drop first cells))
+          sym (ap (take size) (range_of first count cells from) ∙ take_least size (count - first) (drop first cells))
     ]
 
 variable_made : (loops : Bool) (bound : Bound) (name slot : ℕ) → length (if loops then with_cells bound name slot (pos 0 ∷ []) else bound).cells ≡ length bound.cells + (if loops then 1 else 0)

@@ -1,4 +1,5 @@
 mod BeginCall
+mod Combining
 pub mod Counting
 mod Entered
 mod Entering

@@ -1,20 +1,29 @@
 -- A construct's own cells are made, one name after another.
-use Rattle.std.proofs.Common.{◌≡◌, ℕ, suc, ◌+◌, ◌-◌, ◌<◌, ◌≤◌, Bool, true, false, if◌then◌else◌, List, [], ◌∷◌, ◌++◌, length, take, drop, slice_range, ℤ, pos, refl, sym, ap, ◌∙◌, subst, arith, rules}
+use Rattle.std.proofs.Common.{◌≡◌, ℕ, zero, suc, ◌+◌, ◌-◌, ◌<◌, ◌≤◌, Bool, true, false, if◌then◌else◌, List, [], ◌∷◌, ◌++◌, length, get_or, not, take, drop, slice_range, ℤ, pos, refl, sym, ap, ◌∙◌, subst, arith, rules}
+use Rattle.std.proofs.Math.Nat.{le-max_left, le-max_right}
+use Rattle.std.proofs.lemmas.List.Sums.{count_by-le-length, length-filter}
 use Rattle.std.proofs.lemmas.List.{append-nil, append_assoc, drop-append-le, length-append, length-drop, take-append-le, take_all}
 use Rattle.c_syntax.specs.Tree.{Tree, name_of}
-use Rattle.c_syntax.specs.Numbered.{TreeView}
+use Rattle.c_syntax.specs.Derivation.{nothing}
+use Rattle.c_syntax.specs.Numbered.{TreeView, tree_at}
 use Rattle.c_model.specs.declared.entry.Entry.{Entry}
 use Rattle.c_model.specs.declared.limits.TheConstants.{CELL_LIMIT}
-use Rattle.c_model.specs.Cells.{Bound, entry_of, new_entry, with_cells}
-use Rattle.c_model.specs.Clauses.{Listed}
-use Rattle.c_model.specs.Copies.{copied_numbers, is_loop, listed_variables, loop_slot, with_copy, with_listed, with_loop_variable, with_own_cells}
+use Rattle.c_model.specs.Cells.{Bound, entry_of, has_too_many, new_entry, with_cells}
+use Rattle.c_model.specs.Constructs.{make_cells}
+use Rattle.c_model.specs.Parts.{parts}
+use Rattle.c_model.specs.declared.view.View.{View}
+use Rattle.c_model.specs.Task.Outcome.{StepsTo}
+use Rattle.c_model.specs.Clauses.{Listed, clauses_of, listed_among}
+use Rattle.c_model.specs.Copies.{copied_numbers, is_loop, is_own_loop_variable, listed_variables, loop_slot, with_copy, with_listed, with_loop_variable, with_own_cells}
 use Rattle.c_model.specs.Loops.{loop_of}
 use Rattle.c_model.specs.Task.{Store}
 use Rattle.c_steps.specs.declared.listed.ListedName.{ListedName}
-use Rattle.c_steps.specs.Held.{Held, bound_in}
+use Rattle.c_steps.specs.Held.{Held, bound_in, here_at, moment_at}
+use Rattle.c_steps.specs.Items.{begun, calls_at, file_names}
 use Rattle.c_steps.specs.ListedNames.{listed_of}
-use Rattle.c_steps.specs.Moves.{bound}
+use Rattle.c_steps.specs.Moves.{bound, stepping}
 use Rattle.c_steps.specs.OwnCells.{around_at, copy_entry, copy_numbers, listed_cells, made_listed, made_own, with_made, with_made_cells, with_numbers}
+use Rattle.c_steps.specs.Widths.{most_of_steps, names_of_step, step_names}
 use Rattle.c_steps.proofs.Counting.{listed_made}
 
 -- the copy of a variable that is listed
@@ -196,3 +205,61 @@ module _ (program : TreeView) (construct : Tree) where
         after ≡ with_numbers (pos 0 ∷ []) store →
         after ≡ with_made_cells (made_own program (bound_in program old before) before.cells construct) before
     own_cells loops cells numbers = numbers ∙ rw (cells, own_with loops) refl
+
+within_limit : (cells : List ℤ) → has_too_many cells ≡ false → length cells ≤ CELL_LIMIT
+within_limit cells fits = grind (arith, fits)
+
+-- The silent step that makes a construct's own cells.
+
+-- a node's step brings no more names than a step may bring
+pub step_within : (trees : List Tree) (node : ℕ) → node < length trees → names_of_step (get_or trees node nothing) ≤ most_of_steps trees
+unfolding most_of_steps
+step_within [] node within = absurd (omega (arith, within))
+step_within (tree ∷ trees) zero within = le-max_left (names_of_step tree) (most_of_steps trees)
+step_within (tree ∷ trees) (suc node) within =
+    omega (arith, step_within trees node (omega (arith, within)), le-max_right (names_of_step tree) (most_of_steps trees))
+
+listed_within : (construct : Tree) → length (listed_variables construct) ≤ length (listed_among (clauses_of construct))
+listed_within construct =
+    let own = λ (listed : Listed). not (is_own_loop_variable construct listed.name) in
+    omega (arith, length-filter own (listed_among (clauses_of construct)), count_by-le-length own (listed_among (clauses_of construct)))
+
+pub own_names_within : (program : TreeView) (node : ℕ) → node < length program.trees → length (listed_variables (tree_at program.trees node)) + 1 ≤ step_names program
+own_names_within program node within =
+    let tree = tree_at program.trees node in
+    omega (
+      arith,
+      step_within program.trees node within,
+      listed_within tree,
+      le-max_right (length (parts tree)) (length (listed_among (clauses_of tree)) + 1),
+    )
+
+pub own_fits : (program : TreeView) (around : Bound) (construct : Tree) → has_too_many (with_own_cells program around construct).cells ≡ false → length (made_own program around around.cells construct).cells ≤ CELL_LIMIT
+own_fits program around construct fits =
+    within_limit (made_own program around around.cells construct).cells (sym (ap (λ all. has_too_many all.cells) (own_appends program construct around)) ∙ fits)
+
+module _ (program : TreeView) (view : View) (old : Held) (before : Store) (construct : Tree) (base : old.base ≤ length old.names) (calls : (names : List Entry) → calls_at program names (begun old.frames) ≡ calls_at program names old.frames) where
+  own_moment :
+      moment_at program (with_made (made_own program (bound_in program old before) before.cells construct) (stepping old)) (with_made_cells (made_own program (bound_in program old before) before.cells construct) before)
+      ≡ record {
+        task = record (here_at program view old before).task { env = (with_own_cells program (bound_in program old before) construct).env };
+        store = record before { cells = (with_own_cells program (bound_in program old before) construct).cells };
+      }
+  own_moment =
+      let around = bound_in program old before in
+      let made = made_own program around before.cells construct in
+      let env : file_names program ++ drop old.base (old.names ++ made.env) ≡ around.env ++ made.env =
+      ap (λ own. file_names program ++ own) (drop-append-le old.base old.names made.env base) ∙ sym (append_assoc (file_names program) (drop old.base old.names) made.env) in
+      rw (env, take-append-le old.base old.names made.env base, calls (take old.base old.names), own_appends program construct around) refl
+
+  pub own_step : (new : Held) (after : Store) →
+      new ≡ with_made (made_own program (bound_in program old before) before.cells construct) (stepping old) →
+      after ≡ with_made_cells (made_own program (bound_in program old before) before.cells construct) before →
+      has_too_many (with_own_cells program (bound_in program old before) construct).cells ≡ false →
+      StepsTo (moment_at program new after) ≡ make_cells (here_at program view old before) construct
+  own_step new after control cells fits = rw (control, cells, own_moment, fits) refl
+
+pub has_room : (test room : Bool) → room ≡ not test → not room ≡ false → test ≡ false
+has_room false room is there = refl
+has_room true true is full = absurd (search (is, rules))
+has_room true false is full = absurd (search (full, rules))

@@ -13,9 +13,11 @@ mod declaring;
 mod entering;
 mod evaluating;
 mod events;
+mod iterations;
 mod own_cells;
 mod prints;
 mod settling;
+mod statement;
 mod statements;
 mod steps;
 

@@ -5,7 +5,7 @@ ghost use Rattle.std.specs.Option.{unwrap_or};
 ghost use Rattle.c_syntax.specs.Numbered.{tree_at};
 ghost use Rattle.c_model.specs.declared.entry.Entry.{Entry as SeenEntry};
 ghost use Rattle.c_model.specs.declared.limits.TheConstants.{CELL_LIMIT};
-ghost use Rattle.c_model.specs.Cells.{cell_at, entry_at_slot, entry_of, last_named, last_of_slot, no_entry};
+ghost use Rattle.c_model.specs.Cells.{cell_at, entry_at_slot, entry_of, first_named, last_named, last_of_slot, no_entry};
 ghost use Rattle.c_model.specs.Parts.{parts};
 ghost use Rattle.c_model.specs.Value.{all_values, binary_value, cell_of, element, getter_number, unary_value, value};
 ghost use Rattle.c_steps.specs.Arguments.{without_values};
@@ -249,12 +249,7 @@ fn file_entry(entries: &[Entry], name: u32) -> Entry
 {
     match newest_named(entries, name) {
         Some(entry) => entry,
-        None => Entry {
-            name: 0,
-            first: CELL_LIMIT as u32,
-            size: 0,
-            slot: 0,
-        },
+        None => no_entry(),
     }
 }
 
@@ -279,12 +274,34 @@ fn file_entry_of_slot(entries: &[Entry], slot: u32) -> Entry
 {
     match newest_of_slot(entries, slot) {
         Some(entry) => entry,
-        None => Entry {
-            name: 0,
-            first: CELL_LIMIT as u32,
-            size: 0,
-            slot: 0,
-        },
+        None => no_entry(),
+    }
+}
+
+/// The oldest entry of a name, or that of a name that nothing declares.
+#[tactic(auto, unfolding(c_model::specs::Cells::first_named))]
+pub(crate) fn first_named(entries: &[Entry], name: u32) -> Entry
+    ensures { result ≡ first_named name entries.now }
+{
+    let mut newer = entries;
+    while let Some((entry, rest)) = newer.split_first() {
+        if entry.name == name {
+            return *entry;
+        }
+        newer = rest;
+    }
+    no_entry()
+}
+
+/// The entry of a name that nothing declares.
+fn no_entry() -> Entry
+    ensures { result ≡ no_entry }
+{
+    Entry {
+        name: 0,
+        first: CELL_LIMIT as u32,
+        size: 0,
+        slot: 0,
     }
 }
 
@@ -299,7 +316,7 @@ fn element(entry: Entry, index: i32) -> Result<usize, u8>
 }
 
 /// What is in a cell; 0 where there is none.
-fn number_in(cells: &[i32], cell: usize) -> i32
+pub(crate) fn number_in(cells: &[i32], cell: usize) -> i32
     ensures { result ≡ cell_at cells.now cell }
 {
     match cells.get(cell) {

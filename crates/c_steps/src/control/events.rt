@@ -17,7 +17,7 @@ ghost use Rattle.c_model.specs.Task.Outcome.{Asks, Occurs};
 ghost use Rattle.c_steps.specs.Held.{Held, here_at, moment_at, outcome_at};
 ghost use Rattle.c_steps.specs.Items.{loop_at};
 ghost use Rattle.c_steps.specs.LoopNodes.{GoesOn, parts_at};
-ghost use Rattle.c_steps.specs.Ready.{HasLoopNumbers, IsSettled, IsUnchanging};
+ghost use Rattle.c_steps.specs.Ready.{AreFrames, HasLoopNumbers, IsSettled, IsStepping, IsUnchanging};
 ghost use Rattle.c_steps.specs.Scopes.{HasNumbers};
 
 use crate::cells::Cells;
@@ -30,9 +30,26 @@ use crate::next::Next;
 use c_model::{
     Ask, CELLS, MutexKind, Point, Schedule, SyncKind, SyncStage, Target, View, Work, WorkKind,
 };
-use c_syntax::{Directive, Standalone};
+use c_syntax::{Directive, NodeKind, Standalone};
 
 impl Control {
+    /// The construct that a combined directive has inside begins.
+    pub(super) fn begin_inside(&mut self, code: &Code, cells: &Cells, view: View, node: u32) -> Next
+        requires ready { IsStepping code.now self.old }
+        requires node { node < length code.now.trees }
+        requires view { HasNumbers view }
+        ensures step { outcome_at code.now result (moment_at code.now self.new cells.now) ≡ steps.begin_inside (kind_of (tree_at code.now.trees node)) (here_at code.now view self.old cells.now) (tree_at code.now.trees node) }
+        ensures settled { IsSettled result self.old cells.now self.new cells.now }
+        ensures frames { AreFrames code.now self.new.frames }
+        ensures numbers { HasLoopNumbers result }
+    {
+        match code.kind(Some(node)) {
+            NodeKind::Construct(Directive::ParallelFor) => self.begin_loop(code, cells, view, node),
+            NodeKind::Construct(Directive::ParallelSections) => begin_sections(code, node),
+            _ => self.begin_empty(code, cells, view),
+        }
+    }
+
     /// A construct begins. A combined directive begins as the parallel construct that it has outside.
     pub(super) fn begin_construct(
         &self,

@@ -57,7 +57,7 @@ impl Control {
         requires { node < length code.now.trees }
         ensures { result ≡ not (has_too_many (with_own_cells code.now (bound_in code.now self.now cells.now) (tree_at code.now.trees node)).cells) }
     {
-        let scope = self.scope(code, cells, view);
+        let scope = self.scope(code, cells.items(), view);
         match room_behind_listed(code, &scope, node, cells.room()) {
             None => false,
             Some(room) => room > 0 || !is_loop(code, node),
@@ -70,7 +70,7 @@ impl Control {
         requires { node < length code.now.trees }
         ensures { result ≡ not (has_too_many (with_task_cells code.now (bound_in code.now self.now cells.now) (tree_at code.now.trees node)).cells) }
     {
-        let scope = self.scope(code, cells, view);
+        let scope = self.scope(code, cells.items(), view);
         match room_behind_listed(code, &scope, node, cells.room()) {
             None => false,
             Some(room) => room_behind_slots(
@@ -89,6 +89,7 @@ impl Control {
         requires names { length (listed_variables (tree_at code.now.trees node)) + 1 ≤ self.old.names_now }
         ensures control { self.new ≡ with_made (made_own code.now (bound_in code.now self.old cells.old) cells.old.cells (tree_at code.now.trees node)) self.old }
         ensures cells { cells.new ≡ with_made_cells (made_own code.now (bound_in code.now self.old cells.old) cells.old.cells (tree_at code.now.trees node)) cells.old }
+        ensures base { self.old.base ≤ length self.old.names }
     {
         let names = self.names.len();
         self.make_listed(code, cells, node);

@@ -13,8 +13,10 @@ make_named-requires-clause-room c =
     let whole = listed_variables construct in
     let base : old.base ≤ length old.names = search rules in
     let so = subst (λ left. IsMaking code left whole old c.loop-found.self c.args.cells.now c.loop-found.cells) c.in-Some.ensures c.loop-found.invariant in
+    let were : c.len-names.result ≡ length old.names = search rules in
+    let counted : c.count-count.result ≡ length c.args.cells.now.cells = search rules in
     making_room code whole old c.args.cells.now base c.loop-found.self c.loop-found.cells c.in-Some.found.listed (listed_from construct c.in-Some.found.next) so
-    c.len-names.result c.count-count.result c.len-names.ensures c.count-count.ensures c.requires.room
+    c.len-names.result c.count-count.result were counted c.requires.room
 
 pub loop-found-preserved : goal.loop-found-preserved
 loop-found-preserved c =
@@ -24,8 +26,10 @@ loop-found-preserved c =
     let whole = listed_variables construct in
     let base : old.base ≤ length old.names = search rules in
     let so = subst (λ left. IsMaking code left whole old c.loop-found.self c.args.cells.now c.loop-found.cells) c.in-Some.ensures c.loop-found.invariant in
+    let were : c.len-names.result ≡ length old.names = search rules in
+    let counted : c.count-count.result ≡ length c.args.cells.now.cells = search rules in
     making_more code whole old c.args.cells.now base c.loop-found.self c.loop-found.cells c.in-Some.found.listed (listed_from construct c.in-Some.found.next) so
-    c.len-names.result c.count-count.result c.len-names.ensures c.count-count.ensures c.make_named.new.self c.make_named.new.cells c.make_named.ensures.control c.make_named.ensures.cells
+    c.len-names.result c.count-count.result were counted c.make_named.new.self c.make_named.new.cells c.make_named.ensures.control c.make_named.ensures.cells
 
 pub returns-clause-control : goal.returns-clause-control
 returns-clause-control c =
