@@ -13,10 +13,10 @@ ghost use Rattle.c_steps.specs.Widths.{step_names};
 use crate::cells::Cells;
 use crate::code::Code;
 use crate::control::Control;
-use crate::control::events::{begin_sections, begin_standalone};
+use crate::control::events::begin_standalone;
 use crate::next::Next;
 use c_model::View;
-use c_syntax::{Directive, NodeKind};
+use c_syntax::NodeKind;
 
 impl Control {
     /// A statement begins. What can't stand as one is an empty statement, and so is one that is missing.
@@ -67,29 +67,6 @@ impl Control {
             NodeKind::Construct(directive) => {
                 self.begin_construct(code, cells, view, directive, node)
             }
-            _ => self.begin_empty(code, cells, view),
-        }
-    }
-
-    /// The construct that a combined directive has inside begins.
-    pub(super) fn begin_inside(
-        &mut self,
-        code: &Code,
-        cells: &mut Cells,
-        view: View,
-        node: u32,
-    ) -> Next
-        requires ready { IsStepping code.now self.old }
-        requires node { node < length code.now.trees }
-        requires view { HasNumbers view }
-        ensures step { outcome_at code.now result (moment_at code.now self.new cells.new) ≡ steps.begin_inside (kind_of (tree_at code.now.trees node)) (here_at code.now view self.old cells.old) (tree_at code.now.trees node) }
-        ensures settled { IsSettled result self.old cells.old self.new cells.new }
-        ensures numbers { HasLoopNumbers result }
-        ensures frames { AreFrames code.now self.new.frames }
-    {
-        match code.kind(Some(node)) {
-            NodeKind::Construct(Directive::ParallelFor) => self.begin_loop(code, cells, view, node),
-            NodeKind::Construct(Directive::ParallelSections) => begin_sections(code, node),
             _ => self.begin_empty(code, cells, view),
         }
     }
