@@ -1,14 +1,14 @@
+pub mod FileNames
+pub mod FirstFunctions
 mod Frames
-mod Looking
-pub mod Rests
+pub mod InnerNames
 pub mod ListedNames
+mod Looking
 mod PrintingNumbers
 mod PrintingText
+pub mod Rests
 mod Settling
 mod Stepping
 mod Values
 mod ValuesAll
 mod ValuesNamed
-pub mod FileNames
-pub mod FirstFunctions
-pub mod InnerNames

@@ -1,11 +1,11 @@
 -- The next number of a `printf`.
-use Rattle.std.specs.Prelude.{◌≡◌, ℕ, ◌+◌, List, [], ◌∷◌, Option, Some, None, Result, Ok, Err, ℤ, refl, MatchOption, IfSome}
+use Rattle.std.specs.Prelude.{◌≡◌, ℕ, ◌+◌, List, [], ◌∷◌, Some, None, Result, Ok, Err, ℤ, refl, MatchOption}
 use Rattle.std.specs.Result.{result_ok}
 use Rattle.std.proofs.Common.{ap, sym, subst, ◌∙◌}
 use Rattle.c_syntax.specs.Tree.{Tree, child_of}
 use Rattle.c_syntax.specs.Numbered.{tree_at}
-use Rattle.c_model.specs.Value.{all_values, value, value_before}
-use Rattle.c_steps.specs.Arguments.{HaveValues, numbers_behind, parts_behind, results_behind, values_in, without_values}
+use Rattle.c_model.specs.Value.{value, value_before}
+use Rattle.c_steps.specs.Arguments.{HaveValues, numbers_behind, results_behind, values_in, without_values}
 use Rattle.c_steps.specs.Scopes.{scope_of}
 use Rattle.c_steps.specs.declared.scope.Scope.{Scope as Here}
 use Rattle.c_steps.proofs.ValuesAll.{all_with, all_without}

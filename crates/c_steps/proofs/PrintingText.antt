@@ -1,8 +1,8 @@
 -- What is printed of a pattern, a byte at a time.
-use Rattle.std.specs.Prelude.{◌≡◌, ℕ, ◌+◌, ◌≤◌, ◌==◌, nat_lt, if◌then◌else◌, false, List, [], ◌∷◌, ◌++◌, length, take, drop, ℤ, refl}
+use Rattle.std.specs.Prelude.{◌≡◌, ℕ, ◌≤◌, ◌==◌, nat_lt, if◌then◌else◌, false, List, [], ◌∷◌, ◌++◌, length, take, drop, ℤ, refl}
 use Rattle.std.proofs.Common.{ap, sym, ◌∙◌, arith}
 use Rattle.std.proofs.lemmas.List.{append-nil, at_drop_all, take-append-le}
-use Rattle.std.proofs.Math.Seq.{take-append_seam, take-length}
+use Rattle.std.proofs.Math.Seq.{take-append_seam}
 use Rattle.c_model.specs.Text.{escaped_byte, first_decimal, numbers_behind_first, printed_text, text_behind_backslash, text_behind_percent}
 use Rattle.c_steps.specs.declared.printing.Before.{Before}
 use Rattle.c_steps.specs.declared.printing.Before.TheVariants.{Plain, Percent, Backslash}

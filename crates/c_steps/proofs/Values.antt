@@ -7,7 +7,7 @@ use Rattle.c_syntax.specs.Tree.Tree.{Node}
 use Rattle.c_syntax.specs.Tree.Children.{Over, Child, Absent}
 use Rattle.c_syntax.specs.Derivation.{nothing}
 use Rattle.c_model.specs.Cells.{entry_of}
-use Rattle.c_model.specs.Value.{Scope, cell_of, index_of, node_value, place_cell, value, value_at, values}
+use Rattle.c_model.specs.Value.{Scope, cell_of, node_value, place_cell, value, value_at, values}
 
 pub values_at : (scope : Scope) (children : Children) (place : ℕ) →
     value_at (values scope children) place ≡ option_map (value scope) (at_place children place)

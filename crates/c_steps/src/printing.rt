@@ -1,11 +1,9 @@
 //! What a `printf` prints (C11 7.21.6.1).
 
 ghost use Rattle.std.specs.Prelude.{◌≡◌, ◌+◌, ◌<◌, ◌≤◌, ℕ, ℤ, List, [], ◌∷◌, ◌++◌, length, take, not, nat_lt, if◌then◌else◌, vec_capacity, IfNone, IfSome, MatchOption};
-ghost use Rattle.c_syntax.specs.Tree.{text_of};
-ghost use Rattle.c_syntax.specs.Numbered.{tree_at};
 ghost use Rattle.c_model.specs.Text.{escaped_byte, first_decimal, numbers_behind_first, printed_text, text_behind_backslash, text_behind_percent};
 ghost use Rattle.c_steps.specs.Arguments.{HaveValues, numbers_behind};
-ghost use Rattle.c_steps.specs.Printing.{numbers_left, piece_text, text_left};
+ghost use Rattle.c_steps.specs.Printing.{numbers_left, piece_text, text_left, text_printed};
 ghost use Rattle.c_steps.specs.Scopes.{HasNumbers};
 
 use crate::scope::Scope;
@@ -47,10 +45,8 @@ pub(crate) fn print(scope: &Scope<'_>, node: u32, text: &mut Vec<u8>) -> bool
     requires view { HasNumbers scope.now.view }
     requires values { HaveValues scope.now node 0 }
     requires room { TEXT_LIMIT ≤ vec_capacity text.old }
-    ensures text { let printed = printed_text (text_of (tree_at scope.now.tree.now.trees node)) (numbers_behind scope.now node 0) in
-        text.new.items ≡ (if result then text.old.items ++ printed else text.old.items) }
-    ensures limit { let printed = printed_text (text_of (tree_at scope.now.tree.now.trees node)) (numbers_behind scope.now node 0) in
-        nat_lt TEXT_LIMIT (length (text.old.items ++ printed)) ≡ not result }
+    ensures text { text.new.items ≡ (if result then text.old.items ++ text_printed scope.now node else text.old.items) }
+    ensures limit { nat_lt TEXT_LIMIT (length (text.old.items ++ text_printed scope.now node)) ≡ not result }
     ensures capacity { vec_capacity text.old ≤ vec_capacity text.new }
 {
     let printed = text.len();
@@ -72,11 +68,9 @@ fn append_text(scope: &Scope<'_>, node: u32, text: &mut Vec<u8>) -> bool
     requires values { HaveValues scope.now node 0 }
     requires room { TEXT_LIMIT ≤ vec_capacity text.old }
     requires few { length text.old.items ≤ TEXT_LIMIT }
-    ensures text { let printed = printed_text (text_of (tree_at scope.now.tree.now.trees node)) (numbers_behind scope.now node 0) in
-        (if result then text.new.items else take (length text.old.items) text.new.items)
-        ≡ (if result then text.old.items ++ printed else text.old.items) }
-    ensures limit { let printed = printed_text (text_of (tree_at scope.now.tree.now.trees node)) (numbers_behind scope.now node 0) in
-        nat_lt TEXT_LIMIT (length (text.old.items ++ printed)) ≡ not result }
+    ensures text { (if result then text.new.items else take (length text.old.items) text.new.items)
+        ≡ (if result then text.old.items ++ text_printed scope.now node else text.old.items) }
+    ensures limit { nat_lt TEXT_LIMIT (length (text.old.items ++ text_printed scope.now node)) ≡ not result }
     ensures capacity { vec_capacity text.old ≤ vec_capacity text.new }
 {
     let mut progress = Progress {
