@@ -1,21 +1,21 @@
+mod BeginCall
+mod Entered
+mod Entering
+mod Entries
+pub mod FileNames
+pub mod FirstFunctions
 mod Frames
-mod Looking
-pub mod Rests
+pub mod InnerNames
 pub mod ListedNames
+mod Looking
+mod Parameters
 mod PrintingNumbers
 mod PrintingText
+pub mod Rests
+mod Returning
 mod Settling
+mod StepNames
 mod Stepping
 mod Values
 mod ValuesAll
 mod ValuesNamed
-pub mod FileNames
-pub mod FirstFunctions
-pub mod InnerNames
-mod Entries
-mod Entering
-mod Parameters
-mod Entered
-mod StepNames
-mod BeginCall
-mod Returning
