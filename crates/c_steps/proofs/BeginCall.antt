@@ -19,12 +19,12 @@ use Rattle.c_model.specs.Task.{Here, OpenCall, Outcome, Store}
 use Rattle.c_model.specs.Task.Outcome.{Limits, StepsTo}
 use Rattle.c_model.specs.Value.{Scope, all_values}
 use Rattle.c_steps.specs.Arguments.{values_in, without_values}
-use Rattle.c_steps.specs.Entering.{HaveNumbers, moment_entered}
+use Rattle.c_steps.specs.Entering.{HaveNoTrap, moment_entered}
 use Rattle.c_steps.specs.Held.{Held, here_at, scope_in}
 use Rattle.c_steps.specs.Items.{calls_at}
 use Rattle.c_steps.specs.Rooming.{open_calls}
 use Rattle.c_steps.proofs.Frames.{calls_counted}
-use Rattle.c_steps.proofs.ValuesAll.{are_values}
+use Rattle.c_steps.proofs.ValuesAll.{ok_values}
 
 -- each parameter has a cell
 cells_more : (program : TreeView) (bound : Bound) (parameters : List Tree) (numbers : List ℤ) →
@@ -39,9 +39,9 @@ cells_more program bound (parameter ∷ parameters) numbers =
     )
 
 -- arguments without a trap
-pub have_numbers : (scope : Scope) (call : Tree) → Ok tt ≡ without_values (all_values scope (parts call)) → HaveNumbers scope call 0
+pub have_no_trap : (scope : Scope) (call : Tree) → Ok tt ≡ without_values (all_values scope (parts call)) → HaveNoTrap scope call 0
 unfolding from_place
-have_numbers scope call ok = record { ok = sym ok }
+have_no_trap scope call ok = record { ok = sym ok }
 
 module _ (program : TreeView) (view : View) (held : Held) (store : Store) (call function : Tree) (env : List Entry) (to : Target) where
   abbrev here : Here
@@ -63,7 +63,7 @@ module _ (program : TreeView) (view : View) (held : Held) (store : Store) (call 
       ap (λ (tree : Tree). enters here tree (open_call here env to) (bound_in here tree numbers)) is
       ∙ ap (λ (results : Result (List ℤ) ℕ). with_result results (λ numbers.
       enters here (function_named program (name_of call)) (open_call here env to) (bound_in here (function_named program (name_of call)) numbers)))
-      (sym (are_values (all_values (scope_in program view held store) (parts call)) ok))
+      (sym (ok_values (all_values (scope_in program view held store) (parts call)) ok))
 
   cells_is : (few : Bool) → nat_lt CELL_LIMIT (length store.cells + length (parameters_of function)) ≡ not few → has_too_many (bound_in here function numbers).cells ≡ not few
   cells_is few is =

@@ -6,7 +6,7 @@ use Rattle.c_model.specs.Calls.{behind_first, first_or_zero}
 use Rattle.c_model.specs.Value.{Scope, all_values, value, value_before}
 use Rattle.c_steps.specs.declared.scope.Argument.{Argument}
 use Rattle.c_steps.specs.Arguments.{values_in, without_values}
-use Rattle.c_steps.specs.Entering.{HaveNumbers, IsNextArgument, arguments_from}
+use Rattle.c_steps.specs.Entering.{HaveNoTrap, IsNextArgument, arguments_from}
 use Rattle.c_steps.specs.Rests.{parts_from}
 
 -- the first of some results, and the others, where none is a trap
@@ -30,7 +30,7 @@ module _ (scope : Scope) (call : Tree) (place : ℕ) where
   from_here child here = ap (all_values scope) here
 
   -- an argument that is there
-  pub argument_here : (child : Tree) (number : ℤ) → parts_from call place ≡ child ∷ parts_from call (place + 1) → Ok number ≡ value scope child → HaveNumbers scope call place → IsNextArgument scope call place (record { number = number; next = place + 1 })
+  pub argument_here : (child : Tree) (number : ℤ) → parts_from call place ≡ child ∷ parts_from call (place + 1) → Ok number ≡ value scope child → HaveNoTrap scope call place → IsNextArgument scope call place (record { number = number; next = place + 1 })
   argument_here child number here is have =
       let first = from_here child here in
       let them = split number (value scope child) (arguments_from scope call (place + 1)) is (sym (ap without_values first) ∙ have.ok) in
@@ -41,7 +41,7 @@ module _ (scope : Scope) (call : Tree) (place : ℕ) where
       }
 
   -- it has no trap
-  pub argument_trap : (child : Tree) (trap : ℕ) → parts_from call place ≡ child ∷ parts_from call (place + 1) → Err trap ≡ value scope child → HaveNumbers scope call place → ⊥
+  pub argument_trap : (child : Tree) (trap : ℕ) → parts_from call place ≡ child ∷ parts_from call (place + 1) → Err trap ≡ value scope child → HaveNoTrap scope call place → ⊥
   argument_trap child trap here is have = trapped trap (value scope child) (arguments_from scope call (place + 1)) is (sym (ap without_values (from_here child here)) ∙ have.ok)
 
   -- none is left

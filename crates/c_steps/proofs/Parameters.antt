@@ -17,7 +17,7 @@ use Rattle.c_model.specs.Value.{Scope}
 use Rattle.c_steps.specs.declared.control.entering.Caller.{Caller}
 use Rattle.c_steps.specs.declared.scope.Argument.{Argument}
 use Rattle.c_steps.specs.Arguments.{values_in}
-use Rattle.c_steps.specs.Entering.{BindsParameter, HasMore, HaveNumbers, IsCaller, IsNextArgument, arguments_from, bound_at, caller_scope}
+use Rattle.c_steps.specs.Entering.{BindsParameter, HasMore, HaveNoTrap, IsCaller, IsNextArgument, arguments_from, bound_at, caller_scope}
 use Rattle.c_steps.specs.Held.{Held}
 use Rattle.c_steps.specs.Items.{file_names}
 use Rattle.c_steps.specs.Moves.{bound}
@@ -89,7 +89,7 @@ pub record IsUnderWay (program : TreeView) (view : View) (caller : Caller) (call
   pub there : IsCaller caller now after
   pub base : now.base ≤ length now.names
   pub scope : caller_scope program view caller now after ≡ caller_scope program view caller old before
-  pub values : HaveNumbers (caller_scope program view caller old before) call argument
+  pub values : HaveNoTrap (caller_scope program view caller old before) call argument
   pub names : length (parts_from parameters place) ≤ now.names_now
   pub room : length after.cells + length (parts_from parameters place) ≤ CELL_LIMIT
 
@@ -97,7 +97,7 @@ module _ (program : TreeView) (view : View) (caller : Caller) (call parameters :
   abbrev first_scope : Scope
   first_scope = caller_scope program view caller old before
 
-  pub under_way_first : IsCaller caller old before → old.base ≤ length old.names → HaveNumbers first_scope call 0 → length (parts parameters) ≤ old.names_now → length before.cells + length (parts parameters) ≤ CELL_LIMIT →
+  pub under_way_first : IsCaller caller old before → old.base ≤ length old.names → HaveNoTrap first_scope call 0 → length (parts parameters) ≤ old.names_now → length before.cells + length (parts parameters) ≤ CELL_LIMIT →
       IsUnderWay program view caller call parameters old old before before 0 0
   unfolding from_place
   under_way_first there base values names room = record {
@@ -133,7 +133,7 @@ module _ (program : TreeView) (view : View) (caller : Caller) (call parameters :
         there = binds.there;
         base = subst (λ (base : ℕ). base ≤ length new.names) (sym (ap (λ (held : Held). held.base) binds.more.held)) (omega (arith, way.base, binds.more.longer));
         scope = binds.scope ∙ way.scope;
-        values = subst (λ (scope : Scope). HaveNumbers scope call next) way.scope binds.values;
+        values = subst (λ (scope : Scope). HaveNoTrap scope call next) way.scope binds.values;
         names = omega (arith, way.names, ap length here, binds.names);
         room = omega (arith, way.room, ap length here, binds.cells);
       }
@@ -147,5 +147,5 @@ module _ (program : TreeView) (view : View) (caller : Caller) (call parameters :
 
   -- the arguments that are left have no trap
   pub values_left : (now : Held) (after : Store) (place argument : ℕ) → IsUnderWay program view caller call parameters old now before after place argument →
-      HaveNumbers (caller_scope program view caller now after) call argument
-  values_left now after place argument way = subst (λ (scope : Scope). HaveNumbers scope call argument) (sym way.scope) way.values
+      HaveNoTrap (caller_scope program view caller now after) call argument
+  values_left now after place argument way = subst (λ (scope : Scope). HaveNoTrap scope call argument) (sym way.scope) way.values

@@ -14,10 +14,9 @@ use Rattle.c_model.specs.Task.Outcome.{StepsTo}
 use Rattle.c_steps.specs.declared.frame.Frame.{Frame}
 use Rattle.c_steps.specs.declared.frame.Frame.TheVariants as frame
 use Rattle.c_steps.specs.declared.item.Item.TheVariants as item
-use Rattle.c_steps.specs.Entering.{cells_given, given_back}
 use Rattle.c_steps.specs.Held.{Held, env_at, here_at, moment_at}
 use Rattle.c_steps.specs.Items.{begun, calls_at, file_names, todo_at}
-use Rattle.c_steps.specs.Moves.{below_call, closed, closed_to, delivered, last_call, stepping}
+use Rattle.c_steps.specs.Moves.{below_call, cells_given, closed, closed_to, delivered, given_back, last_call, stepping}
 use Rattle.c_steps.specs.Ready.{AreFrames, IsAfterStep, IsFrame, IsStepping}
 use Rattle.c_steps.proofs.Frames.{calls_by_last, calls_from_last}
 

@@ -1,10 +1,9 @@
 -- A call that begins: its arguments, and the parameters that come into scope.
-use Rattle.std.specs.Prelude.{◌≡◌, ℕ, ◌+◌, ◌++◌, ◌≤◌, List, [], ◌∷◌, length, drop, take, Option, Some, None, Result, Ok, Err, ℤ}
+use Rattle.std.specs.Prelude.{◌≡◌, ℕ, ◌+◌, ◌++◌, ◌≤◌, List, [], ◌∷◌, length, drop, take, Result, Ok, ℤ}
 use Rattle.c_syntax.specs.Tree.{Tree, name_of}
 use Rattle.c_syntax.specs.Numbered.{TreeView}
 use Rattle.c_model.specs.declared.view.View.{View}
-use Rattle.c_model.specs.declared.point.Target.{Target}
-use Rattle.c_model.specs.Calls.{behind_first, first_or_zero, value_cells}
+use Rattle.c_model.specs.Calls.{behind_first, first_or_zero}
 use Rattle.c_check.specs.Seen.{slot_of_name}
 use Rattle.c_model.specs.Cells.{Bound, with_cells}
 use Rattle.c_model.specs.Program.{body_of}
@@ -17,21 +16,20 @@ use Rattle.c_steps.specs.Arguments.{values_in, without_values}
 use Rattle.c_steps.specs.Rests.{parts_from}
 use Rattle.c_steps.specs.Held.{Held, env_at}
 use Rattle.c_steps.specs.Items.{file_names}
-use Rattle.c_steps.specs.Moves.{delivered}
 
 -- the arguments of a call from a place on, or their first trap
 abbrev pub arguments_from : Scope → Tree → ℕ → Result (List ℤ) ℕ
 arguments_from scope call place = all_values scope (parts_from call place)
 
 -- none of them has a trap
-pub record HaveNumbers (scope : Scope) (call : Tree) (place : ℕ) : Type 0 where
+pub record HaveNoTrap (scope : Scope) (call : Tree) (place : ℕ) : Type 0 where
   pub ok : without_values (arguments_from scope call place) ≡ Ok tt
 
 -- the next argument was found, and those behind it
 pub record IsNextArgument (scope : Scope) (call : Tree) (place : ℕ) (found : Argument) : Type 0 where
   pub number : found.number ≡ first_or_zero (values_in (arguments_from scope call place))
   pub rest : values_in (arguments_from scope call found.next) ≡ behind_first (values_in (arguments_from scope call place))
-  pub are : HaveNumbers scope call found.next
+  pub are : HaveNoTrap scope call found.next
 
 -- what the arguments of a call are evaluated in, when names and cells may have been made since it began
 abbrev pub caller_scope : TreeView → View → Caller → Held → Store → Scope
@@ -65,7 +63,7 @@ pub record BindsParameter (program : TreeView) (view : View) (caller : Caller) (
       (first_or_zero (values_in (arguments_from (caller_scope program view caller old before) call place)) ∷ [])
   pub rest : values_in (arguments_from (caller_scope program view caller old before) call next)
       ≡ behind_first (values_in (arguments_from (caller_scope program view caller old before) call place))
-  pub values : HaveNumbers (caller_scope program view caller old before) call next
+  pub values : HaveNoTrap (caller_scope program view caller old before) call next
   pub more : HasMore old new before after
   pub there : IsCaller caller new after
   pub scope : caller_scope program view caller new after ≡ caller_scope program view caller old before
@@ -79,12 +77,3 @@ moment_entered here function call bound =
       task = record here.task { todo = Start (body_of function) ∷ FallOff ∷ []; env = bound.env; calls = call ∷ here.task.calls };
       store = record here.store { cells = bound.cells };
     }
-
--- the value of the call that was opened last goes to its target, if one is open
-abbrev pub given_back : Option (ℕ × Target) → ℤ → Held → Held
-given_back None number held = held
-given_back (Some call) number held = delivered call.1 number held
-
-abbrev pub cells_given : Option (ℕ × Target) → ℤ → List ℤ → List ℤ
-cells_given None number cells = cells
-cells_given (Some call) number cells = value_cells call.1 number cells

@@ -1,6 +1,7 @@
 -- The moves of a control, of which its steps are made.
 use Rattle.std.specs.Prelude.{ℕ, ◌+◌, ◌-◌, ℤ, List, [], ◌∷◌, ◌++◌, drop, length, min, take, Option, Some, None}
 use Rattle.c_model.specs.declared.entry.Entry.{Entry}
+use Rattle.c_model.specs.Calls.{value_cells}
 use Rattle.c_steps.specs.declared.frame.Frame.{Frame}
 use Rattle.c_steps.specs.declared.frame.Frame.TheVariants as frame
 use Rattle.c_model.specs.declared.point.Target.{Target}
@@ -69,6 +70,15 @@ abbrev pub delivered : Target → ℤ → Held → Held
 delivered target.Nowhere number held = held
 delivered (target.Cell cell) number held = held
 delivered target.Return number held = then_item (item.Return number) held
+
+-- the value of the call that was opened last goes to its target, if one is open
+abbrev pub given_back : Option (ℕ × Target) → ℤ → Held → Held
+given_back None number held = held
+given_back (Some call) number held = delivered call.1 number held
+
+abbrev pub cells_given : Option (ℕ × Target) → ℤ → List ℤ → List ℤ
+cells_given None number cells = cells
+cells_given (Some call) number cells = value_cells call.1 number cells
 
 -- so many names of the function stay in scope
 abbrev pub cut : ℕ → Held → Held

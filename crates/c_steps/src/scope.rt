@@ -9,7 +9,7 @@ ghost use Rattle.c_model.specs.Cells.{cell_at, entry_at_slot, entry_of, first_na
 ghost use Rattle.c_model.specs.Parts.{parts};
 ghost use Rattle.c_model.specs.Value.{all_values, binary_value, cell_of, element, getter_number, unary_value, value};
 ghost use Rattle.c_steps.specs.Arguments.{without_values};
-ghost use Rattle.c_steps.specs.Entering.{HaveNumbers, IsNextArgument};
+ghost use Rattle.c_steps.specs.Entering.{HaveNoTrap, IsNextArgument};
 ghost use Rattle.c_steps.specs.Nodes.{IsPart, part_at};
 ghost use Rattle.c_steps.specs.Rooming.{AreEntries, IsEntry};
 ghost use Rattle.c_steps.specs.Scopes.{HasNumbers, operand_at, scope_of};
@@ -104,7 +104,7 @@ impl<'a> Scope<'a> {
     pub(crate) fn argument(&self, call: Option<u32>, place: u32) -> Argument
         requires call { IsPart self.now.tree.now.trees call }
         requires view { HasNumbers self.now.view }
-        requires values { HaveNumbers (scope_of self.now) (part_at self.now.tree.now.trees call) place }
+        requires values { HaveNoTrap (scope_of self.now) (part_at self.now.tree.now.trees call) place }
         ensures { IsNextArgument (scope_of self.now) (part_at self.now.tree.now.trees call) place result }
     {
         match next_part(self.tree, call, place) {

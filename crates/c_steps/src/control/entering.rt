@@ -8,7 +8,7 @@ ghost use Rattle.c_model.specs.Parts.{parts};
 ghost use Rattle.c_model.specs.Program.{parameters_of};
 ghost use Rattle.c_model.specs.Value.{all_values};
 ghost use Rattle.c_steps.specs.Arguments.{values_in, without_values};
-ghost use Rattle.c_steps.specs.Entering.{BindsParameter, HasMore, HaveNumbers, IsCaller, IsNextArgument, arguments_from, bound_at, caller_scope, moment_entered};
+ghost use Rattle.c_steps.specs.Entering.{BindsParameter, HasMore, HaveNoTrap, IsCaller, IsNextArgument, arguments_from, bound_at, caller_scope, moment_entered};
 ghost use Rattle.c_steps.specs.Held.{env_at, here_at, moment_at, scope_in};
 ghost use Rattle.c_steps.specs.Moves.{bound_if, env_with};
 ghost use Rattle.c_steps.specs.Nodes.{IsPart, part_at};
@@ -53,7 +53,7 @@ impl Control {
         requires declared { IfSome declared IsEntry }
         requires view { HasNumbers view }
         requires step_names { self.old.step_names ≡ step_names code.now }
-        requires values { HaveNumbers (scope_in code.now view self.old cells.old) (part_at code.now.trees call) 0 }
+        requires values { HaveNoTrap (scope_in code.now view self.old cells.old) (part_at code.now.trees call) 0 }
         requires few { open_calls self.old.frames < CALL_LIMIT }
         requires room { length cells.old.cells + length (parameters_of (part_at code.now.trees function)) ≤ CELL_LIMIT }
         ensures step { moment_at code.now self.new cells.new ≡ moment_entered (here_at code.now view self.old cells.old) (part_at code.now.trees function)
@@ -114,7 +114,7 @@ impl Control {
         requires view { HasNumbers view }
         requires caller { IsCaller caller self.old cells.old }
         requires base { self.old.base ≤ length self.old.names }
-        requires values { HaveNumbers (caller_scope code.now view caller self.old cells.old) (part_at code.now.trees call) 0 }
+        requires values { HaveNoTrap (caller_scope code.now view caller self.old cells.old) (part_at code.now.trees call) 0 }
         requires names { length (parts (part_at code.now.trees parameters)) ≤ self.old.names_now }
         requires room { length cells.old.cells + length (parts (part_at code.now.trees parameters)) ≤ CELL_LIMIT }
         ensures bound { bound_at code.now self.new cells.new ≡ with_parameters code.now (bound_at code.now self.old cells.old) (parts (part_at code.now.trees parameters))
@@ -144,7 +144,7 @@ impl Control {
         requires parameter { parameter < length code.now.trees }
         requires view { HasNumbers view }
         requires caller { IsCaller caller self.old cells.old }
-        requires values { HaveNumbers (caller_scope code.now view caller self.old cells.old) (part_at code.now.trees call) place }
+        requires values { HaveNoTrap (caller_scope code.now view caller self.old cells.old) (part_at code.now.trees call) place }
         requires base { self.old.base ≤ length self.old.names }
         requires names { 0 < self.old.names_now }
         requires room { length cells.old.cells < CELL_LIMIT }
@@ -175,7 +175,7 @@ impl Control {
         requires call { IsPart code.now.trees call }
         requires view { HasNumbers view }
         requires caller { IsCaller caller self.now cells.now }
-        requires values { HaveNumbers (caller_scope code.now view caller self.now cells.now) (part_at code.now.trees call) place }
+        requires values { HaveNoTrap (caller_scope code.now view caller self.now cells.now) (part_at code.now.trees call) place }
         ensures { IsNextArgument (caller_scope code.now view caller self.now cells.now) (part_at code.now.trees call) place result }
     {
         self.caller_scope(code, cells, view, caller)

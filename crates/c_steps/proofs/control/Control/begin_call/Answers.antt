@@ -6,7 +6,7 @@ use Rattle.c_steps.specs.Held.{env_at, scope_in}
 use Rattle.c_steps.specs.Moves.{env_with}
 use Rattle.c_steps.specs.Nodes.{part_at}
 use Rattle.c_steps.specs.Rooming.{open_calls}
-use Rattle.c_steps.proofs.BeginCall.{begins_calls, begins_cells, begins_entered, have_numbers}
+use Rattle.c_steps.proofs.BeginCall.{begins_calls, begins_cells, begins_entered, have_no_trap}
 use Rattle.c_steps.proofs.control.Control.begin_call.Goals as goal
 
 pub returns-then-not-has_room-clause-step : goal.returns-then-not-has_room-clause-step
@@ -26,7 +26,7 @@ returns-then-self-ge-CALL_LIMIT-clause-step c =
 
 pub enter-requires-clause-values : goal.enter-requires-clause-values
 enter-requires-clause-values c =
-    have_numbers (scope_in c.args.code.now c.args.view c.args.self.now c.args.cells.now) (part_at c.args.code.now.trees c.args.call) (search rules)
+    have_no_trap (scope_in c.args.code.now c.args.view c.args.self.now c.args.cells.now) (part_at c.args.code.now.trees c.args.call) (search rules)
 
 pub returns-else-self-ge-CALL_LIMIT-clause-step : goal.returns-else-self-ge-CALL_LIMIT-clause-step
 returns-else-self-ge-CALL_LIMIT-clause-step c =
