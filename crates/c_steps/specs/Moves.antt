@@ -5,6 +5,8 @@ use Rattle.c_steps.specs.declared.frame.Frame.{Frame}
 use Rattle.c_steps.specs.declared.frame.Frame.TheVariants as frame
 use Rattle.c_model.specs.declared.point.Target.{Target}
 use Rattle.c_model.specs.declared.point.Target.TheVariants as target
+use Rattle.c_model.specs.declared.point.WorkKind.{WorkKind}
+use Rattle.c_steps.specs.declared.listed.ListedPlace.{ListedPlace}
 use Rattle.c_steps.specs.declared.item.Item.{Item}
 use Rattle.c_steps.specs.declared.item.Item.TheVariants as item
 use Rattle.c_steps.specs.Held.{Held}
@@ -78,3 +80,7 @@ then_if (Some it) held = then_item it held
 abbrev pub env_with : Option Entry → List Entry → List Entry
 env_with None env = env
 env_with (Some entry) env = env ++ entry ∷ []
+
+-- the reductions of a construct and the end of its work stand next
+abbrev pub ending : ListedPlace → ℕ → WorkKind → ℕ → ℕ → Held → Held
+ending from node kind count names held = pushed (frame.Combining node from names) (then_item (item.EndWork node kind count names) held)

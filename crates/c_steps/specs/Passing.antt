@@ -1,5 +1,5 @@
 -- What an event is passed with.
-use Rattle.std.specs.Prelude.{ℕ, ◌≡◌, ◌<◌, List, [], ◌∷◌, length}
+use Rattle.std.specs.Prelude.{ℕ, ◌+◌, ◌≡◌, ◌<◌, List, [], ◌∷◌, ◌++◌, length}
 use Rattle.c_syntax.specs.Numbered.{TreeView, tree_at}
 use Rattle.c_model.specs.declared.point.Work.{Work}
 use Rattle.c_model.specs.declared.point.Work.TheVariants as work
@@ -7,8 +7,10 @@ use Rattle.c_model.specs.declared.point.Point.{Point}
 use Rattle.c_model.specs.declared.point.Point.TheVariants.{WorkBegin}
 use Rattle.c_model.specs.Going.{tree_at_event}
 use Rattle.c_model.specs.Occurring.{IsOfItem}
-use Rattle.c_model.specs.Task.{Item}
+use Rattle.c_model.specs.Task.{Item, Task}
 use Rattle.c_model.specs.Task.Item.{Forked, EndMasked, Acquire, Release}
+use Rattle.c_steps.specs.Held.{Held, task_at}
+use Rattle.c_steps.specs.Items.{begun, todo_at}
 use Rattle.c_steps.specs.Ready.{AreLoopNumbers}
 
 -- the values of a loop's iterations fit cells
@@ -38,3 +40,14 @@ pub record IsEventOf (program : TreeView) (point : Point) (node : ℕ) (item : I
 unfoldable pub IsEventOfNext : TreeView → Point → ℕ → List Item → Type 0
 IsEventOfNext program point node [] = ⊥
 IsEventOfNext program point node (item ∷ items) = IsEventOf program point node item
+
+-- the task with these items in place of the one that stands next
+abbrev pub replaced : TreeView → List Item → Held → Task
+replaced program items held = record (task_at program held) { todo = items ++ todo_at program (begun held.frames) }
+
+-- what else of a control a question or an event leaves
+pub record IsAfterEvent (old new : Held) : Type 0 where
+  pub spare : new.spare ≡ old.spare
+  pub passes : new.passes + 1 ≡ old.passes
+  pub step_names : new.step_names ≡ old.step_names
+  pub room : new.room ≡ old.room

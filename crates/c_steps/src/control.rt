@@ -3,13 +3,16 @@
 ghost use Rattle.std.specs.Prelude.{◌≡◌, ◌<◌, ◌-◌};
 ghost use Rattle.c_steps.specs.Items.{begun};
 ghost use Rattle.c_steps.specs.Ready.{CanBegin, IsPlain};
+ghost use Rattle.c_model.specs.Calls.{value_cells};
 ghost use Rattle.std.specs.Option.{option_map};
 ghost use Rattle.c_model.specs.declared.limits.TheConstants.{CALL_LIMIT};
 ghost use Rattle.c_steps.specs.Rooming.{IsEntry, open_calls};
-ghost use Rattle.c_steps.specs.Moves.{bound, closed, cut, last_call, opened, passing, pushed, stepping, then_if, then_item};
+ghost use Rattle.c_steps.specs.Moves.{bound, closed, cut, delivered, last_call, opened, passing, pushed, stepping, then_if, then_item};
 
+mod giving;
 mod settling;
 
+use crate::cells::Cells;
 use crate::frame::Frame;
 use crate::item::Item;
 use crate::names::Names;
@@ -209,5 +212,18 @@ impl Control {
             }
         }
         None
+    }
+
+    /// The value of a call goes to its target.
+    fn deliver(&mut self, cells: &mut Cells, to: Target, number: i32)
+        requires { 0 < self.old.frames_now }
+        ensures held { self.new ≡ delivered to number self.old }
+        ensures cells { cells.new ≡ record cells.old { cells = value_cells to number cells.old.cells } }
+    {
+        match to {
+            Target::Nowhere => {}
+            Target::Cell(cell) => cells.set(cell as usize, number),
+            Target::Return => self.then(Item::Return(number)),
+        }
     }
 }
