@@ -1,5 +1,5 @@
 -- What stands next, where frames that are over go, and statements that the task goes past.
-use Rattle.std.proofs.Common.{◌≡◌, ℕ, true, false, List, [], ◌∷◌, Option, Some, None, slice_get, drop, refl, sym, ap, ◌∙◌, subst, rules}
+use Rattle.std.proofs.Common.{◌≡◌, ℕ, true, false, List, [], ◌∷◌, Option, Some, None, slice_get, slice_set, ◌<◌, length, drop, take, refl, arith, sym, ap, ◌∙◌, subst, rules}
 use Rattle.std.proofs.lemmas.List.Elements.{All-cons, All-head, All-tail}
 use Rattle.c_syntax.specs.Numbered.{TreeView}
 use Rattle.c_model.specs.declared.entry.Entry.{Entry}
@@ -10,7 +10,9 @@ use Rattle.c_steps.specs.declared.item.Item.{Item}
 use Rattle.c_steps.specs.declared.frame.Frame.{Frame}
 use Rattle.c_steps.specs.Held.{Held, task_at}
 use Rattle.c_steps.specs.Items.{begun, calls_at, item_at, todo_at}
-use Rattle.c_steps.specs.Looking.{IsInPlaceOf, IsOver}
+use Rattle.c_steps.specs.Looking.{IsInPlaceOf, IsOver, ShowsItem, weights}
+use Rattle.c_steps.specs.Rooming.{open_calls}
+use Rattle.c_steps.proofs.Frames.{calls_counted}
 use Rattle.c_steps.specs.Ready.{AreFrames, IsFrame, IsFront}
 
 pub record SettlesTo (program : TreeView) (view : View) (old new : List Frame) : Type 0 where
@@ -68,6 +70,67 @@ module _ (program : TreeView) (view : View) (old : List Frame) where
   pub settled_none : (frames : List Frame) → SettlesTo program view old frames → todo_at program frames ≡ [] → todo_at program frames ≡ items_from_next view (todo_at program old)
   settled_none frames so none = none ∙ sym (ap (items_from_next view) none ∙ ends view) ∙ so.todo
 
+-- what is left after one look
+pub record IsLookedThrough (program : TreeView) (view : View) (old before after : List Frame) : Type 0 where
+  pub count : open_calls after ≡ open_calls before
+  pub so : SettlesTo program view old after
+  pub less : weights program after < weights program before
+
+same_count : (program : TreeView) (frames others : List Frame) → ((names : List Entry) → calls_at program names others ≡ calls_at program names frames) → open_calls others ≡ open_calls frames
+same_count program frames others same = sym (calls_counted program [] others) ∙ ap length (same []) ∙ calls_counted program [] frames
+
+module _ (program : TreeView) (view : View) (old frames : List Frame) (it : Frame) (so : SettlesTo program view old frames) (top : Some it ≡ slice_get frames 0) where
+  abbrev rest : List Frame
+  rest = drop 1 frames
+
+  whole : frames ≡ it ∷ rest
+  whole = top_frame frames it top
+
+  so_whole : SettlesTo program view old (it ∷ rest)
+  so_whole = subst (SettlesTo program view old) whole so
+
+  pub over_top : IsOver program it → IsLookedThrough program view old frames rest
+  unfolding weights
+  over_top over = subst (λ before. IsLookedThrough program view old before rest) (sym whole) (record {
+    count = same_count program (it ∷ rest) rest (λ names. over.calls names rest);
+    so = settles_over program view old it rest so_whole over;
+    less = let less = over.less in omega arith;
+  })
+
+  pub instead_top : (other : Frame) → IsInPlaceOf program it other → IsLookedThrough program view old frames (slice_set frames 0 other)
+  unfolding weights
+  instead_top other same = subst (λ before. IsLookedThrough program view old before (slice_set before 0 other)) (sym whole) (record {
+    count = same_count program (it ∷ rest) (other ∷ rest) (λ names. same.calls names rest);
+    so = settles_instead program view old it other rest so_whole same;
+    less = let less = same.less in omega arith;
+  })
+
+  pub front_top : (found : Item) → ShowsItem program it found → IsFront program frames found
+  front_top found shows = subst (λ at. IsFront program at found) (sym whole) (shows.front rest (All-tail (IsFrame program) it rest so_whole.are_frames))
+
+  pub past_top : (found : Item) → ShowsItem program it found → is_passed_over (item_at program found) view ≡ true → IsLookedThrough program view old frames (begun frames)
+  past_top found shows past = subst (λ before. IsLookedThrough program view old before (begun before)) (sym whole) (
+    let front = shows.front rest (All-tail (IsFrame program) it rest so_whole.are_frames) in
+    record {
+      count = same_count program (it ∷ rest) (begun (it ∷ rest)) front.calls;
+      so = settles_past program view old (it ∷ rest) found so_whole front past;
+      less = shows.less rest;
+    })
+
+  pub nothing_top : ((frames : List Frame) → todo_at program (it ∷ frames) ≡ []) → todo_at program frames ≡ []
+  nothing_top none = subst (λ at. todo_at program at ≡ []) (sym whole) (none rest)
+
+pub none_top : (program : TreeView) (frames : List Frame) → None ≡ slice_get frames 0 → todo_at program frames ≡ []
+unfolding todo_at
+none_top program [] top = refl
+none_top program (first ∷ frames) top = absurd (search rules)
+
 -- the task then
-pub settled_task_at : (program : TreeView) (view : View) (old new : Held) → new ≡ record old { frames = new.frames } → SettlesTo program view old.frames new.frames → todo_at program new.frames ≡ items_from_next view (todo_at program old.frames) → task_at program new ≡ settled_task view (task_at program old)
+settled_task_at : (program : TreeView) (view : View) (old new : Held) → new ≡ record old { frames = new.frames } → SettlesTo program view old.frames new.frames → todo_at program new.frames ≡ items_from_next view (todo_at program old.frames) → task_at program new ≡ settled_task view (task_at program old)
 settled_task_at program view old new rest so todo = rw (rest, todo, so.calls (take old.base old.names)) refl
+
+pub settled_at_front : (program : TreeView) (view : View) (old new : Held) (found : Item) → new ≡ record old { frames = new.frames } → SettlesTo program view old.frames new.frames → IsFront program new.frames found → is_passed_over (item_at program found) view ≡ false → task_at program new ≡ settled_task view (task_at program old)
+settled_at_front program view old new found rest so front stays = settled_task_at program view old new rest so (settled_front program view old.frames new.frames found so front stays)
+
+pub settled_at_end : (program : TreeView) (view : View) (old new : Held) → new ≡ record old { frames = new.frames } → SettlesTo program view old.frames new.frames → todo_at program new.frames ≡ [] → task_at program new ≡ settled_task view (task_at program old)
+settled_at_end program view old new rest so none = settled_task_at program view old new rest so (settled_none program view old.frames new.frames so none)

@@ -1,5 +1,5 @@
 -- The moves of a control, of which its steps are made.
-use Rattle.std.specs.Prelude.{ℕ, ◌+◌, ◌-◌, ℤ, List, [], ◌∷◌, ◌++◌, length, min, take, Option, Some, None}
+use Rattle.std.specs.Prelude.{ℕ, ◌+◌, ◌-◌, ℤ, List, [], ◌∷◌, ◌++◌, drop, length, min, take, Option, Some, None}
 use Rattle.c_model.specs.declared.entry.Entry.{Entry}
 use Rattle.c_steps.specs.declared.frame.Frame.{Frame}
 use Rattle.c_steps.specs.declared.frame.Frame.TheVariants as frame
@@ -52,6 +52,11 @@ last_call (frame.Parts block place at names ∷ frames) = last_call frames
 last_call (frame.Combining construct from names ∷ frames) = last_call frames
 last_call (frame.Combines operator name construct from names ∷ frames) = last_call frames
 last_call (frame.Caller base to ∷ frames) = Some (base, to)
+
+-- the frame on top goes, which is a call, and the names of the function that called begin there
+abbrev pub ended : ℕ → Held → Held
+ended base held =
+    record held { frames = drop 1 held.frames; names = take held.base held.names; base = min base (length (take held.base held.names)) }
 
 abbrev pub closed_to : Option (ℕ × Target) → Held → Held
 closed_to None held = record held { frames = [] }

@@ -30,4 +30,4 @@ pub record HasRoomFor (free_frames free_names calls : ℕ) (held : Held) : Type 
   pub frames : held.frames_now + 3 * held.spare + 3 * held.passes ≤ free_frames
   pub names : held.names_now + held.step_names * held.spare ≤ free_names
   pub room : held.room ≤ length held.names + free_names
-  pub open : calls ≡ open_calls held.frames
+  pub counted : calls ≡ open_calls held.frames

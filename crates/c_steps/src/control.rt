@@ -1,18 +1,16 @@
 //! What is left of a task's code.
 
-ghost use Rattle.std.specs.Prelude.{◌≡◌, ◌<◌, ◌-◌};
+ghost use Rattle.std.specs.Prelude.{◌≡◌, ◌<◌, ◌+◌, ◌-◌, drop, slice_set};
 ghost use Rattle.c_steps.specs.Items.{begun};
 ghost use Rattle.c_steps.specs.Ready.{CanBegin, IsPlain};
-ghost use Rattle.c_model.specs.Calls.{value_cells};
 ghost use Rattle.std.specs.Option.{option_map};
 ghost use Rattle.c_model.specs.declared.limits.TheConstants.{CALL_LIMIT};
 ghost use Rattle.c_steps.specs.Rooming.{IsEntry, open_calls};
-ghost use Rattle.c_steps.specs.Moves.{bound, closed, cut, delivered, last_call, opened, passing, pushed, stepping, then_if, then_item};
+ghost use Rattle.c_steps.specs.Moves.{bound, closed, cut, ended, last_call, opened, passing, pushed, stepping, then_if, then_item};
 
 mod giving;
 mod settling;
 
-use crate::cells::Cells;
 use crate::frame::Frame;
 use crate::item::Item;
 use crate::names::Names;
@@ -80,14 +78,13 @@ impl Model for Control {
 
 impl Control {
     /// The item that stands next begins.
+    #[tactic(auto, using(crate::proofs::Frames::plain_top, crate::proofs::Frames::replaced_top))]
     fn begin(&mut self)
         requires { CanBegin self.old.frames }
         ensures { self.new ≡ record self.old { frames = begun self.old.frames } }
     {
         match self.stack.top() {
-            Some(Frame::One(_)) => {
-                self.stack.pop();
-            }
+            Some(Frame::One(_)) => self.drop_top(),
             Some(
                 Frame::Parts {
                     block,
@@ -95,7 +92,7 @@ impl Control {
                     at,
                     names,
                 },
-            ) => self.stack.replace(Frame::Parts {
+            ) => self.replace_top(Frame::Parts {
                 block,
                 place,
                 at: at + 1,
@@ -106,7 +103,7 @@ impl Control {
                 from,
                 names,
                 ..
-            }) => self.stack.replace(Frame::Combining {
+            }) => self.replace_top(Frame::Combining {
                 construct,
                 from,
                 names,
@@ -199,31 +196,47 @@ impl Control {
     }
 
     /// The call that was opened last is closed, if one is open. Its value goes to what is given.
+    #[tactic(auto, using(crate::proofs::Frames::plain_top, crate::proofs::Frames::caller_top, crate::proofs::Frames::no_top))]
     fn close(&mut self) -> Option<Target>
         ensures closed { self.new ≡ closed self.old }
         ensures to { result ≡ option_map (λ call. call.1) (last_call self.old.frames) }
     {
-        while let Some(frame) = self.stack.pop() {
-            if let Frame::Caller { base, to } = frame {
-                self.open_calls -= 1;
-                self.names.truncate(self.base);
-                self.base = base.min(self.names.len());
-                return Some(to);
+        while let Some(frame) = self.stack.top() {
+            match frame {
+                Frame::Caller { base, to } => {
+                    self.end_call(base);
+                    return Some(to);
+                }
+                _ => self.drop_top(),
             }
         }
         None
     }
 
-    /// The value of a call goes to its target.
-    fn deliver(&mut self, cells: &mut Cells, to: Target, number: i32)
-        requires { 0 < self.old.frames_now }
-        ensures held { self.new ≡ delivered to number self.old }
-        ensures cells { cells.new ≡ record cells.old { cells = value_cells to number cells.old.cells } }
+    /// The frame on top goes, which is no call.
+    fn drop_top(&mut self)
+        requires { open_calls (drop 1 self.old.frames) ≡ open_calls self.old.frames }
+        ensures { self.new ≡ record self.old { frames = drop 1 self.old.frames } }
     {
-        match to {
-            Target::Nowhere => {}
-            Target::Cell(cell) => cells.set(cell as usize, number),
-            Target::Return => self.then(Item::Return(number)),
-        }
+        self.stack.pop();
+    }
+
+    /// Another frame stands in place of the one on top. Neither is a call.
+    fn replace_top(&mut self, frame: Frame)
+        requires { open_calls (slice_set self.old.frames 0 frame) ≡ open_calls self.old.frames }
+        ensures { self.new ≡ record self.old { frames = slice_set self.old.frames 0 frame } }
+    {
+        self.stack.replace(frame);
+    }
+
+    /// The frame on top goes, which is a call. The names of the function that called begin there.
+    fn end_call(&mut self, base: usize)
+        requires { open_calls self.old.frames ≡ open_calls (drop 1 self.old.frames) + 1 }
+        ensures { self.new ≡ ended base self.old }
+    {
+        self.stack.pop();
+        self.open_calls -= 1;
+        self.names.truncate(self.base);
+        self.base = base.min(self.names.len());
     }
 }

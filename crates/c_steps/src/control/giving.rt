@@ -8,7 +8,8 @@ ghost use Rattle.c_model.specs.Going as going;
 ghost use Rattle.c_steps.specs.Held.{moment_at, task_at};
 ghost use Rattle.c_steps.specs.Items.{loop_at, with_file};
 ghost use Rattle.c_steps.specs.Made.{IsMadeFor};
-ghost use Rattle.c_steps.specs.Moves.{ending};
+ghost use Rattle.c_model.specs.Calls.{value_cells};
+ghost use Rattle.c_steps.specs.Moves.{delivered, ending};
 ghost use Rattle.c_steps.specs.Passing.{replaced};
 ghost use Rattle.c_steps.specs.Ready.{AreFrames, IsAfterStep, IsLoop, IsStepping};
 
@@ -149,6 +150,19 @@ impl Control {
             });
         } else {
             self.deliver(cells, to, 0);
+        }
+    }
+
+    /// The value of a call goes to its target.
+    fn deliver(&mut self, cells: &mut Cells, to: Target, number: i32)
+        requires { 0 < self.old.frames_now }
+        ensures held { self.new ≡ delivered to number self.old }
+        ensures cells { cells.new ≡ record cells.old { cells = value_cells to number cells.old.cells } }
+    {
+        match to {
+            Target::Nowhere => {}
+            Target::Cell(cell) => cells.set(cell as usize, number),
+            Target::Return => self.then(Item::Return(number)),
         }
     }
 }

@@ -15,6 +15,7 @@ use c_syntax::{Directive, NodeKind};
 
 impl Control {
     /// What stands next, when what the task goes past is left out. `None` where nothing is left in the function.
+    #[tactic(auto, using(crate::proofs::Settling::over_top, crate::proofs::Settling::instead_top, crate::proofs::Settling::past_top, crate::proofs::Settling::front_top, crate::proofs::Settling::nothing_top, crate::proofs::Settling::none_top, crate::proofs::Settling::settled_at_front, crate::proofs::Settling::settled_at_end, crate::proofs::Settling::settles_none))]
     pub(crate) fn settle(&mut self, code: &Code, view: View) -> Option<Item>
         requires { AreFrames code.now self.old.frames }
         ensures task { task_at code.now self.new ≡ settled_task view (task_at code.now self.old) }
@@ -26,10 +27,8 @@ impl Control {
         while let Some(frame) = self.stack.top() {
             match look_at(code, frame) {
                 Look::Nothing => return None,
-                Look::Over => {
-                    self.stack.pop();
-                }
-                Look::Instead(other) => self.stack.replace(other),
+                Look::Over => self.drop_top(),
+                Look::Instead(other) => self.replace_top(other),
                 Look::Found(item) => {
                     if !is_passed_over(code, item, view) {
                         return Some(item);
