@@ -18,7 +18,7 @@ stepping held = record held { frames = begun held.frames; spare = held.spare - 1
 
 -- an event is passed: the item that stands next has begun, and there is room for what stands in its place
 abbrev pub passing : Held → Held
-passing held = record held { frames = begun held.frames; passes = held.passes - 1; frames_now = 3; names_now = 0 }
+passing held = record held { frames = begun held.frames; passes = held.passes - 1; frames_now = 3; names_now = 1 }
 
 -- a frame more, on top of the others
 abbrev pub pushed : Frame → Held → Held

@@ -133,7 +133,7 @@ impl Control {
         self.begin();
         self.passes -= 1;
         self.frames_now = 3;
-        self.names_now = 0;
+        self.names_now = 1;
     }
 
     /// A frame more, which is no call.
