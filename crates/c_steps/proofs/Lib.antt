@@ -1,11 +1,14 @@
 pub mod FileNames
 pub mod FirstFunctions
 mod Frames
+pub mod Giving
 pub mod InnerNames
 pub mod ListedNames
 mod Looking
+pub mod Passing
 mod PrintingNumbers
 mod PrintingText
+pub mod Replacing
 pub mod Rests
 mod Settling
 mod Values

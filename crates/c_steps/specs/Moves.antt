@@ -5,6 +5,8 @@ use Rattle.c_steps.specs.declared.frame.Frame.{Frame}
 use Rattle.c_steps.specs.declared.frame.Frame.TheVariants as frame
 use Rattle.c_model.specs.declared.point.Target.{Target}
 use Rattle.c_model.specs.declared.point.Target.TheVariants as target
+use Rattle.c_model.specs.declared.point.MutexKind.{MutexKind}
+use Rattle.c_model.specs.declared.point.MutexKind.TheVariants as mutex
 use Rattle.c_model.specs.declared.point.WorkKind.{WorkKind}
 use Rattle.c_steps.specs.declared.listed.ListedPlace.{ListedPlace}
 use Rattle.c_steps.specs.declared.item.Item.{Item}
@@ -89,3 +91,10 @@ env_with (Some entry) env = env ++ entry ∷ []
 -- the reductions of a construct and the end of its work stand next
 abbrev pub ending : ListedPlace → ℕ → WorkKind → ℕ → ℕ → Held → Held
 ending from node kind count names held = pushed (frame.Combining node from names) (then_item (item.EndWork node kind count names) held)
+
+-- a lock or critical is asked for, and this part of the program stands next behind it, where it is a critical
+abbrev pub asking : MutexKind → ℕ → Option ℕ → ℕ → Target → Held → Held
+asking mutex.Lock node part id to held = then_item (item.Acquire node mutex.Lock id) held
+asking mutex.TestLock node part id to held = then_item (item.TestLock node id to) held
+asking mutex.Critical node part id to held =
+    then_item (item.Acquire node mutex.Critical id) (then_item (item.Start part) (then_item (item.Release node id) held))

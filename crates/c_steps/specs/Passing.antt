@@ -1,5 +1,5 @@
 -- What an event is passed with.
-use Rattle.std.specs.Prelude.{ℕ, ◌+◌, ◌≡◌, ◌<◌, List, [], ◌∷◌, ◌++◌, length}
+use Rattle.std.specs.Prelude.{ℕ, ◌+◌, ◌≡◌, ◌<◌, List, [], ◌∷◌, ◌++◌, length, take, Option}
 use Rattle.c_syntax.specs.Numbered.{TreeView, tree_at}
 use Rattle.c_model.specs.declared.point.Work.{Work}
 use Rattle.c_model.specs.declared.point.Work.TheVariants as work
@@ -10,7 +10,10 @@ use Rattle.c_model.specs.Occurring.{IsOfItem}
 use Rattle.c_model.specs.Task.{Item, Task}
 use Rattle.c_model.specs.Task.Item.{Forked, EndMasked, Acquire, Release}
 use Rattle.c_steps.specs.Held.{Held, task_at}
-use Rattle.c_steps.specs.Items.{begun, todo_at}
+use Rattle.c_model.specs.declared.entry.Entry.{Entry}
+use Rattle.c_steps.specs.declared.item.Item as of_item
+use Rattle.c_steps.specs.declared.item.Item.TheVariants as item
+use Rattle.c_steps.specs.Items.{begun, item_at, items_if, todo_at, with_file}
 use Rattle.c_steps.specs.Ready.{AreLoopNumbers}
 
 -- the values of a loop's iterations fit cells
@@ -51,3 +54,17 @@ pub record IsAfterEvent (old new : Held) : Type 0 where
   pub passes : new.passes + 1 ≡ old.passes
   pub step_names : new.step_names ≡ old.step_names
   pub room : new.room ≡ old.room
+
+-- the names behind the end of a worksharing construct: its own end with its work
+abbrev pub names_behind_work : TreeView → of_item.Item → List Entry → List Entry
+names_behind_work program (item.EndWork node kind count names) env = take (with_file program names) env
+names_behind_work program other env = env
+
+-- the names when a lock or critical is asked for: the variable of a declarator that tests a lock comes into scope
+abbrev pub names_behind_asking : of_item.Item → List Entry → List Entry
+names_behind_asking (item.Initialise node entry) env = env ++ entry ∷ []
+names_behind_asking other env = env
+
+-- what stands next of shared work: at most one item, and then another one
+abbrev pub stages_at : TreeView → Option of_item.Item × of_item.Item → List Item
+stages_at program stages = items_if program stages.0 ++ item_at program stages.1 ∷ []
