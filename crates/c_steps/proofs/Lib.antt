@@ -11,6 +11,7 @@ mod PrintingText
 pub mod Replacing
 pub mod Rests
 mod Settling
+mod Stepping
 mod Values
 mod ValuesAll
 mod ValuesNamed

@@ -16,11 +16,11 @@ use Rattle.c_steps.specs.Items.{begun, calls_at, declarators_from, item_at, part
 use Rattle.c_steps.specs.Ready.{IsFrame, IsItem}
 use Rattle.c_steps.specs.Rests.{parts_from}
 use Rattle.c_syntax.specs.declared.node.ReductionOp.{ReductionOp}
-use Rattle.c_model.specs.Clauses.{Listed}
-use Rattle.c_model.specs.Clauses.Copying.{Reduced}
 use Rattle.c_model.specs.Copies.{combining_all, combining_of}
 use Rattle.c_steps.specs.declared.listed.ListedPlace.{ListedPlace}
-use Rattle.c_steps.specs.ListedNames.{listed_from}
+use Rattle.c_steps.specs.declared.listed.Copying.TheVariants as copying
+use Rattle.c_steps.specs.declared.listed.FoundName.{FoundName}
+use Rattle.c_steps.specs.ListedNames.{copying_of, listed_from, listed_of}
 use Rattle.c_steps.specs.Looking.{IsInPlaceOf, IsOver, ShowsItem, weight, weights}
 use Rattle.std.proofs.lemmas.List.Elements.{All-cons}
 
@@ -94,23 +94,23 @@ module _ (program : TreeView) (construct : ℕ) (names : ℕ) where
   reductions_over from none = record { todo = λ frames. rw none refl; calls = λ names frames. refl; less = omega arith }
 
   -- a variable that is reduced
-  pub reduction_next : (from next : ListedPlace) (operator : ReductionOp) (name : ℕ) → construct < length program.trees → listed_from (tree_at program.trees construct) from ≡ record { name = name; copying = Reduced operator } ∷ listed_from (tree_at program.trees construct) next → IsInPlaceOf program (frame.Combining construct from names) (frame.Combines operator name construct next names)
+  pub reduction_next : (from : ListedPlace) (found : FoundName) (operator : ReductionOp) → construct < length program.trees → found.listed.copying ≡ copying.Reduced operator → listed_from (tree_at program.trees construct) from ≡ listed_of found.listed ∷ listed_from (tree_at program.trees construct) found.next → IsInPlaceOf program (frame.Combining construct from names) (frame.Combines operator found.listed.name construct found.next names)
   unfolding todo_at calls_at weight combining_all
-  reduction_next from next operator name within found = record {
+  reduction_next from found operator within reduced is = record {
     is_frame = within;
-    todo = λ frames. rw found refl;
+    todo = λ frames. rw (is, reduced) refl;
     calls = λ names frames. refl;
-    less = rw found (omega arith);
+    less = rw is (omega arith);
   }
 
   -- a variable that isn't
-  pub variable_next : (from next : ListedPlace) (listed : Listed) → construct < length program.trees → listed_from (tree_at program.trees construct) from ≡ listed ∷ listed_from (tree_at program.trees construct) next → ((names : ℕ) → combining_of names listed listed.copying ≡ []) → IsInPlaceOf program (frame.Combining construct from names) (frame.Combining construct next names)
+  pub variable_next : (from : ListedPlace) (found : FoundName) → construct < length program.trees → (combining_of (with_file program names) (listed_of found.listed) (copying_of found.listed.copying) ≡ []) → listed_from (tree_at program.trees construct) from ≡ listed_of found.listed ∷ listed_from (tree_at program.trees construct) found.next → IsInPlaceOf program (frame.Combining construct from names) (frame.Combining construct found.next names)
   unfolding todo_at calls_at weight combining_all
-  variable_next from next listed within found plain = record {
+  variable_next from found within plain is = record {
     is_frame = within;
-    todo = λ frames. rw (found, plain (with_file program names)) refl;
+    todo = λ frames. rw (is, plain) refl;
     calls = λ names frames. refl;
-    less = rw found (omega arith);
+    less = rw is (omega arith);
   }
 
   -- a reduction

@@ -1,5 +1,5 @@
 -- What a control stands for behind an event.
-use Rattle.std.proofs.Common.{◌≡◌, ℕ, ◌+◌, ◌≤◌, Bool, List, [], ◌∷◌, ◌++◌, length, take, drop, Option, Some, None, refl, sym, ap, ◌∙◌, append_assoc, length-append, arith, rules}
+use Rattle.std.proofs.Common.{◌≡◌, ℕ, ◌+◌, ◌≤◌, Bool, List, [], ◌∷◌, ◌++◌, length, take, drop, Option, Some, None, refl, sym, ap, ◌∙◌, append_assoc, arith, rules}
 use Rattle.std.proofs.lemmas.List.{drop-append-le, take-append-le}
 use Rattle.c_syntax.specs.Tree.{Tree}
 use Rattle.c_syntax.specs.Numbered.{TreeView, tree_at}
@@ -84,10 +84,6 @@ module _ (program : TreeView) (old : Held) (ready : IsPassing program old) where
       pass_asks_with mutex.Lock is = with_entry (seen.Acquire (tree_at program.trees node) mutex.Lock id ∷ [])
       pass_asks_with mutex.TestLock is = with_entry (seen.TestLock (tree_at program.trees node) id to ∷ [])
       pass_asks_with mutex.Critical is = rw is (with_entry (mutex_items mutex.Critical (tree_at program.trees node) id to))
-
--- the names of the file and those of the function
-pub all_names : (program : TreeView) (own : List Entry) → length (file_names program ++ own) ≡ with_file program (length own)
-all_names program own = length-append (file_names program) own
 
 -- the items behind an event at a node
 abbrev pub after_at : Point → Bool → ℕ → Tree → List SeenItem

@@ -110,12 +110,12 @@ module _ (program : TreeView) (view : View) (old frames : List Frame) (it : Fram
 
   pub past_top : (found : Item) → ShowsItem program it found → is_passed_over (item_at program found) view ≡ true → IsLookedThrough program view old frames (begun frames)
   past_top found shows past = subst (λ before. IsLookedThrough program view old before (begun before)) (sym whole) (
-    let front = shows.front rest (All-tail (IsFrame program) it rest so_whole.are_frames) in
-    record {
-      count = same_count program (it ∷ rest) (begun (it ∷ rest)) front.calls;
-      so = settles_past program view old (it ∷ rest) found so_whole front past;
-      less = shows.less rest;
-    })
+      let front = shows.front rest (All-tail (IsFrame program) it rest so_whole.are_frames) in
+      record {
+        count = same_count program (it ∷ rest) (begun (it ∷ rest)) front.calls;
+        so = settles_past program view old (it ∷ rest) found so_whole front past;
+        less = shows.less rest;
+      })
 
   pub nothing_top : ((frames : List Frame) → todo_at program (it ∷ frames) ≡ []) → todo_at program frames ≡ []
   nothing_top none = subst (λ at. todo_at program at ≡ []) (sym whole) (none rest)
@@ -124,6 +124,19 @@ pub none_top : (program : TreeView) (frames : List Frame) → None ≡ slice_get
 unfolding todo_at
 none_top program [] top = refl
 none_top program (first ∷ frames) top = absurd (search rules)
+
+-- the control after one look
+pub record IsMoved (program : TreeView) (view : View) (old before after : Held) : Type 0 where
+  pub so : SettlesTo program view old.frames after.frames
+  pub rest : after ≡ record old { frames = after.frames }
+  pub less : weights program after.frames < weights program before.frames
+
+pub moved : (program : TreeView) (view : View) (old before after : Held) (frames : List Frame) → before ≡ record old { frames = before.frames } → after ≡ record before { frames = frames } → IsLookedThrough program view old.frames before.frames frames → IsMoved program view old before after
+moved program view old before after frames rest is next = subst (IsMoved program view old before) (sym is) (record {
+  so = next.so;
+  rest = ap (λ (held : Held). record held { frames = frames }) rest;
+  less = next.less;
+})
 
 -- the task then
 settled_task_at : (program : TreeView) (view : View) (old new : Held) → new ≡ record old { frames = new.frames } → SettlesTo program view old.frames new.frames → todo_at program new.frames ≡ items_from_next view (todo_at program old.frames) → task_at program new ≡ settled_task view (task_at program old)

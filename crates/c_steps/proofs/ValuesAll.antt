@@ -61,3 +61,12 @@ trap_values trap (Ok numbers) is = cc
 pub ok_values : (results : Result (List ℤ) ℕ) → Ok tt ≡ without_values results → results ≡ Ok (values_in results)
 ok_values (Err trap) is = cc
 ok_values (Ok numbers) is = refl
+
+-- there are values, or there is the trap
+pub are_values : (results : Result (List ℤ) ℕ) → Ok tt ≡ without_values results → results ≡ Ok (values_in results)
+are_values (Ok numbers) is = refl
+are_values (Err trap) is = cc
+
+pub is_trap : (results : Result (List ℤ) ℕ) (trap : ℕ) → Err trap ≡ without_values results → results ≡ Err trap
+is_trap (Ok numbers) trap is = cc
+is_trap (Err other) trap is = cc

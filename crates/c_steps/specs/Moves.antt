@@ -79,9 +79,16 @@ abbrev pub cut : ℕ → Held → Held
 cut count held = record held { names = take (held.base + count) held.names }
 
 -- an item more stands next, if there is one
+abbrev pub frames_if : Option Item → List Frame → List Frame
+frames_if None frames = frames
+frames_if (Some it) frames = frame.One it ∷ frames
+
+abbrev pub count_if : Option Item → ℕ → ℕ
+count_if None count = count
+count_if (Some it) count = count - 1
+
 abbrev pub then_if : Option Item → Held → Held
-then_if None held = held
-then_if (Some it) held = then_item it held
+then_if it held = record held { frames = frames_if it held.frames; frames_now = count_if it held.frames_now }
 
 -- the names in scope with one that is declared, if one is
 abbrev pub env_with : Option Entry → List Entry → List Entry

@@ -1,6 +1,6 @@
 //! What all tasks of a run share.
 
-ghost use Rattle.std.specs.Prelude.{◌≡◌, ◌+◌, ◌<◌, ◌≤◌, [], ◌∷◌, ◌++◌, length, drop, replicate, slice_set, take, IfOk};
+ghost use Rattle.std.specs.Prelude.{◌≡◌, ◌+◌, ◌<◌, ◌≤◌, [], ◌∷◌, ◌++◌, length, drop, nat_lt, not, replicate, slice_set, take, IfOk};
 ghost use Rattle.c_model.specs.Calls.{file_bound};
 ghost use Rattle.c_model.specs.Cells.{cell_at};
 
@@ -72,6 +72,23 @@ impl Cells {
         ensures { result ≡ cell_at self.now.cells cell }
     {
         self.cells[cell as usize]
+    }
+
+    /// The number in a cell, 0 where it wasn't made.
+    pub(crate) fn number(&self, cell: usize) -> i32
+        ensures { result ≡ cell_at self.now.cells cell }
+    {
+        match self.cells.get(cell) {
+            Some(number) => *number,
+            None => 0,
+        }
+    }
+
+    /// Whether there may be so many more cells.
+    pub(crate) fn has_room(&self, count: usize) -> bool
+        ensures { nat_lt CELL_LIMIT (length self.now.cells + count) ≡ not result }
+    {
+        count <= CELL_LIMIT - self.cells.len()
     }
 
     /// The bytes that were printed.

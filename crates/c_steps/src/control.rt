@@ -1,6 +1,6 @@
 //! What is left of a task's code.
 
-ghost use Rattle.std.specs.Prelude.{◌≡◌, ◌<◌, ◌+◌, ◌-◌, drop, slice_set};
+ghost use Rattle.std.specs.Prelude.{◌≡◌, ◌<◌, ◌≤◌, ◌+◌, ◌-◌, drop, length, slice_set};
 ghost use Rattle.c_steps.specs.Items.{begun};
 ghost use Rattle.c_steps.specs.Ready.{CanBegin, IsPlain};
 ghost use Rattle.std.specs.Option.{option_map};
@@ -8,9 +8,14 @@ ghost use Rattle.c_model.specs.declared.limits.TheConstants.{CALL_LIMIT};
 ghost use Rattle.c_steps.specs.Rooming.{IsEntry, open_calls};
 ghost use Rattle.c_steps.specs.Moves.{bound, closed, cut, ended, last_call, opened, passing, pushed, stepping, then_if, then_item};
 
+mod declaring;
+mod evaluating;
 mod giving;
 mod passing;
+mod prints;
 mod settling;
+mod statements;
+mod steps;
 
 use crate::frame::Frame;
 use crate::item::Item;
@@ -99,12 +104,14 @@ impl Control {
                 at: at + 1,
                 names,
             }),
-            Some(Frame::Combines {
-                construct,
-                from,
-                names,
-                ..
-            }) => self.replace_top(Frame::Combining {
+            Some(
+                Frame::Combines {
+                    construct,
+                    from,
+                    names,
+                    ..
+                },
+            ) => self.replace_top(Frame::Combining {
                 construct,
                 from,
                 names,
@@ -138,6 +145,7 @@ impl Control {
     }
 
     /// A frame more, which is no call.
+    #[tactic(auto, using(crate::proofs::Frames::plain_count))]
     fn push(&mut self, frame: Frame)
         requires room { 0 < self.old.frames_now }
         requires plain { IsPlain frame }
@@ -169,7 +177,8 @@ impl Control {
     fn bind(&mut self, entry: Entry)
         requires room { 0 < self.old.names_now }
         requires entry { IsEntry entry }
-        ensures { self.new ≡ bound entry self.old }
+        ensures held { self.new ≡ bound entry self.old }
+        ensures base { self.old.base ≤ length self.old.names }
     {
         self.names_now -= 1;
         self.names.push(entry);
@@ -184,6 +193,7 @@ impl Control {
     }
 
     /// A call is opened, whose value goes there.
+    #[tactic(auto, using(crate::proofs::Frames::caller_count))]
     fn open(&mut self, to: Target)
         requires room { 0 < self.old.frames_now }
         requires few { open_calls self.old.frames < CALL_LIMIT }

@@ -82,7 +82,6 @@ fn look_at_parts(code: &Code, block: u32, place: u32, at: u32, names: usize) -> 
 }
 
 /// What the reductions of a construct say that are left.
-#[tactic(auto, using(crate::proofs::Looking::reductions_over, crate::proofs::Looking::reduction_next, crate::proofs::Looking::variable_next))]
 fn look_at_reductions(code: &Code, construct: u32, from: ListedPlace, names: usize) -> Look
     requires { construct < length code.now.trees }
     ensures { Looks code.now (reductions_frame construct from names) result }
@@ -97,7 +96,7 @@ fn look_at_reductions(code: &Code, construct: u32, from: ListedPlace, names: usi
                 from: found.next,
                 names,
             }),
-            _ => Look::Instead(Frame::Combining {
+            Copying::Private | Copying::First => Look::Instead(Frame::Combining {
                 construct,
                 from: found.next,
                 names,

@@ -102,7 +102,7 @@ impl Control {
     }
 
     /// The stages of a worksharing construct behind its begin.
-    #[tactic(auto, using(crate::proofs::Passing::pass_work, crate::proofs::Passing::all_names))]
+    #[tactic(auto, using(crate::proofs::Passing::pass_work, crate::proofs::Frames::all_names))]
     fn begin_work(&mut self, code: &Code, node: u32, work: Work, executes: bool)
         requires ready { IsPassing code.now self.old }
         requires node { node < length code.now.trees }
@@ -182,13 +182,6 @@ impl Control {
                 self.then(Item::Acquire { node, kind, id });
             }
         }
-    }
-
-    /// How many names of the function that was called last are in scope.
-    fn own_names(&self) -> usize
-        ensures { result ≡ length (drop self.now.base self.now.names) }
-    {
-        self.names.len() - self.base
     }
 }
 
