@@ -1,3 +1,4 @@
+pub mod Beginning
 pub mod FileNames
 pub mod FirstFunctions
 mod Frames

@@ -1,5 +1,5 @@
 -- What a control stands for behind an event.
-use Rattle.std.proofs.Common.{◌≡◌, ℕ, ◌+◌, ◌≤◌, Bool, List, [], ◌∷◌, ◌++◌, length, take, drop, Option, Some, None, refl, sym, ap, ◌∙◌, append_assoc, arith, rules}
+use Rattle.std.proofs.Common.{◌≡◌, ℕ, ◌+◌, ◌≤◌, Bool, List, [], ◌∷◌, ◌++◌, length, take, drop, Option, Some, None, refl, sym, subst, ap, ◌∙◌, append_assoc, arith, rules}
 use Rattle.std.proofs.lemmas.List.{drop-append-le, take-append-le}
 use Rattle.c_syntax.specs.Tree.{Tree}
 use Rattle.c_syntax.specs.Numbered.{TreeView, tree_at}
@@ -191,3 +191,17 @@ module _ (program : TreeView) (view : View) (old settled : Held) (first : view.i
         let same = same_task view (task_at program old) first in
         let next : IsOfNext point (settled_task view (task_at program old)).todo = subst (IsOfNext point) (sym (ap (λ (task : Task). task.todo) same)) (next_event program point node (todo_at program old.frames) event) in
         subst (IsWithin program) (ap (λ (task : Task). settled_after_event point executes task) same ∙ sym went_past) (event_is_within program view point executes (task_at program old) is next)
+
+-- what is put in place of the item is what the event says
+past_at : (program : TreeView) (point : Point) (executes : Bool) (node : ℕ) (it : SeenItem) (old new : Held) (env : List Entry) → IsEventOf program point node it → task_at program new ≡ record (replaced program (after_at point executes (length (env_at program old)) (tree_at program.trees node)) old) { env = env } → env ≡ names_after point it (env_at program old) →
+    task_at program new ≡ record (replaced program (items_after point executes (length (env_at program old)) it) old) { env = names_after point it (env_at program old) }
+past_at program point executes node it old new env is task names =
+    task
+    ∙ ap (λ env. record (replaced program (after_at point executes (length (env_at program old)) (tree_at program.trees node)) old) { env = env }) names
+    ∙ ap (λ (items : List SeenItem). record (replaced program items old) { env = names_after point it (env_at program old) }) (same_items program point executes (length (env_at program old)) node it is)
+
+pub past_task : (program : TreeView) (point shape : Point) (executes : Bool) (node : ℕ) (it : SeenItem) (old new : Held) (env : List Entry) → point ≡ shape → IsEventOf program point node it → task_at program new ≡ record (replaced program (after_at shape executes (length (env_at program old)) (tree_at program.trees node)) old) { env = env } → env ≡ names_after shape it (env_at program old) →
+    task_at program new ≡ record (replaced program (items_after point executes (length (env_at program old)) it) old) { env = names_after point it (env_at program old) }
+past_task program point shape executes node it old new env same is task names =
+    subst (λ (at : Point). task_at program new ≡ record (replaced program (items_after at executes (length (env_at program old)) it) old) { env = names_after at it (env_at program old) }) (sym same)
+    (past_at program shape executes node it old new env (subst (λ (at : Point). IsEventOf program at node it) same is) task names)

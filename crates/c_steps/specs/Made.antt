@@ -21,3 +21,19 @@ pub record IsBlank (held : Held) : Type 0 where
   pub no_names : held.names ≡ []
   pub from_first : held.base ≡ 0
   pub no_value : held.returned ≡ None
+
+-- no code, with room for the names of all code of the program
+abbrev pub blank_held : TreeView → Held
+blank_held program =
+    record {
+      frames = [];
+      names = [];
+      base = 0;
+      returned = None;
+      spare = 0;
+      passes = 0;
+      frames_now = 4;
+      names_now = 0;
+      step_names = step_names program;
+      room = most_of_functions program (parts (root_tree program));
+    }

@@ -105,3 +105,12 @@ asking mutex.Lock node part id to held = then_item (item.Acquire node mutex.Lock
 asking mutex.TestLock node part id to held = then_item (item.TestLock node id to) held
 asking mutex.Critical node part id to held =
     then_item (item.Acquire node mutex.Critical id) (then_item (item.Start part) (then_item (item.Release node id) held))
+
+-- no code is left
+abbrev pub cleared : Held → Held
+cleared held =
+    record held { frames = []; names = []; base = 0; returned = None; spare = 0; passes = 0; frames_now = 4; names_now = 0 }
+
+-- room is made for the 64 silent steps of a turn, one that only asks, and an event
+abbrev pub roomy : Held → Held
+roomy held = record held { spare = 65; passes = 1; frames_now = 0; names_now = 0 }

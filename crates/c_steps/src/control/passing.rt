@@ -14,6 +14,7 @@ ghost use Rattle.c_steps.specs.Made.{IsMadeFor};
 ghost use Rattle.c_steps.specs.Moves.{asking};
 ghost use Rattle.c_steps.specs.Nodes.{IsPart, part_at};
 ghost use Rattle.c_steps.specs.Passing.{IsAfterEvent, IsEventOf, IsEventOfNext, IsWork, names_behind_asking, names_behind_work, replaced, stages_at};
+ghost use Rattle.c_steps.specs.Rooming.{IsEntry};
 ghost use Rattle.c_steps.specs.Ready.{AreFrames, AreLoopNumbers, IsItem, IsLoop, IsPassing};
 
 use crate::clauses::{has_nowait, statement};
@@ -22,7 +23,7 @@ use crate::control::Control;
 use crate::control::giving::MEMBER_0;
 use crate::item::{Item, Loop};
 use crate::listed::{has_own_cells, loop_variable};
-use c_model::{MutexKind, Point, SyncKind, SyncStage, Target, Work, WorkKind};
+use c_model::{Entry, MutexKind, Point, SyncKind, SyncStage, Target, Work, WorkKind};
 
 impl Control {
     /// Goes past the event that the last advance answered, at this node, when what comes of it takes hold. `executes` counts at the begin
@@ -43,7 +44,6 @@ impl Control {
     }
 
     /// Goes past an event of this item.
-    #[tactic(auto, using(crate::proofs::Passing::same_items, crate::proofs::Passing::same_names_of_work, crate::proofs::Passing::same_names_of_asking))]
     fn go_past(&mut self, code: &Code, item: Item, point: Point, node: u32, executes: bool)
         requires ready { IsPassing code.now self.old }
         requires item { IsItem code.now item }
@@ -140,7 +140,6 @@ impl Control {
     }
 
     /// A lock or critical is asked for. The variable of a declarator that tests a lock comes into scope.
-    #[tactic(auto, using(crate::proofs::Passing::pass_asks, crate::proofs::Passing::pass_asks_with))]
     fn ask_for(
         &mut self,
         code: &Code,
@@ -157,15 +156,48 @@ impl Control {
         ensures after { IsAfterEvent self.old self.new }
         ensures frames { AreFrames code.now self.new.frames }
     {
+        match item {
+            Item::Initialise { entry, .. } => self.ask_with(code, entry, node, id, kind, to),
+            _ => self.ask_alone(code, node, id, kind, to),
+        }
+    }
+
+    /// A lock or critical is asked for.
+    #[tactic(auto, using(crate::proofs::Passing::pass_asks))]
+    fn ask_alone(&mut self, code: &Code, node: u32, id: u32, kind: MutexKind, to: Target)
+        requires ready { IsPassing code.now self.old }
+        requires node { node < length code.now.trees }
+        ensures task { task_at code.now self.new ≡ replaced code.now (going.mutex_items kind (tree_at code.now.trees node) id to) self.old }
+        ensures after { IsAfterEvent self.old self.new }
+        ensures frames { AreFrames code.now self.new.frames }
+    {
         let part = statement(code, node);
         self.pass();
-        match item {
-            Item::Initialise { entry, .. } => {
-                self.bind(entry);
-                self.ask(kind, node, part, id, to);
-            }
-            _ => self.ask(kind, node, part, id, to),
-        }
+        self.ask(kind, node, part, id, to);
+    }
+
+    /// A lock is asked for, and a name more is in scope.
+    #[tactic(auto, using(crate::proofs::Passing::pass_asks_with))]
+    fn ask_with(
+        &mut self,
+        code: &Code,
+        entry: Entry,
+        node: u32,
+        id: u32,
+        kind: MutexKind,
+        to: Target,
+    )
+        requires ready { IsPassing code.now self.old }
+        requires entry { IsEntry entry }
+        requires node { node < length code.now.trees }
+        ensures task { task_at code.now self.new ≡ record (replaced code.now (going.mutex_items kind (tree_at code.now.trees node) id to) self.old) { env = env_at code.now self.old ++ entry ∷ [] } }
+        ensures after { IsAfterEvent self.old self.new }
+        ensures frames { AreFrames code.now self.new.frames }
+    {
+        let part = statement(code, node);
+        self.pass();
+        self.bind(entry);
+        self.ask(kind, node, part, id, to);
     }
 
     /// A lock or critical is asked for, and this part of the program stands next behind it, where it is a critical.
