@@ -1,4 +1,5 @@
 mod BeginCall
+pub mod Beginning
 mod Combining
 pub mod Counting
 mod Entered
@@ -7,14 +8,17 @@ mod Entries
 pub mod FileNames
 pub mod FirstFunctions
 mod Frames
+pub mod Giving
 pub mod InnerNames
 pub mod Iterating
 pub mod ListedNames
 mod Looking
 pub mod OwnNames
 mod Parameters
+pub mod Passing
 mod PrintingNumbers
 mod PrintingText
+pub mod Replacing
 pub mod Rests
 mod Returning
 mod Settling

@@ -6,6 +6,10 @@ use Rattle.c_steps.specs.declared.frame.Frame.{Frame}
 use Rattle.c_steps.specs.declared.frame.Frame.TheVariants as frame
 use Rattle.c_model.specs.declared.point.Target.{Target}
 use Rattle.c_model.specs.declared.point.Target.TheVariants as target
+use Rattle.c_model.specs.declared.point.MutexKind.{MutexKind}
+use Rattle.c_model.specs.declared.point.MutexKind.TheVariants as mutex
+use Rattle.c_model.specs.declared.point.WorkKind.{WorkKind}
+use Rattle.c_steps.specs.declared.listed.ListedPlace.{ListedPlace}
 use Rattle.c_steps.specs.declared.item.Item.{Item}
 use Rattle.c_steps.specs.declared.item.Item.TheVariants as item
 use Rattle.c_steps.specs.Held.{Held}
@@ -17,7 +21,7 @@ stepping held = record held { frames = begun held.frames; spare = held.spare - 1
 
 -- an event is passed: the item that stands next has begun, and there is room for what stands in its place
 abbrev pub passing : Held → Held
-passing held = record held { frames = begun held.frames; passes = held.passes - 1; frames_now = 3; names_now = 0 }
+passing held = record held { frames = begun held.frames; passes = held.passes - 1; frames_now = 3; names_now = 1 }
 
 -- a frame more, on top of the others
 abbrev pub pushed : Frame → Held → Held
@@ -108,3 +112,23 @@ entries_if (Some entry) = entry ∷ []
 
 abbrev pub bound_if : Option Entry → Held → Held
 bound_if declared held = record held { names = held.names ++ entries_if declared; names_now = held.names_now - length (entries_if declared) }
+
+-- the reductions of a construct and the end of its work stand next
+abbrev pub ending : ListedPlace → ℕ → WorkKind → ℕ → ℕ → Held → Held
+ending from node kind count names held = pushed (frame.Combining node from names) (then_item (item.EndWork node kind count names) held)
+
+-- a lock or critical is asked for, and this part of the program stands next behind it, where it is a critical
+abbrev pub asking : MutexKind → ℕ → Option ℕ → ℕ → Target → Held → Held
+asking mutex.Lock node part id to held = then_item (item.Acquire node mutex.Lock id) held
+asking mutex.TestLock node part id to held = then_item (item.TestLock node id to) held
+asking mutex.Critical node part id to held =
+    then_item (item.Acquire node mutex.Critical id) (then_item (item.Start part) (then_item (item.Release node id) held))
+
+-- no code is left
+abbrev pub cleared : Held → Held
+cleared held =
+    record held { frames = []; names = []; base = 0; returned = None; spare = 0; passes = 0; frames_now = 4; names_now = 0 }
+
+-- room is made for the 64 silent steps of a turn, one that only asks, and an event
+abbrev pub roomy : Held → Held
+roomy held = record held { spare = 65; passes = 1; frames_now = 0; names_now = 0 }

@@ -98,6 +98,14 @@ pub record IsStepping (program : TreeView) (held : Held) : Type 0 where
   pub calls : (names : List Entry) → calls_at program names (begun held.frames) ≡ calls_at program names held.frames
   pub spare : 0 < held.spare
 
+-- an event can be passed that is of what stands next
+pub record IsPassing (program : TreeView) (held : Held) : Type 0 where
+  pub are_frames : AreFrames program held.frames
+  pub can_begin : CanBegin held.frames
+  pub are_begun : AreFrames program (begun held.frames)
+  pub calls : (names : List Entry) → calls_at program names (begun held.frames) ≡ calls_at program names held.frames
+  pub passes : 0 < held.passes
+
 -- a silent step takes one from the spare
 pub record IsAfterStep (old new : Held) : Type 0 where
   pub spare : new.spare + 1 ≡ old.spare

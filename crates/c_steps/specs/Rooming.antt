@@ -28,6 +28,6 @@ pub record HasRoomFor (free_frames free_names calls : ℕ) (held : Held) : Type 
   pub base : held.base ≤ length held.names
   pub entries : AreEntries held.names
   pub frames : held.frames_now + 3 * held.spare + 3 * held.passes ≤ free_frames
-  pub names : held.names_now + held.step_names * held.spare ≤ free_names
+  pub names : held.names_now + held.step_names * held.spare + held.passes ≤ free_names
   pub room : held.room ≤ length held.names + free_names
   pub counted : calls ≡ open_calls held.frames

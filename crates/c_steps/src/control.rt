@@ -8,13 +8,17 @@ ghost use Rattle.c_model.specs.declared.limits.TheConstants.{CALL_LIMIT};
 ghost use Rattle.c_steps.specs.Rooming.{IsEntry, open_calls};
 ghost use Rattle.c_steps.specs.Moves.{bound, closed, cut, ended, last_call, opened, passing, pushed, stepping, then_if, then_item};
 
+mod advance;
+mod begin;
 mod calls;
 mod declaring;
 mod entering;
 mod evaluating;
 mod events;
+mod giving;
 mod iterations;
 mod own_cells;
+mod passing;
 mod prints;
 mod settling;
 mod statement;
@@ -145,7 +149,7 @@ impl Control {
         self.begin();
         self.passes -= 1;
         self.frames_now = 3;
-        self.names_now = 0;
+        self.names_now = 1;
     }
 
     /// A frame more, which is no call.

@@ -1,9 +1,13 @@
 //! A stack with room kept for more.
 
-ghost use Rattle.std.specs.Prelude.{◌≡◌, ◌+◌, ◌<◌, [], ◌∷◌, drop, length, max, slice_get, slice_set, OnErr, OnOk};
+ghost use Rattle.std.specs.Prelude.{◌≡◌, ◌+◌, ◌<◌, ◌≤◌, [], ◌∷◌, drop, length, max, slice_get, slice_set, IfOk, OnErr, OnOk};
+ghost use Rattle.c_steps.specs.declared.stack.TheConstants.{LEAST_ROOM};
 
 use std::alloc::{AllocError, Global};
 use std::marker::Model;
+
+/// How many are taken without memory from the first on.
+pub(crate) const LEAST_ROOM: usize = 4;
 
 /// A stack, with room kept for more. Contracts see the list of what is on it, the top first, and how many more are taken without memory.
 #[derive(Drop)]
@@ -16,23 +20,24 @@ pub(crate) struct Stack<T: Copy + Drop> {
 impl<T: Copy + Drop> Model for Stack<T> {
     ghost use Rattle.std.specs.Prelude.{◌+◌, ◌≤◌, reverse, vec_len, vec_capacity};
     ghost use Rattle.c_steps.specs.Rooms.{Stacked};
+    ghost use Rattle.c_steps.specs.declared.stack.TheConstants.{LEAST_ROOM};
 
     ghost Value = { Stacked T };
 
     ghost view = { λ stack. record { frames = reverse stack.items.items; free = stack.free } };
 
-    ghost invariant = { λ stack. vec_len stack.items + stack.free ≤ vec_capacity stack.items };
+    ghost invariant = { λ stack. (vec_len stack.items + stack.free ≤ vec_capacity stack.items) × (LEAST_ROOM ≤ vec_len stack.items + stack.free) };
 }
 
 impl<T: Copy + Drop> Stack<T> {
-    /// An empty stack, without room.
-    pub(crate) fn new(alloc: Global) -> Stack<T>
-        ensures { result ≡ record { frames = []; free = 0 } }
+    /// An empty stack, with room for the first.
+    pub(crate) fn new(alloc: Global) -> Result<Stack<T>, AllocError>
+        ensures { IfOk result (λ stack. stack ≡ record { frames = []; free = LEAST_ROOM }) }
     {
-        Stack {
-            items: Vec::new(alloc),
-            free: 0,
-        }
+        Ok(Stack {
+            items: Vec::with_capacity(alloc, LEAST_ROOM)?,
+            free: LEAST_ROOM,
+        })
     }
 
     /// How many are on it.
@@ -84,6 +89,7 @@ impl<T: Copy + Drop> Stack<T> {
     pub(crate) fn clear(&mut self)
         ensures frames { self.new.frames ≡ [] }
         ensures free { self.new.free ≡ self.old.free + length self.old.frames }
+        ensures least { LEAST_ROOM ≤ self.new.free }
     {
         self.free += self.items.len();
         self.items.clear();
