@@ -280,7 +280,7 @@ impl Control {
     }
 
     /// The value of a call goes to its target.
-    fn deliver(&mut self, cells: &mut Cells, to: Target, number: i32)
+    pub(super) fn deliver(&mut self, cells: &mut Cells, to: Target, number: i32)
         requires { 0 < self.old.frames_now }
         ensures held { self.new ≡ delivered to number self.old }
         ensures cells { cells.new ≡ record cells.old { cells = calls.value_cells to number cells.old.cells } }

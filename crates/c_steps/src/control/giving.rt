@@ -8,8 +8,7 @@ ghost use Rattle.c_model.specs.Going as going;
 ghost use Rattle.c_steps.specs.Held.{moment_at, task_at};
 ghost use Rattle.c_steps.specs.Items.{item_at, loop_at, with_file};
 ghost use Rattle.c_steps.specs.Made.{IsMadeFor};
-ghost use Rattle.c_model.specs.Calls.{value_cells};
-ghost use Rattle.c_steps.specs.Moves.{delivered, ending};
+ghost use Rattle.c_steps.specs.Moves.{ending};
 ghost use Rattle.c_steps.specs.Passing.{replaced};
 ghost use Rattle.c_steps.specs.Ready.{AreFrames, IsAfterStep, IsItem, IsLoop, IsStepping};
 
@@ -169,51 +168,5 @@ impl Control {
         } else {
             self.deliver(cells, to, 0);
         }
-    }
-
-    /// The value of a call goes to its target.
-    fn deliver(&mut self, cells: &mut Cells, to: Target, number: i32)
-        requires { 0 < self.old.frames_now }
-        ensures held { self.new ≡ delivered to number self.old }
-        ensures cells { cells.new ≡ record cells.old { cells = value_cells to number cells.old.cells } }
-    {
-        match to {
-            Target::Nowhere => {}
-            Target::Cell(cell) => cells.set(cell as usize, number),
-            Target::Return => self.then(Item::Return(number)),
-        }
-    }
-}
-
-/// The chunk of an answer to what a loop asks.
-#[tactic(auto, unfolding(c_model::specs::Answers::IsChunkAnswer))]
-fn chunk_in(answer: Answer) -> Option<(u64, u64)>
-    ensures { (count : ℕ) → IsChunkAnswer count answer → answer ≡ of_answer.Chunk result }
-{
-    match answer {
-        Answer::Chunk(chunk) => chunk,
-        _ => None,
-    }
-}
-
-/// The section of an answer to what a construct's sections ask.
-#[tactic(auto, unfolding(c_model::specs::Answers::IsSectionAnswer))]
-fn section_in(answer: Answer) -> Option<u32>
-    ensures { (count : ℕ) → IsSectionAnswer count answer → answer ≡ of_answer.Section result }
-{
-    match answer {
-        Answer::Section(section) => section,
-        _ => None,
-    }
-}
-
-/// Whether the lock is free, of an answer to what a test asks.
-#[tactic(auto, unfolding(c_model::specs::Answers::IsLockAnswer))]
-fn is_free_in(answer: Answer) -> bool
-    ensures { IsLockAnswer answer → answer ≡ of_answer.Free result }
-{
-    match answer {
-        Answer::Free(free) => free,
-        _ => false,
     }
 }
