@@ -12,6 +12,7 @@ mod PrintingText
 pub mod Replacing
 pub mod Rests
 mod Settling
+pub mod Standing
 mod Stepping
 mod Values
 mod ValuesAll

@@ -15,6 +15,7 @@ mod giving;
 mod passing;
 mod prints;
 mod settling;
+mod standing;
 mod statements;
 mod steps;
 
