@@ -44,7 +44,8 @@ impl Control {
     }
 
     /// What stands next, when what the task goes past is left out.
-    fn front(&self, code: &Code, view: View) -> Option<Item>
+    #[tactic(auto, using(crate::proofs::Standing::top_is_frame, crate::proofs::Standing::over_below, crate::proofs::Standing::nothing_below, crate::proofs::Standing::found_below, crate::proofs::Standing::none_below))]
+    pub(super) fn front(&self, code: &Code, view: View) -> Option<Item>
         requires { AreFrames code.now self.now.frames }
         ensures first { slice_get (steps.items_from_next view (todo_at code.now self.now.frames)) 0 ≡ option_map (item_at code.now) result }
         ensures item { IfSome result (IsItem code.now) }
