@@ -22,6 +22,7 @@ pub mod Replacing
 pub mod Rests
 mod Returning
 mod Settling
+pub mod Standing
 mod StepNames
 mod Stepping
 mod Values

@@ -21,6 +21,7 @@ mod own_cells;
 mod passing;
 mod prints;
 mod settling;
+mod standing;
 mod statement;
 mod statements;
 mod steps;

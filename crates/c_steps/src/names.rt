@@ -1,6 +1,6 @@
 //! The names in scope, with room kept for more.
 
-ghost use Rattle.std.specs.Prelude.{◌≡◌, ◌+◌, ◌<◌, [], ◌∷◌, ◌++◌, length, max, take, OnErr, OnOk};
+ghost use Rattle.std.specs.Prelude.{◌≡◌, ◌+◌, ◌<◌, ◌≤◌, [], ◌∷◌, ◌++◌, length, max, take, OnErr, OnOk};
 
 use c_model::Entry;
 use std::alloc::{AllocError, Global};
@@ -59,6 +59,16 @@ impl Names {
     {
         self.free -= 1;
         self.items.push(entry).unwrap();
+    }
+
+    /// Names come into scope.
+    pub(crate) fn extend(&mut self, entries: &[Entry])
+        requires { length entries.now ≤ self.old.free }
+        ensures list { self.new.list ≡ self.old.list ++ entries.now }
+        ensures free { self.new.free + length entries.now ≡ self.old.free }
+    {
+        self.free -= entries.len();
+        self.items.extend_from_slice(entries).unwrap();
     }
 
     /// The first names stay, so many. What goes leaves its room.

@@ -1,6 +1,6 @@
 //! A stack with room kept for more.
 
-ghost use Rattle.std.specs.Prelude.{◌≡◌, ◌+◌, ◌<◌, ◌≤◌, [], ◌∷◌, drop, length, max, slice_get, slice_set, IfOk, OnErr, OnOk};
+ghost use Rattle.std.specs.Prelude.{◌≡◌, ◌+◌, ◌<◌, ◌≤◌, [], ◌∷◌, drop, length, max, reverse, slice_get, slice_set, IfOk, OnErr, OnOk};
 ghost use Rattle.c_steps.specs.declared.stack.TheConstants.{LEAST_ROOM};
 
 use std::alloc::{AllocError, Global};
@@ -52,6 +52,13 @@ impl<T: Copy + Drop> Stack<T> {
         ensures { result ≡ slice_get self.now.frames 0 }
     {
         self.items.last().copied()
+    }
+
+    /// All that is on it, the top last.
+    pub(crate) fn items(&self) -> &[T]
+        ensures { result.now ≡ reverse self.now.frames }
+    {
+        &self.items
     }
 
     /// It comes on top.

@@ -1,6 +1,6 @@
 //! Where the code of a task begins.
 
-ghost use Rattle.std.specs.Prelude.{◌≡◌, ◌<◌, ◌≤◌, [], length, IfOk, OnErr, OnOk, None};
+ghost use Rattle.std.specs.Prelude.{◌≡◌, ◌+◌, ◌*◌, IfOk, OnErr, OnOk};
 ghost use Rattle.c_model.specs.Begin.{main_task, new_task};
 ghost use Rattle.c_model.specs.Calls.{file_bound};
 ghost use Rattle.c_model.specs.Width.{most_of_functions};
@@ -52,7 +52,8 @@ impl Control {
     {
         let stack = Stack::new(alloc)?;
         let mut names = Names::new(alloc);
-        names.reserve(code.width())?;
+        let room = code.width();
+        names.reserve(room)?;
         Ok(Control {
             stack,
             names,
@@ -63,7 +64,7 @@ impl Control {
             frames_now: 4,
             names_now: 0,
             step_names: code.step_names(),
-            room: code.width(),
+            room,
             open_calls: 0,
         })
     }

@@ -170,3 +170,36 @@ impl Control {
         }
     }
 }
+
+/// The chunk of an answer to what a loop asks.
+#[tactic(auto, unfolding(c_model::specs::Answers::IsChunkAnswer))]
+fn chunk_in(answer: Answer) -> Option<(u64, u64)>
+    ensures { (count : ℕ) → IsChunkAnswer count answer → answer ≡ of_answer.Chunk result }
+{
+    match answer {
+        Answer::Chunk(chunk) => chunk,
+        _ => None,
+    }
+}
+
+/// The section of an answer to what a construct's sections ask.
+#[tactic(auto, unfolding(c_model::specs::Answers::IsSectionAnswer))]
+fn section_in(answer: Answer) -> Option<u32>
+    ensures { (count : ℕ) → IsSectionAnswer count answer → answer ≡ of_answer.Section result }
+{
+    match answer {
+        Answer::Section(section) => section,
+        _ => None,
+    }
+}
+
+/// Whether the lock is free, of an answer to what a test asks.
+#[tactic(auto, unfolding(c_model::specs::Answers::IsLockAnswer))]
+fn is_free_in(answer: Answer) -> bool
+    ensures { IsLockAnswer answer → answer ≡ of_answer.Free result }
+{
+    match answer {
+        Answer::Free(free) => free,
+        _ => false,
+    }
+}

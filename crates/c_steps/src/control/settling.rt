@@ -42,7 +42,7 @@ impl Control {
 }
 
 /// Whether a task goes past an item without a step: a member of a team other than member 0 past a `masked` construct.
-fn is_passed_over(code: &Code, item: Item, view: View) -> bool
+pub(super) fn is_passed_over(code: &Code, item: Item, view: View) -> bool
     requires { IsItem code.now item }
     ensures { result ≡ is_passed_over (item_at code.now item) view }
 {

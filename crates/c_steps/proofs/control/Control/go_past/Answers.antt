@@ -18,7 +18,7 @@ returns-in-WorkBegin-clause-task c =
 pub returns-in-WorkEnd-clause-task : goal.returns-in-WorkEnd-clause-task
 returns-in-WorkEnd-clause-task c =
     past_task c.args.code.now c.args.point _ c.args.executes c.args.node (item_at c.args.code.now c.args.item) c.args.self.now c.end_own_names.new.self (names_behind_work c.args.code.now c.args.item (env_at c.args.code.now c.args.self.now)) c.in-WorkEnd.is c.requires.event
-    (c.end_own_names.ensures.task) (same_names_of_work c.args.code.now _ _ _ c.args.item (env_at c.args.code.now c.args.self.now))
+    (c.end_own_names.ensures.task) (same_names_of_work c.args.code.now c.in-WorkEnd.codeptr c.in-WorkEnd.kind c.in-WorkEnd.count c.args.item (env_at c.args.code.now c.args.self.now))
 
 pub returns-in-MaskedBegin-clause-task : goal.returns-in-MaskedBegin-clause-task
 returns-in-MaskedBegin-clause-task c =
@@ -33,4 +33,4 @@ returns-in-Sync-clause-task c =
 pub returns-in-MutexAcquire-clause-task : goal.returns-in-MutexAcquire-clause-task
 returns-in-MutexAcquire-clause-task c =
     past_task c.args.code.now c.args.point _ c.args.executes c.args.node (item_at c.args.code.now c.args.item) c.args.self.now c.ask_for.new.self (names_behind_asking c.args.item (env_at c.args.code.now c.args.self.now)) c.in-MutexAcquire.is c.requires.event
-    (c.ask_for.ensures.task) (same_names_of_asking c.args.code.now _ _ _ _ c.args.item (env_at c.args.code.now c.args.self.now))
+    (c.ask_for.ensures.task) (same_names_of_asking c.args.code.now c.in-MutexAcquire.codeptr c.in-MutexAcquire.wait_id c.in-MutexAcquire.kind c.in-MutexAcquire.to c.args.item (env_at c.args.code.now c.args.self.now))
