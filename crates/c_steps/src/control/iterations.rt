@@ -115,7 +115,6 @@ fn iterations_from(shared: Loop, at: u64, upto: u64) -> Item
 }
 
 /// The value of a loop's variable in an iteration.
-#[tactic(auto, using(crate::proofs::Iterating::value_fits))]
 fn iteration_value(shared: Loop, at: u64) -> i32
     requires numbers { AreLoopNumbers shared.start shared.count shared.step }
     requires at { at < shared.count }
