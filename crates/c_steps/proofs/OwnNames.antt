@@ -259,7 +259,7 @@ module _ (program : TreeView) (view : View) (old : Held) (before : Store) (const
       StepsTo (moment_at program new after) ≡ make_cells (here_at program view old before) construct
   own_step new after control cells fits = rw (control, cells, own_moment, fits) refl
 
-pub has_room : (test room : Bool) → room ≡ not test → not room ≡ false → test ≡ false
+pub has_room : (test room : Bool) → room ≡ not test → room ≡ true → test ≡ false
 has_room false room is there = refl
-has_room true true is full = absurd (search (is, rules))
-has_room true false is full = absurd (search (full, rules))
+has_room true true is there = absurd (search (is, rules))
+has_room true false is there = absurd (search (there, rules))
