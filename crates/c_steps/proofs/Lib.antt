@@ -1,3 +1,4 @@
+mod Advancing
 mod BeginCall
 pub mod Beginning
 mod Combining
