@@ -13,6 +13,7 @@ mod PrintingText
 pub mod Rests
 mod Settling
 mod Stepping
+pub mod TaskNames
 mod Values
 mod ValuesAll
 mod ValuesNamed
