@@ -10,7 +10,8 @@ use Rattle.c_model.specs.Clauses.Copying.{First}
 use Rattle.c_model.specs.Copies.{copied_numbers, listed_variables, with_copy, with_listed, with_loop_variable, with_slots}
 use Rattle.c_model.specs.Task.{Store}
 use Rattle.c_steps.specs.declared.scope.Scope.{Scope}
-use Rattle.c_steps.specs.Held.{Held}
+use Rattle.c_steps.specs.Held.{Held, bound_in}
+use Rattle.c_steps.specs.Moves.{bound}
 use Rattle.c_steps.specs.Items.{file_names}
 use Rattle.c_steps.specs.Scopes.{scope_of}
 
@@ -98,3 +99,29 @@ made_slots around cells slots = with_slots around (record { env = []; cells = ce
 abbrev pub made_task : TreeView → Bound → List ℤ → Tree → Bound
 made_task program around cells construct =
     with_slots around (made_listed around cells (listed_variables construct)) (task_copies program construct)
+
+-- the same of a control and its cells
+abbrev pub listed_made_at : TreeView → Held → Store → Tree → Bound
+listed_made_at program held store construct = made_listed (bound_in program held store) store.cells (listed_variables construct)
+
+abbrev pub own_made_at : TreeView → Held → Store → Tree → Bound
+own_made_at program held store construct = made_own program (bound_in program held store) store.cells construct
+
+abbrev pub task_made_at : TreeView → Held → Store → Tree → Bound
+task_made_at program held store construct = made_task program (bound_in program held store) store.cells construct
+
+abbrev pub slots_made_at : TreeView → Held → ℕ → Store → ℕ → List ℕ → Bound
+slots_made_at program held names store count slots = made_slots (around_at program held names store count) store.cells slots
+
+-- a copy comes of a variable that a clause lists, or of one with a slot
+abbrev pub listed_copy_at : TreeView → Held → ℕ → Store → ℕ → Listed → Copy
+listed_copy_at program held names store count listed = listed_copy (around_at program held names store count) listed
+
+abbrev pub slot_copy_at : TreeView → Held → ℕ → Store → ℕ → ℕ → Copy
+slot_copy_at program held names store count slot = slot_copy (around_at program held names store count) slot
+
+abbrev pub copy_numbers_at : TreeView → Held → ℕ → Store → ℕ → Copy → List ℤ
+copy_numbers_at program held names store count copy = copy_numbers (around_at program held names store count) copy
+
+abbrev pub with_copy_at : TreeView → ℕ → Store → ℕ → Copy → Held → Held
+with_copy_at program names store count copy held = bound (copy_entry (around_at program held names store count) store.cells copy) held
