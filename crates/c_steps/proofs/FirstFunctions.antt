@@ -11,7 +11,6 @@ use Rattle.c_steps.specs.Functions.{AreFirst, AreFunctions, found_or, named_part
 
 -- where nothing is in the list
 pub first_at_start : (trees whole : List Tree) → AreFirst trees [] whole whole
-unfolding IsPart
 first_at_start trees whole = record { named = λ name. refl; there = λ name. tt }
 
 found_at_end : (trees : List Tree) (found : Option ℕ) (name : ℕ) → found_or trees found (function_among name []) ≡ part_at trees found
@@ -37,7 +36,6 @@ module _ (trees : List Tree) (part : ℕ) (name : ℕ) (left : List Tree) where
       ]
 
   part_there : part < length trees → (found : Option ℕ) → IsPart trees found → IsPart trees (option_or found (named_part name (tree_at trees part) part))
-  unfolding IsPart
   part_there within (Some function) there = there
   part_there within None there =
       elim (cases_Bool (is_function_named name (tree_at trees part))) [

@@ -9,7 +9,8 @@ use Rattle.c_syntax.specs.Tree.Tree.{Node}
 use Rattle.c_syntax.specs.Derivation.{nothing}
 use Rattle.c_syntax.specs.Nodes.{IsBelow}
 use Rattle.c_syntax.specs.Numbered.{TreeView, children_at, tree_at}
-use Rattle.c_model.specs.Parts.{declarators_in, flat_declarations}
+use Rattle.c_model.specs.Clauses.{clauses_among, listed_among}
+use Rattle.c_model.specs.Parts.{declarators_in, flat_declarations, trees_in}
 use Rattle.c_model.specs.Task.{is_declarator}
 use Rattle.c_model.specs.Width.{inner_names, most_inside, own_names}
 use Rattle.c_steps.specs.Nodes.{IsPart, part_at}
@@ -21,7 +22,7 @@ unfolding inner_names
 inner_names_is program (Node kind spot name number text children) = refl
 
 inner_nothing : (program : TreeView) → inner_names program nothing ≡ 0
-unfolding inner_names
+unfolding inner_names clauses_among listed_among trees_in
 inner_nothing program = refl
 
 -- the number of a node before another one
@@ -48,7 +49,6 @@ most_more numbers nodes at most node within is = rw (drop_more nodes at node wit
 
 -- the number of a part
 pub number_at_is : (program : TreeView) (part : Option ℕ) → IsPart program.trees part → number_at (map (inner_names program) program.trees) part ≡ inner_names program (part_at program.trees part)
-unfolding IsPart
 number_at_is program None there = sym (inner_nothing program)
 number_at_is program (Some node) there = get_or-map (inner_names program) program.trees node nothing 0 there
 

@@ -1,18 +1,17 @@
 -- What a frame on top says of what stands next.
-use Rattle.std.proofs.Common.{◌≡◌, ℕ, ◌+◌, ◌<◌, List, [], ◌∷◌, ◌++◌, length, refl, sym, ap, ◌∙◌, arith, length-append}
+use Rattle.std.proofs.Common.{◌≡◌, ℕ, ◌+◌, ◌<◌, List, [], ◌∷◌, ◌++◌, length, refl, ap, arith}
 use Rattle.c_syntax.specs.declared.node.NodeKind.{NodeKind}
 use Rattle.c_syntax.specs.declared.node.NodeKind.TheVariants as node
 use Rattle.c_syntax.specs.Tree.{Tree, kind_of}
 use Rattle.c_syntax.specs.Numbered.{TreeView, tree_at}
 use Rattle.c_check.specs.Tasks.{from_place}
 use Rattle.c_model.specs.Parts.{declarators_in, flat_declarations}
-use Rattle.c_model.specs.Task.{item_of_part, items_of_parts}
-use Rattle.c_model.specs.Task.Item.{Leave}
+use Rattle.c_model.specs.Task.{item_of_part}
 use Rattle.c_steps.specs.declared.item.Item.{Item}
 use Rattle.c_steps.specs.declared.item.Item.TheVariants as item
 use Rattle.c_steps.specs.declared.frame.Frame.{Frame}
 use Rattle.c_steps.specs.declared.frame.Frame.TheVariants as frame
-use Rattle.c_steps.specs.Items.{begun, calls_at, declarators_from, item_at, parts_left, todo_at, with_file}
+use Rattle.c_steps.specs.Items.{calls_at, declarators_from, item_at, parts_left, todo_at, with_file}
 use Rattle.c_steps.specs.Ready.{IsFrame, IsItem}
 use Rattle.c_steps.specs.Rests.{parts_from}
 use Rattle.c_syntax.specs.declared.node.ReductionOp.{ReductionOp}

@@ -1,5 +1,5 @@
 -- The values of the children of a node from a place on.
-use Rattle.std.specs.Prelude.{◌≡◌, ℕ, zero, suc, ◌+◌, List, [], ◌∷◌, Option, Some, None, Result, Ok, Err, ℤ, refl}
+use Rattle.std.specs.Prelude.{◌≡◌, ℕ, zero, suc, ◌+◌, List, [], ◌∷◌, Some, None, Result, Ok, Err, ℤ, refl}
 use Rattle.std.proofs.Common.{ap, sym, ◌∙◌, add-one}
 use Rattle.c_syntax.specs.Tree.{Tree, Children, at_place, child_of, children_of}
 use Rattle.c_syntax.specs.Tree.Children.{Over, Child, Absent}
@@ -54,11 +54,10 @@ pub all_next : (scope : Scope) (node : Tree) (place : ℕ) (tree : Tree) (number
     without_values (all_values scope (parts_behind place node)) ≡ without_values (all_values scope (parts_behind (place + 1) node))
 all_next scope node place tree number is has = ap without_values (all_with scope node place tree (sym is)) ∙ next_trap number (value scope tree) _ has
 
--- there are values, or there is the trap
-pub are_values : (results : Result (List ℤ) ℕ) → Ok tt ≡ without_values results → results ≡ Ok (values_in results)
-are_values (Ok numbers) is = refl
-are_values (Err trap) is = cc
+pub trap_values : (trap : ℕ) (results : Result (List ℤ) ℕ) → Err trap ≡ without_values results → results ≡ Err trap
+trap_values trap (Err other) is = cc
+trap_values trap (Ok numbers) is = cc
 
-pub is_trap : (results : Result (List ℤ) ℕ) (trap : ℕ) → Err trap ≡ without_values results → results ≡ Err trap
-is_trap (Ok numbers) trap is = cc
-is_trap (Err other) trap is = cc
+pub ok_values : (results : Result (List ℤ) ℕ) → Ok tt ≡ without_values results → results ≡ Ok (values_in results)
+ok_values (Err trap) is = cc
+ok_values (Ok numbers) is = refl

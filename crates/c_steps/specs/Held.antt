@@ -1,6 +1,5 @@
 -- What a control is seen as, and the task's code that it stands for.
-use Rattle.std.specs.Prelude.{ℕ, List, [], ◌++◌, drop, take, Option, ℤ}
-use Rattle.c_syntax.specs.Tree.{Tree}
+use Rattle.std.specs.Prelude.{ℕ, List, ◌++◌, drop, take, Option, ℤ}
 use Rattle.c_syntax.specs.Numbered.{TreeView, tree_at}
 use Rattle.c_model.specs.declared.entry.Entry.{Entry}
 use Rattle.c_model.specs.declared.view.View.{View}

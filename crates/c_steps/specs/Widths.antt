@@ -3,7 +3,6 @@ use Rattle.std.specs.Prelude.{ℕ, ◌+◌, max, Bool, true, false, List, [], �
 use Rattle.std.specs.List.{count_by}
 use Rattle.c_syntax.specs.Tree.{Tree, kind_of}
 use Rattle.c_syntax.specs.Numbered.{TreeView}
-use Rattle.c_check.specs.Seen.{task_copies}
 use Rattle.c_model.specs.Clauses.{clauses_of, listed_among}
 use Rattle.c_model.specs.Parts.{parts}
 use Rattle.c_model.specs.Task.{is_declarator}
@@ -23,9 +22,6 @@ count_of false = 0
 
 abbrev pub declarators_among : List Tree → ℕ
 declarators_among trees = count_by (λ (part : Tree). is_declarator (kind_of part)) trees
-
-abbrev pub construct_names : TreeView → Tree → ℕ
-construct_names program tree = length (listed_among (clauses_of tree)) + 1 + length (task_copies program tree)
 
 -- A step that begins a call brings the function's parameters into scope, the children of a tree, and a step that makes a construct's own
 -- cells the variables that its clauses list, and its loop's variable.

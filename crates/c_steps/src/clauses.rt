@@ -1,6 +1,6 @@
 //! The parts of a directive: its clauses, and its statement.
 
-ghost use Rattle.std.specs.Prelude.{◌≡◌, ◌<◌, ◌≤◌, length, slice_index_or, IfSome};
+ghost use Rattle.std.specs.Prelude.{◌≡◌, ◌<◌, length, slice_index_or, IfSome};
 ghost use Rattle.std.specs.Option.{option_map};
 ghost use Rattle.c_syntax.specs.Tree.{kind_of};
 ghost use Rattle.c_syntax.specs.Derivation.{nothing};
@@ -23,7 +23,7 @@ pub(crate) struct FoundPart {
 }
 
 /// The next clause of a construct from a place on.
-#[tactic(auto, unfolding(c_model::specs::Clauses::clauses_among, crate::specs::Nodes::IsPart))]
+#[tactic(auto, unfolding(c_model::specs::Clauses::clauses_among))]
 fn next_clause(code: &Code, construct: u32, place: u32) -> Option<FoundPart>
     requires { construct < length code.now.trees }
     ensures clauses { clauses_from (tree_at code.now.trees construct) place ≡ with_clause code.now.trees (tree_at code.now.trees construct) result }
@@ -41,7 +41,7 @@ fn next_clause(code: &Code, construct: u32, place: u32) -> Option<FoundPart>
 }
 
 /// The next part of a construct behind its clauses, from a place on.
-#[tactic(auto, unfolding(c_model::specs::Clauses::statements_among, crate::specs::Nodes::IsPart))]
+#[tactic(auto, unfolding(c_model::specs::Clauses::statements_among))]
 fn next_statement(code: &Code, construct: u32, place: u32) -> Option<FoundPart>
     requires { construct < length code.now.trees }
     ensures statements { statements_from (tree_at code.now.trees construct) place ≡ with_statement code.now.trees (tree_at code.now.trees construct) result }
@@ -145,7 +145,7 @@ fn schedule_by(code: &Code, which: ScheduleKind, clause: Option<u32>) -> Schedul
 }
 
 /// The chunk size of a `schedule` clause, or another number without one.
-#[tactic(auto, unfolding(crate::specs::Nodes::IsPart, c_check::specs::Tasks::from_place))]
+#[tactic(auto, unfolding(c_check::specs::Tasks::from_place))]
 fn chunk_size(code: &Code, clause: Option<u32>, other: u32) -> u32
     requires { IsPart code.now.trees clause }
     ensures { result ≡ clauses.size_or other (parts (part_at code.now.trees clause)) }
@@ -157,7 +157,6 @@ fn chunk_size(code: &Code, clause: Option<u32>, other: u32) -> u32
 }
 
 /// The statement of a construct. A part that is missing where it has none.
-#[tactic(auto, unfolding(crate::specs::Nodes::IsPart))]
 pub(crate) fn statement(code: &Code, construct: u32) -> Option<u32>
     requires { construct < length code.now.trees }
     ensures statement { part_at code.now.trees result ≡ clauses.construct_statement (tree_at code.now.trees construct) }
@@ -184,7 +183,7 @@ pub(crate) fn section_count(code: &Code, construct: u32) -> u32
 }
 
 /// What a section executes, counted from 0. A part that is missing past the last.
-#[tactic(auto, unfolding(c_check::specs::Tasks::from_place, crate::specs::Nodes::IsPart))]
+#[tactic(auto, unfolding(c_check::specs::Tasks::from_place))]
 pub(crate) fn section(code: &Code, construct: u32, number: u32) -> Option<u32>
     requires { construct < length code.now.trees }
     ensures statement { part_at code.now.trees result ≡ slice_index_or (clauses.sections_of (tree_at code.now.trees construct)) number nothing }

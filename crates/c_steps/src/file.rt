@@ -33,7 +33,7 @@ impl Model for FileNames {
 
 impl FileNames {
     /// The names of a program's file. More cells than a `u32` counts are want of memory too.
-    #[tactic(auto, using(crate::proofs::FileNames::declared_more), unfolding(c_check::specs::Tasks::from_place, crate::specs::Nodes::IsPart))]
+    #[tactic(auto, using(crate::proofs::FileNames::declared_more), unfolding(c_check::specs::Tasks::from_place))]
     pub(crate) fn new(alloc: Global, program: &Program) -> Result<FileNames, AllocError>
         ensures { IfOk result (λ file. file ≡ file_bound program.now) }
     {
@@ -77,7 +77,7 @@ impl FileNames {
     }
 
     /// All parts of a declaration come into scope.
-    #[tactic(auto, unfolding(c_model::specs::Cells::with_declarators, c_check::specs::Tasks::from_place, crate::specs::Nodes::IsPart))]
+    #[tactic(auto, unfolding(c_model::specs::Cells::with_declarators, c_check::specs::Tasks::from_place))]
     fn declare_all(&mut self, program: &Program, declaration: u32) -> Result<(), AllocError>
         requires { declaration < length program.now.trees }
         ensures { OnOk result (self.new ≡ with_declarators program.now self.old (parts (tree_at program.now.trees declaration))) }

@@ -26,7 +26,7 @@ impl Model for Functions {
 
 impl Functions {
     /// The functions of a program. Of two with one name the first counts.
-    #[tactic(auto, using(crate::proofs::FirstFunctions::first_at_start, crate::proofs::FirstFunctions::first_at_end, crate::proofs::FirstFunctions::first_behind), unfolding(crate::specs::Nodes::IsPart))]
+    #[tactic(auto, using(crate::proofs::FirstFunctions::first_at_start, crate::proofs::FirstFunctions::first_at_end, crate::proofs::FirstFunctions::first_behind))]
     pub(crate) fn new(alloc: Global, tree: &Tree) -> Result<Functions, AllocError>
         ensures { IfOk result (AreFunctions tree.now) }
     {
@@ -53,7 +53,6 @@ impl Functions {
     }
 
     /// A part of the file counts for its name, if it is the first function with it.
-    #[tactic(auto, unfolding(crate::specs::Nodes::IsPart))]
     fn add_part(&mut self, tree: &Tree, part: u32) -> Result<(), AllocError>
         requires { part < length tree.now.trees }
         ensures { OnOk result ((name : ℕ) → slice_index_or self.new name None ≡ option_or (slice_index_or self.old name None) (named_part name (tree_at tree.now.trees part) part)) }

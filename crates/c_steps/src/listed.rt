@@ -68,7 +68,7 @@ pub(crate) fn next_listed(code: &Code, construct: u32, from: ListedPlace) -> Opt
 }
 
 /// The next name that the clauses of a construct list, from a place on.
-#[tactic(auto, using(crate::proofs::ListedNames::listed_behind_start), unfolding(crate::specs::Nodes::IsPart))]
+#[tactic(auto, using(crate::proofs::ListedNames::listed_behind_start))]
 pub(crate) fn next_name(tree: &Tree, construct: u32, from: ListedPlace) -> Option<FoundName>
     requires { construct < length tree.now.trees }
     ensures { names_from (tree_at tree.now.trees construct) from ≡ with_name (tree_at tree.now.trees construct) result }
@@ -91,7 +91,7 @@ pub(crate) fn next_name(tree: &Tree, construct: u32, from: ListedPlace) -> Optio
 }
 
 /// The name that a part of a construct lists behind so many, if it is a clause that gives variables of its own.
-#[tactic(auto, unfolding(c_model::specs::Clauses::listed_among, crate::specs::Nodes::IsPart))]
+#[tactic(auto, unfolding(c_model::specs::Clauses::listed_among))]
 fn name_listed_by(tree: &Tree, part: u32, count: u32) -> Option<ListedName>
     requires { part < length tree.now.trees }
     ensures names { listed_in count (tree_at tree.now.trees part) ≡ with_name_of_part count (tree_at tree.now.trees part) result }
@@ -104,7 +104,6 @@ fn name_listed_by(tree: &Tree, part: u32, count: u32) -> Option<ListedName>
 }
 
 /// The name that a clause lists behind so many, if it gives a construct variables of its own.
-#[tactic(auto, unfolding(crate::specs::Nodes::IsPart))]
 fn name_of_clause(tree: &Tree, clause: Option<u32>, count: u32) -> Option<ListedName>
     requires { IsPart tree.now.trees clause }
     ensures names { listed_by (kind_of (part_at tree.now.trees clause)) (without_first count (part_at tree.now.trees clause)) ≡ with_name_of_clause count (part_at tree.now.trees clause) result }
@@ -142,7 +141,6 @@ pub(crate) fn is_loop(code: &Code, construct: u32) -> bool
 }
 
 /// The variable of the loop that a construct shares out: a place, or the name that the loop declares.
-#[tactic(auto, unfolding(crate::specs::Nodes::IsPart))]
 pub(crate) fn loop_variable(code: &Code, construct: u32) -> Option<u32>
     requires { construct < length code.now.trees }
     ensures variable { part_at code.now.trees result ≡ (loop_of (tree_at code.now.trees construct)).variable }

@@ -11,7 +11,6 @@ ghost use Rattle.c_steps.specs.Rests.{parts_from, with_part};
 use c_syntax::{NodeKind, Tree};
 
 /// What a part is.
-#[tactic(auto, unfolding(crate::specs::Nodes::IsPart))]
 pub(crate) fn kind_of_part(tree: &Tree, part: Option<u32>) -> NodeKind
     requires { IsPart tree.now.trees part }
     ensures { result ≡ kind_of (part_at tree.now.trees part) }
@@ -23,7 +22,6 @@ pub(crate) fn kind_of_part(tree: &Tree, part: Option<u32>) -> NodeKind
 }
 
 /// The child of a part at a place.
-#[tactic(auto, unfolding(crate::specs::Nodes::IsPart))]
 pub(crate) fn child_of_part(tree: &Tree, part: Option<u32>, place: u32) -> Option<u32>
     requires { IsPart tree.now.trees part }
     ensures child { part_at tree.now.trees result ≡ child_at (part_at tree.now.trees part) place }
@@ -37,7 +35,6 @@ pub(crate) fn child_of_part(tree: &Tree, part: Option<u32>, place: u32) -> Optio
 }
 
 /// The number of a part's name, 0 where it has none.
-#[tactic(auto, unfolding(crate::specs::Nodes::IsPart))]
 pub(crate) fn name_of_part(tree: &Tree, part: Option<u32>) -> u32
     requires { IsPart tree.now.trees part }
     ensures { result ≡ name_of (part_at tree.now.trees part) }
@@ -49,7 +46,6 @@ pub(crate) fn name_of_part(tree: &Tree, part: Option<u32>) -> u32
 }
 
 /// The value of a part's number, 0 where it has none.
-#[tactic(auto, unfolding(crate::specs::Nodes::IsPart))]
 pub(crate) fn number_of_part(tree: &Tree, part: Option<u32>) -> i32
     requires { IsPart tree.now.trees part }
     ensures { result ≡ pos (number_of (part_at tree.now.trees part)) }
@@ -61,7 +57,7 @@ pub(crate) fn number_of_part(tree: &Tree, part: Option<u32>) -> i32
 }
 
 /// The child of a part at a place, where the parts from there on are what is left of the whole.
-#[tactic(auto, using(crate::proofs::Rests::part_here, crate::proofs::Rests::part_none, crate::proofs::Rests::part_missing), unfolding(crate::specs::Nodes::IsPart))]
+#[tactic(auto, using(crate::proofs::Rests::part_here, crate::proofs::Rests::part_none, crate::proofs::Rests::part_missing))]
 pub(crate) fn next_part(tree: &Tree, whole: Option<u32>, place: u32) -> Option<u32>
     requires { IsPart tree.now.trees whole }
     ensures parts { parts_from (part_at tree.now.trees whole) place ≡ with_part tree.now.trees (part_at tree.now.trees whole) place result }

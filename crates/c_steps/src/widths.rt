@@ -1,12 +1,9 @@
 //! How many names a program has in scope at most, and how many one step brings into scope.
 
-ghost use Rattle.std.specs.Prelude.{◌≡◌, ◌+◌, ◌<◌, ◌≤◌, length, map, max, take, IfOk};
-ghost use Rattle.std.specs.List.{count_by};
-ghost use Rattle.c_syntax.specs.Tree.{Tree as syntax_tree, children_of, kind_of};
+ghost use Rattle.std.specs.Prelude.{◌≡◌, ◌<◌, length, map, take, IfOk};
+ghost use Rattle.c_syntax.specs.Tree.{children_of, kind_of};
 ghost use Rattle.c_syntax.specs.Numbered.{root_tree, tree_at};
-ghost use Rattle.c_model.specs.Clauses.{clauses_of, listed_among};
 ghost use Rattle.c_model.specs.Parts.{declarators_in, flat_declarations, parts};
-ghost use Rattle.c_model.specs.Task as tasks;
 ghost use Rattle.c_model.specs.Width as widths;
 ghost use Rattle.c_steps.specs.Nodes.{IsPart};
 ghost use Rattle.c_steps.specs.Widths as numbers;
@@ -81,32 +78,33 @@ fn number_at(inner: &[usize], node: Option<u32>) -> usize
     }
 }
 
-/// How many names a node itself brings into scope.
+/// How many names a node itself brings into scope: those that it declares, the copies that its clauses list, and those of a task by
+/// rule.
 fn own_names(program: &Program, node: u32) -> Result<usize, AllocError>
     requires { node < length program.now.trees }
     ensures { IfOk result (λ names. names ≡ widths.own_names program.now (kind_of (tree_at program.now.trees node)) (tree_at program.now.trees node)) }
 {
-    match program.tree().kind(node) {
-        NodeKind::Block => declarator_count(program.tree(), node),
-        NodeKind::For => Ok(1),
-        NodeKind::Construct(_) => construct_names(program, node),
+    let declared = declared_names(program.tree(), node)?;
+    let listed = listed_count(program.tree(), node)?;
+    let copies = program.task_copies(node).len();
+    let own = declared.checked_add(listed).ok_or(AllocError)?;
+    own.checked_add(copies).ok_or(AllocError)
+}
+
+/// How many names a node declares.
+fn declared_names(tree: &Tree, node: u32) -> Result<usize, AllocError>
+    requires { node < length tree.now.trees }
+    ensures { IfOk result (λ names. names ≡ widths.declared_names (kind_of (tree_at tree.now.trees node)) (tree_at tree.now.trees node)) }
+{
+    match tree.kind(node) {
+        NodeKind::Block => declarator_count(tree, node),
+        NodeKind::For | NodeKind::Construct(_) => Ok(1),
         _ => Ok(0),
     }
 }
 
-/// How many names a construct brings into scope: its own, its loop's, and in a task those that it copies by rule.
-fn construct_names(program: &Program, construct: u32) -> Result<usize, AllocError>
-    requires { construct < length program.now.trees }
-    ensures { IfOk result (λ names. names ≡ numbers.construct_names program.now (tree_at program.now.trees construct)) }
-{
-    let listed = listed_count(program.tree(), construct)?;
-    let copies = program.task_copies(construct).len();
-    let own = listed.checked_add(1).ok_or(AllocError)?;
-    own.checked_add(copies).ok_or(AllocError)
-}
-
 /// How many declarators a block has.
-#[tactic(auto, using(crate::proofs::InnerNames::declarators_behind), unfolding(c_check::specs::Tasks::from_place, crate::specs::Nodes::IsPart, c_model::specs::Parts::flat_declarations))]
+#[tactic(auto, using(crate::proofs::InnerNames::declarators_behind), unfolding(c_check::specs::Tasks::from_place, c_model::specs::Parts::flat_declarations))]
 fn declarator_count(tree: &Tree, block: u32) -> Result<usize, AllocError>
     requires { block < length tree.now.trees }
     ensures { IfOk result (λ count. count ≡ numbers.declarators_among (flat_declarations (parts (tree_at tree.now.trees block)))) }
@@ -132,7 +130,7 @@ fn declarators_of_part(tree: &Tree, part: u32) -> Result<usize, AllocError>
 }
 
 /// How many declarators a declaration has.
-#[tactic(auto, unfolding(c_check::specs::Tasks::from_place, crate::specs::Nodes::IsPart))]
+#[tactic(auto, unfolding(c_check::specs::Tasks::from_place))]
 fn listed_declarators(tree: &Tree, declaration: u32) -> Result<usize, AllocError>
     requires { declaration < length tree.now.trees }
     ensures { IfOk result (λ count. count ≡ numbers.declarators_among (parts (tree_at tree.now.trees declaration))) }
@@ -154,7 +152,7 @@ fn count_of(counts: bool) -> usize
 }
 
 /// The most names of one function beside those of the file.
-#[tactic(auto, using(crate::proofs::InnerNames::number_at_is), unfolding(c_check::specs::Tasks::from_place, crate::specs::Nodes::IsPart, c_model::specs::Width::most_of_functions))]
+#[tactic(auto, using(crate::proofs::InnerNames::number_at_is), unfolding(c_check::specs::Tasks::from_place, c_model::specs::Width::most_of_functions))]
 pub(crate) fn most_of_functions(program: &Program, inner: &[usize]) -> Result<usize, AllocError>
     requires { inner.now ≡ map (widths.inner_names program.now) program.now.trees }
     ensures { IfOk result (λ most. most ≡ widths.most_of_functions program.now (parts (root_tree program.now))) }
@@ -169,7 +167,7 @@ pub(crate) fn most_of_functions(program: &Program, inner: &[usize]) -> Result<us
 }
 
 /// How many names a function has at most beside those of the file.
-#[tactic(auto, using(crate::proofs::InnerNames::number_at_is), unfolding(crate::specs::Nodes::IsPart))]
+#[tactic(auto, using(crate::proofs::InnerNames::number_at_is))]
 fn function_names(program: &Program, inner: &[usize], function: u32) -> Result<usize, AllocError>
     requires function { function < length program.now.trees }
     requires inner { inner.now ≡ map (widths.inner_names program.now) program.now.trees }
@@ -197,7 +195,6 @@ pub(crate) fn step_names(tree: &Tree) -> Result<usize, AllocError>
 }
 
 /// How many names a step at a node brings into scope at most.
-#[tactic(auto, unfolding(crate::specs::Nodes::IsPart))]
 fn names_of_step(tree: &Tree, node: usize) -> Result<usize, AllocError>
     requires { node < length tree.now.trees }
     ensures { IfOk result (λ names. names ≡ numbers.names_of_step (tree_at tree.now.trees node)) }

@@ -22,7 +22,7 @@ use c_model::{TEXT, View};
 
 impl Control {
     /// `printf`: its numbers from left to right, and then its text.
-    #[tactic(auto, using(crate::proofs::ValuesAll::are_values, crate::proofs::ValuesAll::is_trap))]
+    #[tactic(auto, using(crate::proofs::ValuesAll::ok_values, crate::proofs::ValuesAll::trap_values))]
     pub(super) fn begin_print(
         &mut self,
         code: &Code,

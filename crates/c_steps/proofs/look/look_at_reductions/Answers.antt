@@ -1,4 +1,4 @@
-use Rattle.std.proofs.Common.{◌≡◌, refl, sym, rules}
+use Rattle.std.proofs.Common.{rules}
 use Rattle.c_steps.proofs.Looking.{reduction_next, reductions_over, variable_next}
 use Rattle.c_steps.proofs.look.look_at_reductions.Goals as goal
 

@@ -1,4 +1,4 @@
-use Rattle.std.proofs.Common.{◌≡◌, ◌<◌, ◌≤◌, ◌+◌, false, nat_lt, length-append, [], ◌∷◌, ◌++◌, length, rules}
+use Rattle.std.proofs.Common.{◌≡◌, ◌≤◌, ◌+◌, false, nat_lt, length-append, [], ◌∷◌, ◌++◌, length, rules}
 use Rattle.c_model.specs.declared.limits.TheConstants.{CELL_LIMIT}
 use Rattle.c_model.specs.Cells.{has_too_many}
 use Rattle.c_steps.specs.Moves.{bound, stepping, then_if}
