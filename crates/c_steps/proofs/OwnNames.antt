@@ -6,7 +6,6 @@ use Rattle.std.proofs.lemmas.List.{append-nil, append_assoc, drop-append-le, len
 use Rattle.c_syntax.specs.Tree.{Tree, name_of}
 use Rattle.c_syntax.specs.Derivation.{nothing}
 use Rattle.c_syntax.specs.Numbered.{TreeView, tree_at}
-use Rattle.c_check.specs.Seen.{task_copies}
 use Rattle.c_model.specs.declared.entry.Entry.{Entry}
 use Rattle.c_model.specs.declared.limits.TheConstants.{CELL_LIMIT}
 use Rattle.c_model.specs.Cells.{Bound, has_too_many, new_entry, with_cells}
@@ -15,13 +14,13 @@ use Rattle.c_model.specs.Parts.{parts}
 use Rattle.c_model.specs.declared.view.View.{View}
 use Rattle.c_model.specs.Task.Outcome.{StepsTo}
 use Rattle.c_model.specs.Clauses.{Listed, clauses_of, listed_among}
-use Rattle.c_model.specs.Copies.{is_loop, is_own_loop_variable, listed_variables, loop_slot, with_listed, with_loop_variable, with_own_cells, with_slots, with_task_cells}
+use Rattle.c_model.specs.Copies.{is_loop, is_own_loop_variable, listed_variables, loop_slot, with_listed, with_loop_variable, with_own_cells, with_slots}
 use Rattle.c_model.specs.Loops.{loop_of}
 use Rattle.c_model.specs.Task.{Store}
 use Rattle.c_steps.specs.Held.{Held, bound_in, here_at, moment_at}
 use Rattle.c_steps.specs.Items.{begun, calls_at, file_names}
 use Rattle.c_steps.specs.Moves.{bound, stepping}
-use Rattle.c_steps.specs.OwnCells.{Copy, around_at, copy_entry, copy_numbers, listed_copy, made_copies, made_listed, made_own, made_task, slot_copy, with_copies, with_made, with_made_cells, with_numbers}
+use Rattle.c_steps.specs.OwnCells.{Copy, around_at, copy_entry, copy_numbers, listed_copy, made_copies, made_listed, made_own, slot_copy, with_copies, with_made, with_made_cells, with_numbers}
 use Rattle.c_steps.specs.Widths.{most_of_steps, names_of_step, step_names}
 
 module _ (around : Bound) where

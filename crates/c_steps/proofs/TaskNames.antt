@@ -4,14 +4,13 @@ use Rattle.std.proofs.lemmas.List.{append_assoc}
 use Rattle.c_syntax.specs.Tree.{Tree}
 use Rattle.c_syntax.specs.Numbered.{TreeView}
 use Rattle.c_check.specs.Seen.{task_copies}
-use Rattle.c_model.specs.declared.entry.Entry.{Entry}
 use Rattle.c_model.specs.declared.limits.TheConstants.{CELL_LIMIT}
 use Rattle.c_model.specs.Cells.{Bound}
 use Rattle.c_model.specs.Clauses.{Listed}
 use Rattle.c_model.specs.Copies.{listed_variables, with_listed, with_slots, with_task_cells}
 use Rattle.c_model.specs.Task.{Store}
 use Rattle.c_steps.specs.Held.{Held, bound_in}
-use Rattle.c_steps.specs.OwnCells.{around_at, listed_copy, made_copies, made_listed, made_slots, made_task, slot_copy, with_made, with_made_cells}
+use Rattle.c_steps.specs.OwnCells.{around_at, listed_copy, made_listed, made_slots, made_task, slot_copy, with_made, with_made_cells}
 use Rattle.c_steps.proofs.OwnNames.{around_listed, cells_before, cells_grow, copies_append, copies_listed, copies_of_slots, listed_appends, listed_count, made_both}
 
 module _ (around : Bound) where

@@ -3,6 +3,10 @@ use Rattle.std.specs.Prelude.{ℕ, ◌+◌, ◌<◌, ◌≤◌, ◌≡◌, ◌^�
 use Rattle.std.specs.List.{All}
 use Rattle.c_syntax.specs.Tree.{kind_of, name_of}
 use Rattle.c_syntax.specs.Numbered.{TreeView, tree_at}
+use Rattle.c_model.specs.declared.point.Work.{Work}
+use Rattle.c_model.specs.declared.point.Work.TheVariants as work
+use Rattle.c_model.specs.declared.point.Point.{Point}
+use Rattle.c_model.specs.declared.point.Point.TheVariants as point
 use Rattle.c_model.specs.Cells.{fits_cell}
 use Rattle.c_model.specs.Loops.{iteration_value, loop_of}
 use Rattle.c_model.specs.Task.{Store, is_declarator}

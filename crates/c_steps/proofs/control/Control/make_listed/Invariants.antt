@@ -1,4 +1,4 @@
-use Rattle.std.proofs.Common.{◌≡◌, length, map}
+use Rattle.std.proofs.Common.{length, map}
 use Rattle.c_syntax.specs.Numbered.{tree_at}
 use Rattle.c_model.specs.Copies.{listed_variables}
 use Rattle.c_steps.specs.Held.{bound_in}

@@ -1,4 +1,4 @@
-use Rattle.std.proofs.Common.{◌≡◌, drop, map}
+use Rattle.std.proofs.Common.{drop, map}
 use Rattle.c_steps.specs.OwnCells.{around_at, slot_copy}
 use Rattle.c_steps.proofs.OwnNames.{IsMaking}
 use Rattle.c_steps.proofs.control.Control.make_slots.Given as goal
