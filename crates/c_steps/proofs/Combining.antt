@@ -1,5 +1,5 @@
 -- The names around a construct's own, and those.
-use Rattle.std.proofs.Common.{◌≡◌, ℕ, ◌+◌, ◌-◌, ◌≤◌, ◌++◌, List, length, min, slice_range, take, drop, sym, ap, ◌∙◌, arith}
+use Rattle.std.proofs.Common.{◌≡◌, ℕ, ◌+◌, ◌-◌, ◌++◌, List, length, min, slice_range, take, drop, sym, ap, ◌∙◌, arith}
 use Rattle.std.proofs.lemmas.List.{drop_min, length-drop, take_all, take_min}
 use Rattle.std.proofs.Math.Seq.{drop-append-add, take-append-add}
 

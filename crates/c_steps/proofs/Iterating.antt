@@ -1,5 +1,5 @@
 -- The loop that a construct shares out: which way it goes, and that each iteration has a value that a cell can hold.
-use Rattle.std.proofs.Common.{◌≡◌, ℕ, suc, ◌+◌, ◌-◌, ◌*◌, ◌/◌, ◌%◌, ◌<◌, ◌≤◌, ◌^◌, min, Bool, true, false, ◌&&◌, ◌||◌, IfSome, if◌then◌else◌, Option, Some, None, ℤ, pos, negsuc, ◌+ℤ◌, ◌-ℤ◌, ◌*ℤ◌, ◌≤ℤ◌, ◌<ℤ◌, neg_ℤ, nat_abs, FitsSigned, w32, w64, refl, sym, ap, ◌∙◌, subst, arith, rules}
+use Rattle.std.proofs.Common.{◌≡◌, ℕ, suc, ◌+◌, ◌-◌, ◌*◌, ◌/◌, ◌%◌, ◌<◌, ◌≤◌, ◌^◌, min, Bool, true, false, ◌&&◌, ◌||◌, IfSome, if◌then◌else◌, Option, Some, None, ℤ, pos, negsuc, ◌+ℤ◌, ◌-ℤ◌, ◌*ℤ◌, ◌≤ℤ◌, ◌<ℤ◌, neg_ℤ, nat_abs, FitsSigned, w32, w64, refl, sym, subst, arith, rules}
 use Rattle.std.proofs.lemmas.Int.{ints}
 use Rattle.std.proofs.Math.Nat.{div-mul-le_self, le-mul_of_pos_right, lt_of_not-le, mul-le-mul_right, suc-mul}
 use Rattle.std.proofs.Math.IntN.{pos-*ℤ-negsuc, pos-*ℤ-pos}
@@ -9,7 +9,7 @@ use Rattle.c_syntax.specs.declared.node.Bump.TheVariants as bump
 use Rattle.c_syntax.specs.declared.node.Setting.TheVariants as setting
 use Rattle.c_syntax.specs.declared.node.NodeKind.{NodeKind}
 use Rattle.c_syntax.specs.declared.node.NodeKind.TheVariants as node
-use Rattle.c_syntax.specs.Tree.{Tree, child_of, children_of, kind_of, number_of}
+use Rattle.c_syntax.specs.Tree.{Tree, child_of, children_of, kind_of}
 use Rattle.c_check.specs.Loops.{adds, child_at, goes_down, goes_up, has_head, is_start, is_step_down, is_step_up, is_variable_named, loop_name, takes}
 use Rattle.c_check.specs.LoopParts.{LoopParts, comparison_of, loop_parts, parts_by_kind, parts_if, parts_in, parts_with, statement_parts, step_by, step_of}
 use Rattle.c_check.specs.Statements.{shares_loop, statement_of}

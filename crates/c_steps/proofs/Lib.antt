@@ -26,6 +26,7 @@ mod Settling
 pub mod Standing
 mod StepNames
 mod Stepping
+pub mod TaskNames
 mod Values
 mod ValuesAll
 mod ValuesNamed

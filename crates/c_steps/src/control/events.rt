@@ -1,6 +1,6 @@
 //! Events of constructs and directives, and what is asked: nothing changes at them.
 
-ghost use Rattle.std.specs.Prelude.{◌≡◌, ◌<◌, ◌∷◌, [], length, pos};
+ghost use Rattle.std.specs.Prelude.{◌≡◌, ◌<◌, length};
 ghost use Rattle.c_syntax.specs.Tree.{kind_of};
 ghost use Rattle.c_syntax.specs.Numbered.{tree_at};
 ghost use Rattle.c_model.specs.Constructs as constructs;
