@@ -6,6 +6,7 @@ pub mod Giving
 pub mod InnerNames
 pub mod ListedNames
 mod Looking
+pub mod Membering
 pub mod Passing
 mod PrintingNumbers
 mod PrintingText

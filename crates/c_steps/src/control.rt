@@ -12,6 +12,7 @@ mod begin;
 mod declaring;
 mod evaluating;
 mod giving;
+mod member;
 mod passing;
 mod prints;
 mod settling;

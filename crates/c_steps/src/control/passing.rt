@@ -249,7 +249,7 @@ fn barrier_of(code: &Code, node: u32) -> Option<Item>
 }
 
 /// The making of a construct's own cells, if it has any.
-fn own_cells(code: &Code, node: u32) -> Option<Item>
+pub(super) fn own_cells(code: &Code, node: u32) -> Option<Item>
     requires { node < length code.now.trees }
     ensures cells { items_if code.now result ≡ makes_cells (tree_at code.now.trees node) }
     ensures item { IfSome result (IsItem code.now) }
