@@ -6,7 +6,7 @@ pub mod Giving
 pub mod InnerNames
 pub mod ListedNames
 mod Looking
-pub mod Membering
+pub mod Members
 pub mod Passing
 mod PrintingNumbers
 mod PrintingText

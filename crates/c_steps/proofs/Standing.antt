@@ -43,12 +43,13 @@ module _ (program : TreeView) (view : View) (it : Frame) where
 
     module _ (found : Item) (shows : ShowsItem program other found) where
       pub found_front : is_passed_over (item_at program found) view ≡ false → Fronts program view it (front.Found found)
-      found_front stays =
-          ((shows.front [] (search rules)).is_item,
-          λ frames are.
+      found_front stays = (
+        (shows.front [] (search rules)).is_item,
+        λ frames are.
             let next = shows.front frames are in
             first_item (items_from_next view (todo_at program (it ∷ frames))) (item_at program found) (todo_at program (begun (other ∷ frames)))
-            (sym (settled_front program view (it ∷ frames) (other ∷ frames) found (so frames are) next stays) ∙ next.todo))
+            (sym (settled_front program view (it ∷ frames) (other ∷ frames) found (so frames are) next stays) ∙ next.todo),
+      )
 
       pub past_front : is_passed_over (item_at program found) view ≡ true → BeginsAs other None → Fronts program view it front.Over
       past_front past begins frames are =

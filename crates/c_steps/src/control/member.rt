@@ -27,7 +27,7 @@ use c_syntax::{Directive, NodeKind};
 impl Control {
     /// The code of a member of a team begins in another control, with the names of the task that has forked the region, which stands next
     /// here. What stood there goes. It takes no memory.
-    #[tactic(auto, using(crate::proofs::Membering::own_fit, crate::proofs::Membering::none_forked))]
+    #[tactic(auto, using(crate::proofs::Members::own_fit, crate::proofs::Members::none_forked))]
     pub fn member(&self, code: &Code, into: &mut Control)
         requires made { IsMadeFor code.now self.now }
         requires forked { HasForked (task_at code.now self.now).todo }

@@ -119,9 +119,9 @@ module _ (program : TreeView) (view : View) (held into new : Held) (node names :
         let construct : forked_construct (todo_at program held.frames) ≡ tree_at program.trees node = forked_in (todo_at program held.frames) (tree_at program.trees node) (sym (ap (λ (items : List SeenItem). forked_of (slice_get items 0)) (nothing_past view (todo_at program held.frames) first)) ∙ is) in
         let count : length (env_at program held) ≡ with_file program names = all_names program (drop held.base held.names) ∙ ap (with_file program) (sym own) in
         let items : todo_at program new.frames ≡ member_items (forked_construct (todo_at program held.frames)) (length (env_at program held)) =
-            put.todo ∙ append-nil (member_items (tree_at program.trees node) (with_file program names)) ∙ rw (construct, count) refl in
+        put.todo ∙ append-nil (member_items (tree_at program.trees node) (with_file program names)) ∙ rw (construct, count) refl in
         let same : task_at program new ≡ record (task_at program (beginning (drop held.base held.names) into)) { todo = todo_at program new.frames; calls = calls_at program (take new.base new.names) new.frames } =
-            ap (λ (held : Held). record (task_at program held) { todo = todo_at program new.frames; calls = calls_at program (take new.base new.names) new.frames }) put.rest in
+        ap (λ (held : Held). record (task_at program held) { todo = todo_at program new.frames; calls = calls_at program (take new.base new.names) new.frames }) put.rest in
         same
         ∙ ap (λ calls. record (task_at program (beginning (drop held.base held.names) into)) { todo = todo_at program new.frames; calls = calls }) (put.calls (take new.base new.names))
         ∙ ap (λ items. new_task items (env_at program held)) items
