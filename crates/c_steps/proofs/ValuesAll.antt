@@ -1,5 +1,5 @@
 -- The values of the children of a node from a place on.
-use Rattle.std.specs.Prelude.{◌≡◌, ℕ, zero, suc, ◌+◌, List, [], ◌∷◌, Some, None, Result, Ok, Err, ℤ, refl}
+use Rattle.std.specs.Prelude.{◌≡◌, ℕ, zero, suc, ◌+◌, List, [], ◌∷◌, Option, Some, None, Result, Ok, Err, ℤ, refl}
 use Rattle.std.proofs.Common.{ap, sym, ◌∙◌, add-one}
 use Rattle.c_syntax.specs.Tree.{Tree, Children, at_place, child_of, children_of}
 use Rattle.c_syntax.specs.Tree.Children.{Over, Child, Absent}

@@ -4,6 +4,7 @@ use Rattle.c_syntax.specs.Tree.{Tree}
 use Rattle.c_syntax.specs.Numbered.{TreeView, tree_at}
 use Rattle.c_model.specs.declared.entry.Entry.{Entry}
 use Rattle.c_model.specs.declared.view.View.{View}
+use Rattle.c_model.specs.Cells.{Bound}
 use Rattle.c_model.specs.Value.{Scope}
 use Rattle.c_model.specs.Task.{Here, Moment, Outcome, Store, Task}
 use Rattle.c_model.specs.Task.Outcome.{StepsTo, Asks, Occurs, Ends, Traps, Limits}
@@ -64,3 +65,7 @@ outcome_at program (next.Limit limit) now = Limits limit
 -- what the expressions of the function that was called last are evaluated in
 abbrev pub scope_in : TreeView → View → Held → Store → Scope
 scope_in program view held store = record { env = env_at program held; cells = store.cells; view = view }
+
+-- its names, with all cells
+abbrev pub bound_in : TreeView → Held → Store → Bound
+bound_in program held store = record { env = env_at program held; cells = store.cells }

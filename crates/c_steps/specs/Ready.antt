@@ -117,3 +117,20 @@ pub record IsAfterStep (old new : Held) : Type 0 where
 abbrev pub IsSettled : Next → Held → Store → Held → Store → Type 0
 IsSettled next.Quiet old before new after = IsAfterStep old new
 IsSettled other old before new after = (new ≡ old) × (after ≡ before)
+
+-- nothing was done
+abbrev pub IsUnchanging : Next → Type 0
+IsUnchanging result = (held : Held) (store : Store) → IsSettled result held store held store
+
+-- of a loop that begins to be shared out each iteration has a value that a cell can hold
+abbrev pub AreWorkNumbers : Work → Type 0
+AreWorkNumbers (work.Loop start count step schedule) = AreLoopNumbers start count step
+AreWorkNumbers other = Unit {0}
+
+abbrev pub ArePointNumbers : Point → Type 0
+ArePointNumbers (point.WorkBegin codeptr shared) = AreWorkNumbers shared
+ArePointNumbers other = Unit {0}
+
+abbrev pub HasLoopNumbers : Next → Type 0
+HasLoopNumbers (next.Event at node) = ArePointNumbers at
+HasLoopNumbers other = Unit {0}

@@ -3,6 +3,7 @@
 ghost use Rattle.std.specs.Prelude.{◌≡◌, ◌+◌, ◌<◌, ◌≤◌, [], ◌∷◌, ◌++◌, length, drop, nat_lt, not, replicate, slice_set, take, IfOk};
 ghost use Rattle.c_model.specs.Calls.{file_bound};
 ghost use Rattle.c_model.specs.Cells.{cell_at};
+ghost use Rattle.c_model.specs.declared.limits.TheConstants.{CELL_LIMIT};
 
 use crate::code::Code;
 use c_model::{CELL_LIMIT, TEXT_LIMIT};
@@ -57,6 +58,13 @@ impl Cells {
         ensures { result ≡ length self.now.cells }
     {
         self.cells.len()
+    }
+
+    /// For how many more cells there is room.
+    pub(crate) fn room(&self) -> usize
+        ensures { length self.now.cells + result ≡ CELL_LIMIT }
+    {
+        CELL_LIMIT - self.cells.len()
     }
 
     /// The numbers in the cells.

@@ -1,10 +1,11 @@
-//! The operators of expressions on numbers of 32 bits (C11 6.5).
+//! The operators of expressions and reductions on numbers of 32 bits (C11 6.5).
 
-ghost use Rattle.std.specs.Prelude.{◌≡◌, ◌+ℤ◌, ◌-ℤ◌, ◌*ℤ◌, neg_ℤ, not};
+ghost use Rattle.std.specs.Prelude.{◌≡◌, ◌+ℤ◌, ◌-ℤ◌, ◌*ℤ◌, if◌then◌else◌, int_le, neg_ℤ, not};
+ghost use Rattle.c_model.specs.Constructs.{reduction_result};
 ghost use Rattle.c_model.specs.Value.{in_range, truth, is_zero, quotient, remainder, binary_result, unary_result, deciding_value};
 
 use c_model::{OVERFLOW, ZERO_DIVIDE};
-use c_syntax::{BinaryOp, UnaryOp};
+use c_syntax::{BinaryOp, ReductionOp, UnaryOp};
 
 /// What an operator makes of two numbers, or its trap.
 pub(crate) fn binary_result(operator: BinaryOp, left: i32, right: i32) -> Result<i32, u8>
@@ -45,6 +46,30 @@ pub(crate) fn deciding_value(operator: BinaryOp, left: i32) -> Option<i32>
         BinaryOp::And => { if left == 0 { Some(0) } else { None } }
         _ => None,
     }
+}
+
+/// What a reduction makes of the number of a variable and that of a construct's copy of it, or its trap (OpenMP 5.2, 5.5.5).
+pub(crate) fn reduction_result(operator: ReductionOp, around: i32, own: i32) -> Result<i32, u8>
+    ensures { result ≡ reduction_result operator around own }
+{
+    match operator {
+        ReductionOp::Add => sum(around, own),
+        ReductionOp::Multiply => product(around, own),
+        ReductionOp::Max => Ok(greater(around, own)),
+        ReductionOp::Min => Ok(lesser(around, own)),
+    }
+}
+
+fn greater(left: i32, right: i32) -> i32
+    ensures { result ≡ (if int_le left right then right else left) }
+{
+    if left <= right { right } else { left }
+}
+
+fn lesser(left: i32, right: i32) -> i32
+    ensures { result ≡ (if int_le left right then left else right) }
+{
+    if left <= right { left } else { right }
 }
 
 /// 1 or 0.

@@ -1,10 +1,10 @@
 //! What an expression is evaluated in, and its number.
 
-ghost use Rattle.std.specs.Prelude.{◌≡◌, ◌<◌, length, pos};
+ghost use Rattle.std.specs.Prelude.{◌≡◌, ◌<◌, ◌++◌, length, pos};
 ghost use Rattle.std.specs.Option.{unwrap_or};
 ghost use Rattle.c_syntax.specs.Numbered.{tree_at};
 ghost use Rattle.c_model.specs.declared.entry.Entry.{Entry as SeenEntry};
-ghost use Rattle.c_model.specs.Cells.{cell_at, entry_of, last_named, no_entry};
+ghost use Rattle.c_model.specs.Cells.{cell_at, entry_at_slot, entry_of, first_named, last_named, last_of_slot, no_entry};
 ghost use Rattle.c_model.specs.Parts.{parts};
 ghost use Rattle.c_model.specs.Value.{all_values, binary_value, cell_of, element, getter_number, unary_value, value};
 ghost use Rattle.c_steps.specs.Arguments.{without_values};
@@ -29,14 +29,17 @@ pub(crate) struct Scope<'a> {
 
 impl<'a> Scope<'a> {
     /// The entry of a name, the newest one. A name that nothing declares has one that no cell belongs to.
-    #[tactic(auto, using(crate::proofs::ValuesNamed::named_behind))]
     pub(crate) fn entry(&self, name: u32) -> Entry
         ensures { result ≡ entry_of (scope_of self.now).env name }
     {
-        match newest_named(self.names, name) {
-            Some(entry) => entry,
-            None => file_entry(self.file, name),
-        }
+        named_entry(self.file, self.names, name)
+    }
+
+    /// The entry of the declaration with a slot, the newest one. A slot that nothing has gives one that no cell belongs to.
+    pub(crate) fn entry_at_slot(&self, slot: u32) -> Entry
+        ensures { result ≡ entry_at_slot (scope_of self.now).env slot }
+    {
+        slot_entry(self.file, self.names, slot)
     }
 
     /// The number of an expression, or its trap. One that is missing is 0.
@@ -166,6 +169,28 @@ impl<'a> Scope<'a> {
     }
 }
 
+/// The entry of a name, the newest one, where the names of the file come first.
+#[tactic(auto, using(crate::proofs::ValuesNamed::named_behind))]
+pub(crate) fn named_entry(file: &[Entry], names: &[Entry], name: u32) -> Entry
+    ensures { result ≡ entry_of (file.now ++ names.now) name }
+{
+    match newest_named(names, name) {
+        Some(entry) => entry,
+        None => file_entry(file, name),
+    }
+}
+
+/// The entry of a slot, the newest one, where the names of the file come first.
+#[tactic(auto, using(crate::proofs::ValuesOfSlots::slot_behind))]
+pub(crate) fn slot_entry(file: &[Entry], names: &[Entry], slot: u32) -> Entry
+    ensures { result ≡ entry_at_slot (file.now ++ names.now) slot }
+{
+    match newest_of_slot(names, slot) {
+        Some(entry) => entry,
+        None => file_entry_of_slot(file, slot),
+    }
+}
+
 /// The newest entry of a name.
 #[tactic(auto, using(crate::proofs::ValuesNamed::named_last, crate::proofs::ValuesNamed::named_none))]
 fn newest_named(entries: &[Entry], name: u32) -> Option<Entry>
@@ -187,12 +212,59 @@ fn file_entry(entries: &[Entry], name: u32) -> Entry
 {
     match newest_named(entries, name) {
         Some(entry) => entry,
-        None => Entry {
-            name: 0,
-            first: CELL_LIMIT as u32,
-            size: 0,
-            slot: 0,
-        },
+        None => no_entry(),
+    }
+}
+
+/// The newest entry of a slot.
+#[tactic(auto, using(crate::proofs::ValuesOfSlots::slot_last, crate::proofs::ValuesOfSlots::slot_none))]
+fn newest_of_slot(entries: &[Entry], slot: u32) -> Option<Entry>
+    ensures { (found : SeenEntry) → unwrap_or result found ≡ last_of_slot slot found entries.now }
+{
+    let mut older = entries;
+    while let Some((entry, rest)) = older.split_last() {
+        if entry.slot == slot {
+            return Some(*entry);
+        }
+        older = rest;
+    }
+    None
+}
+
+/// The newest entry of a slot, or that of a name that nothing declares.
+fn file_entry_of_slot(entries: &[Entry], slot: u32) -> Entry
+    ensures { result ≡ last_of_slot slot no_entry entries.now }
+{
+    match newest_of_slot(entries, slot) {
+        Some(entry) => entry,
+        None => no_entry(),
+    }
+}
+
+/// The oldest entry of a name, or that of a name that nothing declares.
+#[tactic(auto, unfolding(c_model::specs::Cells::first_named))]
+pub(crate) fn first_named(entries: &[Entry], name: u32) -> Entry
+    ensures { result ≡ first_named name entries.now }
+{
+    let mut newer = entries;
+    while let Some((entry, rest)) = newer.split_first() {
+        if entry.name == name {
+            return *entry;
+        }
+        newer = rest;
+    }
+    no_entry()
+}
+
+/// The entry of a name that nothing declares.
+fn no_entry() -> Entry
+    ensures { result ≡ no_entry }
+{
+    Entry {
+        name: 0,
+        first: CELL_LIMIT as u32,
+        size: 0,
+        slot: 0,
     }
 }
 
@@ -207,7 +279,7 @@ fn element(entry: Entry, index: i32) -> Result<usize, u8>
 }
 
 /// What is in a cell; 0 where there is none.
-fn number_in(cells: &[i32], cell: usize) -> i32
+pub(crate) fn number_in(cells: &[i32], cell: usize) -> i32
     ensures { result ≡ cell_at cells.now cell }
 {
     match cells.get(cell) {
