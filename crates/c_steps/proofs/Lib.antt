@@ -1,6 +1,7 @@
 pub mod Beginning
 mod Combining
 pub mod Counting
+pub mod ExplicitTasks
 pub mod FileNames
 pub mod FirstFunctions
 mod Frames

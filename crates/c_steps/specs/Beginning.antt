@@ -1,6 +1,9 @@
 -- Where the code of a member of a team begins.
 use Rattle.std.specs.Prelude.{ℕ, ◌≡◌, Bool, true, false, List, [], ◌∷◌, ◌++◌, Option, Some, None}
-use Rattle.c_syntax.specs.Tree.{Tree}
+use Rattle.c_syntax.specs.declared.node.Directive.TheVariants as directive
+use Rattle.c_syntax.specs.declared.node.NodeKind.{NodeKind}
+use Rattle.c_syntax.specs.declared.node.NodeKind.TheVariants as node
+use Rattle.c_syntax.specs.Tree.{Tree, kind_of}
 use Rattle.c_syntax.specs.Numbered.{TreeView}
 use Rattle.c_model.specs.declared.entry.Entry.{Entry}
 use Rattle.c_model.specs.Clauses.{construct_statement}
@@ -35,3 +38,16 @@ pub record IsPutBefore (program : TreeView) (items : List Item) (old new : Held)
   pub todo : todo_at program new.frames ≡ items ++ todo_at program old.frames
   pub calls : (names : List Entry) → calls_at program names new.frames ≡ calls_at program names old.frames
   pub are_frames : AreFrames program old.frames → AreFrames program new.frames
+
+-- an explicit task is made of what stands next
+abbrev pub IsTaskConstruct : NodeKind → Type 0
+IsTaskConstruct (node.Construct directive.Task) = Unit {0}
+IsTaskConstruct other = ⊥
+
+abbrev pub IsCreation : Option Item → Type 0
+IsCreation (Some (Start construct)) = IsTaskConstruct (kind_of construct)
+IsCreation other = ⊥
+
+abbrev pub created_of : Option Item → Option Tree
+created_of (Some (Start construct)) = Some construct
+created_of other = None

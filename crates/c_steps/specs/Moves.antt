@@ -115,6 +115,6 @@ cleared held =
 abbrev pub roomy : Held → Held
 roomy held = record held { spare = 65; passes = 1; frames_now = 0; names_now = 0 }
 
--- no code is left, and these names are in scope
+-- no code is left, these names are in scope, and the rest of the room is for more
 abbrev pub beginning : List Entry → Held → Held
-beginning entries held = record (cleared held) { names = entries }
+beginning entries held = record (cleared held) { names = entries; names_now = held.room - length entries }

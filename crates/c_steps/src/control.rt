@@ -11,12 +11,13 @@ ghost use Rattle.c_steps.specs.Moves.{bound, closed, cut, ended, last_call, open
 mod begin;
 mod declaring;
 mod evaluating;
-mod giving;
-mod member;
-mod passing;
 mod events;
+mod explicit_task;
+mod giving;
 mod iterations;
+mod member;
 mod own_cells;
+mod passing;
 mod prints;
 mod settling;
 mod standing;

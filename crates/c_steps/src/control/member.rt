@@ -43,15 +43,15 @@ impl Control {
     }
 
     /// The names of the function that was called last.
-    fn own(&self) -> &[Entry]
+    pub(super) fn own(&self) -> &[Entry]
         ensures names { result.now ≡ drop self.now.base self.now.names }
         ensures entries { AreEntries result.now }
     {
         &self.names.items()[self.base..]
     }
 
-    /// No code is left, and these names are in scope.
-    fn inherit(&mut self, entries: &[Entry])
+    /// No code is left, these names are in scope, and the rest of the room is for more.
+    pub(super) fn inherit(&mut self, entries: &[Entry])
         requires room { length entries.now ≤ self.old.room }
         requires entries { AreEntries entries.now }
         ensures { self.new ≡ beginning entries.now self.old }
@@ -68,6 +68,7 @@ impl Control {
         ensures { self.new ≡ beginning entries.now self.old }
     {
         self.names.extend(entries);
+        self.names_now = self.room - entries.len();
     }
 
     /// The code of a member stands next: what it executes, and then the region's barrier.
