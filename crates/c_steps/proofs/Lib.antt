@@ -6,6 +6,7 @@ pub mod Counting
 mod Entered
 mod Entering
 mod Entries
+pub mod ExplicitTasks
 pub mod FileNames
 pub mod FirstFunctions
 mod Frames
@@ -14,6 +15,7 @@ pub mod InnerNames
 pub mod Iterating
 pub mod ListedNames
 mod Looking
+pub mod Members
 pub mod OwnNames
 mod Parameters
 pub mod Passing

@@ -236,7 +236,7 @@ step_within (tree ∷ trees) zero within = le-max_left (names_of_step tree) (mos
 step_within (tree ∷ trees) (suc node) within =
     omega (arith, step_within trees node (omega (arith, within)), le-max_right (names_of_step tree) (most_of_steps trees))
 
-listed_within : (construct : Tree) → length (listed_variables construct) ≤ length (listed_among (clauses_of construct))
+pub listed_within : (construct : Tree) → length (listed_variables construct) ≤ length (listed_among (clauses_of construct))
 listed_within construct =
     let own = λ (listed : Listed). not (is_own_loop_variable construct listed.name) in
     omega (arith, length-filter own (listed_among (clauses_of construct)), count_by-le-length own (listed_among (clauses_of construct)))
