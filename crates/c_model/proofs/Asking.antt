@@ -13,12 +13,16 @@ use Rattle.c_syntax.specs.Tree.{Tree, kind_of}
 use Rattle.c_syntax.specs.Numbered.{TreeView}
 use Rattle.c_check.specs.Loops.{child_at}
 use Rattle.c_model.specs.declared.entry.Entry.{Entry}
+use Rattle.c_model.specs.declared.question.Answer.{Answer}
 use Rattle.c_model.specs.declared.question.Ask.{Ask}
+use Rattle.c_model.specs.declared.question.Ask.TheVariants as ask
 use Rattle.c_model.specs.declared.point.Point.{Point}
 use Rattle.c_model.specs.declared.point.Target.{Target}
 use Rattle.c_model.specs.declared.point.Target.TheVariants as target
 use Rattle.c_model.specs.declared.view.View.{View}
+use Rattle.c_model.specs.Answers.{AnswersFirst, AnswersItem, IsLockAnswer, IsSectionAnswer}
 use Rattle.c_model.specs.Cells.{Bound}
+use Rattle.c_model.specs.Clauses.{sections_of}
 use Rattle.c_model.specs.Coming.{binds, with_result}
 use Rattle.c_model.specs.Calls.{begin_call, begin_right, begin_lock_call, begin_return_of, enters, returns_to}
 use Rattle.c_model.specs.Statements.{begin_local_set, declares, makes_first_step, makes_step}
@@ -187,7 +191,33 @@ asked-first [] program view now = tt
 asked-first (item ∷ items) program view now =
     asked-by item (record { program = program; view = view; task = record now.task { todo = items }; store = now.store }) items
 
+-- what an item's step asks, this item asks
+pub question_is_of_item : (item : Item) (here : Here) (ask : Ask) (tree : Tree) → step_of item here ≡ Asks ask tree → IsAskOf ask tree item
+unfolding IsAskedBy IsAskOfNext
+question_is_of_item item here ask tree is = subst (IsAskedBy (item ∷ [])) is (asked-by item here [])
+
 pub question_is_of_next : (program : TreeView) (view : View) (now : Moment) (ask : Ask) (tree : Tree) → silent program view now ≡ Asks ask tree → IsAskOfNext ask tree (settled_task view now.task).todo
 unfolding silent IsAskedBy
 question_is_of_next program view now ask tree is =
     subst (IsAskedBy (items_from_next view now.task.todo)) is (asked-first (items_from_next view now.task.todo) program view now)
+
+-- an answer that fits a question answers the item that asks it
+section-answers : (item : Item) (tree : Tree) (given : Answer) → IsAskOf ask.Section tree item → IsSectionAnswer (length (sections_of tree)) given → AnswersItem item given
+unfolding IsAskOf AnswersItem
+section-answers (NextSection construct names) tree given is fits = subst (λ tree. IsSectionAnswer (length (sections_of tree)) given) is fits
+section-answers other tree given is fits = absurd is
+
+free-answers : (item : Item) (id : ℕ) (tree : Tree) (given : Answer) → IsAskOf (ask.LockFree id) tree item → IsLockAnswer given → AnswersItem item given
+unfolding IsAskOf AnswersItem
+free-answers (TestLock call wait_id to) id tree given is fits = fits
+free-answers other id tree given is fits = absurd is
+
+pub section_answers_first : (items : List Item) (tree : Tree) (given : Answer) → IsAskOfNext ask.Section tree items → IsSectionAnswer (length (sections_of tree)) given → AnswersFirst items given
+unfolding IsAskOfNext AnswersFirst
+section_answers_first [] tree given is fits = absurd is
+section_answers_first (item ∷ items) tree given is fits = section-answers item tree given is fits
+
+pub free_answers_first : (items : List Item) (id : ℕ) (tree : Tree) (given : Answer) → IsAskOfNext (ask.LockFree id) tree items → IsLockAnswer given → AnswersFirst items given
+unfolding IsAskOfNext AnswersFirst
+free_answers_first [] id tree given is fits = absurd is
+free_answers_first (item ∷ items) id tree given is fits = free-answers item id tree given is fits

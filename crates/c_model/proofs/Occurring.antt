@@ -163,6 +163,19 @@ of-next [] program view now = tt
 of-next (item ∷ items) program view now =
     of-item item (record { program = program; view = view; task = record now.task { todo = items }; store = now.store }) items
 
+event-of-item : (item : Item) (here : Here) (point : Point) (tree : Tree) → step_of item here ≡ Occurs point tree → IsOfFirst point tree (item ∷ [])
+unfolding IsEventOf
+event-of-item item here point tree is = subst (IsEventOf (item ∷ [])) is (of-item item here [])
+
+-- the event of an item's step is of this item
+pub event_is_of_item : (item : Item) (here : Here) (point : Point) (tree : Tree) → step_of item here ≡ Occurs point tree → IsOfItem point item
+unfolding IsOfNext
+event_is_of_item item here point tree is = (event-of-item item here point tree is).is_of
+
+pub event_is_at_item : (item : Item) (here : Here) (point : Point) (tree : Tree) → step_of item here ≡ Occurs point tree → IsTreeOf tree item
+unfolding IsTreeOfNext
+event_is_at_item item here point tree is = (event-of-item item here point tree is).is_at
+
 event-of-first : (program : TreeView) (view : View) (now : Moment) (point : Point) (tree : Tree) → silent program view now ≡ Occurs point tree → IsOfFirst point tree (items_from_next view now.task.todo)
 unfolding silent IsEventOf
 event-of-first program view now point tree is =
