@@ -1,12 +1,15 @@
 //! One step of a task's code.
 
-ghost use Rattle.std.specs.Prelude.{◌≡◌, ◌<◌};
+ghost use Rattle.std.specs.Prelude.{◌≡◌, ◌<◌, pos, unwrap_or};
+ghost use Rattle.c_syntax.specs.Numbered.{TreeView};
+ghost use Rattle.c_model.specs.Task.{Moment};
+ghost use Rattle.c_model.specs.Task.Outcome.{Ends};
 ghost use Rattle.c_model.specs.Step.{silent, step_of};
 ghost use Rattle.c_steps.specs.Advancing.{IsKept};
 ghost use Rattle.c_steps.specs.Held.{here_at, moment_at, outcome_at};
 ghost use Rattle.c_steps.specs.Items.{item_at};
 ghost use Rattle.c_steps.specs.Made.{IsMadeFor};
-ghost use Rattle.c_steps.specs.Ready.{AreFrames, HasLoopNumbers, IsItem, IsSettled, IsStepping};
+ghost use Rattle.c_steps.specs.Ready.{AreFrames, HasLoopNumbers, IsItem, IsSettled, IsStepping, IsUnchanging};
 ghost use Rattle.c_steps.specs.Scopes.{HasNumbers};
 ghost use Rattle.c_steps.specs.Widths.{step_names};
 
@@ -14,7 +17,8 @@ use crate::cells::Cells;
 use crate::code::Code;
 use crate::control::Control;
 use crate::control::events::{
-    acquire, ask_lock, end_masked, end_parallel, end_work, next_chunk, next_section, release, synchronise,
+    acquire, ask_lock, end_masked, end_parallel, end_work, next_chunk, next_section, release,
+    synchronise,
 };
 use crate::item::Item;
 use crate::next::Next;
@@ -34,7 +38,19 @@ impl Control {
     {
         match self.settle(code, view) {
             Some(item) => self.advance_item(code, cells, view, item),
-            None => Next::Ended(self.returned.unwrap_or(0)),
+            None => self.ended(),
+        }
+    }
+
+    /// The code has ended, with the value of the last call, or 0.
+    fn ended(&self) -> Next
+        ensures step { (program : TreeView) (now : Moment) → outcome_at program result now ≡ Ends (unwrap_or self.now.returned (pos 0)) }
+        ensures unchanged { IsUnchanging result }
+        ensures numbers { HasLoopNumbers result }
+    {
+        match self.returned {
+            Some(number) => Next::Ended(number),
+            None => Next::Ended(0),
         }
     }
 
@@ -74,7 +90,10 @@ impl Control {
                 names,
             } => self.combine(code, cells, view, operator, name, names),
             Item::EndWork {
-                node, kind, count, ..
+                node,
+                kind,
+                count,
+                ..
             } => end_work(code, node, kind, count),
             Item::EndMasked(node) => end_masked(code, node),
             Item::Sync { node, kind, stage } => synchronise(code, node, kind, stage),

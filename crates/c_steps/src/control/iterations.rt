@@ -15,7 +15,7 @@ use crate::control::Control;
 use crate::item::{Item, Loop};
 use crate::next::Next;
 use crate::numbers::reduction_result;
-use crate::scope::{first_named, entry_among, number_in};
+use crate::scope::{entry_among, first_named, number_in};
 use c_model::View;
 use c_syntax::ReductionOp;
 

@@ -16,7 +16,7 @@ returns-in-Some-clause-made c =
 
 pub returns-in-None-clause-step : goal.returns-in-None-clause-step
 returns-in-None-clause-step c =
-    sym (silent_none c.args.code.now c.args.view c.args.self.now c.settle.new.self c.args.cells.now c.in-None.ensures.task c.in-None.ensures.none)
+    c.ended.ensures.step _ _ ∙ sym (silent_none c.args.code.now c.args.view c.args.self.now c.settle.new.self c.args.cells.now c.in-None.ensures.task c.in-None.ensures.none)
 
 pub returns-in-None-clause-made : goal.returns-in-None-clause-made
 returns-in-None-clause-made c =
