@@ -1,0 +1,35 @@
+mod Advancing
+mod BeginCall
+pub mod Beginning
+mod Combining
+pub mod Counting
+mod Entered
+mod Entering
+mod Entries
+pub mod ExplicitTasks
+pub mod FileNames
+pub mod FirstFunctions
+mod Frames
+pub mod Giving
+pub mod InnerNames
+pub mod Iterating
+pub mod ListedNames
+mod Looking
+pub mod Members
+pub mod OwnNames
+mod Parameters
+pub mod Passing
+mod PrintingNumbers
+mod PrintingText
+pub mod Replacing
+pub mod Rests
+mod Returning
+mod Settling
+pub mod Standing
+mod StepNames
+mod Stepping
+pub mod TaskNames
+mod Values
+mod ValuesAll
+mod ValuesNamed
+mod ValuesOfSlots

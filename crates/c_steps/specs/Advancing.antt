@@ -1,0 +1,23 @@
+-- What an advance leaves as it was.
+use Rattle.std.specs.Prelude.{◌≡◌}
+use Rattle.c_syntax.specs.Numbered.{TreeView}
+use Rattle.c_model.specs.declared.view.View.{View}
+use Rattle.c_model.specs.Step.{settled_task}
+use Rattle.c_model.specs.Task.{Store}
+use Rattle.c_steps.specs.declared.next.Next.{Next}
+use Rattle.c_steps.specs.declared.next.Next.TheVariants as next
+use Rattle.c_steps.specs.Held.{Held, task_at}
+use Rattle.c_steps.specs.Ready.{IsAfterStep}
+
+-- nothing was done, but that the task has left out what it goes past
+pub record IsLeft (program : TreeView) (view : View) (old : Held) (before : Store) (new : Held) (after : Store) : Type 0 where
+  pub task : task_at program new ≡ settled_task view (task_at program old)
+  pub store : after ≡ before
+  pub spare : new.spare ≡ old.spare
+  pub passes : new.passes ≡ old.passes
+  pub step_names : new.step_names ≡ old.step_names
+  pub room : new.room ≡ old.room
+
+abbrev pub IsKept : TreeView → View → Next → Held → Store → Held → Store → Type 0
+IsKept program view next.Quiet old before new after = IsAfterStep old new
+IsKept program view other old before new after = IsLeft program view old before new after

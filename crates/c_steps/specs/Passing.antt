@@ -1,0 +1,70 @@
+-- What an event is passed with.
+use Rattle.std.specs.Prelude.{ℕ, ◌+◌, ◌≡◌, ◌<◌, List, [], ◌∷◌, ◌++◌, length, take, Option}
+use Rattle.c_syntax.specs.Numbered.{TreeView, tree_at}
+use Rattle.c_model.specs.declared.point.Work.{Work}
+use Rattle.c_model.specs.declared.point.Work.TheVariants as work
+use Rattle.c_model.specs.declared.point.Point.{Point}
+use Rattle.c_model.specs.declared.point.Point.TheVariants.{WorkBegin}
+use Rattle.c_model.specs.Going.{tree_at_event}
+use Rattle.c_model.specs.Occurring.{IsOfItem}
+use Rattle.c_model.specs.Task.{Item, Task}
+use Rattle.c_model.specs.Task.Item.{Forked, EndMasked, Acquire, Release}
+use Rattle.c_steps.specs.Held.{Held, task_at}
+use Rattle.c_model.specs.declared.entry.Entry.{Entry}
+use Rattle.c_steps.specs.declared.item.Item as of_item
+use Rattle.c_steps.specs.declared.item.Item.TheVariants as item
+use Rattle.c_steps.specs.Items.{begun, item_at, items_if, todo_at, with_file}
+use Rattle.c_steps.specs.Ready.{AreLoopNumbers}
+
+-- the values of a loop's iterations fit cells
+abbrev pub IsWork : Work → Type 0
+IsWork (work.Loop start count step schedule) = AreLoopNumbers start count step
+IsWork other = Unit {0}
+
+abbrev pub HasNumbers : Point → Type 0
+HasNumbers (WorkBegin codeptr work) = IsWork work
+HasNumbers other = Unit {0}
+
+-- the node is that of the construct, directive or call, where the item has one
+abbrev pub IsNodeOf : TreeView → ℕ → Item → Type 0
+IsNodeOf program node (Forked construct) = Unit {0}
+IsNodeOf program node (EndMasked construct) = Unit {0}
+IsNodeOf program node (Acquire tree kind id) = Unit {0}
+IsNodeOf program node (Release tree id) = Unit {0}
+IsNodeOf program node item = tree_at program.trees node ≡ tree_at_event item
+
+pub record IsEventOf (program : TreeView) (point : Point) (node : ℕ) (item : Item) : Type 0 where
+  pub of_item : IsOfItem point item
+  pub is_there : node < length program.trees
+  pub is_node : IsNodeOf program node item
+  pub numbers : HasNumbers point
+
+-- an event is of what stands next
+unfoldable pub IsEventOfNext : TreeView → Point → ℕ → List Item → Type 0
+IsEventOfNext program point node [] = ⊥
+IsEventOfNext program point node (item ∷ items) = IsEventOf program point node item
+
+-- the task with these items in place of the one that stands next
+abbrev pub replaced : TreeView → List Item → Held → Task
+replaced program items held = record (task_at program held) { todo = items ++ todo_at program (begun held.frames) }
+
+-- what else of a control a question or an event leaves
+pub record IsAfterEvent (old new : Held) : Type 0 where
+  pub spare : new.spare ≡ old.spare
+  pub passes : new.passes + 1 ≡ old.passes
+  pub step_names : new.step_names ≡ old.step_names
+  pub room : new.room ≡ old.room
+
+-- the names behind the end of a worksharing construct: its own end with its work
+abbrev pub names_behind_work : TreeView → of_item.Item → List Entry → List Entry
+names_behind_work program (item.EndWork node kind count names) env = take (with_file program names) env
+names_behind_work program other env = env
+
+-- the names when a lock or critical is asked for: the variable of a declarator that tests a lock comes into scope
+abbrev pub names_behind_asking : of_item.Item → List Entry → List Entry
+names_behind_asking (item.Initialise node entry) env = env ++ entry ∷ []
+names_behind_asking other env = env
+
+-- what stands next of shared work: at most one item, and then another one
+abbrev pub stages_at : TreeView → Option of_item.Item × of_item.Item → List Item
+stages_at program stages = items_if program stages.0 ++ item_at program stages.1 ∷ []

@@ -1,0 +1,106 @@
+//! One step of a task's code.
+
+ghost use Rattle.std.specs.Prelude.{◌≡◌, ◌<◌, pos, unwrap_or};
+ghost use Rattle.c_syntax.specs.Numbered.{TreeView};
+ghost use Rattle.c_model.specs.Task.{Moment};
+ghost use Rattle.c_model.specs.Task.Outcome.{Ends};
+ghost use Rattle.c_model.specs.Step.{silent, step_of};
+ghost use Rattle.c_steps.specs.Advancing.{IsKept};
+ghost use Rattle.c_steps.specs.Held.{here_at, moment_at, outcome_at};
+ghost use Rattle.c_steps.specs.Items.{item_at};
+ghost use Rattle.c_steps.specs.Made.{IsMadeFor};
+ghost use Rattle.c_steps.specs.Ready.{AreFrames, HasLoopNumbers, IsItem, IsSettled, IsStepping, IsUnchanging};
+ghost use Rattle.c_steps.specs.Scopes.{HasNumbers};
+ghost use Rattle.c_steps.specs.Widths.{step_names};
+
+use crate::cells::Cells;
+use crate::code::Code;
+use crate::control::Control;
+use crate::control::events::{
+    acquire, ask_lock, end_masked, end_parallel, end_work, next_chunk, next_section, release,
+    synchronise,
+};
+use crate::item::Item;
+use crate::next::Next;
+use c_model::View;
+
+impl Control {
+    /// Makes one silent step, or says what stands next. At anything but a silent step the cells are as they were, and the control stands for
+    /// the same task, but for what the task goes past. It takes no memory.
+    pub fn advance(&mut self, code: &Code, cells: &mut Cells, view: View) -> Next
+        requires made { IsMadeFor code.now self.old }
+        requires view { HasNumbers view }
+        requires spare { 0 < self.old.spare }
+        ensures step { outcome_at code.now result (moment_at code.now self.new cells.new) ≡ silent code.now view (moment_at code.now self.old cells.old) }
+        ensures kept { IsKept code.now view result self.old cells.old self.new cells.new }
+        ensures numbers { HasLoopNumbers result }
+        ensures made { IsMadeFor code.now self.new }
+    {
+        match self.settle(code, view) {
+            Some(item) => self.advance_item(code, cells, view, item),
+            None => self.ended(),
+        }
+    }
+
+    /// The code has ended, with the value of the last call, or 0.
+    fn ended(&self) -> Next
+        ensures step { (program : TreeView) (now : Moment) → outcome_at program result now ≡ Ends (unwrap_or self.now.returned (pos 0)) }
+        ensures unchanged { IsUnchanging result }
+        ensures numbers { HasLoopNumbers result }
+    {
+        match self.returned {
+            Some(number) => Next::Ended(number),
+            None => Next::Ended(0),
+        }
+    }
+
+    /// The step of what stands next: one line for each item.
+    fn advance_item(&mut self, code: &Code, cells: &mut Cells, view: View, item: Item) -> Next
+        requires ready { IsStepping code.now self.old }
+        requires item { IsItem code.now item }
+        requires view { HasNumbers view }
+        requires step_names { self.old.step_names ≡ step_names code.now }
+        ensures step { outcome_at code.now result (moment_at code.now self.new cells.new) ≡ step_of (item_at code.now item) (here_at code.now view self.old cells.old) }
+        ensures settled { IsSettled result self.old cells.old self.new cells.new }
+        ensures numbers { HasLoopNumbers result }
+        ensures frames { AreFrames code.now self.new.frames }
+    {
+        match item {
+            Item::Start(part) => self.begin_statement(code, cells, view, part),
+            Item::Declare(node) => self.declare(code, cells, view, node),
+            Item::Leave(names) => self.leave_block(code, cells, view, names),
+            Item::Test { node, names } => self.test_for(code, cells, view, node, names),
+            Item::Third { node, names } => self.third_for(code, cells, view, node, names),
+            Item::Initialise { node, entry } => {
+                self.begin_initialise(code, cells, view, node, entry)
+            }
+            Item::Return(number) => self.returns(code, cells, view, number),
+            Item::FallOff => self.returns(code, cells, view, 0),
+            Item::Forked(node) => end_parallel(code, node),
+            Item::Inside(node) => self.begin_inside(code, cells, view, node),
+            Item::MakeCells(node) => self.make_cells(code, cells, view, node),
+            Item::NextChunk(shared) => next_chunk(shared),
+            Item::Iterations { shared, at, upto } => {
+                self.begin_iteration(code, cells, view, shared, at, upto)
+            }
+            Item::NextSection { node, .. } => next_section(node),
+            Item::Combine {
+                operator,
+                name,
+                names,
+            } => self.combine(code, cells, view, operator, name, names),
+            Item::EndWork {
+                node,
+                kind,
+                count,
+                ..
+            } => end_work(code, node, kind, count),
+            Item::EndMasked(node) => end_masked(code, node),
+            Item::Sync { node, kind, stage } => synchronise(code, node, kind, stage),
+            Item::Acquire { node, kind, id } => acquire(code, node, kind, id),
+            Item::Release { node, id } => release(code, node, id),
+            Item::TestLock { node, id, .. } => ask_lock(node, id),
+            Item::Tested(to) => self.end_test(code, cells, view, to),
+        }
+    }
+}

@@ -1,0 +1,205 @@
+//! How a task's code goes on after an answer.
+
+ghost use Rattle.std.specs.Prelude.{ℕ, ◌≡◌, ◌<◌, ◌+◌, length};
+ghost use Rattle.c_syntax.specs.Numbered.{tree_at};
+ghost use Rattle.c_model.specs.declared.question.Answer.TheVariants as of_answer;
+ghost use Rattle.c_model.specs.Answers.{AnswersFirst, AnswersItem, IsChunkAnswer, IsLockAnswer, IsSectionAnswer};
+ghost use Rattle.c_model.specs.Going as going;
+ghost use Rattle.c_steps.specs.Held.{moment_at, task_at};
+ghost use Rattle.c_steps.specs.Items.{item_at, loop_at, with_file};
+ghost use Rattle.c_steps.specs.Made.{IsMadeFor};
+ghost use Rattle.c_steps.specs.Moves.{ending};
+ghost use Rattle.c_steps.specs.Passing.{replaced};
+ghost use Rattle.c_steps.specs.Ready.{AreFrames, IsAfterStep, IsItem, IsLoop, IsStepping};
+
+use crate::cells::Cells;
+use crate::clauses::{section as nth_section, section_count};
+use crate::code::Code;
+use crate::control::Control;
+use crate::frame::Frame;
+use crate::item::{Item, Loop};
+use crate::listed::{ListedPlace, first_listed};
+use c_model::{Answer, MutexKind, Target, View, WorkKind};
+
+/// What member 0 sees, who goes past nothing.
+pub(super) const MEMBER_0: View = View {
+    index: 0,
+    team: 1,
+    max: 1,
+};
+
+impl Control {
+    /// Goes on after an answer to what the last advance asked. It ends the silent step that asked, but where a lock is free: then no step
+    /// was made, and the event that the lock is owned stands next. One is taken from the room for silent steps. It takes no memory.
+    #[tactic(auto, using(crate::proofs::Giving::answers_none, crate::proofs::Giving::answers_found, crate::proofs::Giving::gave, crate::proofs::Giving::gave_within))]
+    pub fn give(&mut self, code: &Code, cells: &mut Cells, answer: Answer)
+        requires made { IsMadeFor code.now self.old }
+        requires asked { AnswersFirst (task_at code.now self.old).todo answer }
+        requires spare { 0 < self.old.spare }
+        ensures went { moment_at code.now self.new cells.new ≡ going.settled_after_answer answer (moment_at code.now self.old cells.old) }
+        ensures spare { self.new.spare + 1 ≡ self.old.spare }
+        ensures passes { self.new.passes ≡ self.old.passes }
+        ensures made { IsMadeFor code.now self.new }
+    {
+        let Some(item) = self.settle(code, MEMBER_0) else {
+            return;
+        };
+        self.go_on(code, cells, item, answer);
+    }
+
+    /// Goes on after an answer to what this item asks.
+    #[tactic(auto, unfolding(c_model::specs::Answers::AnswersItem))]
+    fn go_on(&mut self, code: &Code, cells: &mut Cells, item: Item, answer: Answer)
+        requires ready { IsStepping code.now self.old }
+        requires item { IsItem code.now item }
+        requires answer { AnswersItem (item_at code.now item) answer }
+        ensures task { task_at code.now self.new ≡ replaced code.now (going.items_answered answer (item_at code.now item)) self.old }
+        ensures cells { cells.new ≡ record cells.old { cells = going.cells_answered answer (item_at code.now item) cells.old.cells } }
+        ensures after { IsAfterStep self.old self.new }
+        ensures frames { AreFrames code.now self.new.frames }
+    {
+        match item {
+            Item::NextChunk(shared) => self.give_chunk(code, shared, chunk_in(answer)),
+            Item::NextSection { node, names } => {
+                self.give_section(code, node, names, section_in(answer))
+            }
+            Item::TestLock { node, id, to } => {
+                self.give_lock(code, cells, node, id, to, is_free_in(answer))
+            }
+            _ => {}
+        }
+    }
+
+    /// The iterations of a chunk stand next, or, where none is left, the reductions and the end of the loop.
+    #[tactic(auto, using(crate::proofs::Replacing::step_then, crate::proofs::Replacing::step_ends, crate::proofs::Replacing::chunk_begins), unfolding(c_model::specs::Answers::IsChunkAnswer))]
+    fn give_chunk(&mut self, code: &Code, shared: Loop, chunk: Option<(u64, u64)>)
+        requires ready { IsStepping code.now self.old }
+        requires shared { IsLoop code.now shared }
+        requires chunk { IsChunkAnswer shared.count (of_answer.Chunk chunk) }
+        ensures task { task_at code.now self.new ≡ replaced code.now (going.items_of_chunk (loop_at code.now shared) chunk) self.old }
+        ensures after { IsAfterStep self.old self.new }
+        ensures frames { AreFrames code.now self.new.frames }
+    {
+        self.step();
+        match chunk {
+            Some((first, length)) => self.then(Item::Iterations {
+                shared,
+                at: first,
+                upto: first + length,
+            }),
+            None => self.end_work(
+                first_listed(),
+                shared.construct,
+                WorkKind::Loop,
+                shared.count,
+                shared.names,
+            ),
+        }
+    }
+
+    /// The reductions of a construct and the end of its work stand next.
+    fn end_work(&mut self, from: ListedPlace, node: u32, kind: WorkKind, count: u64, names: usize)
+        requires { 1 < self.old.frames_now }
+        ensures { self.new ≡ ending from node kind count names self.old }
+    {
+        self.then(Item::EndWork {
+            node,
+            kind,
+            count,
+            names,
+        });
+        self.push(Frame::Combining {
+            construct: node,
+            from,
+            names,
+        });
+    }
+
+    /// A section stands next, or, where none is left, the reductions and the end of the sections.
+    #[tactic(auto, using(crate::proofs::Replacing::step_then_two, crate::proofs::Replacing::step_ends))]
+    fn give_section(&mut self, code: &Code, node: u32, names: usize, section: Option<u32>)
+        requires ready { IsStepping code.now self.old }
+        requires node { node < length code.now.trees }
+        ensures task { task_at code.now self.new ≡ replaced code.now (going.items_of_section (tree_at code.now.trees node) (with_file code.now names) section) self.old }
+        ensures after { IsAfterStep self.old self.new }
+        ensures frames { AreFrames code.now self.new.frames }
+    {
+        match section {
+            Some(number) => {
+                let statement = nth_section(code, node, number);
+                self.step();
+                self.then(Item::NextSection { node, names });
+                self.then(Item::Start(statement));
+            }
+            None => {
+                let count = u64::from(section_count(code, node));
+                self.step();
+                self.end_work(first_listed(), node, WorkKind::Sections, count, names);
+            }
+        }
+    }
+
+    /// The lock that a test waits for comes to be owned, or the test ends with 0.
+    #[tactic(auto, using(crate::proofs::Replacing::step_then_two, crate::proofs::Replacing::step_delivers))]
+    fn give_lock(
+        &mut self,
+        code: &Code,
+        cells: &mut Cells,
+        node: u32,
+        id: u32,
+        to: Target,
+        free: bool,
+    )
+        requires ready { IsStepping code.now self.old }
+        requires node { node < length code.now.trees }
+        ensures task { task_at code.now self.new ≡ replaced code.now (going.items_of_test (tree_at code.now.trees node) id to free) self.old }
+        ensures cells { cells.new ≡ record cells.old { cells = going.cells_of_test to free cells.old.cells } }
+        ensures after { IsAfterStep self.old self.new }
+        ensures frames { AreFrames code.now self.new.frames }
+    {
+        self.step();
+        if free {
+            self.then(Item::Tested(to));
+            self.then(Item::Acquire {
+                node,
+                kind: MutexKind::TestLock,
+                id,
+            });
+        } else {
+            self.deliver(cells, to, 0);
+        }
+    }
+}
+
+/// The chunk of an answer to what a loop asks.
+#[tactic(auto, unfolding(c_model::specs::Answers::IsChunkAnswer))]
+fn chunk_in(answer: Answer) -> Option<(u64, u64)>
+    ensures { (count : ℕ) → IsChunkAnswer count answer → answer ≡ of_answer.Chunk result }
+{
+    match answer {
+        Answer::Chunk(chunk) => chunk,
+        _ => None,
+    }
+}
+
+/// The section of an answer to what a construct's sections ask.
+#[tactic(auto, unfolding(c_model::specs::Answers::IsSectionAnswer))]
+fn section_in(answer: Answer) -> Option<u32>
+    ensures { (count : ℕ) → IsSectionAnswer count answer → answer ≡ of_answer.Section result }
+{
+    match answer {
+        Answer::Section(section) => section,
+        _ => None,
+    }
+}
+
+/// Whether the lock is free, of an answer to what a test asks.
+#[tactic(auto, unfolding(c_model::specs::Answers::IsLockAnswer))]
+fn is_free_in(answer: Answer) -> bool
+    ensures { IsLockAnswer answer → answer ≡ of_answer.Free result }
+{
+    match answer {
+        Answer::Free(free) => free,
+        _ => false,
+    }
+}

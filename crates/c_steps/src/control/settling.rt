@@ -1,0 +1,56 @@
+//! What stands next stands first: frames that are over go, and so do the statements that a task goes past.
+
+ghost use Rattle.std.specs.Prelude.{◌≡◌, ◌&&◌, [], ◌==◌, not, IfNone, IfSome};
+ghost use Rattle.c_model.specs.Step.{is_passed_over, settled_task};
+ghost use Rattle.c_steps.specs.Held.{task_at};
+ghost use Rattle.c_steps.specs.Items.{item_at, todo_at};
+ghost use Rattle.c_steps.specs.Ready.{AreFrames, IsFront, IsItem};
+
+use crate::code::Code;
+use crate::control::Control;
+use crate::item::Item;
+use crate::look::{Look, look_at};
+use c_model::View;
+use c_syntax::{Directive, NodeKind};
+
+impl Control {
+    /// What stands next, when what the task goes past is left out. `None` where nothing is left in the function.
+    #[tactic(auto, using(crate::proofs::Settling::over_top, crate::proofs::Settling::instead_top, crate::proofs::Settling::past_top, crate::proofs::Settling::front_top, crate::proofs::Settling::nothing_top, crate::proofs::Settling::none_top, crate::proofs::Settling::settled_at_front, crate::proofs::Settling::settled_at_end, crate::proofs::Settling::settles_none))]
+    pub(crate) fn settle(&mut self, code: &Code, view: View) -> Option<Item>
+        requires { AreFrames code.now self.old.frames }
+        ensures task { task_at code.now self.new ≡ settled_task view (task_at code.now self.old) }
+        ensures rest { self.new ≡ record self.old { frames = self.new.frames } }
+        ensures frames { AreFrames code.now self.new.frames }
+        ensures found { IfSome result (λ item. IsFront code.now self.new.frames item) }
+        ensures none { IfNone result (todo_at code.now self.new.frames ≡ []) }
+    {
+        while let Some(frame) = self.stack.top() {
+            match look_at(code, frame) {
+                Look::Nothing => return None,
+                Look::Over => self.drop_top(),
+                Look::Instead(other) => self.replace_top(other),
+                Look::Found(item) => {
+                    if !is_passed_over(code, item, view) {
+                        return Some(item);
+                    }
+                    self.begin();
+                }
+            }
+        }
+        None
+    }
+}
+
+/// Whether a task goes past an item without a step: a member of a team other than member 0 past a `masked` construct.
+pub(super) fn is_passed_over(code: &Code, item: Item, view: View) -> bool
+    requires { IsItem code.now item }
+    ensures { result ≡ is_passed_over (item_at code.now item) view }
+{
+    match item {
+        Item::Start(part) => match code.kind(part) {
+            NodeKind::Construct(Directive::Masked | Directive::Master) => view.index != 0,
+            _ => false,
+        },
+        _ => false,
+    }
+}

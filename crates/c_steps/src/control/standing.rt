@@ -1,0 +1,161 @@
+//! What stands next, told without a change.
+
+ghost use Rattle.std.specs.Prelude.{◌≡◌, ◌∷◌, [], slice_get, IfSome};
+ghost use Rattle.std.specs.Option.{option_map};
+ghost use Rattle.c_syntax.specs.Tree.{kind_of};
+ghost use Rattle.c_model.specs.Step as steps;
+ghost use Rattle.c_steps.specs.Held.{task_at};
+ghost use Rattle.c_steps.specs.Items.{item_at, todo_at};
+ghost use Rattle.c_steps.specs.Made.{IsMadeFor};
+ghost use Rattle.c_steps.specs.Nodes.{IsPart, part_at};
+ghost use Rattle.c_steps.specs.Ready.{AreFrames, CanBegin, IsFrame, IsItem};
+ghost use Rattle.c_steps.specs.Standing.{BeginsAs, Fronts};
+
+use crate::code::Code;
+use crate::control::Control;
+use crate::control::settling::is_passed_over;
+use crate::frame::Frame;
+use crate::item::Item;
+use crate::look::{Look, look_at};
+use c_model::View;
+use c_syntax::{Directive, NodeKind};
+
+/// What a frame comes to, when what the task goes past is left out.
+#[derive(Clone, Copy)]
+enum Front {
+    /// This item stands next.
+    Found(Item),
+    /// What stands next is what the frames below it say.
+    Over,
+    /// Nothing stands next in this function.
+    Nothing,
+}
+
+impl Control {
+    /// Whether an event, or the end, stands next. Then no silent step does, and nothing is asked.
+    pub fn stands(&self, code: &Code, view: View) -> bool
+        requires { IsMadeFor code.now self.now }
+        ensures { result ≡ steps.stands view (task_at code.now self.now) }
+    {
+        match self.front(code, view) {
+            Some(item) => is_event(code, item),
+            None => true,
+        }
+    }
+
+    /// What stands next, when what the task goes past is left out.
+    #[tactic(auto, using(crate::proofs::Standing::top_is_frame, crate::proofs::Standing::over_below, crate::proofs::Standing::nothing_below, crate::proofs::Standing::found_below, crate::proofs::Standing::none_below))]
+    pub(super) fn front(&self, code: &Code, view: View) -> Option<Item>
+        requires { AreFrames code.now self.now.frames }
+        ensures first { slice_get (steps.items_from_next view (todo_at code.now self.now.frames)) 0 ≡ option_map (item_at code.now) result }
+        ensures item { IfSome result (IsItem code.now) }
+    {
+        let mut below = self.stack.items();
+        while let Some((frame, rest)) = below.split_last() {
+            match front_of(code, view, *frame) {
+                Front::Found(item) => return Some(item),
+                Front::Nothing => return None,
+                Front::Over => below = rest,
+            }
+        }
+        None
+    }
+}
+
+/// What a frame comes to, when what the task goes past is left out.
+fn front_of(code: &Code, view: View, frame: Frame) -> Front
+    requires { IsFrame code.now frame }
+    ensures { Fronts code.now view frame result }
+{
+    let mut shown = frame;
+    loop {
+        match look_at(code, shown) {
+            Look::Nothing => return Front::Nothing,
+            Look::Over => return Front::Over,
+            Look::Instead(other) => shown = other,
+            Look::Found(item) => {
+                if !is_passed_over(code, item, view) {
+                    return Front::Found(item);
+                }
+                match begun(shown) {
+                    Some(other) => shown = other,
+                    None => return Front::Over,
+                }
+            }
+        }
+    }
+}
+
+/// The frame when the item has begun that stands next by it. `None` where nothing is left of it.
+fn begun(frame: Frame) -> Option<Frame>
+    requires { CanBegin (frame ∷ []) }
+    ensures { BeginsAs frame result }
+{
+    match frame {
+        Frame::One(_) => None,
+        Frame::Parts {
+            block,
+            place,
+            at,
+            names,
+        } => Some(Frame::Parts {
+            block,
+            place,
+            at: at + 1,
+            names,
+        }),
+        Frame::Combines {
+            construct,
+            from,
+            names,
+            ..
+        } => Some(Frame::Combining {
+            construct,
+            from,
+            names,
+        }),
+        Frame::Combining { .. } | Frame::Caller { .. } => Some(frame),
+    }
+}
+
+/// Whether an item is an event by its form.
+fn is_event(code: &Code, item: Item) -> bool
+    requires { IsItem code.now item }
+    ensures { result ≡ steps.is_event (item_at code.now item) }
+{
+    match item {
+        Item::Start(part) => is_event_statement(code, part),
+        Item::Initialise { node, .. } => is_test(code.kind(code.child(Some(node), 0))),
+        Item::Inside(node) => matches!(
+            code.kind(Some(node)),
+            NodeKind::Construct(Directive::ParallelFor | Directive::ParallelSections)
+        ),
+        Item::Forked(_)
+        | Item::EndWork { .. }
+        | Item::EndMasked(_)
+        | Item::Sync { .. }
+        | Item::Acquire { .. }
+        | Item::Release { .. } => true,
+        _ => false,
+    }
+}
+
+/// Whether a statement is an event by its form.
+fn is_event_statement(code: &Code, part: Option<u32>) -> bool
+    requires { IsPart code.now.trees part }
+    ensures { result ≡ steps.is_event_statement (kind_of (part_at code.now.trees part)) (part_at code.now.trees part) }
+{
+    match code.kind(part) {
+        NodeKind::SetCall => is_test(code.kind(code.child(part, 1))),
+        NodeKind::Called | NodeKind::Return => is_test(code.kind(code.child(part, 0))),
+        NodeKind::LockCall(_) | NodeKind::Standalone(_) | NodeKind::Construct(_) => true,
+        _ => false,
+    }
+}
+
+/// Whether a call tests a lock.
+fn is_test(kind: NodeKind) -> bool
+    ensures { result ≡ steps.is_test kind }
+{
+    matches!(kind, NodeKind::TestLock)
+}

@@ -1,0 +1,251 @@
+//! Statements that are no steps, calls or constructs.
+
+ghost use Rattle.std.specs.Prelude.{◌≡◌, ◌<◌, length, if◌then◌else◌, Ok, pos, IfSome};
+ghost use Rattle.c_syntax.specs.Tree.{kind_of};
+ghost use Rattle.c_syntax.specs.Numbered.{tree_at};
+ghost use Rattle.c_model.specs.Parts.{has_child};
+ghost use Rattle.c_model.specs.Statements as statements;
+ghost use Rattle.c_model.specs.Value as values;
+ghost use Rattle.c_check.specs.Loops.{child_at};
+ghost use Rattle.c_steps.specs.Held.{here_at, moment_at, outcome_at, scope_in};
+ghost use Rattle.c_steps.specs.Items.{items_if, with_file};
+ghost use Rattle.c_steps.specs.Nodes.{IsPart, part_at};
+ghost use Rattle.c_steps.specs.Ready.{AreFrames, HasLoopNumbers, IsItem, IsSettled, IsStepping};
+ghost use Rattle.c_steps.specs.Scopes.{HasNumbers};
+ghost use Rattle.c_steps.specs.Widths.{step_names};
+
+use crate::cells::Cells;
+use crate::code::Code;
+use crate::control::Control;
+use crate::frame::Frame;
+use crate::item::Item;
+use crate::next::Next;
+use c_model::View;
+use c_syntax::NodeKind;
+
+impl Control {
+    /// A statement that does nothing.
+    pub(super) fn begin_empty(&mut self, code: &Code, cells: &Cells, view: View) -> Next
+        requires { IsStepping code.now self.old }
+        ensures step { outcome_at code.now result (moment_at code.now self.new cells.now) ≡ statements.begin_empty (here_at code.now view self.old cells.now) }
+        ensures settled { IsSettled result self.old cells.now self.new cells.now }
+        ensures numbers { HasLoopNumbers result }
+        ensures frames { AreFrames code.now self.new.frames }
+    {
+        self.step();
+        Next::Quiet
+    }
+
+    /// A block is entered.
+    #[tactic(auto, using(crate::proofs::Frames::entered_block, crate::proofs::Frames::all_names), unfolding(crate::specs::Items::calls_at))]
+    pub(super) fn begin_block(&mut self, code: &Code, cells: &Cells, view: View, node: u32) -> Next
+        requires ready { IsStepping code.now self.old }
+        requires node { node < length code.now.trees }
+        ensures step { outcome_at code.now result (moment_at code.now self.new cells.now) ≡ statements.begin_block (here_at code.now view self.old cells.now) (tree_at code.now.trees node) }
+        ensures settled { IsSettled result self.old cells.now self.new cells.now }
+        ensures numbers { HasLoopNumbers result }
+        ensures frames { AreFrames code.now self.new.frames }
+    {
+        let names = self.own_names();
+        self.step();
+        self.push(Frame::Parts {
+            block: node,
+            place: 0,
+            at: 0,
+            names,
+        });
+        Next::Quiet
+    }
+
+    /// A block ends, and so many names stay in scope.
+    #[tactic(auto, using(crate::proofs::Frames::cut_names, crate::proofs::Frames::take_shorter))]
+    pub(super) fn leave_block(
+        &mut self,
+        code: &Code,
+        cells: &Cells,
+        view: View,
+        names: usize,
+    ) -> Next
+        requires { IsStepping code.now self.old }
+        ensures step { outcome_at code.now result (moment_at code.now self.new cells.now) ≡ statements.leave_block (here_at code.now view self.old cells.now) (with_file code.now names) }
+        ensures settled { IsSettled result self.old cells.now self.new cells.now }
+        ensures numbers { HasLoopNumbers result }
+        ensures frames { AreFrames code.now self.new.frames }
+    {
+        self.step();
+        self.cut(names);
+        Next::Quiet
+    }
+
+    /// `if`: the branch that is taken stands next.
+    #[tactic(auto, using(crate::proofs::Stepping::todo_if, crate::proofs::Stepping::calls_if, crate::proofs::Stepping::are_if))]
+    pub(super) fn begin_if(&mut self, code: &Code, cells: &Cells, view: View, node: u32) -> Next
+        requires ready { IsStepping code.now self.old }
+        requires node { node < length code.now.trees }
+        requires view { HasNumbers view }
+        ensures step { outcome_at code.now result (moment_at code.now self.new cells.now) ≡ statements.begin_if (here_at code.now view self.old cells.now) (tree_at code.now.trees node) }
+        ensures settled { IsSettled result self.old cells.now self.new cells.now }
+        ensures numbers { HasLoopNumbers result }
+        ensures frames { AreFrames code.now self.new.frames }
+    {
+        let condition = code.child(Some(node), 0);
+        match self.value(code, cells, view, condition) {
+            Err(trap) => Next::Trap(trap),
+            Ok(number) => {
+                let branch = branch_taken(code, node, number);
+                self.step();
+                self.then_if(branch);
+                Next::Quiet
+            }
+        }
+    }
+
+    /// `while`: the statement stands next, and then the loop again, or nothing.
+    #[tactic(auto, unfolding(crate::specs::Items::todo_at, crate::specs::Items::calls_at))]
+    pub(super) fn begin_while(&mut self, code: &Code, cells: &Cells, view: View, node: u32) -> Next
+        requires ready { IsStepping code.now self.old }
+        requires node { node < length code.now.trees }
+        requires view { HasNumbers view }
+        ensures step { outcome_at code.now result (moment_at code.now self.new cells.now) ≡ statements.begin_while (here_at code.now view self.old cells.now) (tree_at code.now.trees node) }
+        ensures settled { IsSettled result self.old cells.now self.new cells.now }
+        ensures numbers { HasLoopNumbers result }
+        ensures frames { AreFrames code.now self.new.frames }
+    {
+        let condition = code.child(Some(node), 0);
+        match self.value(code, cells, view, condition) {
+            Err(trap) => Next::Trap(trap),
+            Ok(0) => {
+                self.step();
+                Next::Quiet
+            }
+            Ok(_) => {
+                let statement = code.child(Some(node), 1);
+                self.step();
+                self.then(Item::Start(Some(node)));
+                self.then(Item::Start(statement));
+                Next::Quiet
+            }
+        }
+    }
+
+    /// A plain `for` begins with its first part, which may declare a variable, and then its test stands next.
+    #[tactic(auto, using(crate::proofs::Frames::all_names), unfolding(crate::specs::Items::todo_at, crate::specs::Items::calls_at))]
+    pub(super) fn begin_for(
+        &mut self,
+        code: &Code,
+        cells: &mut Cells,
+        view: View,
+        node: u32,
+    ) -> Next
+        requires ready { IsStepping code.now self.old }
+        requires node { node < length code.now.trees }
+        requires view { HasNumbers view }
+        requires step_names { self.old.step_names ≡ step_names code.now }
+        ensures step { outcome_at code.now result (moment_at code.now self.new cells.new) ≡ statements.begin_for (here_at code.now view self.old cells.old) (tree_at code.now.trees node) }
+        ensures settled { IsSettled result self.old cells.old self.new cells.new }
+        ensures numbers { HasLoopNumbers result }
+        ensures frames { AreFrames code.now self.new.frames }
+    {
+        let first = code.child(Some(node), 0);
+        let test = Item::Test {
+            node,
+            names: self.own_names(),
+        };
+        match code.kind(first) {
+            NodeKind::Init => match code.child(first, 0) {
+                Some(name) => {
+                    self.set_to_value(code, cells, view, name, code.child(first, 1), Some(test))
+                }
+                None => {
+                    self.step();
+                    self.then(test);
+                    Next::Quiet
+                }
+            },
+            _ => self.make_step(code, cells, view, first, Some(test)),
+        }
+    }
+
+    /// The test of a plain `for`. Where it is 0 so many names stay in scope.
+    #[tactic(auto, using(crate::proofs::Frames::cut_names, crate::proofs::Frames::take_shorter), unfolding(crate::specs::Items::todo_at, crate::specs::Items::calls_at))]
+    pub(super) fn test_for(
+        &mut self,
+        code: &Code,
+        cells: &Cells,
+        view: View,
+        node: u32,
+        names: usize,
+    ) -> Next
+        requires ready { IsStepping code.now self.old }
+        requires node { node < length code.now.trees }
+        requires view { HasNumbers view }
+        ensures step { outcome_at code.now result (moment_at code.now self.new cells.now) ≡ statements.test_for (here_at code.now view self.old cells.now) (tree_at code.now.trees node) (with_file code.now names) }
+        ensures settled { IsSettled result self.old cells.now self.new cells.now }
+        ensures numbers { HasLoopNumbers result }
+        ensures frames { AreFrames code.now self.new.frames }
+    {
+        match self.test_value(code, cells, view, node) {
+            Err(trap) => Next::Trap(trap),
+            Ok(0) => {
+                self.step();
+                self.cut(names);
+                Next::Quiet
+            }
+            Ok(_) => {
+                let statement = code.child(Some(node), 3);
+                self.step();
+                self.then(Item::Third { node, names });
+                self.then(Item::Start(statement));
+                Next::Quiet
+            }
+        }
+    }
+
+    /// The number of the test of a plain `for`, 1 where it has none.
+    fn test_value(&self, code: &Code, cells: &Cells, view: View, node: u32) -> Result<i32, u8>
+        requires node { node < length code.now.trees }
+        requires view { HasNumbers view }
+        ensures { result ≡ (if has_child (tree_at code.now.trees node) 1 then values.value (scope_in code.now view self.now cells.now) (child_at (tree_at code.now.trees node) 1) else Ok (pos 1)) }
+    {
+        match code.child(Some(node), 1) {
+            Some(test) => self.value(code, cells, view, Some(test)),
+            None => Ok(1),
+        }
+    }
+
+    /// The third part of a plain `for`, and then its test stands next.
+    pub(super) fn third_for(
+        &mut self,
+        code: &Code,
+        cells: &mut Cells,
+        view: View,
+        node: u32,
+        names: usize,
+    ) -> Next
+        requires ready { IsStepping code.now self.old }
+        requires node { node < length code.now.trees }
+        requires view { HasNumbers view }
+        ensures step { outcome_at code.now result (moment_at code.now self.new cells.new) ≡ statements.third_for (here_at code.now view self.old cells.old) (tree_at code.now.trees node) (with_file code.now names) }
+        ensures settled { IsSettled result self.old cells.old self.new cells.new }
+        ensures numbers { HasLoopNumbers result }
+        ensures frames { AreFrames code.now self.new.frames }
+    {
+        let third = code.child(Some(node), 2);
+        self.make_step(code, cells, view, third, Some(Item::Test { node, names }))
+    }
+}
+
+/// The branch of an `if` that is taken, if there is one.
+fn branch_taken(code: &Code, node: u32, number: i32) -> Option<Item>
+    requires { node < length code.now.trees }
+    ensures branch { items_if code.now result ≡ statements.branch_taken (tree_at code.now.trees node) number }
+    ensures items { IfSome result (IsItem code.now) }
+{
+    if number != 0 {
+        return Some(Item::Start(code.child(Some(node), 1)));
+    }
+    match code.child(Some(node), 2) {
+        Some(part) => Some(Item::Start(Some(part))),
+        None => None,
+    }
+}

@@ -1,0 +1,183 @@
+//! Assignments, `++` and `--`.
+
+ghost use Rattle.std.specs.Prelude.{◌≡◌, ◌<◌, length, Ok, IfSome};
+ghost use Rattle.c_syntax.specs.Tree.{kind_of};
+ghost use Rattle.c_syntax.specs.Numbered.{tree_at};
+ghost use Rattle.c_model.specs.Coming.{sets, with_result};
+ghost use Rattle.c_model.specs.Statements as statements;
+ghost use Rattle.c_model.specs.Value.{binary_value};
+ghost use Rattle.c_steps.specs.Held.{here_at, moment_at, outcome_at};
+ghost use Rattle.c_steps.specs.Items.{items_if};
+ghost use Rattle.c_steps.specs.Nodes.{IsPart, part_at};
+ghost use Rattle.c_steps.specs.Ready.{AreFrames, HasLoopNumbers, IsItem, IsSettled, IsStepping};
+ghost use Rattle.c_steps.specs.Scopes.{HasNumbers};
+
+use crate::cells::Cells;
+use crate::code::Code;
+use crate::control::Control;
+use crate::item::Item;
+use crate::next::Next;
+use crate::numbers::{binary_result, deciding_value};
+use c_model::View;
+use c_syntax::{BinaryOp, Bump, NodeKind, Setting};
+
+impl Control {
+    /// A step that is a statement.
+    pub(super) fn begin_step(
+        &mut self,
+        code: &Code,
+        cells: &mut Cells,
+        view: View,
+        node: u32,
+    ) -> Next
+        requires ready { IsStepping code.now self.old }
+        requires node { node < length code.now.trees }
+        requires view { HasNumbers view }
+        ensures step { outcome_at code.now result (moment_at code.now self.new cells.new) ≡ statements.begin_step (here_at code.now view self.old cells.old) (tree_at code.now.trees node) }
+        ensures settled { IsSettled result self.old cells.old self.new cells.new }
+        ensures numbers { HasLoopNumbers result }
+        ensures frames { AreFrames code.now self.new.frames }
+    {
+        let step = code.child(Some(node), 0);
+        self.make_step(code, cells, view, step, None)
+    }
+
+    /// A step that is a statement, or the third part of a loop, behind which an item may stand next.
+    #[tactic(auto, using(crate::proofs::Stepping::todo_if, crate::proofs::Stepping::calls_if, crate::proofs::Stepping::are_if))]
+    pub(super) fn make_step(
+        &mut self,
+        code: &Code,
+        cells: &mut Cells,
+        view: View,
+        part: Option<u32>,
+        then: Option<Item>,
+    ) -> Next
+        requires ready { IsStepping code.now self.old }
+        requires part { IsPart code.now.trees part }
+        requires then { IfSome then (IsItem code.now) }
+        requires view { HasNumbers view }
+        ensures step { outcome_at code.now result (moment_at code.now self.new cells.new) ≡ statements.makes_step (kind_of (part_at code.now.trees part)) (here_at code.now view self.old cells.old) (part_at code.now.trees part) (items_if code.now then) }
+        ensures settled { IsSettled result self.old cells.old self.new cells.new }
+        ensures numbers { HasLoopNumbers result }
+        ensures frames { AreFrames code.now self.new.frames }
+    {
+        match code.kind(part) {
+            NodeKind::Assign(which) => {
+                let right = self.value(code, cells, view, code.child(part, 1));
+                self.assign(code, cells, view, which, code.child(part, 0), right, then)
+            }
+            NodeKind::Bump(which, _) => {
+                self.assign(
+                    code,
+                    cells,
+                    view,
+                    setting_of(which),
+                    code.child(part, 0),
+                    Ok(1),
+                    then,
+                )
+            }
+            _ => {
+                self.step();
+                self.then_if(then);
+                Next::Quiet
+            }
+        }
+    }
+
+    /// An assignment: first the cell, then the right side, which has this value or trap.
+    fn assign(
+        &mut self,
+        code: &Code,
+        cells: &mut Cells,
+        view: View,
+        which: Setting,
+        place: Option<u32>,
+        right: Result<i32, u8>,
+        then: Option<Item>,
+    ) -> Next
+        requires ready { IsStepping code.now self.old }
+        requires place { IsPart code.now.trees place }
+        requires then { IfSome then (IsItem code.now) }
+        requires view { HasNumbers view }
+        ensures step { outcome_at code.now result (moment_at code.now self.new cells.new) ≡ statements.assigns (here_at code.now view self.old cells.old) which (part_at code.now.trees place) right (items_if code.now then) }
+        ensures settled { IsSettled result self.old cells.old self.new cells.new }
+        ensures numbers { HasLoopNumbers result }
+        ensures frames { AreFrames code.now self.new.frames }
+    {
+        match self.place_cell(code, cells, view, place) {
+            Err(trap) => Next::Trap(trap),
+            Ok(cell) => {
+                let number = new_number(which, cells.number(cell), right);
+                self.set_cell(code, cells, view, cell, number, then)
+            }
+        }
+    }
+
+    /// A cell gets a number, unless that is a trap.
+    #[tactic(auto, using(crate::proofs::Stepping::todo_if, crate::proofs::Stepping::calls_if, crate::proofs::Stepping::are_if))]
+    fn set_cell(
+        &mut self,
+        code: &Code,
+        cells: &mut Cells,
+        view: View,
+        cell: usize,
+        number: Result<i32, u8>,
+        then: Option<Item>,
+    ) -> Next
+        requires ready { IsStepping code.now self.old }
+        requires then { IfSome then (IsItem code.now) }
+        ensures step { let here = here_at code.now view self.old cells.old in
+            outcome_at code.now result (moment_at code.now self.new cells.new) ≡ with_result number (λ number. sets here cell number (items_if code.now then)) }
+        ensures settled { IsSettled result self.old cells.old self.new cells.new }
+        ensures numbers { HasLoopNumbers result }
+        ensures frames { AreFrames code.now self.new.frames }
+    {
+        match number {
+            Err(trap) => Next::Trap(trap),
+            Ok(number) => {
+                self.step();
+                self.then_if(then);
+                cells.set(cell, number);
+                Next::Quiet
+            }
+        }
+    }
+}
+
+/// What an assignment puts into its cell, by what the cell holds and the value or the trap of its right side.
+fn new_number(which: Setting, held: i32, right: Result<i32, u8>) -> Result<i32, u8>
+    ensures { result ≡ statements.new_number which held right }
+{
+    match which {
+        Setting::Plain => right,
+        Setting::Add => operated(BinaryOp::Add, held, right),
+        Setting::Subtract => operated(BinaryOp::Subtract, held, right),
+        Setting::Multiply => operated(BinaryOp::Multiply, held, right),
+        Setting::Divide => operated(BinaryOp::Divide, held, right),
+        Setting::Remainder => operated(BinaryOp::Remainder, held, right),
+    }
+}
+
+/// What an operator makes of a number and the value or the trap of its right side.
+fn operated(operator: BinaryOp, left: i32, right: Result<i32, u8>) -> Result<i32, u8>
+    ensures { result ≡ binary_value operator (Ok left) right }
+{
+    match deciding_value(operator, left) {
+        Some(number) => Ok(number),
+        None => match right {
+            Err(trap) => Err(trap),
+            Ok(number) => binary_result(operator, left, number),
+        },
+    }
+}
+
+/// The assignment that a `++` or `--` makes of 1.
+fn setting_of(which: Bump) -> Setting
+    ensures { result ≡ statements.setting_of which }
+{
+    match which {
+        Bump::Increment => Setting::Add,
+        Bump::Decrement => Setting::Subtract,
+    }
+}

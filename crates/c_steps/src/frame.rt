@@ -1,0 +1,39 @@
+//! What a control's stack holds.
+
+use crate::item::Item;
+use crate::listed::ListedPlace;
+use c_model::Target;
+use c_syntax::ReductionOp;
+
+/// A part of what stands next in a task's code. Names count without those of the file.
+#[derive(Clone, Copy)]
+pub(crate) enum Frame {
+    /// One item.
+    One(Item),
+    /// The parts of a block from a child on, of which so many declarators are past, and the block's end, behind which so many names stay.
+    Parts {
+        block: u32,
+        place: u32,
+        at: u32,
+        names: usize,
+    },
+    /// The reductions of a construct from a place in its clauses on, with the variables among the first so many names.
+    Combining {
+        construct: u32,
+        from: ListedPlace,
+        names: usize,
+    },
+    /// The same, with one reduction before those.
+    Combines {
+        operator: ReductionOp,
+        name: u32,
+        construct: u32,
+        from: ListedPlace,
+        names: usize,
+    },
+    /// Below it stands what the function that called has left. Its names begin there, and the value goes to a target.
+    Caller {
+        base: usize,
+        to: Target,
+    },
+}

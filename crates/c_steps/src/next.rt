@@ -1,0 +1,20 @@
+//! What an advance comes to.
+
+use c_model::{Ask, Point};
+
+/// What a task's code comes to next.
+#[derive(Clone, Copy)]
+pub enum Next {
+    /// A silent step was made.
+    Quiet,
+    /// A silent step has to be told something, in the construct or call with this node. Nothing was done.
+    Ask(Ask, u32),
+    /// An event stands next, at the construct, directive or call with this node. Nothing was done.
+    Event(Point, u32),
+    /// The code has ended with this value of the last call, or 0.
+    Ended(i32),
+    /// The step or the event that stands next traps with this number. Nothing was done.
+    Trap(u8),
+    /// The step or the event that stands next would pass the limit with this number. Nothing was done.
+    Limit(u8),
+}

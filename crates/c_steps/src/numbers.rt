@@ -1,0 +1,124 @@
+//! The operators of expressions and reductions on numbers of 32 bits (C11 6.5).
+
+ghost use Rattle.std.specs.Prelude.{◌≡◌, ◌+ℤ◌, ◌-ℤ◌, ◌*ℤ◌, if◌then◌else◌, int_le, neg_ℤ, not};
+ghost use Rattle.c_model.specs.Constructs.{reduction_result};
+ghost use Rattle.c_model.specs.Value.{in_range, truth, is_zero, quotient, remainder, binary_result, unary_result, deciding_value};
+
+use c_model::{OVERFLOW, ZERO_DIVIDE};
+use c_syntax::{BinaryOp, ReductionOp, UnaryOp};
+
+/// What an operator makes of two numbers, or its trap.
+pub(crate) fn binary_result(operator: BinaryOp, left: i32, right: i32) -> Result<i32, u8>
+    ensures { result ≡ binary_result operator left right }
+{
+    match operator {
+        BinaryOp::Equal => Ok(truth(left == right)),
+        BinaryOp::NotEqual => Ok(truth(left != right)),
+        BinaryOp::Less => Ok(truth(left < right)),
+        BinaryOp::LessEqual => Ok(truth(left <= right)),
+        BinaryOp::Greater => Ok(truth(right < left)),
+        BinaryOp::GreaterEqual => Ok(truth(right <= left)),
+        BinaryOp::Add => sum(left, right),
+        BinaryOp::Subtract => difference(left, right),
+        BinaryOp::Multiply => product(left, right),
+        BinaryOp::Divide => quotient(left, right),
+        BinaryOp::Remainder => remainder(left, right),
+        BinaryOp::Or | BinaryOp::And => Ok(truth(right != 0)),
+    }
+}
+
+/// What an operator makes of a number, or its trap.
+pub(crate) fn unary_result(operator: UnaryOp, number: i32) -> Result<i32, u8>
+    ensures { result ≡ unary_result operator number }
+{
+    match operator {
+        UnaryOp::Negate => opposite(number),
+        UnaryOp::Not => Ok(truth(number == 0)),
+    }
+}
+
+/// The value of `||` or `&&` where the left operand decides it.
+pub(crate) fn deciding_value(operator: BinaryOp, left: i32) -> Option<i32>
+    ensures { result ≡ deciding_value operator left }
+{
+    match operator {
+        BinaryOp::Or => { if left == 0 { None } else { Some(1) } }
+        BinaryOp::And => { if left == 0 { Some(0) } else { None } }
+        _ => None,
+    }
+}
+
+/// What a reduction makes of the number of a variable and that of a construct's copy of it, or its trap (OpenMP 5.2, 5.5.5).
+pub(crate) fn reduction_result(operator: ReductionOp, around: i32, own: i32) -> Result<i32, u8>
+    ensures { result ≡ reduction_result operator around own }
+{
+    match operator {
+        ReductionOp::Add => sum(around, own),
+        ReductionOp::Multiply => product(around, own),
+        ReductionOp::Max => Ok(greater(around, own)),
+        ReductionOp::Min => Ok(lesser(around, own)),
+    }
+}
+
+fn greater(left: i32, right: i32) -> i32
+    ensures { result ≡ (if int_le left right then right else left) }
+{
+    if left <= right { right } else { left }
+}
+
+fn lesser(left: i32, right: i32) -> i32
+    ensures { result ≡ (if int_le left right then left else right) }
+{
+    if left <= right { left } else { right }
+}
+
+/// 1 or 0.
+fn truth(holds: bool) -> i32
+    ensures { result ≡ truth holds }
+{
+    if holds { 1 } else { 0 }
+}
+
+fn sum(left: i32, right: i32) -> Result<i32, u8>
+    ensures { result ≡ in_range (left +ℤ right) }
+{
+    left.checked_add(right).ok_or(OVERFLOW)
+}
+
+fn difference(left: i32, right: i32) -> Result<i32, u8>
+    ensures { result ≡ in_range (left -ℤ right) }
+{
+    left.checked_sub(right).ok_or(OVERFLOW)
+}
+
+fn product(left: i32, right: i32) -> Result<i32, u8>
+    ensures { result ≡ in_range (left *ℤ right) }
+{
+    left.checked_mul(right).ok_or(OVERFLOW)
+}
+
+fn opposite(number: i32) -> Result<i32, u8>
+    ensures { result ≡ in_range (neg_ℤ number) }
+{
+    number.checked_neg().ok_or(OVERFLOW)
+}
+
+/// Toward 0.
+fn quotient(left: i32, right: i32) -> Result<i32, u8>
+    ensures { result ≡ quotient left right }
+{
+    if right == 0 {
+        return Err(ZERO_DIVIDE);
+    }
+    left.checked_div(right).ok_or(OVERFLOW)
+}
+
+/// What a division toward 0 leaves.
+fn remainder(left: i32, right: i32) -> Result<i32, u8>
+    ensures { result ≡ remainder left right }
+{
+    if right == 0 {
+        return Err(ZERO_DIVIDE);
+    }
+    left.checked_rem(right).ok_or(OVERFLOW)
+}

@@ -1,0 +1,338 @@
+//! What an expression is evaluated in, and its number.
+
+ghost use Rattle.std.specs.Prelude.{◌≡◌, ◌<◌, ◌≤◌, ◌++◌, length, pos, IfOk};
+ghost use Rattle.std.specs.Option.{unwrap_or};
+ghost use Rattle.c_syntax.specs.Numbered.{tree_at};
+ghost use Rattle.c_model.specs.declared.entry.Entry.{Entry as SeenEntry};
+ghost use Rattle.c_model.specs.declared.limits.TheConstants.{CELL_LIMIT};
+ghost use Rattle.c_model.specs.Cells.{cell_at, entry_at_slot, entry_of, first_named, last_named, last_of_slot, no_entry};
+ghost use Rattle.c_model.specs.Parts.{parts};
+ghost use Rattle.c_model.specs.Value.{all_values, binary_value, cell_of, element, getter_number, unary_value, value};
+ghost use Rattle.c_steps.specs.Arguments.{without_values};
+ghost use Rattle.c_steps.specs.Entering.{HaveNoTrap, IsNextArgument};
+ghost use Rattle.c_steps.specs.Nodes.{IsPart, part_at};
+ghost use Rattle.c_steps.specs.Rooming.{AreEntries, IsEntry};
+ghost use Rattle.c_steps.specs.Scopes.{HasNumbers, operand_at, scope_of};
+
+use crate::numbers::{binary_result, deciding_value, unary_result};
+use crate::parts::next_part;
+use c_model::{CELL_LIMIT, Entry, INDEX, View};
+use c_syntax::{BinaryOp, Getter, NodeKind, Tree, UnaryOp};
+
+/// The number of an argument of a call, and the place of the next one.
+#[derive(Clone, Copy)]
+pub(crate) struct Argument {
+    pub(crate) number: i32,
+    pub(crate) next: u32,
+}
+
+/// What an expression is evaluated in.
+#[derive(Clone, Copy)]
+pub(crate) struct Scope<'a> {
+    pub(crate) tree: &'a Tree,
+    /// The names of the file, oldest first.
+    pub(crate) file: &'a [Entry],
+    /// Those of the function that are in scope, oldest first.
+    pub(crate) names: &'a [Entry],
+    pub(crate) cells: &'a [i32],
+    pub(crate) view: View,
+}
+
+impl<'a> Scope<'a> {
+    /// The entry of a name, the newest one. A name that nothing declares has one that no cell belongs to.
+    #[tactic(auto, using(crate::proofs::Entries::is_entry))]
+    pub(crate) fn entry(&self, name: u32) -> Entry
+        ensures entry { result ≡ entry_of (scope_of self.now).env name }
+        ensures cells { AreEntries (scope_of self.now).env → IsEntry result }
+    {
+        entry_among(self.file, self.names, name)
+    }
+
+    /// The entry of the declaration with a slot, the newest one. A slot that nothing has gives one that no cell belongs to.
+    pub(crate) fn entry_at_slot(&self, slot: u32) -> Entry
+        ensures { result ≡ entry_at_slot (scope_of self.now).env slot }
+    {
+        slot_entry(self.file, self.names, slot)
+    }
+
+    /// The number of an expression, or its trap. One that is missing is 0.
+    #[tactic(auto, using(crate::proofs::Values::value_is))]
+    pub(crate) fn value(&self, part: Option<u32>) -> Result<i32, u8>
+        requires part { IsPart self.now.tree.now.trees part }
+        requires view { HasNumbers self.now.view }
+        ensures { result ≡ value (scope_of self.now) (part_at self.now.tree.now.trees part) }
+    {
+        match part {
+            Some(node) => self.node_value(node),
+            None => Ok(0),
+        }
+    }
+
+    /// The cell of a place, or a trap.
+    #[tactic(auto, using(crate::proofs::Values::cell_is))]
+    pub(crate) fn place_cell(&self, place: Option<u32>) -> Result<usize, u8>
+        requires place { IsPart self.now.tree.now.trees place }
+        requires view { HasNumbers self.now.view }
+        ensures cell { result ≡ cell_of (scope_of self.now) (part_at self.now.tree.now.trees place) }
+        ensures within { AreEntries (scope_of self.now).env → IfOk result (λ cell. cell ≤ CELL_LIMIT) }
+    {
+        match place {
+            Some(node) => self.node_cell(node),
+            None => Ok(self.entry(0).first as usize),
+        }
+    }
+
+    /// The first trap of the children of a node, from left to right up to the first that is absent.
+    #[tactic(auto, using(crate::proofs::ValuesAll::all_trap, crate::proofs::ValuesAll::all_next, crate::proofs::ValuesAll::all_without))]
+    pub(crate) fn check_all(&self, node: u32) -> Result<(), u8>
+        requires node { node < length self.now.tree.now.trees }
+        requires view { HasNumbers self.now.view }
+        ensures { result ≡ without_values (all_values (scope_of self.now) (parts (tree_at self.now.tree.now.trees node))) }
+    {
+        let mut place = 0;
+        while let Some(child) = self.tree.child(node, place) {
+            match self.node_value(child) {
+                Err(trap) => return Err(trap),
+                Ok(_) => place += 1,
+            }
+        }
+        Ok(())
+    }
+
+    /// The argument of a call at a place. Where there is none its number is 0, and none follow it. The arguments have no trap.
+    #[tactic(auto, using(crate::proofs::Entering::argument_trap))]
+    pub(crate) fn argument(&self, call: Option<u32>, place: u32) -> Argument
+        requires call { IsPart self.now.tree.now.trees call }
+        requires view { HasNumbers self.now.view }
+        requires values { HaveNoTrap (scope_of self.now) (part_at self.now.tree.now.trees call) place }
+        ensures { IsNextArgument (scope_of self.now) (part_at self.now.tree.now.trees call) place result }
+    {
+        match next_part(self.tree, call, place) {
+            Some(child) => match self.node_value(child) {
+                Ok(number) => Argument {
+                    number,
+                    next: place + 1,
+                },
+                Err(_) => unreachable!(),
+            },
+            None => Argument {
+                number: 0,
+                next: place,
+            },
+        }
+    }
+
+    /// The number of an expression, or its trap.
+    #[cycle(values)]
+    #[tactic(auto, using(crate::proofs::Values::value_is, crate::proofs::Values::cell_is))]
+    pub(crate) fn node_value(&self, node: u32) -> Result<i32, u8>
+        requires node { node < length self.now.tree.now.trees }
+        requires view { HasNumbers self.now.view }
+        ensures { result ≡ value (scope_of self.now) (tree_at self.now.tree.now.trees node) }
+    {
+        match self.tree.kind(node) {
+            NodeKind::Number => Ok(self.tree.number(node)),
+            NodeKind::Place => match self.node_cell(node) {
+                Err(trap) => Err(trap),
+                Ok(cell) => Ok(number_in(self.cells, cell)),
+            },
+            NodeKind::Paren => self.operand(node, 0),
+            NodeKind::Getter(which) => Ok(thread_number(which, self.view)),
+            NodeKind::Unary(operator) => self.unary(operator, node),
+            NodeKind::Binary(operator) => self.binary(operator, node),
+            _ => Ok(0),
+        }
+    }
+
+    /// The number of an operand. One that is missing is 0.
+    #[cycle(values)]
+    fn operand(&self, node: u32, place: u32) -> Result<i32, u8>
+        requires node { node < length self.now.tree.now.trees }
+        requires view { HasNumbers self.now.view }
+        ensures { result ≡ operand_at self.now node place }
+    {
+        match self.tree.child(node, place) {
+            Some(child) => self.node_value(child),
+            None => Ok(0),
+        }
+    }
+
+    #[cycle(values)]
+    #[tactic(auto, using(crate::proofs::Values::cell_is))]
+    fn node_cell(&self, node: u32) -> Result<usize, u8>
+        requires node { node < length self.now.tree.now.trees }
+        requires view { HasNumbers self.now.view }
+        ensures { result ≡ cell_of (scope_of self.now) (tree_at self.now.tree.now.trees node) }
+    {
+        let entry = self.entry(self.tree.name(node));
+        match self.tree.child(node, 0) {
+            None => Ok(entry.first as usize),
+            Some(child) => match self.node_value(child) {
+                Err(trap) => Err(trap),
+                Ok(index) => element(entry, index),
+            },
+        }
+    }
+
+    #[cycle(values)]
+    fn unary(&self, operator: UnaryOp, node: u32) -> Result<i32, u8>
+        requires node { node < length self.now.tree.now.trees }
+        requires view { HasNumbers self.now.view }
+        ensures { result ≡ unary_value operator (operand_at self.now node 0) }
+    {
+        match self.operand(node, 0) {
+            Err(trap) => Err(trap),
+            Ok(number) => unary_result(operator, number),
+        }
+    }
+
+    /// The right operand isn't looked at where the left one decides.
+    #[cycle(values)]
+    fn binary(&self, operator: BinaryOp, node: u32) -> Result<i32, u8>
+        requires node { node < length self.now.tree.now.trees }
+        requires view { HasNumbers self.now.view }
+        ensures { result ≡ binary_value operator (operand_at self.now node 0) (operand_at self.now node 1) }
+    {
+        match self.operand(node, 0) {
+            Err(trap) => Err(trap),
+            Ok(left) => match deciding_value(operator, left) {
+                Some(number) => Ok(number),
+                None => match self.operand(node, 1) {
+                    Err(trap) => Err(trap),
+                    Ok(right) => binary_result(operator, left, right),
+                },
+            },
+        }
+    }
+}
+
+/// The newest entry of a name, those of the file coming before the others. A name that nothing declares has one that no cell belongs to.
+#[tactic(auto, using(crate::proofs::ValuesNamed::named_behind))]
+pub(crate) fn entry_among(file: &[Entry], names: &[Entry], name: u32) -> Entry
+    ensures { result ≡ entry_of (file.now ++ names.now) name }
+{
+    match newest_named(names, name) {
+        Some(entry) => entry,
+        None => file_entry(file, name),
+    }
+}
+
+/// The entry of a slot, the newest one, where the names of the file come first.
+#[tactic(auto, using(crate::proofs::ValuesOfSlots::slot_behind))]
+pub(crate) fn slot_entry(file: &[Entry], names: &[Entry], slot: u32) -> Entry
+    ensures { result ≡ entry_at_slot (file.now ++ names.now) slot }
+{
+    match newest_of_slot(names, slot) {
+        Some(entry) => entry,
+        None => file_entry_of_slot(file, slot),
+    }
+}
+
+/// The newest entry of a name.
+#[tactic(auto, using(crate::proofs::ValuesNamed::named_last, crate::proofs::ValuesNamed::named_none))]
+fn newest_named(entries: &[Entry], name: u32) -> Option<Entry>
+    ensures { (found : SeenEntry) → unwrap_or result found ≡ last_named name found entries.now }
+{
+    let mut older = entries;
+    while let Some((entry, rest)) = older.split_last() {
+        if entry.name == name {
+            return Some(*entry);
+        }
+        older = rest;
+    }
+    None
+}
+
+/// The newest entry of a name, or that of a name that nothing declares.
+fn file_entry(entries: &[Entry], name: u32) -> Entry
+    ensures { result ≡ last_named name no_entry entries.now }
+{
+    match newest_named(entries, name) {
+        Some(entry) => entry,
+        None => no_entry(),
+    }
+}
+
+/// The newest entry of a slot.
+#[tactic(auto, using(crate::proofs::ValuesOfSlots::slot_last, crate::proofs::ValuesOfSlots::slot_none))]
+fn newest_of_slot(entries: &[Entry], slot: u32) -> Option<Entry>
+    ensures { (found : SeenEntry) → unwrap_or result found ≡ last_of_slot slot found entries.now }
+{
+    let mut older = entries;
+    while let Some((entry, rest)) = older.split_last() {
+        if entry.slot == slot {
+            return Some(*entry);
+        }
+        older = rest;
+    }
+    None
+}
+
+/// The newest entry of a slot, or that of a name that nothing declares.
+fn file_entry_of_slot(entries: &[Entry], slot: u32) -> Entry
+    ensures { result ≡ last_of_slot slot no_entry entries.now }
+{
+    match newest_of_slot(entries, slot) {
+        Some(entry) => entry,
+        None => no_entry(),
+    }
+}
+
+/// The oldest entry of a name, or that of a name that nothing declares.
+#[tactic(auto, unfolding(c_model::specs::Cells::first_named))]
+pub(crate) fn first_named(entries: &[Entry], name: u32) -> Entry
+    ensures { result ≡ first_named name entries.now }
+{
+    let mut newer = entries;
+    while let Some((entry, rest)) = newer.split_first() {
+        if entry.name == name {
+            return *entry;
+        }
+        newer = rest;
+    }
+    no_entry()
+}
+
+/// The entry of a name that nothing declares.
+fn no_entry() -> Entry
+    ensures { result ≡ no_entry }
+{
+    Entry {
+        name: 0,
+        first: CELL_LIMIT as u32,
+        size: 0,
+        slot: 0,
+    }
+}
+
+/// The cell of an element, or the trap of its index.
+fn element(entry: Entry, index: i32) -> Result<usize, u8>
+    ensures { result ≡ element entry index }
+{
+    match u32::try_from(index) {
+        Ok(index) if index < entry.size => Ok(entry.first as usize + index as usize),
+        _ => Err(INDEX),
+    }
+}
+
+/// What is in a cell; 0 where there is none.
+pub(crate) fn number_in(cells: &[i32], cell: usize) -> i32
+    ensures { result ≡ cell_at cells.now cell }
+{
+    match cells.get(cell) {
+        Some(number) => *number,
+        None => 0,
+    }
+}
+
+/// What a routine of threads gives.
+fn thread_number(which: Getter, view: View) -> i32
+    requires { HasNumbers view }
+    ensures { result ≡ pos (getter_number which view) }
+{
+    match which {
+        Getter::ThreadNum => view.index as i32,
+        Getter::NumThreads => view.team as i32,
+        Getter::MaxThreads => view.max as i32,
+    }
+}
