@@ -1,4 +1,24 @@
-//! What one task of a program does between events.
+//! What one task of a program does between events: an interpreter that is proved equal to the definitions of `c_model`.
+//!
+//! A [`Code`] is a checked program that is made ready to run. [`Cells`] are what all tasks of a run share: numbers by cell, and the bytes that
+//! were printed. A [`Control`] is what is left of one task's code. Contracts see it as a `Held` (`specs/Held.antt`): frames, which are nodes of
+//! the tree with how far they have come, names with their cells, and room. `task_at` there says which task of the definitions that is.
+//!
+//! - [`Control::advance`] makes one silent step, or says what stands next: a question, an event, the end, a trap or a limit ([`Next`]).
+//! - [`Control::give`] goes on after an answer, and [`Control::passed`] behind an event.
+//! - [`Control::stands`] tells whether an event or the end stands next.
+//! - [`Control::main`], [`Control::member`] and [`Control::task`] are how the code of each kind of task begins. [`Control::blank`] and
+//!   [`Control::clear`] have no code, and [`Control::reserve`] makes room.
+//!
+//! Each answers, and leaves control and cells, as the definition of the same name has it. Only what makes a new value and `reserve` take
+//! memory; where they find none, nothing has changed.
+//!
+//! The modules: `code` with `file`, `functions`, `widths`; `parts`, `clauses`, `listed` and `loops`, which read the tree; `scope` with
+//! `numbers`, the numbers of expressions, and `printing`; `names`, `stack` and `cells`, which have room; `item`, `frame` and `look`, what stands
+//! next; `copies`, a construct's own cells; and `control`, with a file for each family of forms. In `specs/` `Items`, `Held`, `Made`, `Passing`
+//! and `Advancing` are what contracts of public calls cite; the others serve those of private ones.
+//!
+//! Nothing is claimed of the time of a step. That the cells are those that the control's names have is the caller's to see to.
 #![tactic(auto)]
 
 mod cells;
