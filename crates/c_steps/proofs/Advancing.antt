@@ -14,7 +14,8 @@ use Rattle.c_steps.specs.declared.next.Next.TheVariants as next
 use Rattle.c_steps.specs.Held.{Held, here_at, moment_at, outcome_at, task_at}
 use Rattle.c_steps.specs.Items.{begun, item_at, todo_at}
 use Rattle.c_steps.specs.Made.{IsMadeFor}
-use Rattle.c_steps.specs.Ready.{AreFrames, IsFront, IsSettled}
+use Rattle.c_steps.specs.Advancing.{IsKept, IsLeft}
+use Rattle.c_steps.specs.Ready.{AreFrames, IsFront, IsSettled, IsUnchanging}
 
 module _ (program : TreeView) (view : View) (old settled : Held) (store : Store) (same : task_at program settled ≡ settled_task view (task_at program old)) where
   next_items : items_from_next view (todo_at program old.frames) ≡ todo_at program settled.frames
@@ -54,3 +55,21 @@ module _ (program : TreeView) (view : View) (old settled : Held) (store : Store)
   made_after new after (next.Ended number) made rest before frames left step = subst (IsMadeFor program) (sym left.0) (made_settled made rest before)
   made_after new after (next.Trap trap) made rest before frames left step = subst (IsMadeFor program) (sym left.0) (made_settled made rest before)
   made_after new after (next.Limit limit) made rest before frames left step = subst (IsMadeFor program) (sym left.0) (made_settled made rest before)
+
+  left_settled : settled ≡ record old { frames = settled.frames } → IsLeft program view old store settled store
+  left_settled rest = record {
+    task = same;
+    store = refl;
+    spare = ap Held.spare rest;
+    passes = ap Held.passes rest;
+    step_names = ap Held.step_names rest;
+    room = ap Held.room rest;
+  }
+
+  pub kept_unchanging : (result : Next) → settled ≡ record old { frames = settled.frames } → IsUnchanging result → IsKept program view result old store settled store
+  kept_unchanging next.Quiet rest unchanging = absurd (omega (arith, (unchanging settled store).spare))
+  kept_unchanging (next.Ask ask node) rest unchanging = left_settled rest
+  kept_unchanging (next.Event point node) rest unchanging = left_settled rest
+  kept_unchanging (next.Ended number) rest unchanging = left_settled rest
+  kept_unchanging (next.Trap trap) rest unchanging = left_settled rest
+  kept_unchanging (next.Limit limit) rest unchanging = left_settled rest

@@ -1,6 +1,6 @@
 use Rattle.std.proofs.Common.{sym, ◌∙◌}
 use Rattle.c_steps.specs.Held.{moment_at}
-use Rattle.c_steps.proofs.Advancing.{made_after, made_settled, silent_front, silent_none}
+use Rattle.c_steps.proofs.Advancing.{kept_unchanging, made_after, made_settled, silent_front, silent_none}
 use Rattle.c_steps.proofs.control.Control.advance.Goals as goal
 
 pub returns-in-Some-clause-step : goal.returns-in-Some-clause-step
@@ -22,3 +22,7 @@ returns-in-None-clause-step c =
 pub returns-in-None-clause-made : goal.returns-in-None-clause-made
 returns-in-None-clause-made c =
     made_settled c.args.code.now c.args.view c.args.self.now c.settle.new.self c.args.cells.now c.in-None.ensures.task c.requires.made c.in-None.ensures.rest c.in-None.ensures.frames
+
+pub returns-in-None-clause-kept : goal.returns-in-None-clause-kept
+returns-in-None-clause-kept c =
+    kept_unchanging c.args.code.now c.args.view c.args.self.now c.settle.new.self c.args.cells.now c.in-None.ensures.task c.ended.result c.in-None.ensures.rest c.ended.ensures.unchanged
