@@ -13,6 +13,7 @@ pub mod InnerNames
 pub mod Iterating
 pub mod ListedNames
 mod Looking
+mod Occurring
 pub mod OwnNames
 mod Parameters
 pub mod Passing

@@ -2,11 +2,11 @@
 
 ghost use Rattle.std.specs.Prelude.{◌≡◌, ◌<◌};
 ghost use Rattle.c_model.specs.Step.{silent, step_of};
-ghost use Rattle.c_steps.specs.Advancing.{IsKept};
+ghost use Rattle.c_steps.specs.Advancing.{IsKept, IsNamed};
 ghost use Rattle.c_steps.specs.Held.{here_at, moment_at, outcome_at};
 ghost use Rattle.c_steps.specs.Items.{item_at};
 ghost use Rattle.c_steps.specs.Made.{IsMadeFor};
-ghost use Rattle.c_steps.specs.Ready.{AreFrames, HasLoopNumbers, IsItem, IsSettled, IsStepping};
+ghost use Rattle.c_steps.specs.Ready.{AreFrames, FitsProgram, IsItem, IsSettled, IsStepping};
 ghost use Rattle.c_steps.specs.Scopes.{HasNumbers};
 ghost use Rattle.c_steps.specs.Widths.{step_names};
 
@@ -14,7 +14,8 @@ use crate::cells::Cells;
 use crate::code::Code;
 use crate::control::Control;
 use crate::control::events::{
-    acquire, ask_lock, end_masked, end_parallel, end_work, next_chunk, next_section, release, synchronise,
+    acquire, ask_lock, end_masked, end_parallel, end_work, next_chunk, next_section, release,
+    synchronise,
 };
 use crate::item::Item;
 use crate::next::Next;
@@ -22,14 +23,16 @@ use c_model::View;
 
 impl Control {
     /// Makes one silent step, or says what stands next. At anything but a silent step the cells are as they were, and the control stands for
-    /// the same task, but for what the task goes past. It takes no memory.
+    /// the same task, but for what the task goes past. An event can be passed, and an answer that fits can be given. It takes no memory.
+    #[tactic(auto, using(crate::proofs::Occurring::named_front))]
     pub fn advance(&mut self, code: &Code, cells: &mut Cells, view: View) -> Next
         requires made { IsMadeFor code.now self.old }
         requires view { HasNumbers view }
         requires spare { 0 < self.old.spare }
         ensures step { outcome_at code.now result (moment_at code.now self.new cells.new) ≡ silent code.now view (moment_at code.now self.old cells.old) }
         ensures kept { IsKept code.now view result self.old cells.old self.new cells.new }
-        ensures numbers { HasLoopNumbers result }
+        ensures numbers { FitsProgram code.now result }
+        ensures named { IsNamed code.now result self.new }
         ensures made { IsMadeFor code.now self.new }
     {
         match self.settle(code, view) {
@@ -46,7 +49,7 @@ impl Control {
         requires step_names { self.old.step_names ≡ step_names code.now }
         ensures step { outcome_at code.now result (moment_at code.now self.new cells.new) ≡ step_of (item_at code.now item) (here_at code.now view self.old cells.old) }
         ensures settled { IsSettled result self.old cells.old self.new cells.new }
-        ensures numbers { HasLoopNumbers result }
+        ensures numbers { FitsProgram code.now result }
         ensures frames { AreFrames code.now self.new.frames }
     {
         match item {
@@ -74,7 +77,10 @@ impl Control {
                 names,
             } => self.combine(code, cells, view, operator, name, names),
             Item::EndWork {
-                node, kind, count, ..
+                node,
+                kind,
+                count,
+                ..
             } => end_work(code, node, kind, count),
             Item::EndMasked(node) => end_masked(code, node),
             Item::Sync { node, kind, stage } => synchronise(code, node, kind, stage),

@@ -14,7 +14,7 @@ ghost use Rattle.c_steps.specs.Items.{file_names};
 ghost use Rattle.c_steps.specs.Moves.{bound};
 ghost use Rattle.c_steps.specs.Nodes.{IsPart, part_at};
 ghost use Rattle.c_steps.specs.OwnCells.{around_at, copy_entry, copy_numbers, listed_cells, made_listed, made_own, with_made, with_made_cells, with_numbers};
-ghost use Rattle.c_steps.specs.Ready.{AreFrames, HasLoopNumbers, IsSettled, IsStepping};
+ghost use Rattle.c_steps.specs.Ready.{AreFrames, FitsProgram, IsSettled, IsStepping};
 ghost use Rattle.c_steps.specs.Widths.{step_names};
 
 use crate::cells::Cells;
@@ -41,7 +41,7 @@ impl Control {
         requires names { self.old.step_names ≡ step_names code.now }
         ensures step { outcome_at code.now result (moment_at code.now self.new cells.new) ≡ constructs.make_cells (here_at code.now view self.old cells.old) (tree_at code.now.trees node) }
         ensures settled { IsSettled result self.old cells.old self.new cells.new }
-        ensures numbers { HasLoopNumbers result }
+        ensures numbers { FitsProgram code.now result }
         ensures frames { AreFrames code.now self.new.frames }
     {
         if !self.has_own_room(code, cells, view, node) {
