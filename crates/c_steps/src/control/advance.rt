@@ -24,7 +24,6 @@ use c_model::View;
 impl Control {
     /// Makes one silent step, or says what stands next. At anything but a silent step the cells are as they were, and the control stands for
     /// the same task, but for what the task goes past. An event can be passed, and an answer that fits can be given. It takes no memory.
-    #[tactic(auto, using(crate::proofs::Occurring::named_front))]
     pub fn advance(&mut self, code: &Code, cells: &mut Cells, view: View) -> Next
         requires made { IsMadeFor code.now self.old }
         requires view { HasNumbers view }
