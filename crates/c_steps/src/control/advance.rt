@@ -1,12 +1,15 @@
 //! One step of a task's code.
 
-ghost use Rattle.std.specs.Prelude.{◌≡◌, ◌<◌};
+ghost use Rattle.std.specs.Prelude.{◌≡◌, ◌<◌, pos, unwrap_or};
+ghost use Rattle.c_syntax.specs.Numbered.{TreeView};
+ghost use Rattle.c_model.specs.Task.{Moment};
+ghost use Rattle.c_model.specs.Task.Outcome.{Ends};
 ghost use Rattle.c_model.specs.Step.{silent, step_of};
 ghost use Rattle.c_steps.specs.Advancing.{IsKept, IsNamed};
-ghost use Rattle.c_steps.specs.Held.{here_at, moment_at, outcome_at};
+ghost use Rattle.c_steps.specs.Held.{Held, here_at, moment_at, outcome_at};
 ghost use Rattle.c_steps.specs.Items.{item_at};
 ghost use Rattle.c_steps.specs.Made.{IsMadeFor};
-ghost use Rattle.c_steps.specs.Ready.{AreFrames, FitsProgram, IsItem, IsSettled, IsStepping};
+ghost use Rattle.c_steps.specs.Ready.{AreFrames, FitsProgram, IsItem, IsSettled, IsStepping, IsUnchanging};
 ghost use Rattle.c_steps.specs.Scopes.{HasNumbers};
 ghost use Rattle.c_steps.specs.Widths.{step_names};
 
@@ -36,7 +39,20 @@ impl Control {
     {
         match self.settle(code, view) {
             Some(item) => self.advance_item(code, cells, view, item),
-            None => Next::Ended(self.returned.unwrap_or(0)),
+            None => self.ended(),
+        }
+    }
+
+    /// The code has ended, with the value of the last call, or 0.
+    fn ended(&self) -> Next
+        ensures step { (program : TreeView) (now : Moment) → outcome_at program result now ≡ Ends (unwrap_or self.now.returned (pos 0)) }
+        ensures unchanged { IsUnchanging result }
+        ensures numbers { (program : TreeView) → FitsProgram program result }
+        ensures named { (program : TreeView) (held : Held) → IsNamed program result held }
+    {
+        match self.returned {
+            Some(number) => Next::Ended(number),
+            None => Next::Ended(0),
         }
     }
 

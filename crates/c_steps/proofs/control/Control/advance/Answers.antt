@@ -22,8 +22,14 @@ returns-in-Some-clause-named c =
 
 pub returns-in-None-clause-step : goal.returns-in-None-clause-step
 returns-in-None-clause-step c =
-    sym (silent_none c.args.code.now c.args.view c.args.self.now c.settle.new.self c.args.cells.now c.in-None.ensures.task c.in-None.ensures.none)
+    c.ended.ensures.step _ _ ∙ sym (silent_none c.args.code.now c.args.view c.args.self.now c.settle.new.self c.args.cells.now c.in-None.ensures.task c.in-None.ensures.none)
 
 pub returns-in-None-clause-made : goal.returns-in-None-clause-made
 returns-in-None-clause-made c =
     made_settled c.args.code.now c.args.view c.args.self.now c.settle.new.self c.args.cells.now c.in-None.ensures.task c.requires.made c.in-None.ensures.rest c.in-None.ensures.frames
+
+pub returns-in-None-clause-numbers : goal.returns-in-None-clause-numbers
+returns-in-None-clause-numbers c = c.ended.ensures.numbers c.args.code.now
+
+pub returns-in-None-clause-named : goal.returns-in-None-clause-named
+returns-in-None-clause-named c = c.ended.ensures.named c.args.code.now c.settle.new.self
