@@ -1,9 +1,9 @@
 -- What an advance comes to, when the task has left out what it goes past.
-use Rattle.std.proofs.Common.{◌≡◌, ℕ, [], ◌∷◌, Option, pos, unwrap_or, refl, sym, ap, ◌∙◌, subst, arith}
+use Rattle.std.proofs.Common.{◌≡◌, [], pos, unwrap_or, refl, sym, ap, ◌∙◌, subst, arith}
 use Rattle.c_syntax.specs.Numbered.{TreeView}
 use Rattle.c_model.specs.declared.view.View.{View}
 use Rattle.c_model.specs.Step.{items_from_next, settled_task, silent, step_at, step_of}
-use Rattle.c_model.specs.Task.{Here, Item as SeenItem, Outcome, Store, Task}
+use Rattle.c_model.specs.Task.{Store, Task}
 use Rattle.c_model.specs.Task.Outcome.{Ends}
 use Rattle.c_model.specs.Width.{IsWithin}
 use Rattle.c_model.proofs.WidthSettled.{settled_is_within}

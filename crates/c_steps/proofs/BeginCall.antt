@@ -1,5 +1,5 @@
 -- What the start of a call comes to.
-use Rattle.std.specs.Prelude.{◌≡◌, ℕ, ◌+◌, ◌≤◌, ◌<◌, Bool, true, false, not, nat_le, nat_lt, if◌then◌else◌, List, [], ◌∷◌, length, take, Result, Ok, Err, ℤ, refl}
+use Rattle.std.specs.Prelude.{◌≡◌, ℕ, ◌+◌, ◌≤◌, ◌<◌, Bool, true, false, not, nat_le, nat_lt, if◌then◌else◌, List, [], ◌∷◌, length, take, Result, Ok, ℤ}
 use Rattle.std.proofs.Common.{ap, sym, ◌∙◌, arith, length-append}
 use Rattle.std.proofs.lemmas.Bool.{le-leb, lt-leb}
 use Rattle.c_syntax.specs.Tree.{Tree, name_of}
@@ -15,13 +15,12 @@ use Rattle.c_model.specs.Cells.{Bound, has_too_many, with_cells}
 use Rattle.c_model.specs.Coming.{with_result}
 use Rattle.c_model.specs.Parts.{parts}
 use Rattle.c_model.specs.Program.{function_named, parameters_of}
-use Rattle.c_model.specs.Task.{Here, OpenCall, Outcome, Store}
+use Rattle.c_model.specs.Task.{Here, Outcome, Store}
 use Rattle.c_model.specs.Task.Outcome.{Limits, StepsTo}
 use Rattle.c_model.specs.Value.{Scope, all_values}
 use Rattle.c_steps.specs.Arguments.{values_in, without_values}
 use Rattle.c_steps.specs.Entering.{HaveNoTrap, moment_entered}
 use Rattle.c_steps.specs.Held.{Held, here_at, scope_in}
-use Rattle.c_steps.specs.Items.{calls_at}
 use Rattle.c_steps.specs.Rooming.{open_calls}
 use Rattle.c_steps.proofs.Frames.{calls_counted}
 use Rattle.c_steps.proofs.ValuesAll.{ok_values}

@@ -1,17 +1,15 @@
 -- Where the code of a task begins.
-use Rattle.std.proofs.Common.{◌≡◌, ℕ, ◌+◌, ◌<◌, ◌≤◌, List, [], ◌∷◌, ◌++◌, length, take, drop, Option, Some, None, refl, sym, ap, ◌∙◌, subst, arith, rules}
-use Rattle.std.proofs.lemmas.List.{append-nil, length-append}
+use Rattle.std.proofs.Common.{◌≡◌, ℕ, ◌+◌, ◌<◌, ◌≤◌, List, [], ◌∷◌, ◌++◌, length, Option, None, refl, sym, subst, arith}
+use Rattle.std.proofs.lemmas.List.{append-nil}
 use Rattle.std.proofs.lemmas.List.Elements.{All-cons, All-nil}
-use Rattle.c_syntax.specs.Numbered.{TreeView, root_tree}
+use Rattle.c_syntax.specs.Numbered.{TreeView}
 use Rattle.c_model.specs.declared.entry.Entry.{Entry}
 use Rattle.c_model.specs.declared.limits.TheConstants.{CALL_LIMIT}
 use Rattle.c_model.specs.declared.point.Target.TheVariants.{Nowhere}
 use Rattle.c_model.specs.Begin.{main_task}
 use Rattle.c_model.specs.Calls.{file_bound}
-use Rattle.c_model.specs.Parts.{parts}
 use Rattle.c_model.specs.Program.{body_of, function_named}
-use Rattle.c_model.specs.Task.{OpenCall, Task}
-use Rattle.c_model.specs.Width.{IsCallWithin, IsWithin, most_names, most_of_functions, width}
+use Rattle.c_model.specs.Width.{IsCallWithin, IsWithin, most_names, width}
 use Rattle.c_model.proofs.WidthTasks.{main_is_within}
 use Rattle.c_steps.specs.declared.frame.Frame.{Frame}
 use Rattle.c_steps.specs.declared.frame.Frame.TheVariants as frame
@@ -21,7 +19,7 @@ use Rattle.c_steps.specs.Items.{calls_at, file_names, todo_at}
 use Rattle.c_steps.specs.Made.{IsMadeFor, blank_held}
 use Rattle.c_steps.specs.Moves.{cleared, opened, roomy, then_item}
 use Rattle.c_steps.specs.Nodes.{IsPart, part_at}
-use Rattle.c_steps.specs.Ready.{AreFrames, IsFrame}
+use Rattle.c_steps.specs.Ready.{IsFrame}
 use Rattle.c_steps.specs.Rooming.{AreEntries, HasRoomFor, open_calls}
 
 -- the names of the file are all that are in scope

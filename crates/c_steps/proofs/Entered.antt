@@ -1,8 +1,7 @@
 -- What stands there when a function is entered.
-use Rattle.std.specs.Prelude.{◌≡◌, ℕ, ◌+◌, ◌≤◌, ◌++◌, List, [], ◌∷◌, drop, take, length, Option, Some, None, ℤ, refl}
-use Rattle.std.proofs.Common.{ap, subst, sym, ◌∙◌, arith, append_assoc, length-append}
+use Rattle.std.specs.Prelude.{◌≡◌, ℕ, ◌≤◌, ◌++◌, List, [], ◌∷◌, drop, take, length, Option, Some, None, ℤ, refl}
+use Rattle.std.proofs.Common.{ap, subst, sym, ◌∙◌, arith, append_assoc}
 use Rattle.std.proofs.lemmas.List.{append-nil, drop_all, take_all, drop-append-le, take-append-le}
-use Rattle.std.proofs.Math.Seq.{take-append_seam}
 use Rattle.c_syntax.specs.Tree.{Tree}
 use Rattle.c_syntax.specs.Numbered.{TreeView}
 use Rattle.c_model.specs.declared.entry.Entry.{Entry}
@@ -17,13 +16,11 @@ use Rattle.c_model.specs.Value.{Scope, all_values}
 use Rattle.c_model.specs.Program.{body_of, parameters_of}
 use Rattle.c_model.specs.Task.{Moment, OpenCall, Store}
 use Rattle.c_model.specs.Task.Item.{FallOff, Start}
-use Rattle.c_steps.specs.declared.frame.Frame.{Frame}
-use Rattle.c_steps.specs.declared.frame.Frame.TheVariants as frame
 use Rattle.c_steps.specs.declared.item.Item.TheVariants as item
 use Rattle.c_steps.specs.declared.control.entering.Caller.{Caller}
 use Rattle.c_steps.specs.Arguments.{values_in}
 use Rattle.c_steps.specs.Entering.{HasMore, IsCaller, arguments_from, bound_at, caller_scope, moment_entered}
-use Rattle.c_steps.specs.Held.{Held, env_at, here_at, moment_at, scope_in, task_at}
+use Rattle.c_steps.specs.Held.{Held, env_at, here_at, moment_at, scope_in}
 use Rattle.c_steps.specs.Items.{begun, calls_at, file_names, todo_at}
 use Rattle.c_steps.specs.Moves.{bound_if, entries_if, env_with, opened, stepping, then_item}
 use Rattle.c_steps.specs.Nodes.{part_at}

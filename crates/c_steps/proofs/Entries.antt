@@ -1,6 +1,6 @@
 -- The cells of the names in scope are among those that there may be.
 use Rattle.std.specs.Prelude.{◌≡◌, ℕ, ◌==◌, ◌≤◌, if◌then◌else◌, List, [], ◌∷◌, ◌++◌, drop, Option, Some, None, Result, Ok, Err, ℤ, pos, negsuc, nat_lt, IfOk}
-use Rattle.std.proofs.Common.{Bool, true, false, ◌+◌, ◌<◌, inl, inr, subst, sym, arith}
+use Rattle.std.proofs.Common.{Bool, true, false, ◌<◌, inl, inr, subst, sym, arith}
 use Rattle.std.proofs.lemmas.Bool.{cases_Bool, ltb-true}
 use Rattle.std.proofs.lemmas.List.Elements.{All-append, All-drop, All-head, All-tail}
 use Rattle.c_syntax.specs.Tree.{Tree, name_of}

@@ -1,21 +1,20 @@
 -- Where the code of an explicit task begins.
-use Rattle.std.proofs.Common.{◌≡◌, ℕ, ◌+◌, ◌-◌, ◌≤◌, List, [], ◌∷◌, ◌++◌, length, take, drop, slice_get, Option, Some, None, refl, sym, ap, ◌∙◌, subst, append_assoc, arith, rules}
+use Rattle.std.proofs.Common.{◌≡◌, ℕ, ◌+◌, ◌≤◌, List, [], ◌∷◌, length, drop, slice_get, Option, Some, refl, sym, ap, ◌∙◌, subst, append_assoc, arith, rules}
 use Rattle.std.proofs.lemmas.List.{length-append}
 use Rattle.std.proofs.lemmas.List.Elements.{All-cons, All-nil}
-use Rattle.c_syntax.specs.Tree.{Tree, kind_of}
+use Rattle.c_syntax.specs.Tree.{Tree}
 use Rattle.c_syntax.specs.Numbered.{TreeView, tree_at}
 use Rattle.c_check.specs.Seen.{task_copies}
 use Rattle.c_model.specs.declared.limits.TheConstants.{CELL_LIMIT}
-use Rattle.c_model.specs.declared.entry.Entry.{Entry}
 use Rattle.c_model.specs.declared.view.View.{View}
-use Rattle.c_model.specs.Begin.{created_construct, explicit_task, explicit_task_of, new_task}
+use Rattle.c_model.specs.Begin.{created_construct, explicit_task_of, new_task}
 use Rattle.c_model.specs.Cells.{Bound}
-use Rattle.c_model.specs.Clauses.{clauses_of, construct_statement, listed_among}
+use Rattle.c_model.specs.Clauses.{construct_statement}
 use Rattle.c_model.specs.Copies.{listed_variables, with_task_cells}
-use Rattle.c_model.specs.Step.{items_from_next, settled_task}
+use Rattle.c_model.specs.Step.{items_from_next}
 use Rattle.c_model.specs.Task.{Item as SeenItem, Moment, Store, Task}
 use Rattle.c_model.specs.Task.{Item as seen}
-use Rattle.c_model.specs.Width.{IsWithin, inner_names, most_names, most_of_functions, own_names, width}
+use Rattle.c_model.specs.Width.{IsWithin, inner_names, most_names}
 use Rattle.c_model.proofs.WidthTasks.{explicit_is_within}
 use Rattle.c_model.proofs.WidthTrees.{split}
 use Rattle.c_steps.specs.Beginning.{IsCreation, created_of}
@@ -27,7 +26,7 @@ use Rattle.c_steps.specs.Made.{IsMadeFor}
 use Rattle.c_steps.specs.Moves.{beginning, then_item}
 use Rattle.c_steps.specs.Nodes.{IsPart, part_at}
 use Rattle.c_steps.specs.OwnCells.{made_task, with_made, with_made_cells}
-use Rattle.c_steps.specs.Ready.{AreFrames, IsFrame}
+use Rattle.c_steps.specs.Ready.{IsFrame}
 use Rattle.c_steps.proofs.Giving.{nothing_past, same_task}
 use Rattle.c_steps.proofs.OwnNames.{listed_within}
 use Rattle.c_steps.proofs.TaskNames.{task_appends}

@@ -10,7 +10,6 @@ use Rattle.c_steps.specs.declared.frame.Frame.{Frame}
 use Rattle.c_steps.specs.declared.frame.Frame.TheVariants as frame
 use Rattle.c_steps.specs.Items.{calls_at, file_names, todo_at, with_file}
 use Rattle.c_steps.specs.Moves.{below_call, last_call}
-use Rattle.c_syntax.specs.Tree.{Tree}
 use Rattle.c_syntax.specs.Numbered.{tree_at}
 use Rattle.c_check.specs.Tasks.{from_place}
 use Rattle.c_model.specs.Parts.{flat_declarations, parts}

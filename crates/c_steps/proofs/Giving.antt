@@ -1,12 +1,12 @@
 -- How a control goes on after an answer.
-use Rattle.std.proofs.Common.{◌≡◌, ℕ, ◌+◌, ◌≤◌, ◌==◌, ◌&&◌, true, false, not, if◌then◌else◌, List, [], ◌∷◌, ◌++◌, length, refl, sym, ap, ◌∙◌, subst, arith, rules}
+use Rattle.std.proofs.Common.{◌≡◌, ◌==◌, ◌&&◌, true, false, not, List, [], ◌∷◌, refl, sym, ap, ◌∙◌, subst, arith}
 use Rattle.c_syntax.specs.Numbered.{TreeView}
-use Rattle.c_syntax.specs.Tree.{Tree, kind_of}
+use Rattle.c_syntax.specs.Tree.{kind_of}
 use Rattle.c_model.specs.declared.question.Answer.{Answer}
 use Rattle.c_model.specs.declared.view.View.{View}
 use Rattle.c_model.specs.Answers.{AnswersFirst, AnswersItem}
 use Rattle.c_model.specs.Going.{after_answer, answered_at, cells_answered, items_answered, settled_after_answer}
-use Rattle.c_model.specs.Step.{is_masked, is_passed_over, items_from_next, settled_moment, settled_task}
+use Rattle.c_model.specs.Step.{is_masked, is_passed_over, items_from_next, settled_task}
 use Rattle.c_model.specs.Task.{Item as SeenItem, Moment, Store, Task}
 use Rattle.c_model.specs.Task.Item.{Start}
 use Rattle.c_model.specs.Width.{IsWithin}

@@ -16,6 +16,7 @@ pub mod Iterating
 pub mod ListedNames
 mod Looking
 pub mod Members
+mod Occurring
 pub mod OwnNames
 mod Parameters
 pub mod Passing

@@ -1,10 +1,9 @@
 -- Where the code of a member of a team begins.
-use Rattle.std.proofs.Common.{◌≡◌, ℕ, ◌+◌, ◌<◌, ◌≤◌, Bool, true, false, List, [], ◌∷◌, ◌++◌, length, take, drop, slice_get, Option, Some, None, IfSome, refl, sym, ap, ◌∙◌, subst, append_assoc, arith, rules}
+use Rattle.std.proofs.Common.{◌≡◌, ℕ, ◌<◌, ◌≤◌, Bool, true, List, [], ◌∷◌, ◌++◌, length, take, drop, slice_get, Option, Some, None, IfSome, refl, sym, ap, ◌∙◌, subst, append_assoc, arith, rules}
 use Rattle.std.proofs.lemmas.List.{append-nil, length-append}
 use Rattle.std.proofs.lemmas.List.Elements.{All-cons, All-nil}
 use Rattle.c_syntax.specs.Tree.{Tree, kind_of}
 use Rattle.c_syntax.specs.Numbered.{TreeView, tree_at}
-use Rattle.c_model.specs.declared.entry.Entry.{Entry}
 use Rattle.c_model.specs.declared.point.SyncKind.TheVariants as sync
 use Rattle.c_model.specs.declared.point.SyncStage.TheVariants as stage
 use Rattle.c_model.specs.declared.view.View.{View}
@@ -12,13 +11,12 @@ use Rattle.c_model.specs.Begin.{forked_construct, member_items, member_statement
 use Rattle.c_model.specs.Clauses.{construct_statement}
 use Rattle.c_model.specs.Copies.{combines, combining_all, listed_variables, makes_cells}
 use Rattle.c_model.specs.Step.{items_from_next}
-use Rattle.c_model.specs.Task.{Item as SeenItem, Task}
+use Rattle.c_model.specs.Task.{Item as SeenItem}
 use Rattle.c_model.specs.Task.{Item as seen}
-use Rattle.c_model.specs.Width.{IsWithin, most_names, most_of_functions, width}
+use Rattle.c_model.specs.Width.{IsWithin}
 use Rattle.c_model.proofs.WidthNames.{least}
 use Rattle.c_model.proofs.WidthTasks.{member_is_within}
 use Rattle.c_steps.specs.Beginning.{HasForked, IsPutBefore, forked_of, member_by, region_items}
-use Rattle.c_steps.specs.declared.frame.Frame.{Frame}
 use Rattle.c_steps.specs.declared.frame.Frame.TheVariants as frame
 use Rattle.c_steps.specs.declared.item.Item.{Item}
 use Rattle.c_steps.specs.declared.item.Item.TheVariants as item
@@ -27,9 +25,9 @@ use Rattle.c_steps.specs.Held.{Held, env_at, task_at}
 use Rattle.c_steps.specs.Items.{calls_at, file_names, item_at, items_if, todo_at, with_file}
 use Rattle.c_steps.specs.ListedNames.{listed_from}
 use Rattle.c_steps.specs.Made.{IsMadeFor}
-use Rattle.c_steps.specs.Moves.{beginning, cleared, pushed, then_if, then_item}
+use Rattle.c_steps.specs.Moves.{beginning, pushed, then_if, then_item}
 use Rattle.c_steps.specs.Nodes.{IsPart, part_at}
-use Rattle.c_steps.specs.Ready.{AreFrames, IsFrame, IsItem}
+use Rattle.c_steps.specs.Ready.{IsFrame, IsItem}
 use Rattle.c_steps.proofs.Frames.{all_names}
 use Rattle.c_steps.proofs.Giving.{nothing_past}
 

@@ -1,5 +1,5 @@
 -- What a control stands for behind an event.
-use Rattle.std.proofs.Common.{◌≡◌, ℕ, ◌+◌, ◌≤◌, Bool, List, [], ◌∷◌, ◌++◌, length, take, drop, Option, Some, None, refl, sym, subst, ap, ◌∙◌, append_assoc, arith, rules}
+use Rattle.std.proofs.Common.{◌≡◌, ℕ, ◌≤◌, Bool, List, [], ◌∷◌, ◌++◌, length, take, drop, Option, Some, None, refl, sym, subst, ap, ◌∙◌, append_assoc}
 use Rattle.std.proofs.lemmas.List.{drop-append-le, take-append-le}
 use Rattle.c_syntax.specs.Tree.{Tree}
 use Rattle.c_syntax.specs.Numbered.{TreeView, tree_at}
@@ -13,7 +13,7 @@ use Rattle.c_model.specs.declared.point.WorkKind.{WorkKind}
 use Rattle.c_model.specs.Clauses.{construct_statement}
 use Rattle.c_model.specs.Copies.{makes_cells}
 use Rattle.c_model.specs.declared.view.View.{View}
-use Rattle.c_model.specs.Going.{after_event, barrier_items, items_after, mutex_items, names_after, next_stage, passed_at, settled_after_event, work_items}
+use Rattle.c_model.specs.Going.{barrier_items, items_after, mutex_items, names_after, next_stage, passed_at, settled_after_event, work_items}
 use Rattle.c_model.specs.Occurring.{IsOfItem, IsOfNext}
 use Rattle.c_model.specs.Step.{settled_task}
 use Rattle.c_model.specs.Width.{IsWithin}

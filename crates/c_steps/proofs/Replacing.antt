@@ -1,8 +1,7 @@
 -- What a control stands for where items stand in place of the one that stood next.
-use Rattle.std.proofs.Common.{◌≡◌, ℕ, ◌+◌, ◌<◌, nat_lt, true, List, [], ◌∷◌, ◌++◌, length, take, ℤ, pos, refl, sym, ap, ◌∙◌, arith, rules}
+use Rattle.std.proofs.Common.{◌≡◌, ℕ, ◌+◌, ◌<◌, nat_lt, true, List, [], ◌∷◌, ◌++◌, take, ℤ, refl, sym, ap, ◌∙◌, arith}
 use Rattle.std.proofs.lemmas.List.{append_assoc}
 use Rattle.c_syntax.specs.Numbered.{TreeView, tree_at}
-use Rattle.c_model.specs.declared.entry.Entry.{Entry}
 use Rattle.c_model.specs.declared.point.Target.{Target}
 use Rattle.c_model.specs.declared.point.Target.TheVariants as target
 use Rattle.c_model.specs.declared.point.WorkKind.{WorkKind}
@@ -14,7 +13,7 @@ use Rattle.c_model.specs.Task.Item.{EndWork, Iterations}
 use Rattle.c_steps.specs.declared.item.Item.{Item}
 use Rattle.c_steps.specs.declared.listed.ListedPlace.{ListedPlace}
 use Rattle.c_steps.specs.Held.{Held, task_at}
-use Rattle.c_steps.specs.Items.{begun, calls_at, combining_from, item_at, todo_at, with_file}
+use Rattle.c_steps.specs.Items.{begun, calls_at, item_at, todo_at, with_file}
 use Rattle.c_steps.specs.ListedNames.{listed_from}
 use Rattle.c_steps.specs.Moves.{delivered, ending, stepping, then_item}
 use Rattle.c_steps.specs.Passing.{replaced}

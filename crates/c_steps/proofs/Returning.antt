@@ -1,5 +1,5 @@
 -- A function returns: the call that was opened last is closed, and its value goes to its target.
-use Rattle.std.specs.Prelude.{◌≡◌, ℕ, ◌+◌, ◌-◌, ◌<◌, ◌++◌, List, [], ◌∷◌, drop, take, length, min, Option, Some, None, ℤ, pos, slice_set, refl}
+use Rattle.std.specs.Prelude.{◌≡◌, ℕ, ◌<◌, List, [], ◌∷◌, take, Option, Some, None, ℤ, pos, slice_set, refl}
 use Rattle.std.proofs.Common.{ap, subst, sym, ◌∙◌, arith}
 use Rattle.std.proofs.lemmas.List.{drop_min, take_min}
 use Rattle.std.proofs.lemmas.List.Elements.{All-cons, All-nil, All-tail}
@@ -15,7 +15,7 @@ use Rattle.c_steps.specs.declared.frame.Frame.{Frame}
 use Rattle.c_steps.specs.declared.frame.Frame.TheVariants as frame
 use Rattle.c_steps.specs.declared.item.Item.TheVariants as item
 use Rattle.c_steps.specs.Held.{Held, env_at, here_at, moment_at}
-use Rattle.c_steps.specs.Items.{begun, calls_at, file_names, todo_at}
+use Rattle.c_steps.specs.Items.{begun, calls_at, todo_at}
 use Rattle.c_steps.specs.Moves.{below_call, cells_given, closed, closed_to, delivered, given_back, last_call, stepping}
 use Rattle.c_steps.specs.Ready.{AreFrames, IsAfterStep, IsFrame, IsStepping}
 use Rattle.c_steps.proofs.Frames.{calls_by_last, calls_from_last}

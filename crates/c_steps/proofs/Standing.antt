@@ -1,5 +1,5 @@
 -- What stands next, told frame by frame.
-use Rattle.std.proofs.Common.{◌≡◌, ℕ, ◌<◌, true, false, List, [], ◌∷◌, ◌++◌, length, reverse, slice_get, Option, Some, None, refl, sym, ap, ◌∙◌, subst, arith, rules}
+use Rattle.std.proofs.Common.{◌≡◌, ◌<◌, true, false, List, [], ◌∷◌, ◌++◌, length, reverse, slice_get, Some, None, refl, sym, ap, ◌∙◌, subst, arith, rules}
 use Rattle.std.proofs.lemmas.List.{reverse-append, reverse-reverse}
 use Rattle.std.proofs.lemmas.List.Elements.{All-cons, All-head, All-tail}
 use Rattle.c_syntax.specs.Numbered.{TreeView}
@@ -8,11 +8,10 @@ use Rattle.c_model.specs.Step.{is_passed_over, items_from_next}
 use Rattle.c_model.specs.Task.{Item as SeenItem}
 use Rattle.c_steps.specs.declared.item.Item.{Item}
 use Rattle.c_steps.specs.declared.frame.Frame.{Frame}
-use Rattle.c_steps.specs.declared.control.standing.Front.{Front}
 use Rattle.c_steps.specs.declared.control.standing.Front.TheVariants as front
 use Rattle.c_steps.specs.Items.{begun, item_at, todo_at}
 use Rattle.c_steps.specs.Looking.{IsInPlaceOf, IsOver, ShowsItem, weight, weights}
-use Rattle.c_steps.specs.Ready.{AreFrames, IsFrame, IsItem}
+use Rattle.c_steps.specs.Ready.{AreFrames, IsFrame}
 use Rattle.c_steps.specs.Standing.{BeginsAs, Fronts}
 use Rattle.c_steps.proofs.Settling.{SettlesTo, settled_front, settled_none, settles_instead, settles_none, settles_over, settles_past}
 

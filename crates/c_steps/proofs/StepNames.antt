@@ -1,5 +1,5 @@
 -- There is room for the names that a call brings into scope.
-use Rattle.std.specs.Prelude.{◌≡◌, ℕ, zero, suc, ◌+◌, ◌-◌, ◌≤◌, ◌<◌, ◌++◌, List, [], ◌∷◌, length, Option, Some, None, refl}
+use Rattle.std.specs.Prelude.{◌≡◌, ℕ, zero, suc, ◌+◌, ◌-◌, ◌≤◌, ◌<◌, ◌++◌, List, [], ◌∷◌, length, Option, Some, None}
 use Rattle.std.proofs.Common.{ap, sym, ◌∙◌, arith}
 use Rattle.std.proofs.lemmas.List.{append-nil}
 use Rattle.c_syntax.specs.Tree.{Tree}
@@ -8,7 +8,7 @@ use Rattle.c_model.specs.declared.entry.Entry.{Entry}
 use Rattle.c_model.specs.declared.limits.TheConstants.{CALL_LIMIT}
 use Rattle.c_model.specs.Parts.{parts, trees_in}
 use Rattle.c_steps.specs.Held.{Held}
-use Rattle.c_steps.specs.Items.{begun, calls_at}
+use Rattle.c_steps.specs.Items.{begun}
 use Rattle.c_steps.specs.Moves.{bound_if, entries_if}
 use Rattle.c_steps.specs.Nodes.{IsPart, part_at}
 use Rattle.c_steps.specs.Ready.{IsStepping}

@@ -1,12 +1,15 @@
--- What an advance leaves as it was.
+-- What an advance leaves as it was, and what an event or a question is of.
 use Rattle.std.specs.Prelude.{◌≡◌}
-use Rattle.c_syntax.specs.Numbered.{TreeView}
+use Rattle.c_syntax.specs.Numbered.{TreeView, tree_at}
 use Rattle.c_model.specs.declared.view.View.{View}
+use Rattle.c_model.specs.Occurring.{IsAskOfNext}
 use Rattle.c_model.specs.Step.{settled_task}
 use Rattle.c_model.specs.Task.{Store}
 use Rattle.c_steps.specs.declared.next.Next.{Next}
 use Rattle.c_steps.specs.declared.next.Next.TheVariants as next
 use Rattle.c_steps.specs.Held.{Held, task_at}
+use Rattle.c_steps.specs.Items.{todo_at}
+use Rattle.c_steps.specs.Passing.{IsEventOfNext}
 use Rattle.c_steps.specs.Ready.{IsAfterStep}
 
 -- nothing was done, but that the task has left out what it goes past
@@ -21,3 +24,9 @@ pub record IsLeft (program : TreeView) (view : View) (old : Held) (before : Stor
 abbrev pub IsKept : TreeView → View → Next → Held → Store → Held → Store → Type 0
 IsKept program view next.Quiet old before new after = IsAfterStep old new
 IsKept program view other old before new after = IsLeft program view old before new after
+
+-- an event is of what stands next, and what is asked, that asks: the event can be passed, and an answer that fits can be given
+abbrev pub IsNamed : TreeView → Next → Held → Type 0
+IsNamed program (next.Event point node) new = IsEventOfNext program point node (todo_at program new.frames)
+IsNamed program (next.Ask ask node) new = IsAskOfNext ask (tree_at program.trees node) (todo_at program new.frames)
+IsNamed program other new = Unit {0}

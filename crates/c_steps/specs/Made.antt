@@ -1,5 +1,5 @@
 -- When a control is of a program, and is left alone.
-use Rattle.std.specs.Prelude.{ℕ, ◌≡◌, ◌≤◌, [], None}
+use Rattle.std.specs.Prelude.{◌≡◌, ◌≤◌, [], None}
 use Rattle.c_syntax.specs.Numbered.{TreeView, root_tree}
 use Rattle.c_model.specs.Parts.{parts}
 use Rattle.c_model.specs.Width.{IsWithin, most_of_functions}

@@ -1,43 +1,22 @@
 -- What an event is passed with.
 use Rattle.std.specs.Prelude.{ℕ, ◌+◌, ◌≡◌, ◌<◌, List, [], ◌∷◌, ◌++◌, length, take, Option}
 use Rattle.c_syntax.specs.Numbered.{TreeView, tree_at}
-use Rattle.c_model.specs.declared.point.Work.{Work}
-use Rattle.c_model.specs.declared.point.Work.TheVariants as work
 use Rattle.c_model.specs.declared.point.Point.{Point}
-use Rattle.c_model.specs.declared.point.Point.TheVariants.{WorkBegin}
-use Rattle.c_model.specs.Going.{tree_at_event}
-use Rattle.c_model.specs.Occurring.{IsOfItem}
+use Rattle.c_model.specs.Occurring.{IsOfItem, IsTreeOf}
 use Rattle.c_model.specs.Task.{Item, Task}
-use Rattle.c_model.specs.Task.Item.{Forked, EndMasked, Acquire, Release}
 use Rattle.c_steps.specs.Held.{Held, task_at}
 use Rattle.c_model.specs.declared.entry.Entry.{Entry}
 use Rattle.c_steps.specs.declared.item.Item as of_item
 use Rattle.c_steps.specs.declared.item.Item.TheVariants as item
 use Rattle.c_steps.specs.Items.{begun, item_at, items_if, todo_at, with_file}
-use Rattle.c_steps.specs.Ready.{AreLoopNumbers}
+use Rattle.c_steps.specs.Ready.{ArePointNumbers}
 
--- the values of a loop's iterations fit cells
-abbrev pub IsWork : Work → Type 0
-IsWork (work.Loop start count step schedule) = AreLoopNumbers start count step
-IsWork other = Unit {0}
-
-abbrev pub HasNumbers : Point → Type 0
-HasNumbers (WorkBegin codeptr work) = IsWork work
-HasNumbers other = Unit {0}
-
--- the node is that of the construct, directive or call, where the item has one
-abbrev pub IsNodeOf : TreeView → ℕ → Item → Type 0
-IsNodeOf program node (Forked construct) = Unit {0}
-IsNodeOf program node (EndMasked construct) = Unit {0}
-IsNodeOf program node (Acquire tree kind id) = Unit {0}
-IsNodeOf program node (Release tree id) = Unit {0}
-IsNodeOf program node item = tree_at program.trees node ≡ tree_at_event item
-
+-- an event at this node is of the item
 pub record IsEventOf (program : TreeView) (point : Point) (node : ℕ) (item : Item) : Type 0 where
   pub of_item : IsOfItem point item
   pub is_there : node < length program.trees
-  pub is_node : IsNodeOf program node item
-  pub numbers : HasNumbers point
+  pub is_node : IsTreeOf (tree_at program.trees node) item
+  pub numbers : ArePointNumbers point
 
 -- an event is of what stands next
 unfoldable pub IsEventOfNext : TreeView → Point → ℕ → List Item → Type 0

@@ -131,6 +131,7 @@ abbrev pub ArePointNumbers : Point → Type 0
 ArePointNumbers (point.WorkBegin codeptr shared) = AreWorkNumbers shared
 ArePointNumbers other = Unit {0}
 
-abbrev pub HasLoopNumbers : Next → Type 0
-HasLoopNumbers (next.Event at node) = ArePointNumbers at
-HasLoopNumbers other = Unit {0}
+-- an event stands at a node of the program, with such numbers
+abbrev pub FitsProgram : TreeView → Next → Type 0
+FitsProgram program (next.Event at node) = (node < length program.trees) × ArePointNumbers at
+FitsProgram program other = Unit {0}

@@ -5,11 +5,11 @@ ghost use Rattle.c_syntax.specs.Numbered.{TreeView};
 ghost use Rattle.c_model.specs.Task.{Moment};
 ghost use Rattle.c_model.specs.Task.Outcome.{Ends};
 ghost use Rattle.c_model.specs.Step.{silent, step_of};
-ghost use Rattle.c_steps.specs.Advancing.{IsKept};
-ghost use Rattle.c_steps.specs.Held.{here_at, moment_at, outcome_at};
+ghost use Rattle.c_steps.specs.Advancing.{IsKept, IsNamed};
+ghost use Rattle.c_steps.specs.Held.{Held, here_at, moment_at, outcome_at};
 ghost use Rattle.c_steps.specs.Items.{item_at};
 ghost use Rattle.c_steps.specs.Made.{IsMadeFor};
-ghost use Rattle.c_steps.specs.Ready.{AreFrames, HasLoopNumbers, IsItem, IsSettled, IsStepping, IsUnchanging};
+ghost use Rattle.c_steps.specs.Ready.{AreFrames, FitsProgram, IsItem, IsSettled, IsStepping, IsUnchanging};
 ghost use Rattle.c_steps.specs.Scopes.{HasNumbers};
 ghost use Rattle.c_steps.specs.Widths.{step_names};
 
@@ -26,14 +26,15 @@ use c_model::View;
 
 impl Control {
     /// Makes one silent step, or says what stands next. At anything but a silent step the cells are as they were, and the control stands for
-    /// the same task, but for what the task goes past. It takes no memory.
+    /// the same task, but for what the task goes past. An event can be passed, and an answer that fits can be given. It takes no memory.
     pub fn advance(&mut self, code: &Code, cells: &mut Cells, view: View) -> Next
         requires made { IsMadeFor code.now self.old }
         requires view { HasNumbers view }
         requires spare { 0 < self.old.spare }
         ensures step { outcome_at code.now result (moment_at code.now self.new cells.new) ≡ silent code.now view (moment_at code.now self.old cells.old) }
         ensures kept { IsKept code.now view result self.old cells.old self.new cells.new }
-        ensures numbers { HasLoopNumbers result }
+        ensures numbers { FitsProgram code.now result }
+        ensures named { IsNamed code.now result self.new }
         ensures made { IsMadeFor code.now self.new }
     {
         match self.settle(code, view) {
@@ -46,7 +47,8 @@ impl Control {
     fn ended(&self) -> Next
         ensures step { (program : TreeView) (now : Moment) → outcome_at program result now ≡ Ends (unwrap_or self.now.returned (pos 0)) }
         ensures unchanged { IsUnchanging result }
-        ensures numbers { HasLoopNumbers result }
+        ensures numbers { (program : TreeView) → FitsProgram program result }
+        ensures named { (program : TreeView) (held : Held) → IsNamed program result held }
     {
         match self.returned {
             Some(number) => Next::Ended(number),
@@ -62,7 +64,7 @@ impl Control {
         requires step_names { self.old.step_names ≡ step_names code.now }
         ensures step { outcome_at code.now result (moment_at code.now self.new cells.new) ≡ step_of (item_at code.now item) (here_at code.now view self.old cells.old) }
         ensures settled { IsSettled result self.old cells.old self.new cells.new }
-        ensures numbers { HasLoopNumbers result }
+        ensures numbers { FitsProgram code.now result }
         ensures frames { AreFrames code.now self.new.frames }
     {
         match item {

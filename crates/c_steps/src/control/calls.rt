@@ -13,7 +13,7 @@ ghost use Rattle.c_steps.specs.Arguments.{without_values};
 ghost use Rattle.c_steps.specs.Held.{env_at, here_at, moment_at, outcome_at, scope_in};
 ghost use Rattle.c_steps.specs.Moves.{cells_given, closed, delivered, env_with, given_back, last_call};
 ghost use Rattle.c_steps.specs.Nodes.{IsPart, part_at};
-ghost use Rattle.c_steps.specs.Ready.{AreFrames, HasLoopNumbers, IsSettled, IsStepping};
+ghost use Rattle.c_steps.specs.Ready.{AreFrames, FitsProgram, IsSettled, IsStepping};
 ghost use Rattle.c_steps.specs.Rooming.{IsEntry};
 ghost use Rattle.c_steps.specs.Scopes.{HasNumbers};
 ghost use Rattle.c_steps.specs.Widths.{step_names};
@@ -42,7 +42,7 @@ impl Control {
         requires step_names { self.old.step_names ≡ step_names code.now }
         ensures step { outcome_at code.now result (moment_at code.now self.new cells.new) ≡ calls.begin_called (here_at code.now view self.old cells.old) (tree_at code.now.trees node) }
         ensures settled { IsSettled result self.old cells.old self.new cells.new }
-        ensures numbers { HasLoopNumbers result }
+        ensures numbers { FitsProgram code.now result }
         ensures frames { AreFrames code.now self.new.frames }
     {
         let call = code.child(Some(node), 0);
@@ -63,7 +63,7 @@ impl Control {
         requires step_names { self.old.step_names ≡ step_names code.now }
         ensures step { outcome_at code.now result (moment_at code.now self.new cells.new) ≡ calls.begin_set_call (here_at code.now view self.old cells.old) (tree_at code.now.trees node) }
         ensures settled { IsSettled result self.old cells.old self.new cells.new }
-        ensures numbers { HasLoopNumbers result }
+        ensures numbers { FitsProgram code.now result }
         ensures frames { AreFrames code.now self.new.frames }
     {
         match self.place_cell(code, cells, view, code.child(Some(node), 0)) {
@@ -90,7 +90,7 @@ impl Control {
         requires step_names { self.old.step_names ≡ step_names code.now }
         ensures step { outcome_at code.now result (moment_at code.now self.new cells.new) ≡ calls.begin_initialise (here_at code.now view self.old cells.old) (tree_at code.now.trees node) entry }
         ensures settled { IsSettled result self.old cells.old self.new cells.new }
-        ensures numbers { HasLoopNumbers result }
+        ensures numbers { FitsProgram code.now result }
         ensures frames { AreFrames code.now self.new.frames }
     {
         let call = code.child(Some(node), 0);
@@ -118,7 +118,7 @@ impl Control {
         requires step_names { self.old.step_names ≡ step_names code.now }
         ensures step { outcome_at code.now result (moment_at code.now self.new cells.new) ≡ calls.begin_return (here_at code.now view self.old cells.old) (tree_at code.now.trees node) }
         ensures settled { IsSettled result self.old cells.old self.new cells.new }
-        ensures numbers { HasLoopNumbers result }
+        ensures numbers { FitsProgram code.now result }
         ensures frames { AreFrames code.now self.new.frames }
     {
         let right = code.child(Some(node), 0);
@@ -154,7 +154,7 @@ impl Control {
         requires step_names { self.old.step_names ≡ step_names code.now }
         ensures step { outcome_at code.now result (moment_at code.now self.new cells.new) ≡ calls.begin_right (kind_of (part_at code.now.trees call)) (here_at code.now view self.old cells.old) (part_at code.now.trees call) (env_with declared (env_at code.now self.old)) to }
         ensures settled { IsSettled result self.old cells.old self.new cells.new }
-        ensures numbers { HasLoopNumbers result }
+        ensures numbers { FitsProgram code.now result }
         ensures frames { AreFrames code.now self.new.frames }
     {
         match call {
@@ -171,7 +171,7 @@ impl Control {
         requires { call < length code.now.trees }
         ensures step { outcome_at code.now result (moment_at code.now self.now cells.now) ≡ calls.begin_test (here_at code.now view self.now cells.now) (tree_at code.now.trees call) to }
         ensures unchanged { IsSettled result self.now cells.now self.now cells.now }
-        ensures numbers { HasLoopNumbers result }
+        ensures numbers { FitsProgram code.now result }
     {
         let point = Point::MutexAcquire {
             codeptr: code.place(call),
@@ -208,7 +208,7 @@ impl Control {
         requires step_names { self.old.step_names ≡ step_names code.now }
         ensures step { outcome_at code.now result (moment_at code.now self.new cells.new) ≡ calls.begin_call (here_at code.now view self.old cells.old) (part_at code.now.trees call) (env_with declared (env_at code.now self.old)) to }
         ensures settled { IsSettled result self.old cells.old self.new cells.new }
-        ensures numbers { HasLoopNumbers result }
+        ensures numbers { FitsProgram code.now result }
         ensures frames { AreFrames code.now self.new.frames }
     {
         match self.check_arguments(code, cells, view, call) {
@@ -259,7 +259,7 @@ impl Control {
         requires { IsStepping code.now self.old }
         ensures step { outcome_at code.now result (moment_at code.now self.new cells.new) ≡ calls.returns (here_at code.now view self.old cells.old) number }
         ensures settled { IsSettled result self.old cells.old self.new cells.new }
-        ensures numbers { HasLoopNumbers result }
+        ensures numbers { FitsProgram code.now result }
         ensures frames { AreFrames code.now self.new.frames }
     {
         self.step();
@@ -303,7 +303,7 @@ impl Control {
         requires { IsStepping code.now self.old }
         ensures step { outcome_at code.now result (moment_at code.now self.new cells.new) ≡ calls.ends_test (here_at code.now view self.old cells.old) to }
         ensures settled { IsSettled result self.old cells.old self.new cells.new }
-        ensures numbers { HasLoopNumbers result }
+        ensures numbers { FitsProgram code.now result }
         ensures frames { AreFrames code.now self.new.frames }
     {
         self.step();
@@ -323,7 +323,7 @@ impl Control {
         requires { node < length code.now.trees }
         ensures step { outcome_at code.now result (moment_at code.now self.now cells.now) ≡ calls.begin_lock_call which (here_at code.now view self.now cells.now) (tree_at code.now.trees node) }
         ensures unchanged { IsSettled result self.now cells.now self.now cells.now }
-        ensures numbers { HasLoopNumbers result }
+        ensures numbers { FitsProgram code.now result }
     {
         let codeptr = code.place(node);
         let wait_id = self.lock_id(code, node);

@@ -13,7 +13,7 @@ ghost use Rattle.c_model.specs.Task.{is_declarator};
 ghost use Rattle.c_steps.specs.Held.{here_at, moment_at, outcome_at};
 ghost use Rattle.c_steps.specs.Items.{items_if};
 ghost use Rattle.c_steps.specs.Nodes.{IsPart, part_at};
-ghost use Rattle.c_steps.specs.Ready.{AreFrames, HasLoopNumbers, IsItem, IsSettled, IsStepping};
+ghost use Rattle.c_steps.specs.Ready.{AreFrames, FitsProgram, IsItem, IsSettled, IsStepping};
 ghost use Rattle.c_steps.specs.Rooming.{IsEntry};
 ghost use Rattle.c_steps.specs.Scopes.{HasNumbers};
 ghost use Rattle.c_steps.specs.Widths.{step_names};
@@ -36,7 +36,7 @@ impl Control {
         requires step_names { self.old.step_names ≡ step_names code.now }
         ensures step { outcome_at code.now result (moment_at code.now self.new cells.new) ≡ statements.declares (kind_of (tree_at code.now.trees node)) (here_at code.now view self.old cells.old) (tree_at code.now.trees node) }
         ensures settled { IsSettled result self.old cells.old self.new cells.new }
-        ensures numbers { HasLoopNumbers result }
+        ensures numbers { FitsProgram code.now result }
         ensures frames { AreFrames code.now self.new.frames }
     {
         match code.kind(Some(node)) {
@@ -58,7 +58,7 @@ impl Control {
         requires step_names { self.old.step_names ≡ step_names code.now }
         ensures step { outcome_at code.now result (moment_at code.now self.new cells.new) ≡ statements.begin_local_set (kind_of (child_at (tree_at code.now.trees node) 0)) (here_at code.now view self.old cells.old) (tree_at code.now.trees node) }
         ensures settled { IsSettled result self.old cells.old self.new cells.new }
-        ensures numbers { HasLoopNumbers result }
+        ensures numbers { FitsProgram code.now result }
         ensures frames { AreFrames code.now self.new.frames }
     {
         let right = code.child(Some(node), 0);
@@ -75,7 +75,7 @@ impl Control {
         requires node { node < length code.now.trees }
         ensures step { outcome_at code.now result (moment_at code.now self.new cells.new) ≡ statements.begin_set_to_call (here_at code.now view self.old cells.old) (tree_at code.now.trees node) }
         ensures settled { IsSettled result self.old cells.old self.new cells.new }
-        ensures numbers { HasLoopNumbers result }
+        ensures numbers { FitsProgram code.now result }
         ensures frames { AreFrames code.now self.new.frames }
     {
         if !cells.has_room(1) {
@@ -106,7 +106,7 @@ impl Control {
         requires step_names { self.old.step_names ≡ step_names code.now }
         ensures step { outcome_at code.now result (moment_at code.now self.new cells.new) ≡ statements.begin_set_to_value (here_at code.now view self.old cells.old) (tree_at code.now.trees name) (part_at code.now.trees expression) (items_if code.now then) }
         ensures settled { IsSettled result self.old cells.old self.new cells.new }
-        ensures numbers { HasLoopNumbers result }
+        ensures numbers { FitsProgram code.now result }
         ensures frames { AreFrames code.now self.new.frames }
     {
         match self.value(code, cells, view, expression) {
@@ -134,7 +134,7 @@ impl Control {
             let tree = tree_at code.now.trees name in
             outcome_at code.now result (moment_at code.now self.new cells.new) ≡ binds here (with_cells (bound_of here) (name_of tree) (slot_of_name code.now tree) (number ∷ [])) (items_if code.now then) }
         ensures settled { IsSettled result self.old cells.old self.new cells.new }
-        ensures numbers { HasLoopNumbers result }
+        ensures numbers { FitsProgram code.now result }
         ensures frames { AreFrames code.now self.new.frames }
     {
         if !cells.has_room(1) {
@@ -164,7 +164,7 @@ impl Control {
             let tree = tree_at code.now.trees node in
             outcome_at code.now result (moment_at code.now self.new cells.new) ≡ binds here (with_cells (bound_of here) (name_of tree) (slot_of_name code.now tree) (replicate count (pos 0))) [] }
         ensures settled { IsSettled result self.old cells.old self.new cells.new }
-        ensures numbers { HasLoopNumbers result }
+        ensures numbers { FitsProgram code.now result }
         ensures frames { AreFrames code.now self.new.frames }
     {
         if !cells.has_room(count as usize) {

@@ -19,7 +19,7 @@ ghost use Rattle.c_model.specs.Task.Outcome.{Asks, Occurs};
 ghost use Rattle.c_steps.specs.Held.{here_at, moment_at, outcome_at};
 ghost use Rattle.c_steps.specs.Items.{loop_at};
 ghost use Rattle.c_steps.specs.LoopNodes.{GoesOn, parts_at};
-ghost use Rattle.c_steps.specs.Ready.{AreFrames, HasLoopNumbers, IsSettled, IsStepping, IsUnchanging};
+ghost use Rattle.c_steps.specs.Ready.{AreFrames, FitsProgram, IsSettled, IsStepping, IsUnchanging};
 ghost use Rattle.c_steps.specs.Scopes.{HasNumbers};
 
 use crate::cells::Cells;
@@ -43,7 +43,7 @@ impl Control {
         ensures step { outcome_at code.now result (moment_at code.now self.new cells.now) ≡ steps.begin_inside (kind_of (tree_at code.now.trees node)) (here_at code.now view self.old cells.now) (tree_at code.now.trees node) }
         ensures settled { IsSettled result self.old cells.now self.new cells.now }
         ensures frames { AreFrames code.now self.new.frames }
-        ensures numbers { HasLoopNumbers result }
+        ensures numbers { FitsProgram code.now result }
     {
         match code.kind(Some(node)) {
             NodeKind::Construct(Directive::ParallelFor) => self.begin_loop(code, cells, view, node),
@@ -65,7 +65,7 @@ impl Control {
         requires view { HasNumbers view }
         ensures step { outcome_at code.now result (moment_at code.now self.now cells.now) ≡ steps.begin_construct directive (here_at code.now view self.now cells.now) (tree_at code.now.trees node) }
         ensures unchanged { IsSettled result self.now cells.now self.now cells.now }
-        ensures numbers { HasLoopNumbers result }
+        ensures numbers { FitsProgram code.now result }
     {
         match directive {
             Directive::Parallel | Directive::ParallelFor | Directive::ParallelSections => {
@@ -86,7 +86,7 @@ impl Control {
         requires view { HasNumbers view }
         ensures step { outcome_at code.now result (moment_at code.now self.now cells.now) ≡ constructs.begin_parallel (here_at code.now view self.now cells.now) (tree_at code.now.trees node) }
         ensures unchanged { IsSettled result self.now cells.now self.now cells.now }
-        ensures numbers { HasLoopNumbers result }
+        ensures numbers { FitsProgram code.now result }
     {
         match requested_threads(code, node) {
             None => fork(code, node, view.max as i32),
@@ -103,7 +103,7 @@ impl Control {
         requires view { HasNumbers view }
         ensures step { outcome_at code.now result (moment_at code.now self.now cells.now) ≡ constructs.begin_task (here_at code.now view self.now cells.now) (tree_at code.now.trees node) }
         ensures unchanged { IsSettled result self.now cells.now self.now cells.now }
-        ensures numbers { HasLoopNumbers result }
+        ensures numbers { FitsProgram code.now result }
     {
         match condition(code, node) {
             None => self.create(code, cells, view, node, 1),
@@ -119,7 +119,7 @@ impl Control {
         requires node { node < length code.now.trees }
         ensures step { outcome_at code.now result (moment_at code.now self.now cells.now) ≡ constructs.creates (here_at code.now view self.now cells.now) (tree_at code.now.trees node) number }
         ensures unchanged { IsSettled result self.now cells.now self.now cells.now }
-        ensures numbers { HasLoopNumbers result }
+        ensures numbers { FitsProgram code.now result }
     {
         if !self.has_task_room(code, cells, view, node) {
             return Next::Limit(CELLS);
@@ -141,7 +141,7 @@ impl Control {
         requires view { HasNumbers view }
         ensures step { outcome_at code.now result (moment_at code.now self.now cells.now) ≡ constructs.begin_loop (here_at code.now view self.now cells.now) (tree_at code.now.trees node) }
         ensures unchanged { IsSettled result self.now cells.now self.now cells.now }
-        ensures numbers { HasLoopNumbers result }
+        ensures numbers { FitsProgram code.now result }
     {
         let parts = loop_nodes(code, node);
         match self.value(code, cells, view, parts.start) {
@@ -159,7 +159,7 @@ fn fork(code: &Code, node: u32, requested: i32) -> Next
     requires { node < length code.now.trees }
     ensures step { (now : Moment) → outcome_at code.now result now ≡ Occurs (ParallelBegin (place_of (tree_at code.now.trees node)) requested) (tree_at code.now.trees node) }
     ensures unchanged { IsUnchanging result }
-    ensures numbers { HasLoopNumbers result }
+    ensures numbers { FitsProgram code.now result }
 {
     let codeptr = code.place(node);
     Next::Event(Point::ParallelBegin { codeptr, requested }, node)
@@ -172,7 +172,7 @@ fn share_loop(code: &Code, node: u32, parts: LoopNodes, start: i32, end: i32) ->
     requires goes_on { GoesOn parts.comparison parts.step }
     ensures step { (now : Moment) → outcome_at code.now result now ≡ constructs.loop_work (tree_at code.now.trees node) start end }
     ensures unchanged { IsUnchanging result }
-    ensures numbers { HasLoopNumbers result }
+    ensures numbers { FitsProgram code.now result }
 {
     let count = iteration_count(parts.comparison, start, end, parts.step);
     let work = loop_work(start, count, parts.step, schedule(code, node));
@@ -197,7 +197,7 @@ pub(super) fn begin_sections(code: &Code, node: u32) -> Next
     requires { node < length code.now.trees }
     ensures step { (now : Moment) → outcome_at code.now result now ≡ constructs.begin_sections (tree_at code.now.trees node) }
     ensures unchanged { IsUnchanging result }
-    ensures numbers { HasLoopNumbers result }
+    ensures numbers { FitsProgram code.now result }
 {
     let work = Work::Sections(section_count(code, node));
     let codeptr = code.place(node);
@@ -209,7 +209,7 @@ fn begin_single(code: &Code, node: u32) -> Next
     requires { node < length code.now.trees }
     ensures step { (now : Moment) → outcome_at code.now result now ≡ constructs.begin_single (tree_at code.now.trees node) }
     ensures unchanged { IsUnchanging result }
-    ensures numbers { HasLoopNumbers result }
+    ensures numbers { FitsProgram code.now result }
 {
     let codeptr = code.place(node);
     let work = Work::Single;
@@ -221,7 +221,7 @@ fn begin_masked(code: &Code, node: u32) -> Next
     requires { node < length code.now.trees }
     ensures step { (now : Moment) → outcome_at code.now result now ≡ constructs.begin_masked (tree_at code.now.trees node) }
     ensures unchanged { IsUnchanging result }
-    ensures numbers { HasLoopNumbers result }
+    ensures numbers { FitsProgram code.now result }
 {
     let codeptr = code.place(node);
     Next::Event(Point::MaskedBegin { codeptr }, node)
@@ -232,7 +232,7 @@ fn begin_critical(code: &Code, node: u32) -> Next
     requires { node < length code.now.trees }
     ensures step { (now : Moment) → outcome_at code.now result now ≡ Occurs (MutexAcquire (place_of (tree_at code.now.trees node)) (critical_number code.now (tree_at code.now.trees node)) critical nowhere) (tree_at code.now.trees node) }
     ensures unchanged { IsUnchanging result }
-    ensures numbers { HasLoopNumbers result }
+    ensures numbers { FitsProgram code.now result }
 {
     let point = Point::MutexAcquire {
         codeptr: code.place(node),
@@ -248,7 +248,7 @@ pub(super) fn begin_standalone(code: &Code, which: Standalone, node: u32) -> Nex
     requires { node < length code.now.trees }
     ensures step { (now : Moment) → outcome_at code.now result now ≡ steps.begin_standalone which (tree_at code.now.trees node) }
     ensures unchanged { IsUnchanging result }
-    ensures numbers { HasLoopNumbers result }
+    ensures numbers { FitsProgram code.now result }
 {
     match which {
         Standalone::Barrier => synchronise(code, node, SyncKind::Barrier, SyncStage::RegionBegin),
@@ -261,7 +261,7 @@ pub(super) fn synchronise(code: &Code, node: u32, kind: SyncKind, stage: SyncSta
     requires { node < length code.now.trees }
     ensures step { (now : Moment) → outcome_at code.now result now ≡ constructs.synchronises (tree_at code.now.trees node) kind stage }
     ensures unchanged { IsUnchanging result }
-    ensures numbers { HasLoopNumbers result }
+    ensures numbers { FitsProgram code.now result }
 {
     let codeptr = code.place(node);
     Next::Event(
@@ -279,7 +279,7 @@ pub(super) fn end_parallel(code: &Code, node: u32) -> Next
     requires { node < length code.now.trees }
     ensures step { (now : Moment) → outcome_at code.now result now ≡ constructs.end_parallel (tree_at code.now.trees node) }
     ensures unchanged { IsUnchanging result }
-    ensures numbers { HasLoopNumbers result }
+    ensures numbers { FitsProgram code.now result }
 {
     let codeptr = code.place(node);
     Next::Event(Point::ParallelEnd { codeptr }, node)
@@ -290,7 +290,7 @@ pub(super) fn end_masked(code: &Code, node: u32) -> Next
     requires { node < length code.now.trees }
     ensures step { (now : Moment) → outcome_at code.now result now ≡ constructs.end_masked (tree_at code.now.trees node) }
     ensures unchanged { IsUnchanging result }
-    ensures numbers { HasLoopNumbers result }
+    ensures numbers { FitsProgram code.now result }
 {
     let codeptr = code.place(node);
     Next::Event(Point::MaskedEnd { codeptr }, node)
@@ -301,7 +301,7 @@ pub(super) fn end_work(code: &Code, node: u32, kind: WorkKind, count: u64) -> Ne
     requires { node < length code.now.trees }
     ensures step { (now : Moment) → outcome_at code.now result now ≡ constructs.end_work (tree_at code.now.trees node) kind count }
     ensures unchanged { IsUnchanging result }
-    ensures numbers { HasLoopNumbers result }
+    ensures numbers { FitsProgram code.now result }
 {
     let codeptr = code.place(node);
     Next::Event(
@@ -319,7 +319,7 @@ pub(super) fn acquire(code: &Code, node: u32, kind: MutexKind, wait_id: u32) -> 
     requires { node < length code.now.trees }
     ensures step { (now : Moment) → outcome_at code.now result now ≡ constructs.acquires (tree_at code.now.trees node) kind wait_id }
     ensures unchanged { IsUnchanging result }
-    ensures numbers { HasLoopNumbers result }
+    ensures numbers { FitsProgram code.now result }
 {
     let codeptr = code.place(node);
     Next::Event(
@@ -337,7 +337,7 @@ pub(super) fn release(code: &Code, node: u32, wait_id: u32) -> Next
     requires { node < length code.now.trees }
     ensures step { (now : Moment) → outcome_at code.now result now ≡ constructs.releases (tree_at code.now.trees node) wait_id }
     ensures unchanged { IsUnchanging result }
-    ensures numbers { HasLoopNumbers result }
+    ensures numbers { FitsProgram code.now result }
 {
     let point = Point::MutexReleased {
         codeptr: code.place(node),
@@ -351,7 +351,7 @@ pub(super) fn release(code: &Code, node: u32, wait_id: u32) -> Next
 pub(super) fn next_chunk(shared: Loop) -> Next
     ensures step { (program : TreeView) (now : Moment) → outcome_at program result now ≡ constructs.next_chunk (loop_at program shared) }
     ensures unchanged { IsUnchanging result }
-    ensures numbers { HasLoopNumbers result }
+    ensures numbers { (program : TreeView) → FitsProgram program result }
 {
     Next::Ask(Ask::Chunk, shared.construct)
 }
@@ -360,7 +360,7 @@ pub(super) fn next_chunk(shared: Loop) -> Next
 pub(super) fn next_section(node: u32) -> Next
     ensures step { (program : TreeView) (now : Moment) → outcome_at program result now ≡ constructs.next_section (tree_at program.trees node) }
     ensures unchanged { IsUnchanging result }
-    ensures numbers { HasLoopNumbers result }
+    ensures numbers { (program : TreeView) → FitsProgram program result }
 {
     Next::Ask(Ask::Section, node)
 }
@@ -369,7 +369,7 @@ pub(super) fn next_section(node: u32) -> Next
 pub(super) fn ask_lock(node: u32, wait_id: u32) -> Next
     ensures step { (program : TreeView) (now : Moment) → outcome_at program result now ≡ Asks (ask.LockFree wait_id) (tree_at program.trees node) }
     ensures unchanged { IsUnchanging result }
-    ensures numbers { HasLoopNumbers result }
+    ensures numbers { (program : TreeView) → FitsProgram program result }
 {
     Next::Ask(Ask::LockFree(wait_id), node)
 }

@@ -7,7 +7,7 @@ ghost use Rattle.c_model.specs.Constructs as constructs;
 ghost use Rattle.c_model.specs.Loops.{iteration_value};
 ghost use Rattle.c_steps.specs.Held.{env_at, here_at, moment_at, outcome_at};
 ghost use Rattle.c_steps.specs.Items.{item_at, loop_at, with_file};
-ghost use Rattle.c_steps.specs.Ready.{AreFrames, AreLoopNumbers, HasLoopNumbers, IsItem, IsLoop, IsSettled, IsStepping};
+ghost use Rattle.c_steps.specs.Ready.{AreFrames, AreLoopNumbers, FitsProgram, IsItem, IsLoop, IsSettled, IsStepping};
 
 use crate::cells::Cells;
 use crate::code::Code;
@@ -37,7 +37,7 @@ impl Control {
         requires upto { upto ≤ shared.count }
         ensures step { outcome_at code.now result (moment_at code.now self.new cells.new) ≡ constructs.begin_iteration (here_at code.now view self.old cells.old) (loop_at code.now shared) at upto }
         ensures settled { IsSettled result self.old cells.old self.new cells.new }
-        ensures numbers { HasLoopNumbers result }
+        ensures numbers { FitsProgram code.now result }
         ensures frames { AreFrames code.now self.new.frames }
     {
         let cell = self
@@ -65,7 +65,7 @@ impl Control {
         requires { IsStepping code.now self.old }
         ensures step { outcome_at code.now result (moment_at code.now self.new cells.new) ≡ constructs.combine (here_at code.now view self.old cells.old) operator name (with_file code.now names) }
         ensures settled { IsSettled result self.old cells.old self.new cells.new }
-        ensures numbers { HasLoopNumbers result }
+        ensures numbers { FitsProgram code.now result }
         ensures frames { AreFrames code.now self.new.frames }
     {
         let around = self.cell_around(code, name, names);

@@ -13,9 +13,9 @@ ghost use Rattle.c_steps.specs.Items.{item_at, items_if, loop_at, with_file};
 ghost use Rattle.c_steps.specs.Made.{IsMadeFor};
 ghost use Rattle.c_steps.specs.Moves.{asking};
 ghost use Rattle.c_steps.specs.Nodes.{IsPart, part_at};
-ghost use Rattle.c_steps.specs.Passing.{IsAfterEvent, IsEventOf, IsEventOfNext, IsWork, names_behind_asking, names_behind_work, replaced, stages_at};
+ghost use Rattle.c_steps.specs.Passing.{IsAfterEvent, IsEventOf, IsEventOfNext, names_behind_asking, names_behind_work, replaced, stages_at};
 ghost use Rattle.c_steps.specs.Rooming.{IsEntry};
-ghost use Rattle.c_steps.specs.Ready.{AreFrames, AreLoopNumbers, IsItem, IsLoop, IsPassing};
+ghost use Rattle.c_steps.specs.Ready.{AreFrames, AreLoopNumbers, AreWorkNumbers, IsItem, IsLoop, IsPassing};
 
 use crate::clauses::{has_nowait, statement};
 use crate::code::Code;
@@ -109,7 +109,7 @@ impl Control {
     fn begin_work(&mut self, code: &Code, node: u32, work: Work, executes: bool)
         requires ready { IsPassing code.now self.old }
         requires node { node < length code.now.trees }
-        requires work { IsWork work }
+        requires work { AreWorkNumbers work }
         ensures task { task_at code.now self.new ≡ replaced code.now (makes_cells (tree_at code.now.trees node) ++ going.work_items work (tree_at code.now.trees node) (length (env_at code.now self.old)) executes) self.old }
         ensures after { IsAfterEvent self.old self.new }
         ensures frames { AreFrames code.now self.new.frames }
@@ -266,7 +266,7 @@ fn work_stages(
     executes: bool,
 ) -> (Option<Item>, Item)
     requires node { node < length code.now.trees }
-    requires work { IsWork work }
+    requires work { AreWorkNumbers work }
     ensures stages { stages_at code.now result ≡ going.work_items work (tree_at code.now.trees node) (with_file code.now names) executes }
     ensures first { IfSome result.0 (IsItem code.now) }
     ensures last { IsItem code.now result.1 }

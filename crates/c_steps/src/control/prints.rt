@@ -10,7 +10,7 @@ ghost use Rattle.c_model.specs.Text.{printed_text};
 ghost use Rattle.c_model.specs.Value.{all_values};
 ghost use Rattle.c_steps.specs.Arguments.{values_in, without_values};
 ghost use Rattle.c_steps.specs.Held.{here_at, moment_at, outcome_at, scope_in};
-ghost use Rattle.c_steps.specs.Ready.{AreFrames, HasLoopNumbers, IsSettled, IsStepping};
+ghost use Rattle.c_steps.specs.Ready.{AreFrames, FitsProgram, IsSettled, IsStepping};
 ghost use Rattle.c_steps.specs.Scopes.{HasNumbers};
 
 use crate::cells::Cells;
@@ -35,7 +35,7 @@ impl Control {
         requires view { HasNumbers view }
         ensures step { outcome_at code.now result (moment_at code.now self.new cells.new) ≡ statements.begin_print (here_at code.now view self.old cells.old) (tree_at code.now.trees node) }
         ensures settled { IsSettled result self.old cells.old self.new cells.new }
-        ensures numbers { HasLoopNumbers result }
+        ensures numbers { FitsProgram code.now result }
         ensures frames { AreFrames code.now self.new.frames }
     {
         match self.scope(code, cells.items(), view).check_all(node) {

@@ -6,7 +6,7 @@ ghost use Rattle.c_syntax.specs.Numbered.{tree_at};
 ghost use Rattle.c_model.specs.Step as steps;
 ghost use Rattle.c_steps.specs.Held.{here_at, moment_at, outcome_at};
 ghost use Rattle.c_steps.specs.Nodes.{IsPart, part_at};
-ghost use Rattle.c_steps.specs.Ready.{AreFrames, HasLoopNumbers, IsSettled, IsStepping};
+ghost use Rattle.c_steps.specs.Ready.{AreFrames, FitsProgram, IsSettled, IsStepping};
 ghost use Rattle.c_steps.specs.Scopes.{HasNumbers};
 ghost use Rattle.c_steps.specs.Widths.{step_names};
 
@@ -33,7 +33,7 @@ impl Control {
         requires step_names { self.old.step_names ≡ step_names code.now }
         ensures step { outcome_at code.now result (moment_at code.now self.new cells.new) ≡ steps.begin_statement (kind_of (part_at code.now.trees part)) (here_at code.now view self.old cells.old) (part_at code.now.trees part) }
         ensures settled { IsSettled result self.old cells.old self.new cells.new }
-        ensures numbers { HasLoopNumbers result }
+        ensures numbers { FitsProgram code.now result }
         ensures frames { AreFrames code.now self.new.frames }
     {
         match part {
@@ -49,7 +49,7 @@ impl Control {
         requires step_names { self.old.step_names ≡ step_names code.now }
         ensures step { outcome_at code.now result (moment_at code.now self.new cells.new) ≡ steps.begin_statement (kind_of (tree_at code.now.trees node)) (here_at code.now view self.old cells.old) (tree_at code.now.trees node) }
         ensures settled { IsSettled result self.old cells.old self.new cells.new }
-        ensures numbers { HasLoopNumbers result }
+        ensures numbers { FitsProgram code.now result }
         ensures frames { AreFrames code.now self.new.frames }
     {
         match code.kind(Some(node)) {

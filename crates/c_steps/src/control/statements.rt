@@ -10,7 +10,7 @@ ghost use Rattle.c_check.specs.Loops.{child_at};
 ghost use Rattle.c_steps.specs.Held.{here_at, moment_at, outcome_at, scope_in};
 ghost use Rattle.c_steps.specs.Items.{items_if, with_file};
 ghost use Rattle.c_steps.specs.Nodes.{IsPart, part_at};
-ghost use Rattle.c_steps.specs.Ready.{AreFrames, HasLoopNumbers, IsItem, IsSettled, IsStepping};
+ghost use Rattle.c_steps.specs.Ready.{AreFrames, FitsProgram, IsItem, IsSettled, IsStepping};
 ghost use Rattle.c_steps.specs.Scopes.{HasNumbers};
 ghost use Rattle.c_steps.specs.Widths.{step_names};
 
@@ -29,7 +29,7 @@ impl Control {
         requires { IsStepping code.now self.old }
         ensures step { outcome_at code.now result (moment_at code.now self.new cells.now) ≡ statements.begin_empty (here_at code.now view self.old cells.now) }
         ensures settled { IsSettled result self.old cells.now self.new cells.now }
-        ensures numbers { HasLoopNumbers result }
+        ensures numbers { FitsProgram code.now result }
         ensures frames { AreFrames code.now self.new.frames }
     {
         self.step();
@@ -43,7 +43,7 @@ impl Control {
         requires node { node < length code.now.trees }
         ensures step { outcome_at code.now result (moment_at code.now self.new cells.now) ≡ statements.begin_block (here_at code.now view self.old cells.now) (tree_at code.now.trees node) }
         ensures settled { IsSettled result self.old cells.now self.new cells.now }
-        ensures numbers { HasLoopNumbers result }
+        ensures numbers { FitsProgram code.now result }
         ensures frames { AreFrames code.now self.new.frames }
     {
         let names = self.own_names();
@@ -69,7 +69,7 @@ impl Control {
         requires { IsStepping code.now self.old }
         ensures step { outcome_at code.now result (moment_at code.now self.new cells.now) ≡ statements.leave_block (here_at code.now view self.old cells.now) (with_file code.now names) }
         ensures settled { IsSettled result self.old cells.now self.new cells.now }
-        ensures numbers { HasLoopNumbers result }
+        ensures numbers { FitsProgram code.now result }
         ensures frames { AreFrames code.now self.new.frames }
     {
         self.step();
@@ -85,7 +85,7 @@ impl Control {
         requires view { HasNumbers view }
         ensures step { outcome_at code.now result (moment_at code.now self.new cells.now) ≡ statements.begin_if (here_at code.now view self.old cells.now) (tree_at code.now.trees node) }
         ensures settled { IsSettled result self.old cells.now self.new cells.now }
-        ensures numbers { HasLoopNumbers result }
+        ensures numbers { FitsProgram code.now result }
         ensures frames { AreFrames code.now self.new.frames }
     {
         let condition = code.child(Some(node), 0);
@@ -108,7 +108,7 @@ impl Control {
         requires view { HasNumbers view }
         ensures step { outcome_at code.now result (moment_at code.now self.new cells.now) ≡ statements.begin_while (here_at code.now view self.old cells.now) (tree_at code.now.trees node) }
         ensures settled { IsSettled result self.old cells.now self.new cells.now }
-        ensures numbers { HasLoopNumbers result }
+        ensures numbers { FitsProgram code.now result }
         ensures frames { AreFrames code.now self.new.frames }
     {
         let condition = code.child(Some(node), 0);
@@ -143,7 +143,7 @@ impl Control {
         requires step_names { self.old.step_names ≡ step_names code.now }
         ensures step { outcome_at code.now result (moment_at code.now self.new cells.new) ≡ statements.begin_for (here_at code.now view self.old cells.old) (tree_at code.now.trees node) }
         ensures settled { IsSettled result self.old cells.old self.new cells.new }
-        ensures numbers { HasLoopNumbers result }
+        ensures numbers { FitsProgram code.now result }
         ensures frames { AreFrames code.now self.new.frames }
     {
         let first = code.child(Some(node), 0);
@@ -181,7 +181,7 @@ impl Control {
         requires view { HasNumbers view }
         ensures step { outcome_at code.now result (moment_at code.now self.new cells.now) ≡ statements.test_for (here_at code.now view self.old cells.now) (tree_at code.now.trees node) (with_file code.now names) }
         ensures settled { IsSettled result self.old cells.now self.new cells.now }
-        ensures numbers { HasLoopNumbers result }
+        ensures numbers { FitsProgram code.now result }
         ensures frames { AreFrames code.now self.new.frames }
     {
         match self.test_value(code, cells, view, node) {
@@ -227,7 +227,7 @@ impl Control {
         requires view { HasNumbers view }
         ensures step { outcome_at code.now result (moment_at code.now self.new cells.new) ≡ statements.third_for (here_at code.now view self.old cells.old) (tree_at code.now.trees node) (with_file code.now names) }
         ensures settled { IsSettled result self.old cells.old self.new cells.new }
-        ensures numbers { HasLoopNumbers result }
+        ensures numbers { FitsProgram code.now result }
         ensures frames { AreFrames code.now self.new.frames }
     {
         let third = code.child(Some(node), 2);

@@ -9,7 +9,7 @@ ghost use Rattle.c_model.specs.Value.{binary_value};
 ghost use Rattle.c_steps.specs.Held.{here_at, moment_at, outcome_at};
 ghost use Rattle.c_steps.specs.Items.{items_if};
 ghost use Rattle.c_steps.specs.Nodes.{IsPart, part_at};
-ghost use Rattle.c_steps.specs.Ready.{AreFrames, HasLoopNumbers, IsItem, IsSettled, IsStepping};
+ghost use Rattle.c_steps.specs.Ready.{AreFrames, FitsProgram, IsItem, IsSettled, IsStepping};
 ghost use Rattle.c_steps.specs.Scopes.{HasNumbers};
 
 use crate::cells::Cells;
@@ -35,7 +35,7 @@ impl Control {
         requires view { HasNumbers view }
         ensures step { outcome_at code.now result (moment_at code.now self.new cells.new) ≡ statements.begin_step (here_at code.now view self.old cells.old) (tree_at code.now.trees node) }
         ensures settled { IsSettled result self.old cells.old self.new cells.new }
-        ensures numbers { HasLoopNumbers result }
+        ensures numbers { FitsProgram code.now result }
         ensures frames { AreFrames code.now self.new.frames }
     {
         let step = code.child(Some(node), 0);
@@ -58,7 +58,7 @@ impl Control {
         requires view { HasNumbers view }
         ensures step { outcome_at code.now result (moment_at code.now self.new cells.new) ≡ statements.makes_step (kind_of (part_at code.now.trees part)) (here_at code.now view self.old cells.old) (part_at code.now.trees part) (items_if code.now then) }
         ensures settled { IsSettled result self.old cells.old self.new cells.new }
-        ensures numbers { HasLoopNumbers result }
+        ensures numbers { FitsProgram code.now result }
         ensures frames { AreFrames code.now self.new.frames }
     {
         match code.kind(part) {
@@ -102,7 +102,7 @@ impl Control {
         requires view { HasNumbers view }
         ensures step { outcome_at code.now result (moment_at code.now self.new cells.new) ≡ statements.assigns (here_at code.now view self.old cells.old) which (part_at code.now.trees place) right (items_if code.now then) }
         ensures settled { IsSettled result self.old cells.old self.new cells.new }
-        ensures numbers { HasLoopNumbers result }
+        ensures numbers { FitsProgram code.now result }
         ensures frames { AreFrames code.now self.new.frames }
     {
         match self.place_cell(code, cells, view, place) {
@@ -130,7 +130,7 @@ impl Control {
         ensures step { let here = here_at code.now view self.old cells.old in
             outcome_at code.now result (moment_at code.now self.new cells.new) ≡ with_result number (λ number. sets here cell number (items_if code.now then)) }
         ensures settled { IsSettled result self.old cells.old self.new cells.new }
-        ensures numbers { HasLoopNumbers result }
+        ensures numbers { FitsProgram code.now result }
         ensures frames { AreFrames code.now self.new.frames }
     {
         match number {

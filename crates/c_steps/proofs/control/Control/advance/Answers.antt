@@ -1,6 +1,7 @@
 use Rattle.std.proofs.Common.{sym, ◌∙◌}
 use Rattle.c_steps.specs.Held.{moment_at}
 use Rattle.c_steps.proofs.Advancing.{kept_unchanging, made_after, made_settled, silent_front, silent_none}
+use Rattle.c_steps.proofs.Occurring.{named_front}
 use Rattle.c_steps.proofs.control.Control.advance.Goals as goal
 
 pub returns-in-Some-clause-step : goal.returns-in-Some-clause-step
@@ -15,6 +16,11 @@ returns-in-Some-clause-made c =
     (c.advance_item.ensures.step
     ∙ sym (silent_front c.args.code.now c.args.view c.args.self.now c.settle.new.self c.args.cells.now c.in-Some.ensures.task c.in-Some.item c.in-Some.ensures.found))
 
+pub returns-in-Some-clause-named : goal.returns-in-Some-clause-named
+returns-in-Some-clause-named c =
+    named_front c.args.code.now c.args.view c.settle.new.self c.advance_item.new.self c.args.cells.now c.advance_item.new.cells c.in-Some.item c.in-Some.ensures.found c.advance_item.result
+    c.advance_item.ensures.step c.advance_item.ensures.settled c.advance_item.ensures.numbers
+
 pub returns-in-None-clause-step : goal.returns-in-None-clause-step
 returns-in-None-clause-step c =
     c.ended.ensures.step c.args.code.now (moment_at c.args.code.now c.settle.new.self c.args.cells.now) ∙ sym (silent_none c.args.code.now c.args.view c.args.self.now c.settle.new.self c.args.cells.now c.in-None.ensures.task c.in-None.ensures.none)
@@ -26,3 +32,9 @@ returns-in-None-clause-made c =
 pub returns-in-None-clause-kept : goal.returns-in-None-clause-kept
 returns-in-None-clause-kept c =
     kept_unchanging c.args.code.now c.args.view c.args.self.now c.settle.new.self c.args.cells.now c.in-None.ensures.task c.ended.result c.in-None.ensures.rest c.ended.ensures.unchanged
+
+pub returns-in-None-clause-numbers : goal.returns-in-None-clause-numbers
+returns-in-None-clause-numbers c = c.ended.ensures.numbers c.args.code.now
+
+pub returns-in-None-clause-named : goal.returns-in-None-clause-named
+returns-in-None-clause-named c = c.ended.ensures.named c.args.code.now c.settle.new.self

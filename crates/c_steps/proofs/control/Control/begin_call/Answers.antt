@@ -1,4 +1,4 @@
-use Rattle.std.proofs.Common.{◌≡◌, ◌∙◌, ◌+◌, ◌≤◌, ◌<◌, ap, sym, false, true, nat_lt, not, length, ℕ, arith, rules}
+use Rattle.std.proofs.Common.{◌≡◌, ◌∙◌, ◌+◌, ◌≤◌, ◌<◌, ap, nat_lt, not, length, rules}
 use Rattle.c_model.specs.declared.limits.TheConstants.{CALL_LIMIT, CELL_LIMIT}
 use Rattle.c_model.specs.Program.{parameters_of}
 use Rattle.c_model.specs.Task.Outcome.{StepsTo}

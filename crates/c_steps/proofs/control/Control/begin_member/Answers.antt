@@ -1,7 +1,5 @@
-use Rattle.std.proofs.Common.{◌≡◌, ap, ◌∙◌, sym}
-use Rattle.c_syntax.specs.Numbered.{tree_at}
+use Rattle.std.proofs.Common.{ap, ◌∙◌, sym}
 use Rattle.c_model.specs.Begin.{member_statement}
-use Rattle.c_steps.specs.Beginning.{IsPutBefore, member_by}
 use Rattle.c_steps.specs.Items.{with_file}
 use Rattle.c_steps.proofs.Members.{inside_put, member_put}
 use Rattle.c_steps.proofs.control.Control.begin_member.Goals as goal

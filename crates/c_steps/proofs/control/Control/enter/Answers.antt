@@ -1,8 +1,8 @@
-use Rattle.std.proofs.Common.{ap, sym, subst, ◌∙◌, ◌<◌, rules}
+use Rattle.std.proofs.Common.{ap, sym, subst, ◌∙◌, ◌<◌}
 use Rattle.c_model.specs.declared.limits.TheConstants.{CALL_LIMIT}
 use Rattle.c_steps.specs.declared.item.Item.TheVariants as item
 use Rattle.c_steps.specs.Held.{Held}
-use Rattle.c_steps.specs.Moves.{bound_if, opened, stepping, then_item}
+use Rattle.c_steps.specs.Moves.{bound_if, opened, then_item}
 use Rattle.c_steps.specs.Nodes.{part_at}
 use Rattle.c_steps.specs.Rooming.{open_calls}
 use Rattle.c_steps.proofs.Entered.{entered_from}

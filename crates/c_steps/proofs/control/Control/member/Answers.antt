@@ -1,4 +1,4 @@
-use Rattle.std.proofs.Common.{List, slice_get, Option, refl, ap, ◌∙◌, subst}
+use Rattle.std.proofs.Common.{Option, refl, ap, ◌∙◌, subst}
 use Rattle.c_syntax.specs.Numbered.{tree_at}
 use Rattle.c_model.specs.Begin.{member_items}
 use Rattle.c_model.specs.Task.{Item}

@@ -13,4 +13,4 @@ returns-clause-numbers c =
     let work = simp to_z-of_z at c.loop_work-work.ensures in
     let count = simp to_z-of_z at c.iteration_count-count.ensures in
     let numbers = are_loop_numbers parts.comparison c.args.start c.args.end parts.step (cell_of_i32 c.args.start start) (cell_of_i32 c.args.end end) c.requires.goes_on in
-    subst AreWorkNumbers (sym work) (subst (λ count. AreLoopNumbers c.args.start count parts.step) (sym count) numbers)
+    (c.requires.node, subst AreWorkNumbers (sym work) (subst (λ count. AreLoopNumbers c.args.start count parts.step) (sym count) numbers))

@@ -1,4 +1,4 @@
-use Rattle.std.proofs.Common.{ℤ, pos, ◌+ℤ◌, ◌*ℤ◌, FitsSigned, w32, w64, to_z, of_z, refl, rules}
+use Rattle.std.proofs.Common.{pos, ◌+ℤ◌, ◌*ℤ◌, FitsSigned, w32, w64, refl, rules}
 use Rattle.std.proofs.lemmas.Int.{to_z-of_z, to_z_pos}
 use Rattle.c_steps.proofs.Iterating.{at_below, at_fits, cell_fits_64, moved_fits, sum_fits, value_fits}
 use Rattle.c_steps.proofs.control.iterations.iteration_value.Goals as goal
