@@ -129,9 +129,9 @@ abbrev pub cleared : Held → Held
 cleared held =
     record held { frames = []; names = []; base = 0; returned = None; spare = 0; passes = 0; frames_now = 4; names_now = 0 }
 
--- room is made for the 64 silent steps of a turn, one that only asks, and an event
+-- room is made for the 64 silent steps of a turn, one that only asks, a look at what stands next, and an event
 abbrev pub roomy : Held → Held
-roomy held = record held { spare = 65; passes = 1; frames_now = 0; names_now = 0 }
+roomy held = record held { spare = 66; passes = 1; frames_now = 0; names_now = 0 }
 
 -- no code is left, these names are in scope, and the rest of the room is for more
 abbrev pub beginning : List Entry → Held → Held

@@ -16,8 +16,9 @@ use crate::stack::Stack;
 use c_model::Target;
 use std::alloc::{AllocError, Global};
 
-/// For how many silent steps [`Control::reserve`] makes room: the 64 of a turn, and one that only asks.
-const STEPS: usize = 65;
+/// For how many silent steps [`Control::reserve`] makes room: the 64 of a turn, one that only asks, and one to look at
+/// what stands next.
+const STEPS: usize = 66;
 
 impl Control {
     /// The initial task's code: main's body, with the names of the file.
@@ -115,7 +116,7 @@ impl Control {
 
     /// How many names the silent steps bring for which room is made, and the event. More than a `usize` counts are want of memory.
     fn names_of_steps(&self) -> Result<usize, AllocError>
-        ensures { IfOk result (λ names. names ≡ self.now.step_names * 65 + 1) }
+        ensures { IfOk result (λ names. names ≡ self.now.step_names * 66 + 1) }
     {
         let names = self.step_names.checked_mul(STEPS).ok_or(AllocError)?;
         names.checked_add(1).ok_or(AllocError)
