@@ -33,6 +33,7 @@
 //! | `sharing` | the place of a construct, and `NAME:SLOT=SHARING` for each variable that the answer speaks of |
 //! | `copies` | the place of a task, and `NAME:SLOT` for each variable that it copies, or `none` |
 //! | `criticals` | `PLACE=NUMBER` for each critical, an inner one before the one around it, and `count=COUNT` |
+//! | `steps` | what the code does from `main` to its end; see below |
 //! | `loop` | a construct's place, those of its loop's `variable`, `start`, `end` and `body`, the comparison and `step`, or `none` |
 //!
 //! A place is a line and a column, as `3:1`. Where no construct stands at the place of an answer, `no construct` follows in it. Any
@@ -43,10 +44,13 @@
 //! What a text is written with is told at [`pattern`].
 #![tactic(auto)]
 
+mod account;
 mod answer;
 mod construct;
 mod copies;
 mod criticals;
+mod driver;
+mod event_words;
 mod frame;
 mod loop_parts;
 mod pattern;
