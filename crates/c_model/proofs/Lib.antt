@@ -7,6 +7,7 @@ pub mod Tasks
 pub mod Criticals
 pub mod Standing
 pub mod Occurring
+pub mod Asking
 pub mod Settled
 pub mod Answers
 pub mod KnownValues

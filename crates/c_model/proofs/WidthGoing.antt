@@ -24,6 +24,7 @@ use Rattle.c_model.specs.declared.view.View.{View}
 use Rattle.c_model.specs.Clauses.{Copying, Listed, has_nowait, sections_of}
 use Rattle.c_model.specs.Clauses.Copying.{Private, First, Reduced}
 use Rattle.c_model.specs.Copies.{combines, combining_all, combining_of, has_own_cells, listed_variables, makes_cells}
+use Rattle.c_check.specs.Loops.{child_at}
 use Rattle.c_model.specs.Going.{after_answer, after_event, answered_at, barrier_items, call_in, items_after, items_answered, items_of_chunk, items_of_section, items_of_test, mutex_items, names_after, next_stage, passed_at, single_items, work_items}
 use Rattle.c_model.specs.Occurring.{IsOfItem, IsOfNext, IsOfTest}
 use Rattle.c_model.specs.Step.{settled_moment, settled_task}
@@ -96,7 +97,6 @@ call-below : (program : TreeView) (kind : NodeKind) (tree : Tree) → inner_name
 call-below program node.SetCall tree = child_below program tree 1
 call-below program node.Called tree = child_below program tree 0
 call-below program node.Return tree = child_below program tree 0
-call-below program node.LocalSet tree = child_below program tree 0
 call-below program other tree = omega arith
 
 -- a construct's own cells
@@ -177,7 +177,7 @@ passed-names program (SyncPoint codeptr kind at) executes env (Sync tree other e
 passed-names program (MutexAcquire codeptr id kind to) executes env (Start tree) items is =
     omega (arith, call-below program (kind_of tree) tree, mutex-names program kind (call_in (kind_of tree) tree) id to items (length env))
 passed-names program (MutexAcquire codeptr id kind to) executes env (Initialise tree entry) items is =
-    rw (one_more env entry) (omega (arith, tested-names program kind (call_in (kind_of tree) tree) id to items (length env + 1) is))
+    rw (one_more env entry) (omega (arith, tested-names program kind (child_at tree 0) id to items (length env + 1) is))
 passed-names program (MutexAcquired codeptr id kind) executes env (Acquire tree other which) items is = omega arith
 passed-names program (MutexReleased codeptr id kind) executes env (Start tree) items is = omega arith
 passed-names program (MutexReleased codeptr id kind) executes env (Release tree which) items is = omega arith

@@ -109,12 +109,11 @@ abbrev pub call_in : NodeKind → Tree → Tree
 call_in node.SetCall tree = child_at tree 1
 call_in node.Called tree = child_at tree 0
 call_in node.Return tree = child_at tree 0
-call_in node.LocalSet tree = child_at tree 0
 call_in other tree = tree
 
 abbrev pub tree_at_event : Item → Tree
 tree_at_event (Start tree) = call_in (kind_of tree) tree
-tree_at_event (Initialise tree entry) = call_in (kind_of tree) tree
+tree_at_event (Initialise tree entry) = child_at tree 0
 tree_at_event (Inside construct) = construct
 tree_at_event (EndWork construct kind count names) = construct
 tree_at_event (Sync tree kind stage) = tree

@@ -1,13 +1,17 @@
--- Of which item an event is.
+-- Of which item an event or a question is.
+use Rattle.std.specs.Prelude.{ℕ, ◌≡◌, List, [], ◌∷◌}
+use Rattle.c_syntax.specs.Tree.{Tree}
 use Rattle.c_model.specs.declared.point.MutexKind.{MutexKind}
 use Rattle.c_model.specs.declared.point.MutexKind.TheVariants as mutex
 use Rattle.c_model.specs.declared.point.Point.{Point}
 use Rattle.c_model.specs.declared.point.Point.TheVariants.{LockDestroy, LockInit, MaskedBegin, MaskedEnd, MutexAcquire, MutexAcquired, MutexReleased, ParallelBegin, ParallelEnd, Sync as SyncPoint, TaskCreate, WorkBegin, WorkEnd}
 use Rattle.c_model.specs.declared.point.SyncStage.{SyncStage}
 use Rattle.c_model.specs.declared.point.SyncStage.TheVariants as stage
+use Rattle.c_model.specs.declared.question.Ask.{Ask}
+use Rattle.c_model.specs.declared.question.Ask.TheVariants as ask
+use Rattle.c_model.specs.Going.{tree_at_event}
 use Rattle.c_model.specs.Task.{Item}
-use Rattle.c_model.specs.Task.Item.{Start, Initialise, Forked, Inside, EndWork, EndMasked, Sync, Acquire, Release}
-use Rattle.std.specs.Prelude.{List, [], ◌∷◌}
+use Rattle.c_model.specs.Task.Item.{Start, Initialise, Forked, Inside, EndWork, EndMasked, Sync, Acquire, Release, NextChunk, NextSection, TestLock}
 
 -- a barrier or taskwait directive begins with its first event
 unfoldable pub IsFirstStage : SyncStage → Type 0
@@ -43,3 +47,28 @@ IsOfItem point other = ⊥
 unfoldable pub IsOfNext : Point → List Item → Type 0
 IsOfNext point [] = ⊥
 IsOfNext point (item ∷ items) = IsOfItem point item
+
+-- the tree at which an event stands is that of the item, where the item has one
+abbrev pub IsTreeOf : Tree → Item → Type 0
+IsTreeOf tree (Forked construct) = Unit {0}
+IsTreeOf tree (EndMasked construct) = Unit {0}
+IsTreeOf tree (Acquire at kind id) = Unit {0}
+IsTreeOf tree (Release at id) = Unit {0}
+IsTreeOf tree item = tree ≡ tree_at_event item
+
+-- it is that of what stands next
+unfoldable pub IsTreeOfNext : Tree → List Item → Type 0
+IsTreeOfNext tree [] = ⊥
+IsTreeOfNext tree (item ∷ items) = IsTreeOf tree item
+
+-- what is asked in this construct or call, the item asks
+unfoldable pub IsAskOf : Ask → Tree → Item → Type 0
+IsAskOf ask.Chunk tree (NextChunk loop) = tree ≡ loop.construct
+IsAskOf ask.Section tree (NextSection construct names) = tree ≡ construct
+IsAskOf (ask.LockFree id) tree (TestLock call wait_id to) = (tree ≡ call) × (id ≡ wait_id)
+IsAskOf ask tree other = ⊥
+
+-- what stands next asks
+unfoldable pub IsAskOfNext : Ask → Tree → List Item → Type 0
+IsAskOfNext ask tree [] = ⊥
+IsAskOfNext ask tree (item ∷ items) = IsAskOf ask tree item

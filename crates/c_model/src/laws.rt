@@ -6,14 +6,15 @@ ghost use Rattle.c_syntax.specs.Tree.{Tree as Part};
 ghost use Rattle.c_model.specs.declared.view.View.{View as Seen};
 ghost use Rattle.c_model.specs.declared.point.Point.{Point as Event};
 ghost use Rattle.c_model.specs.declared.question.Answer.{Answer as Given};
+ghost use Rattle.c_model.specs.declared.question.Ask.{Ask as Asked};
 ghost use Rattle.c_model.specs.Answers.{Answers, AsksFor};
 ghost use Rattle.c_model.specs.Begin.{explicit_task, main_task, member_task};
 ghost use Rattle.c_model.specs.Going.{after_answer, after_event};
 ghost use Rattle.c_model.specs.Task.{Moment, Task};
-ghost use Rattle.c_model.specs.Task.Outcome.{Ends, Occurs, StepsTo};
+ghost use Rattle.c_model.specs.Task.Outcome.{Asks, Ends, Occurs, StepsTo};
 ghost use Rattle.c_model.specs.Standing.{Fits};
 ghost use Rattle.c_model.specs.Known.{IsKnown};
-ghost use Rattle.c_model.specs.Occurring.{IsOfNext};
+ghost use Rattle.c_model.specs.Occurring.{IsAskOfNext, IsOfNext, IsTreeOfNext};
 ghost use Rattle.c_model.specs.Step.{settled_moment, settled_task, silent, stands};
 ghost use Rattle.c_model.specs.Width.{IsWithin};
 
@@ -60,10 +61,21 @@ pub fn answers_are_asked_for()
 {}
 
 /// An event is of what stands next: which events an item may have is told by its form, and by the stage of a barrier or the kind of a lock.
-#[tactic(auto, using(crate::proofs::Occurring::event_is_of_next))]
+/// It stands at the construct or directive of that item, or at the call in it.
+#[tactic(auto, using(crate::proofs::Occurring::event_is_of_next, crate::proofs::Occurring::event_is_at_next))]
 pub fn events_are_of_what_stands_next()
-    ensures { (program : TreeView) (view : Seen) (now : Moment) (point : Event) (tree : Part) →
+    ensures of_next { (program : TreeView) (view : Seen) (now : Moment) (point : Event) (tree : Part) →
         silent program view now ≡ Occurs point tree → IsOfNext point (settled_task view now.task).todo }
+    ensures tree { (program : TreeView) (view : Seen) (now : Moment) (point : Event) (tree : Part) →
+        silent program view now ≡ Occurs point tree → IsTreeOfNext tree (settled_task view now.task).todo }
+{}
+
+/// A question is asked by what stands next: a loop's next chunk in that loop, the next section in that construct, and whether a lock is free
+/// in the call that tests it.
+#[tactic(auto, using(crate::proofs::Asking::question_is_of_next))]
+pub fn questions_are_of_what_stands_next()
+    ensures { (program : TreeView) (view : Seen) (now : Moment) (ask : Asked) (tree : Part) →
+        silent program view now ≡ Asks ask tree → IsAskOfNext ask tree (settled_task view now.task).todo }
 {}
 
 /// No task ever has more names in scope than the program's width, neither now nor in a function that goes on behind a call: main begins so, and

@@ -17,7 +17,7 @@
 //! - `Answers`: which answers are given to what a task asks;
 //! - `Going`: how it goes on after an answer or an event;
 //! - `Begin`: how the code of main, of a member of a team and of an explicit task begins;
-//! - `Occurring`: of which item an event is;
+//! - `Occurring`: of which item an event or a question is;
 //! - `Width`: how many names a task ever has in scope.
 //!
 //! `docs/statements.md` tells the same in a page. `src/` has the types and numbers that the definitions share with the code. Nothing
@@ -37,7 +37,8 @@
 //! - an answer to what stands next is of the kind that its step asks for ([`answers_are_asked_for`]);
 //! - a task for which nothing is left has ended ([`ended_code_has_no_step`]);
 //! - a task's code traps with 1, 2 or 3, and meets the limits 3, 6 and 7 ([`traps_and_limits_are_known`]);
-//! - an event is of the item that stands next ([`events_are_of_what_stands_next`]);
+//! - an event is of the item that stands next, and stands at its construct, directive or call ([`events_are_of_what_stands_next`]);
+//! - what is asked, the item that stands next asks, in its construct or call ([`questions_are_of_what_stands_next`]);
 //! - no task of a program ever has more names in scope than the program's width, and no call that is open has when it goes on
 //!   ([`no_environment_grows_past_the_width`]).
 //!
@@ -59,8 +60,8 @@ mod view;
 pub use entry::Entry;
 pub use laws::{
     answers_are_asked_for, ended_code_has_no_step, events_are_of_what_stands_next,
-    no_environment_grows_past_the_width, settling_changes_nothing, standing_is_told_by_form,
-    traps_and_limits_are_known,
+    no_environment_grows_past_the_width, questions_are_of_what_stands_next,
+    settling_changes_nothing, standing_is_told_by_form, traps_and_limits_are_known,
 };
 pub use limits::{CALL_LIMIT, CALLS, CELL_LIMIT, CELLS, LINE_UNIT, LOCK_UNIT, TEXT, TEXT_LIMIT};
 pub use point::{MutexKind, Point, Schedule, SyncKind, SyncStage, Target, Work, WorkKind};

@@ -1,5 +1,5 @@
 -- The loop that a construct shares out: which way it goes, and that each iteration has a value that a cell can hold.
-use Rattle.std.proofs.Common.{◌≡◌, ℕ, suc, ◌+◌, ◌-◌, ◌*◌, ◌/◌, ◌%◌, ◌<◌, ◌≤◌, ◌^◌, min, Bool, true, false, ◌&&◌, ◌||◌, IfSome, if◌then◌else◌, Option, Some, None, ℤ, pos, negsuc, ◌+ℤ◌, ◌-ℤ◌, ◌*ℤ◌, ◌≤ℤ◌, ◌<ℤ◌, neg_ℤ, nat_abs, FitsSigned, w32, refl, sym, ap, ◌∙◌, subst, arith, rules}
+use Rattle.std.proofs.Common.{◌≡◌, ℕ, suc, ◌+◌, ◌-◌, ◌*◌, ◌/◌, ◌%◌, ◌<◌, ◌≤◌, ◌^◌, min, Bool, true, false, ◌&&◌, ◌||◌, IfSome, if◌then◌else◌, Option, Some, None, ℤ, pos, negsuc, ◌+ℤ◌, ◌-ℤ◌, ◌*ℤ◌, ◌≤ℤ◌, ◌<ℤ◌, neg_ℤ, nat_abs, FitsSigned, w32, w64, refl, sym, subst, arith, rules}
 use Rattle.std.proofs.lemmas.Int.{ints}
 use Rattle.std.proofs.Math.Nat.{div-mul-le_self, le-mul_of_pos_right, lt_of_not-le, mul-le-mul_right, suc-mul}
 use Rattle.std.proofs.Math.IntN.{pos-*ℤ-negsuc, pos-*ℤ-pos}
@@ -9,7 +9,7 @@ use Rattle.c_syntax.specs.declared.node.Bump.TheVariants as bump
 use Rattle.c_syntax.specs.declared.node.Setting.TheVariants as setting
 use Rattle.c_syntax.specs.declared.node.NodeKind.{NodeKind}
 use Rattle.c_syntax.specs.declared.node.NodeKind.TheVariants as node
-use Rattle.c_syntax.specs.Tree.{Tree, child_of, children_of, kind_of, number_of}
+use Rattle.c_syntax.specs.Tree.{Tree, child_of, children_of, kind_of}
 use Rattle.c_check.specs.Loops.{adds, child_at, goes_down, goes_up, has_head, is_start, is_step_down, is_step_up, is_variable_named, loop_name, takes}
 use Rattle.c_check.specs.LoopParts.{LoopParts, comparison_of, loop_parts, parts_by_kind, parts_if, parts_in, parts_with, statement_parts, step_by, step_of}
 use Rattle.c_check.specs.Statements.{shares_loop, statement_of}
@@ -165,3 +165,39 @@ are_loop_numbers other start end step first last goes = absurd goes
 pub cell_of_i32 : (number : ℤ) → FitsSigned w32 number → fits_cell number ≡ true
 cell_of_i32 (pos n) fits = grind (arith, fits)
 cell_of_i32 (negsuc n) fits = grind (arith, fits)
+
+-- The value of an iteration, computed in 64 bits.
+
+pub cell_fits_32 : (number : ℤ) → fits_cell number ≡ true → FitsSigned w32 number
+cell_fits_32 (pos n) fits = grind (arith, fits)
+cell_fits_32 (negsuc n) fits = grind (arith, fits)
+
+pub cell_fits_64 : (number : ℤ) → fits_cell number ≡ true → FitsSigned w64 number
+cell_fits_64 (pos n) fits = grind (arith, fits)
+cell_fits_64 (negsuc n) fits = grind (arith, fits)
+
+fits_64 : (number : ℤ) → neg_ℤ (pos (2 ^ 32)) ≤ℤ number → number ≤ℤ pos (2 ^ 32) → FitsSigned w64 number
+fits_64 (pos n) low high = grind (arith, low, high)
+fits_64 (negsuc n) low high = grind (arith, low, high)
+
+moved_between : (start moved : ℤ) → fits_cell start ≡ true → fits_cell (start +ℤ moved) ≡ true → FitsSigned w64 moved
+moved_between start moved first value =
+    let from = cell_bounds start first in
+    let to = cell_bounds (start +ℤ moved) value in
+    fits_64 moved (omega (arith, ints, from.1, to.0)) (omega (arith, ints, from.0, to.1))
+
+module _ (start step : ℤ) (count at : ℕ) (numbers : AreLoopNumbers start count step) (before : at < count) where
+  pub at_below : at < 2 ^ 63
+  at_below = omega (arith, before, numbers.few)
+
+  pub at_fits : FitsSigned w64 (pos at)
+  at_fits = grind (arith, before, numbers.few)
+
+  pub moved_fits : FitsSigned w64 (pos at *ℤ step)
+  moved_fits = moved_between start (pos at *ℤ step) numbers.first (numbers.values at before)
+
+  pub sum_fits : FitsSigned w64 (start +ℤ (pos at *ℤ step))
+  sum_fits = cell_fits_64 (start +ℤ (pos at *ℤ step)) (numbers.values at before)
+
+  pub value_fits : FitsSigned w32 (start +ℤ (pos at *ℤ step))
+  value_fits = cell_fits_32 (start +ℤ (pos at *ℤ step)) (numbers.values at before)

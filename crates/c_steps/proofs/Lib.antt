@@ -1,3 +1,4 @@
+mod Advancing
 mod BeginCall
 pub mod Beginning
 mod Combining
@@ -5,6 +6,7 @@ pub mod Counting
 mod Entered
 mod Entering
 mod Entries
+pub mod ExplicitTasks
 pub mod FileNames
 pub mod FirstFunctions
 mod Frames
@@ -13,6 +15,7 @@ pub mod InnerNames
 pub mod Iterating
 pub mod ListedNames
 mod Looking
+pub mod Members
 pub mod OwnNames
 mod Parameters
 pub mod Passing
@@ -25,6 +28,7 @@ mod Settling
 pub mod Standing
 mod StepNames
 mod Stepping
+pub mod TaskNames
 mod Values
 mod ValuesAll
 mod ValuesNamed

@@ -1,6 +1,6 @@
 -- What stands next, told frame by frame.
 use Rattle.std.proofs.Common.{◌≡◌, ℕ, ◌<◌, true, false, List, [], ◌∷◌, ◌++◌, length, reverse, slice_get, Option, Some, None, refl, sym, ap, ◌∙◌, subst, arith, rules}
-use Rattle.std.proofs.lemmas.List.{reverse-append}
+use Rattle.std.proofs.lemmas.List.{reverse-append, reverse-reverse}
 use Rattle.std.proofs.lemmas.List.Elements.{All-cons, All-head, All-tail}
 use Rattle.c_syntax.specs.Numbered.{TreeView}
 use Rattle.c_model.specs.declared.view.View.{View}
@@ -43,12 +43,13 @@ module _ (program : TreeView) (view : View) (it : Frame) where
 
     module _ (found : Item) (shows : ShowsItem program other found) where
       pub found_front : is_passed_over (item_at program found) view ≡ false → Fronts program view it (front.Found found)
-      found_front stays =
-          ((shows.front [] (search rules)).is_item,
-          λ frames are.
+      found_front stays = (
+        (shows.front [] (search rules)).is_item,
+        λ frames are.
             let next = shows.front frames are in
             first_item (items_from_next view (todo_at program (it ∷ frames))) (item_at program found) (todo_at program (begun (other ∷ frames)))
-            (sym (settled_front program view (it ∷ frames) (other ∷ frames) found (so frames are) next stays) ∙ next.todo))
+            (sym (settled_front program view (it ∷ frames) (other ∷ frames) found (so frames are) next stays) ∙ next.todo),
+      )
 
       pub past_front : is_passed_over (item_at program found) view ≡ true → BeginsAs other None → Fronts program view it front.Over
       past_front past begins frames are =
@@ -68,6 +69,10 @@ module _ (program : TreeView) (view : View) (it : Frame) where
 pub record ComesTo (program : TreeView) (view : View) (old below : List Frame) : Type 0 where
   pub are : AreFrames program below
   pub same : items_from_next view (todo_at program below) ≡ items_from_next view (todo_at program old)
+
+pub comes_first : (program : TreeView) (view : View) (old items : List Frame) → items ≡ reverse old → AreFrames program old → ComesTo program view old (reverse items)
+comes_first program view old items is are =
+    subst (ComesTo program view old) (sym (ap reverse is ∙ reverse-reverse old)) (record { are = are; same = refl })
 
 module _ (program : TreeView) (view : View) (old below rest : List Frame) (it : Frame) (so : ComesTo program view old (reverse below)) (last : below ≡ rest ++ it ∷ []) where
   top-first : reverse below ≡ it ∷ reverse rest
@@ -92,8 +97,7 @@ module _ (program : TreeView) (view : View) (old below rest : List Frame) (it : 
   found_below found shows =
       ap (λ (items : List SeenItem). slice_get items 0) (sym whole.same) ∙ shows.1 (reverse rest) (All-tail (IsFrame program) it (reverse rest) whole.are)
 
-pub none_below : (program : TreeView) (view : View) (old below : List Frame) → ComesTo program view old (reverse below) → below ≡ [] → slice_get (items_from_next view (todo_at program old)) 0 ≡ None
+pub none_below : (program : TreeView) (view : View) (old below : List Frame) → ComesTo program view old (reverse below) → length below ≡ 0 → slice_get (items_from_next view (todo_at program old)) 0 ≡ None
 unfolding todo_at items_from_next
-none_below program view old below so none =
-    let same : items_from_next view (todo_at program (reverse [])) ≡ items_from_next view (todo_at program old) = subst (λ below. items_from_next view (todo_at program (reverse below)) ≡ items_from_next view (todo_at program old)) none so.same in
-    ap (λ (items : List SeenItem). slice_get items 0) (sym same)
+none_below program view old [] so none = ap (λ (items : List SeenItem). slice_get items 0) (sym so.same)
+none_below program view old (it ∷ below) so none = absurd (omega (arith, none))

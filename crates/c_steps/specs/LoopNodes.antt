@@ -1,5 +1,5 @@
 -- The loop that a construct shares out: its parts by the numbers of their nodes, and which way it goes.
-use Rattle.std.specs.Prelude.{ℕ, ◌≤◌, List, ℤ, pos, neg_ℤ, ◌≤ℤ◌}
+use Rattle.std.specs.Prelude.{◌≤◌, List, ℤ, pos, neg_ℤ, ◌≤ℤ◌}
 use Rattle.c_syntax.specs.declared.node.BinaryOp.{BinaryOp}
 use Rattle.c_syntax.specs.declared.node.BinaryOp.TheVariants as binary
 use Rattle.c_syntax.specs.Tree.{Tree}

@@ -132,3 +132,7 @@ cleared held =
 -- room is made for the 64 silent steps of a turn, one that only asks, and an event
 abbrev pub roomy : Held → Held
 roomy held = record held { spare = 65; passes = 1; frames_now = 0; names_now = 0 }
+
+-- no code is left, these names are in scope, and the rest of the room is for more
+abbrev pub beginning : List Entry → Held → Held
+beginning entries held = record (cleared held) { names = entries; names_now = held.room - length entries }

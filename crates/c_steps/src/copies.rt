@@ -2,7 +2,6 @@
 
 ghost use Rattle.std.specs.Prelude.{◌≡◌, ◌+◌, ◌-◌, ◌<◌, ◌≤◌, length, min, take};
 ghost use Rattle.c_syntax.specs.Numbered.{tree_at};
-ghost use Rattle.c_check.specs.Seen.{task_copies};
 ghost use Rattle.c_model.specs.Cells.{entry_at_slot, entry_of, new_entry};
 ghost use Rattle.c_model.specs.Clauses.Copying.{First};
 ghost use Rattle.c_model.specs.Copies as copies;

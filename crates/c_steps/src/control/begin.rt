@@ -77,6 +77,13 @@ impl Control {
         ensures blank { IsBlank self.new }
         ensures made { IsMadeFor code.now self.new }
     {
+        self.empty();
+    }
+
+    /// No code is left.
+    pub(super) fn empty(&mut self)
+        ensures { self.new ≡ cleared self.old }
+    {
         self.stack.clear();
         self.names.truncate(0);
         self.base = 0;

@@ -1,20 +1,22 @@
 //! Events of constructs and directives, and what is asked: nothing changes at them.
 
-ghost use Rattle.std.specs.Prelude.{◌≡◌, ◌<◌, ◌∷◌, [], length, pos};
+ghost use Rattle.std.specs.Prelude.{◌≡◌, ◌<◌, length};
 ghost use Rattle.c_syntax.specs.Tree.{kind_of};
 ghost use Rattle.c_syntax.specs.Numbered.{tree_at};
 ghost use Rattle.c_model.specs.Constructs as constructs;
 ghost use Rattle.c_model.specs.Step as steps;
 ghost use Rattle.c_syntax.specs.Numbered.{TreeView};
-ghost use Rattle.c_model.specs.declared.point.Point.TheVariants.{ParallelBegin};
+ghost use Rattle.c_model.specs.declared.point.Point.TheVariants.{MutexAcquire, ParallelBegin};
+ghost use Rattle.c_model.specs.declared.point.MutexKind.TheVariants.{Critical as critical};
+ghost use Rattle.c_model.specs.declared.point.Target.TheVariants.{Nowhere as nowhere};
+ghost use Rattle.c_check.specs.Seen.{critical_number};
 ghost use Rattle.c_model.specs.declared.point.Work.TheVariants as work;
 ghost use Rattle.c_model.specs.declared.question.Ask.TheVariants as ask;
 ghost use Rattle.c_model.specs.Loops.{loop_of};
 ghost use Rattle.c_model.specs.Program.{place_of};
-ghost use Rattle.c_model.specs.declared.view.View.{View as Seen};
-ghost use Rattle.c_model.specs.Task.{Moment, Store};
+ghost use Rattle.c_model.specs.Task.{Moment};
 ghost use Rattle.c_model.specs.Task.Outcome.{Asks, Occurs};
-ghost use Rattle.c_steps.specs.Held.{Held, here_at, moment_at, outcome_at};
+ghost use Rattle.c_steps.specs.Held.{here_at, moment_at, outcome_at};
 ghost use Rattle.c_steps.specs.Items.{loop_at};
 ghost use Rattle.c_steps.specs.LoopNodes.{GoesOn, parts_at};
 ghost use Rattle.c_steps.specs.Ready.{AreFrames, HasLoopNumbers, IsSettled, IsStepping, IsUnchanging};
@@ -228,7 +230,7 @@ fn begin_masked(code: &Code, node: u32) -> Next
 /// A critical is asked for.
 fn begin_critical(code: &Code, node: u32) -> Next
     requires { node < length code.now.trees }
-    ensures step { (view : Seen) (held : Held) (store : Store) (now : Moment) → outcome_at code.now result now ≡ constructs.begin_critical (here_at code.now view held store) (tree_at code.now.trees node) }
+    ensures step { (now : Moment) → outcome_at code.now result now ≡ Occurs (MutexAcquire (place_of (tree_at code.now.trees node)) (critical_number code.now (tree_at code.now.trees node)) critical nowhere) (tree_at code.now.trees node) }
     ensures unchanged { IsUnchanging result }
     ensures numbers { HasLoopNumbers result }
 {

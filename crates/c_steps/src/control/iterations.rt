@@ -21,6 +21,7 @@ use c_syntax::ReductionOp;
 
 impl Control {
     /// An iteration begins: the loop's variable is set, and the body stands next, and then the iterations behind, or the next chunk.
+    #[tactic(auto, unfolding(crate::specs::Items::todo_at, crate::specs::Items::calls_at))]
     pub(super) fn begin_iteration(
         &mut self,
         code: &Code,
@@ -84,7 +85,6 @@ impl Control {
     }
 
     /// The cell of the variable among the first so many names.
-    #[tactic(auto, using(crate::proofs::Combining::names_around), unfolding(crate::specs::Items::file_names))]
     fn cell_around(&self, code: &Code, name: u32, names: usize) -> usize
         ensures { result ≡ (entry_of (take (with_file code.now names) (env_at code.now self.now)) name).first }
     {
@@ -94,7 +94,6 @@ impl Control {
     }
 
     /// The cell of a construct's copy of it, behind those names.
-    #[tactic(auto, using(crate::proofs::Combining::names_behind))]
     fn cell_of_copy(&self, code: &Code, name: u32, names: usize) -> usize
         ensures { result ≡ (first_named name (drop (with_file code.now names) (env_at code.now self.now))).first }
     {
@@ -117,7 +116,6 @@ fn iterations_from(shared: Loop, at: u64, upto: u64) -> Item
 }
 
 /// The value of a loop's variable in an iteration.
-#[tactic(auto, using(crate::proofs::Iterating::value_fits))]
 fn iteration_value(shared: Loop, at: u64) -> i32
     requires numbers { AreLoopNumbers shared.start shared.count shared.step }
     requires at { at < shared.count }

@@ -3,7 +3,7 @@
 ghost use Rattle.std.specs.Prelude.{◌≡◌, ◌+◌, ◌<◌, ◌≤◌, ◌∷◌, ◌++◌, [], if◌then◌else◌, length, not, pos, slice_range};
 ghost use Rattle.c_syntax.specs.Tree.{kind_of, name_of};
 ghost use Rattle.c_syntax.specs.Numbered.{tree_at};
-ghost use Rattle.c_check.specs.Seen.{slot_of_name};
+ghost use Rattle.c_check.specs.Seen.{slot_of_name, task_copies};
 ghost use Rattle.c_model.specs.declared.limits.TheConstants.{CELL_LIMIT};
 ghost use Rattle.c_model.specs.Cells.{entry_of, has_too_many, new_entry};
 ghost use Rattle.c_model.specs.Constructs as constructs;
@@ -11,9 +11,10 @@ ghost use Rattle.c_model.specs.Copies.{listed_variables, loop_slot, with_own_cel
 ghost use Rattle.c_model.specs.Loops.{is_declared, loop_of};
 ghost use Rattle.c_steps.specs.Held.{bound_in, here_at, moment_at, outcome_at};
 ghost use Rattle.c_steps.specs.Items.{file_names};
+ghost use Rattle.c_steps.specs.ListedNames.{listed_of};
 ghost use Rattle.c_steps.specs.Moves.{bound};
 ghost use Rattle.c_steps.specs.Nodes.{IsPart, part_at};
-ghost use Rattle.c_steps.specs.OwnCells.{around_at, copy_entry, copy_numbers, listed_cells, made_listed, made_own, with_made, with_made_cells, with_numbers};
+ghost use Rattle.c_steps.specs.OwnCells.{around_at, copy_numbers_at, listed_copy_at, listed_made_at, own_made_at, slot_copy_at, slots_made_at, task_made_at, with_copy_at, with_made, with_made_cells, with_numbers};
 ghost use Rattle.c_steps.specs.Ready.{AreFrames, HasLoopNumbers, IsSettled, IsStepping};
 ghost use Rattle.c_steps.specs.Widths.{step_names};
 
@@ -21,9 +22,9 @@ use crate::cells::Cells;
 use crate::code::Code;
 use crate::control::Control;
 use crate::copies::{make_copy, room_behind_listed, room_behind_slots};
-use crate::listed::{ListedName, first_listed, is_loop, loop_variable, next_listed};
+use crate::listed::{Copying, ListedName, first_listed, is_loop, loop_variable, next_listed};
 use crate::next::Next;
-use crate::scope::entry_among;
+use crate::scope::{entry_among, slot_entry};
 use c_model::{CELLS, Entry, View};
 use c_syntax::NodeKind;
 
@@ -85,10 +86,10 @@ impl Control {
     #[tactic(auto, using(crate::proofs::OwnNames::range_before))]
     fn make_own(&mut self, code: &Code, cells: &mut Cells, node: u32)
         requires node { node < length code.now.trees }
-        requires room { length (made_own code.now (bound_in code.now self.old cells.old) cells.old.cells (tree_at code.now.trees node)).cells ≤ CELL_LIMIT }
+        requires room { length (own_made_at code.now self.old cells.old (tree_at code.now.trees node)).cells ≤ CELL_LIMIT }
         requires names { length (listed_variables (tree_at code.now.trees node)) + 1 ≤ self.old.names_now }
-        ensures control { self.new ≡ with_made (made_own code.now (bound_in code.now self.old cells.old) cells.old.cells (tree_at code.now.trees node)) self.old }
-        ensures cells { cells.new ≡ with_made_cells (made_own code.now (bound_in code.now self.old cells.old) cells.old.cells (tree_at code.now.trees node)) cells.old }
+        ensures control { self.new ≡ with_made (own_made_at code.now self.old cells.old (tree_at code.now.trees node)) self.old }
+        ensures cells { cells.new ≡ with_made_cells (own_made_at code.now self.old cells.old (tree_at code.now.trees node)) cells.old }
         ensures base { self.old.base ≤ length self.old.names }
     {
         let names = self.names.len();
@@ -102,10 +103,10 @@ impl Control {
     #[tactic(auto, using(crate::proofs::OwnNames::range_before))]
     fn make_listed(&mut self, code: &Code, cells: &mut Cells, node: u32)
         requires node { node < length code.now.trees }
-        requires room { length (made_listed (bound_in code.now self.old cells.old) cells.old.cells (listed_variables (tree_at code.now.trees node))).cells ≤ CELL_LIMIT }
+        requires room { length (listed_made_at code.now self.old cells.old (tree_at code.now.trees node)).cells ≤ CELL_LIMIT }
         requires names { length (listed_variables (tree_at code.now.trees node)) ≤ self.old.names_now }
-        ensures control { self.new ≡ with_made (made_listed (bound_in code.now self.old cells.old) cells.old.cells (listed_variables (tree_at code.now.trees node))) self.old }
-        ensures cells { cells.new ≡ with_made_cells (made_listed (bound_in code.now self.old cells.old) cells.old.cells (listed_variables (tree_at code.now.trees node))) cells.old }
+        ensures control { self.new ≡ with_made (listed_made_at code.now self.old cells.old (tree_at code.now.trees node)) self.old }
+        ensures cells { cells.new ≡ with_made_cells (listed_made_at code.now self.old cells.old (tree_at code.now.trees node)) cells.old }
     {
         let (names, count) = (self.names.len(), cells.count());
         let mut place = first_listed();
@@ -128,12 +129,64 @@ impl Control {
         requires names { names ≤ length self.old.names }
         requires count { count ≤ length cells.old.cells }
         requires free { 0 < self.old.names_now }
-        requires room { length cells.old.cells + length (copy_numbers (around_at code.now self.old names cells.old count) listed) ≤ CELL_LIMIT }
-        ensures control { self.new ≡ bound (copy_entry (around_at code.now self.old names cells.old count) cells.old.cells listed) self.old }
-        ensures cells { cells.new ≡ with_numbers (copy_numbers (around_at code.now self.old names cells.old count) listed) cells.old }
+        requires room { length cells.old.cells + length (copy_numbers_at code.now self.old names cells.old count (listed_copy_at code.now self.old names cells.old count (listed_of listed))) ≤ CELL_LIMIT }
+        ensures control { self.new ≡ with_copy_at code.now names cells.old count (listed_copy_at code.now self.old names cells.old count (listed_of listed)) self.old }
+        ensures cells { cells.new ≡ with_numbers (copy_numbers_at code.now self.old names cells.old count (listed_copy_at code.now self.old names cells.old count (listed_of listed))) cells.old }
     {
         let entry = self.entry_around(code, names, listed.name);
         let copy = make_copy(cells, count, entry, listed.copying);
+        self.bind(copy);
+    }
+
+    /// A task's own cells come, with their names: what its clauses list, and what it copies by rule. The names around are those of the task
+    /// that creates it.
+    pub(super) fn make_task_cells(&mut self, code: &Code, cells: &mut Cells, node: u32)
+        requires node { node < length code.now.trees }
+        requires room { length (task_made_at code.now self.old cells.old (tree_at code.now.trees node)).cells ≤ CELL_LIMIT }
+        requires names { length (listed_variables (tree_at code.now.trees node)) + length (task_copies code.now (tree_at code.now.trees node)) ≤ self.old.names_now }
+        ensures control { self.new ≡ with_made (task_made_at code.now self.old cells.old (tree_at code.now.trees node)) self.old }
+        ensures cells { cells.new ≡ with_made_cells (task_made_at code.now self.old cells.old (tree_at code.now.trees node)) cells.old }
+    {
+        let (names, count) = (self.names.len(), cells.count());
+        self.make_listed(code, cells, node);
+        self.make_slots(code, cells, names, count, code.program().task_copies(node));
+    }
+
+    /// Copies of the variables with these slots come, with their names, where there were so many names and cells before a task's own.
+    fn make_slots(
+        &mut self,
+        code: &Code,
+        cells: &mut Cells,
+        names: usize,
+        count: usize,
+        slots: &[u32],
+    )
+        requires own { self.old.base ≤ names }
+        requires names { names ≤ length self.old.names }
+        requires count { count ≤ length cells.old.cells }
+        requires free { length slots.now ≤ self.old.names_now }
+        requires room { length (slots_made_at code.now self.old names cells.old count slots.now).cells ≤ CELL_LIMIT }
+        ensures control { self.new ≡ with_made (slots_made_at code.now self.old names cells.old count slots.now) self.old }
+        ensures cells { cells.new ≡ with_made_cells (slots_made_at code.now self.old names cells.old count slots.now) cells.old }
+    {
+        for slot in slots {
+            self.make_slot(code, cells, names, count, *slot);
+        }
+    }
+
+    /// The copy of the variable with a slot comes, where there were so many names and cells before a task's own.
+    #[tactic(auto, unfolding(crate::specs::Items::file_names))]
+    fn make_slot(&mut self, code: &Code, cells: &mut Cells, names: usize, count: usize, slot: u32)
+        requires own { self.old.base ≤ names }
+        requires names { names ≤ length self.old.names }
+        requires count { count ≤ length cells.old.cells }
+        requires free { 0 < self.old.names_now }
+        requires room { length cells.old.cells + length (copy_numbers_at code.now self.old names cells.old count (slot_copy_at code.now self.old names cells.old count slot)) ≤ CELL_LIMIT }
+        ensures control { self.new ≡ with_copy_at code.now names cells.old count (slot_copy_at code.now self.old names cells.old count slot) self.old }
+        ensures cells { cells.new ≡ with_numbers (copy_numbers_at code.now self.old names cells.old count (slot_copy_at code.now self.old names cells.old count slot)) cells.old }
+    {
+        let entry = slot_entry(code.file(), &self.names.items()[self.base..names], slot);
+        let copy = make_copy(cells, count, entry, Copying::First);
         self.bind(copy);
     }
 

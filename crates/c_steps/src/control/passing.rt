@@ -61,7 +61,10 @@ impl Control {
                 self.put_instead(code, next_stage(node, kind, stage))
             }
             Point::MutexAcquire {
-                wait_id, kind, to, ..
+                wait_id,
+                kind,
+                to,
+                ..
             } => self.ask_for(code, item, node, wait_id, kind, to),
             Point::ParallelEnd { .. }
             | Point::TaskCreate { .. }
@@ -140,15 +143,7 @@ impl Control {
     }
 
     /// A lock or critical is asked for. The variable of a declarator that tests a lock comes into scope.
-    fn ask_for(
-        &mut self,
-        code: &Code,
-        item: Item,
-        node: u32,
-        id: u32,
-        kind: MutexKind,
-        to: Target,
-    )
+    fn ask_for(&mut self, code: &Code, item: Item, node: u32, id: u32, kind: MutexKind, to: Target)
         requires ready { IsPassing code.now self.old }
         requires item { IsItem code.now item }
         requires node { node < length code.now.trees }
@@ -249,7 +244,7 @@ fn barrier_of(code: &Code, node: u32) -> Option<Item>
 }
 
 /// The making of a construct's own cells, if it has any.
-fn own_cells(code: &Code, node: u32) -> Option<Item>
+pub(super) fn own_cells(code: &Code, node: u32) -> Option<Item>
     requires { node < length code.now.trees }
     ensures cells { items_if code.now result ≡ makes_cells (tree_at code.now.trees node) }
     ensures item { IfSome result (IsItem code.now) }
@@ -263,7 +258,13 @@ fn own_cells(code: &Code, node: u32) -> Option<Item>
 
 /// The stages of a worksharing construct behind its begin: the statement of a `single` that the task executes, and then what is asked for
 /// first, or the end of its work.
-fn work_stages(code: &Code, node: u32, names: usize, work: Work, executes: bool) -> (Option<Item>, Item)
+fn work_stages(
+    code: &Code,
+    node: u32,
+    names: usize,
+    work: Work,
+    executes: bool,
+) -> (Option<Item>, Item)
     requires node { node < length code.now.trees }
     requires work { IsWork work }
     ensures stages { stages_at code.now result ≡ going.work_items work (tree_at code.now.trees node) (with_file code.now names) executes }
@@ -272,7 +273,10 @@ fn work_stages(code: &Code, node: u32, names: usize, work: Work, executes: bool)
 {
     match work {
         Work::Loop {
-            start, count, step, ..
+            start,
+            count,
+            step,
+            ..
         } => {
             let shared = shared(code, node, start, step, count, names);
             (None, Item::NextChunk(shared))
@@ -291,7 +295,10 @@ fn single_stages(code: &Code, node: u32, names: usize, executes: bool) -> (Optio
 {
     if executes {
         let part = statement(code, node);
-        (Some(Item::Start(part)), end_of_single(node, WorkKind::SingleExecutor, names))
+        (
+            Some(Item::Start(part)),
+            end_of_single(node, WorkKind::SingleExecutor, names),
+        )
     } else {
         (None, end_of_single(node, WorkKind::SingleOther, names))
     }

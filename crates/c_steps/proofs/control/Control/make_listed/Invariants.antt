@@ -1,14 +1,18 @@
-use Rattle.std.proofs.Common.{◌≡◌, length}
+use Rattle.std.proofs.Common.{length, map}
 use Rattle.c_syntax.specs.Numbered.{tree_at}
 use Rattle.c_model.specs.Copies.{listed_variables}
+use Rattle.c_steps.specs.Held.{bound_in}
 use Rattle.c_steps.specs.ListedNames.{listed_from}
+use Rattle.c_steps.specs.OwnCells.{listed_copy}
 use Rattle.c_steps.proofs.OwnNames.{IsMaking}
 use Rattle.c_steps.proofs.control.Control.make_listed.Given as goal
 
 abbrev pub invariant-loop-found : goal.invariant-loop-found
 invariant-loop-found l =
     let construct = tree_at l.code.trees l.node in
-    IsMaking l.code (listed_from construct l.place) (listed_variables construct) l.initial.self l.self l.initial.cells l.cells
+    let around = bound_in l.code l.initial.self l.initial.cells in
+    IsMaking l.code around l.names l.count (map (listed_copy around) (listed_from construct l.place)) (map (listed_copy around) (listed_variables construct))
+    l.initial.self l.self l.initial.cells l.cells
 
 abbrev pub decreases-loop-found : goal.decreases-loop-found
 decreases-loop-found l = length (listed_from (tree_at l.code.trees l.node) l.place)

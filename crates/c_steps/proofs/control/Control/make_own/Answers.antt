@@ -2,7 +2,7 @@ use Rattle.std.proofs.Common.{ap, arith}
 use Rattle.c_syntax.specs.Numbered.{tree_at}
 use Rattle.c_model.specs.Copies.{listed_variables}
 use Rattle.c_steps.specs.Held.{Held, bound_in}
-use Rattle.c_steps.proofs.OwnNames.{made_count}
+use Rattle.c_steps.proofs.OwnNames.{listed_count}
 use Rattle.c_steps.proofs.control.Control.make_own.Goals as goal
 
 pub make_loop_variable-requires-clause-free : goal.make_loop_variable-requires-clause-free
@@ -12,6 +12,6 @@ make_loop_variable-requires-clause-free c =
     omega (
       arith,
       ap Held.names_now c.make_listed.ensures.control,
-      made_count (bound_in code c.args.self.now c.args.cells.now) c.args.cells.now.cells listed,
+      listed_count (bound_in code c.args.self.now c.args.cells.now) c.args.cells.now.cells listed,
       c.requires.names,
     )

@@ -2,7 +2,7 @@ use Rattle.std.proofs.Common.{◌≡◌, ◌+◌, ◌≤◌, [], length, refl, s
 use Rattle.std.proofs.lemmas.List.Elements.{All-nil}
 use Rattle.c_steps.specs.Rooming.{AreEntries, IsEntry}
 use Rattle.c_steps.proofs.Beginning.{room_of_none}
-use Rattle.c_steps.proofs.control.Control.clear.Goals as goal
+use Rattle.c_steps.proofs.control.Control.empty.Goals as goal
 
 pub invariant_of-self : goal.invariant_of-self
 invariant_of-self c =

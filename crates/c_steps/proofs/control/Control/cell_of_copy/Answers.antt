@@ -1,0 +1,12 @@
+use Rattle.std.proofs.Common.{ap}
+use Rattle.c_model.specs.Calls.{file_bound}
+use Rattle.c_model.specs.Cells.{first_named}
+use Rattle.c_steps.specs.Items.{file_names}
+use Rattle.c_steps.proofs.Combining.{names_behind}
+use Rattle.c_steps.proofs.control.Control.cell_of_copy.Goals as goal
+
+pub returns : goal.returns
+unfolding file_names
+returns c =
+    rw (← c.self.view_is, c.first_named.ensures, c.min.ensures, c.items.ensures)
+    (ap (λ env. (first_named c.args.name env).first) (names_behind c.self.inside.base c.args.names (file_bound c.args.code.now).env c.self.inside.names.list))
