@@ -142,7 +142,13 @@ impl Driver {
 
     /// The event happens, and the code goes on behind it. The code of a region's member or of a task is executed before what stands
     /// behind.
-    fn pass(&mut self, alloc: Global, code: &Code, point: Point, node: u32) -> Result<(), RowFault> {
+    fn pass(
+        &mut self,
+        alloc: Global,
+        code: &Code,
+        point: Point,
+        node: u32,
+    ) -> Result<(), RowFault> {
         self.account.event(point)?;
         self.follow(point)?;
         match point {
@@ -163,7 +169,13 @@ impl Driver {
     }
 
     /// The code of a region's only member begins.
-    fn fork(&mut self, alloc: Global, code: &Code, point: Point, node: u32) -> Result<(), RowFault> {
+    fn fork(
+        &mut self,
+        alloc: Global,
+        code: &Code,
+        point: Point,
+        node: u32,
+    ) -> Result<(), RowFault> {
         let mut member = Control::blank(alloc, code)?;
         if let Some(control) = self.open.last_mut() {
             control.passed(code, point, node, true);
