@@ -11,7 +11,7 @@ use c_steps::{Cells, Code, Control, Next};
 use std::alloc::Global;
 
 /// How often code is advanced until the driver says that it runs on.
-const MOST: u32 = 200_000;
+const MOST: u32 = 10_000;
 
 /// What the only thread of a run sees.
 const ALONE: View = View {

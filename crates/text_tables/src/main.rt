@@ -51,7 +51,7 @@
 //! | `free` `not free` | whether a lock is owned, where it is tested. Where it is free no step is made |
 //! | `done` | the code of a region's member or of a task has ended |
 //! | `ends 0` `traps 1` `limits 3` | the end: what `main` has returned, or the number of the trap or of the limit |
-//! | `runs on` | more than 200,000 steps, events and answers |
+//! | `runs on` | more than 10,000 steps, events and answers |
 //!
 //! An answer that begins with `text` speaks of the text and the end alone, one with `events` of all but the text and the steps, and one
 //! with `count` of the number of all silent steps and the end.
