@@ -5,10 +5,11 @@
 
 use crate::account::{Account, End, Parts};
 use crate::row_fault::RowFault;
+use crate::shared_work::Team;
 use c_check::Program;
-use c_model::{Answer, Ask, Point, View, Work};
+use c_model::{Point, View};
 use c_steps::{Cells, Code, Control, Next};
-use std::alloc::Global;
+use std::alloc::{AllocError, Global};
 
 /// How often code is advanced until the driver says that it runs on.
 const MOST: u32 = 10_000;
@@ -32,27 +33,13 @@ pub(crate) fn steps(alloc: Global, program: Program, want: &str) -> Result<Strin
     driver.told(alloc, End::RunsOn)
 }
 
-/// What is left of shared work that has begun.
-#[derive(Clone, Copy)]
-enum Left {
-    /// These iterations of a loop, as one chunk.
-    Iterations(u64),
-    /// The sections from one number up to another one.
-    Sections(u32, u32),
-    /// Nothing.
-    Nothing,
-}
-
 /// The code that is open, and what its thread knows of shared work and locks.
 #[derive(Drop)]
 struct Driver {
     cells: Cells,
     /// The code of main, and behind it that of each member and task that isn't over.
     open: Vec<Control>,
-    /// The shared work that has begun and hasn't ended.
-    works: Vec<Left>,
-    /// The wait identifiers of the locks that are owned.
-    owned: Vec<u32>,
+    team: Team,
     account: Account,
 }
 
@@ -64,8 +51,7 @@ impl Driver {
         Ok(Driver {
             cells: Cells::new(alloc, code)?,
             open,
-            works: Vec::new(alloc),
-            owned: Vec::new(alloc),
+            team: Team::new(alloc),
             account: Account::new(alloc, parts),
         })
     }
@@ -83,13 +69,30 @@ impl Driver {
         control.reserve(code)?;
         match control.advance(code, &mut self.cells, ALONE) {
             Next::Quiet => self.account.step(),
-            Next::Ask(ask, _) => self.answer(code, ask)?,
-            Next::Event(point, node) => self.pass(alloc, code, point, node)?,
+            Next::Ask(ask, _) => {
+                let answer = self.team.answer(ask);
+                control.give(code, &mut self.cells, answer);
+                self.account.answer(answer)?;
+            }
+            Next::Event(point, node) => {
+                let begun = pass(alloc, code, control, &mut self.cells, point, node)?;
+                self.follow(point, begun)?;
+            }
             Next::Ended(value) => return self.end(value),
             Next::Trap(number) => return Ok(Some(End::Traps(number))),
             Next::Limit(number) => return Ok(Some(End::Limits(number))),
         }
         Ok(None)
+    }
+
+    /// An event has happened, by which other code may have begun. That is executed before what stands behind the event.
+    fn follow(&mut self, point: Point, begun: Option<Control>) -> Result<(), RowFault> {
+        self.account.event(point)?;
+        self.team.follow(point)?;
+        if let Some(control) = begun {
+            self.open.push(control)?;
+        }
+        Ok(())
     }
 
     /// The code that began last has ended with this value.
@@ -101,131 +104,33 @@ impl Driver {
         self.account.code_end()?;
         Ok(None)
     }
-
-    /// Answers what the code asks.
-    fn answer(&mut self, code: &Code, ask: Ask) -> Result<(), RowFault> {
-        let answer = match ask {
-            Ask::Chunk => Answer::Chunk(self.next_chunk()),
-            Ask::Section => Answer::Section(self.next_section()),
-            Ask::LockFree(id) => Answer::Free(!self.owned.contains(&id)),
-        };
-        self.account.answer(answer)?;
-        if let Some(control) = self.open.last_mut() {
-            control.give(code, &mut self.cells, answer);
-        }
-        Ok(())
-    }
-
-    /// All iterations of the loop that began last, once.
-    fn next_chunk(&mut self) -> Option<(u64, u64)> {
-        let work = self.works.last_mut()?;
-        match *work {
-            Left::Iterations(count) if count > 0 => {
-                *work = Left::Nothing;
-                Some((0, count))
-            }
-            _ => None,
-        }
-    }
-
-    /// The next of the sections that began last.
-    fn next_section(&mut self) -> Option<u32> {
-        let work = self.works.last_mut()?;
-        match *work {
-            Left::Sections(next, count) if next < count => {
-                *work = Left::Sections(next + 1, count);
-                Some(next)
-            }
-            _ => None,
-        }
-    }
-
-    /// The event happens, and the code goes on behind it. The code of a region's member or of a task is executed before what stands
-    /// behind.
-    fn pass(
-        &mut self,
-        alloc: Global,
-        code: &Code,
-        point: Point,
-        node: u32,
-    ) -> Result<(), RowFault> {
-        self.account.event(point)?;
-        self.follow(point)?;
-        match point {
-            Point::ParallelBegin { .. } => self.fork(alloc, code, point, node),
-            Point::TaskCreate { .. } => self.create(alloc, code, point, node),
-            _ => {
-                self.go_past(code, point, node);
-                Ok(())
-            }
-        }
-    }
-
-    /// The code goes on behind the event.
-    fn go_past(&mut self, code: &Code, point: Point, node: u32) {
-        if let Some(control) = self.open.last_mut() {
-            control.passed(code, point, node, true);
-        }
-    }
-
-    /// The code of a region's only member begins.
-    fn fork(
-        &mut self,
-        alloc: Global,
-        code: &Code,
-        point: Point,
-        node: u32,
-    ) -> Result<(), RowFault> {
-        let mut member = Control::blank(alloc, code)?;
-        if let Some(control) = self.open.last_mut() {
-            control.passed(code, point, node, true);
-            control.member(code, &mut member);
-        }
-        self.open.push(member)?;
-        Ok(())
-    }
-
-    /// The code of an explicit task begins.
-    fn create(
-        &mut self,
-        alloc: Global,
-        code: &Code,
-        point: Point,
-        node: u32,
-    ) -> Result<(), RowFault> {
-        let mut task = Control::blank(alloc, code)?;
-        if let Some(control) = self.open.last_mut() {
-            control.task(code, &mut self.cells, &mut task);
-            control.passed(code, point, node, true);
-        }
-        self.open.push(task)?;
-        Ok(())
-    }
-
-    /// What an event says of shared work and locks.
-    fn follow(&mut self, point: Point) -> Result<(), RowFault> {
-        match point {
-            Point::WorkBegin { work, .. } => self.works.push(left_of(work))?,
-            Point::WorkEnd { .. } => {
-                let _ended = self.works.pop();
-            }
-            Point::MutexAcquired { wait_id, .. } => self.owned.push(wait_id)?,
-            Point::MutexReleased { wait_id, .. } => {
-                if let Some(place) = self.owned.iter().position(|id| *id == wait_id) {
-                    let _given_back = self.owned.swap_remove(place);
-                }
-            }
-            _ => {}
-        }
-        Ok(())
-    }
 }
 
-/// What is left of shared work that begins.
-fn left_of(work: Work) -> Left {
-    match work {
-        Work::Loop { count, .. } => Left::Iterations(count),
-        Work::Sections(count) => Left::Sections(0, count),
-        Work::Single => Left::Nothing,
+/// The code goes on behind an event. Gives the code of the region's member or of the task that begins there, if one does.
+fn pass(
+    alloc: Global,
+    code: &Code,
+    control: &mut Control,
+    cells: &mut Cells,
+    point: Point,
+    node: u32,
+) -> Result<Option<Control>, AllocError> {
+    match point {
+        Point::ParallelBegin { .. } => {
+            let mut member = Control::blank(alloc, code)?;
+            control.passed(code, point, node, true);
+            control.member(code, &mut member);
+            Ok(Some(member))
+        }
+        Point::TaskCreate { .. } => {
+            let mut task = Control::blank(alloc, code)?;
+            control.task(code, cells, &mut task);
+            control.passed(code, point, node, true);
+            Ok(Some(task))
+        }
+        _ => {
+            control.passed(code, point, node, true);
+            Ok(None)
+        }
     }
 }

@@ -76,6 +76,7 @@ mod question;
 mod refusal;
 mod row_fault;
 mod seen;
+mod shared_work;
 mod table;
 mod tally;
 mod tree_line;
