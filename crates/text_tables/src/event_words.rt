@@ -11,7 +11,8 @@
 //! | `masked@3:1` `end_masked@3:1` | the statement of a `masked` begins and ends |
 //! | `barrier@3:1 begin` | the first event of a barrier. `wait`, `waited` and `end` follow |
 //! | `taskwait@3:1 begin` | the same of a taskwait, of the barrier of a construct as `work_barrier`, of a region as `region_barrier` |
-//! | `ask@3:1 lock 65536` | a lock is asked for, as a `lock`, a `test`, or a `critical` with its number. `cell 3` or `return` says where the value of a test goes |
+//! | `ask@3:1 lock 65536` | a lock is asked for. `test` is a lock that is tested, `critical 1` a critical with its number |
+//! | `ask@3:1 test 65536 cell 3` | the value of the test goes into a cell; with `return` the function returns it |
 //! | `own@3:1 lock 65536` | it is owned |
 //! | `give@3:1 lock 65536` | it is given back |
 //! | `init@3:1 65536` `destroy@3:1 65536` | a lock is initialised, destroyed |

@@ -2,8 +2,9 @@
 //!
 //! A table is read from the standard input. Each of its rows asks a question of a text: its tokens, its tree, its fault, the slots of
 //! its names, how its constructs see variables, what its tasks copy, the numbers of its criticals, the parts of its loops, or what its
-//! code does. The program prints each row that differs from the answer that is wanted, and then how many rows there were and how many of them differ.
-//! A line that can't be read counts as a row that differs. `Tally::add` has clauses on its counts; the answers are only tested.
+//! code does. The program prints each row that differs from the answer that is wanted, and then how many rows there were and how many of
+//! them differ. A line that can't be read counts as a row that differs. `Tally::add` has clauses on its counts; the answers are only
+//! tested.
 //!
 //! # Lines
 //!
