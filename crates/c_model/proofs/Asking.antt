@@ -20,13 +20,13 @@ use Rattle.c_model.specs.declared.point.Point.{Point}
 use Rattle.c_model.specs.declared.point.Target.{Target}
 use Rattle.c_model.specs.declared.point.Target.TheVariants as target
 use Rattle.c_model.specs.declared.view.View.{View}
-use Rattle.c_model.specs.Answers.{AnswersFirst, AnswersItem, IsLockAnswer, IsSectionAnswer}
+use Rattle.c_model.specs.Answers.{AnswersFirst, AnswersItem, IsChunkAnswer, IsLockAnswer, IsSectionAnswer}
 use Rattle.c_model.specs.Cells.{Bound}
 use Rattle.c_model.specs.Clauses.{sections_of}
 use Rattle.c_model.specs.Coming.{binds, with_result}
 use Rattle.c_model.specs.Calls.{begin_call, begin_right, begin_lock_call, begin_return_of, enters, returns_to}
 use Rattle.c_model.specs.Statements.{begin_local_set, declares, makes_first_step, makes_step}
-use Rattle.c_model.specs.Task.{Here, Item, Moment, OpenCall, Outcome}
+use Rattle.c_model.specs.Task.{Here, Item, Moment, OpenCall, Outcome, SharedLoop}
 use Rattle.c_model.specs.Task.Item.{Start, Declare, Leave, Test, Third, Initialise, Return, FallOff, Forked, Inside, MakeCells, NextChunk, Iterations, NextSection, Combine, EndWork, EndMasked, Sync, Acquire, Release, TestLock, Tested}
 use Rattle.c_model.specs.Task.Outcome.{StepsTo, Asks, Occurs, Ends, Traps, Limits}
 use Rattle.c_model.specs.Step.{begin_construct, begin_inside, begin_standalone, begin_statement, items_from_next, settled_task, silent, step_at, step_of}
@@ -221,3 +221,10 @@ pub free_answers_first : (items : List Item) (id : ℕ) (tree : Tree) (given : A
 unfolding IsAskOfNext AnswersFirst
 free_answers_first [] id tree given is fits = absurd is
 free_answers_first (item ∷ items) id tree given is fits = free-answers item id tree given is fits
+
+-- what fits the loop that asks for its next chunk
+pub chunk_answers_first : (items : List Item) (tree : Tree) (given : Answer) → IsAskOfNext ask.Chunk tree items → ((loop : SharedLoop) (behind : List Item) → items ≡ NextChunk loop ∷ behind → IsChunkAnswer loop.count given) → AnswersFirst items given
+unfolding IsAskOfNext IsAskOf AnswersFirst AnswersItem
+chunk_answers_first [] tree given is fits = absurd is
+chunk_answers_first (NextChunk loop ∷ items) tree given is fits = fits loop items refl
+chunk_answers_first (other ∷ items) tree given is fits = absurd is

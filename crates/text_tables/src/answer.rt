@@ -4,6 +4,7 @@ ghost use Rattle.std.specs.Prelude.{◌≤◌, length};
 
 use crate::copies::copies;
 use crate::criticals::criticals;
+use crate::driver::steps;
 use crate::loop_parts::loop_parts;
 use crate::place::write_spot;
 use crate::question::Question;
@@ -33,7 +34,8 @@ pub(crate) fn answer(
         | Question::Sharing
         | Question::Copies
         | Question::Criticals
-        | Question::Loop => return seen_in(alloc, question, text, want),
+        | Question::Loop
+        | Question::Steps => return seen_in(alloc, question, text, want),
     };
     match answered {
         Ok(told) => Ok(told),
@@ -51,6 +53,7 @@ fn seen_in(alloc: Global, question: Question, text: &[u8], want: &str) -> Result
             Question::Copies => copies(alloc, &program, text, want),
             Question::Criticals => criticals(alloc, &program),
             Question::Loop => loop_parts(alloc, &program, want),
+            Question::Steps => steps(alloc, program, want),
             _ => seen::sharing(alloc, &program, want),
         },
         Err(refusal) => refused(alloc, refusal),

@@ -1,9 +1,9 @@
 //! Tables of texts, each with the answer that is wanted of it, and how many of the answers differ.
 //!
 //! A table is read from the standard input. Each of its rows asks a question of a text: its tokens, its tree, its fault, the slots of
-//! its names, how its constructs see variables, what its tasks copy, the numbers of its criticals, or the parts of its loops. The
-//! program prints each row that differs from the answer that is wanted, and then how many rows there were and how many of them differ.
-//! A line that can't be read counts as a row that differs. The answers are only tested.
+//! its names, how its constructs see variables, what its tasks copy, the numbers of its criticals, the parts of its loops, or what its
+//! code does. The program prints each row that differs from the answer that is wanted, and then how many rows there were and how many of
+//! them differ. A line that can't be read counts as a row that differs. The answers are only tested.
 //!
 //! # Lines
 //!
@@ -34,19 +34,40 @@
 //! | `copies` | the place of a task, and `NAME:SLOT` for each variable that it copies, or `none` |
 //! | `criticals` | `PLACE=NUMBER` for each critical, an inner one before the one around it, and `count=COUNT` |
 //! | `loop` | a construct's place, those of its loop's `variable`, `start`, `end` and `body`, the comparison and `step`, or `none` |
+//! | `steps` | what the code does from `main` on, where [`driver`] is the only thread of the run |
 //!
 //! A place is a line and a column, as `3:1`. Where no construct stands at the place of an answer, `no construct` follows in it. Any
 //! question is answered by the number of a fault and its place, as `10 at 3:1`, where the text doesn't come so far.
+//!
+//! What the code does is told in parts with commas between them:
+//!
+//! | Part | What it is |
+//! |---|---|
+//! | `"5\n"` | the text that was printed. More than 1,000 bytes are told as `1001 bytes` |
+//! | `+3` | so many silent steps |
+//! | `parallel@3:1 2` | an event; see [`event_words`] |
+//! | `chunk 0 10` `no chunk` | a chunk is given, by its first iteration and how many they are; none is left |
+//! | `section 0` `no section` | a section is given; none is left |
+//! | `free` `not free` | whether a lock is owned, where it is tested. Where it is free no step is made |
+//! | `done` | the code of a region's member or of a task has ended |
+//! | `ends 0` `traps 1` `limits 3` | the end: what `main` has returned, or the number of the trap or of the limit |
+//! | `runs on` | more than 10,000 steps, events and answers |
+//!
+//! An answer that begins with `text` speaks of the text and the end alone, one with `events` of all but the text and the steps, and one
+//! with `count` of the number of all silent steps and the end.
 //!
 //! # Texts
 //!
 //! What a text is written with is told at [`pattern`].
 #![tactic(auto)]
 
+mod account;
 mod answer;
 mod construct;
 mod copies;
 mod criticals;
+mod driver;
+mod event_words;
 mod frame;
 mod loop_parts;
 mod pattern;
@@ -55,6 +76,7 @@ mod question;
 mod refusal;
 mod row_fault;
 mod seen;
+mod shared_work;
 mod table;
 mod tree_line;
 

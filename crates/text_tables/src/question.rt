@@ -23,6 +23,8 @@ pub(crate) enum Question {
     Criticals,
     /// The parts of a loop that is shared out.
     Loop,
+    /// What its code does.
+    Steps,
 }
 
 impl Question {
@@ -39,6 +41,7 @@ impl Question {
             "copies" => Some(Question::Copies),
             "criticals" => Some(Question::Criticals),
             "loop" => Some(Question::Loop),
+            "steps" => Some(Question::Steps),
             _ => None,
         }
     }
