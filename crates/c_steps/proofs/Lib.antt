@@ -1,8 +1,10 @@
 mod Advancing
+pub mod Asked
 mod BeginCall
 pub mod Beginning
 mod Combining
 pub mod Counting
+pub mod Creating
 mod Entered
 mod Entering
 mod Entries

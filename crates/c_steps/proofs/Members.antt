@@ -1,5 +1,5 @@
 -- Where the code of a member of a team begins.
-use Rattle.std.proofs.Common.{◌≡◌, ℕ, ◌<◌, ◌≤◌, Bool, true, List, [], ◌∷◌, ◌++◌, length, take, drop, slice_get, Option, Some, None, IfSome, refl, sym, ap, ◌∙◌, subst, append_assoc, arith, rules}
+use Rattle.std.proofs.Common.{◌≡◌, ℕ, ℤ, ◌<◌, ◌≤◌, Bool, true, List, [], ◌∷◌, ◌++◌, length, take, drop, slice_get, Option, Some, None, IfSome, refl, sym, ap, ◌∙◌, subst, append_assoc, arith, rules}
 use Rattle.std.proofs.lemmas.List.{append-nil, length-append}
 use Rattle.std.proofs.lemmas.List.Elements.{All-cons, All-nil}
 use Rattle.c_syntax.specs.Tree.{Tree, kind_of}
@@ -11,7 +11,9 @@ use Rattle.c_model.specs.Begin.{forked_construct, member_items, member_statement
 use Rattle.c_model.specs.Clauses.{construct_statement}
 use Rattle.c_model.specs.Copies.{combines, combining_all, listed_variables, makes_cells}
 use Rattle.c_model.specs.Step.{items_from_next}
-use Rattle.c_model.specs.Task.{Item as SeenItem}
+use Rattle.c_model.specs.declared.point.Point.TheVariants.{ParallelBegin}
+use Rattle.c_model.specs.Going.{passed_at, settled_after_event}
+use Rattle.c_model.specs.Task.{Item as SeenItem, Task}
 use Rattle.c_model.specs.Task.{Item as seen}
 use Rattle.c_model.specs.Width.{IsWithin}
 use Rattle.c_model.proofs.WidthNames.{least}
@@ -27,6 +29,7 @@ use Rattle.c_steps.specs.ListedNames.{listed_from}
 use Rattle.c_steps.specs.Made.{IsMadeFor}
 use Rattle.c_steps.specs.Moves.{beginning, pushed, then_if, then_item}
 use Rattle.c_steps.specs.Nodes.{IsPart, part_at}
+use Rattle.c_steps.specs.Passing.{IsEventOfNext}
 use Rattle.c_steps.specs.Ready.{IsFrame, IsItem}
 use Rattle.c_steps.proofs.Frames.{all_names}
 use Rattle.c_steps.proofs.Giving.{nothing_past}
@@ -131,3 +134,13 @@ module _ (program : TreeView) (view : View) (held into new : Held) (node names :
       fits = let same : new.room ≡ into.room = ap (λ (held : Held). held.room) put.rest in let fits = room.fits in omega (arith, same, fits);
       is_within = subst (IsWithin program) (sym member_stands) (member_is_within program (task_at program held) made.is_within);
     }
+
+-- behind the event with which a region begins, the region that was forked stands next
+behind-fork : (program : TreeView) (codeptr : ℕ) (requested : ℤ) (node : ℕ) (executes : Bool) (items : List SeenItem) (task : Task) → IsEventOfNext program (ParallelBegin codeptr requested) node items → HasForked (passed_at items (ParallelBegin codeptr requested) executes task).todo
+unfolding IsEventOfNext HasForked
+behind-fork program codeptr requested node executes [] task is = absurd is
+behind-fork program codeptr requested node executes (it ∷ items) task is = tt
+
+pub has_forked : (program : TreeView) (old new : Held) (codeptr : ℕ) (requested : ℤ) (node : ℕ) (executes : Bool) → IsEventOfNext program (ParallelBegin codeptr requested) node (todo_at program old.frames) → task_at program new ≡ settled_after_event (ParallelBegin codeptr requested) executes (task_at program old) → HasForked (todo_at program new.frames)
+has_forked program old new codeptr requested node executes is task =
+    subst (λ (task : Task). HasForked task.todo) (sym task) (behind-fork program codeptr requested node executes (todo_at program old.frames) (task_at program old) is)

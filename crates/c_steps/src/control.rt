@@ -9,6 +9,7 @@ ghost use Rattle.c_steps.specs.Rooming.{IsEntry, open_calls};
 ghost use Rattle.c_steps.specs.Moves.{bound, closed, cut, ended, last_call, opened, passing, pushed, stepping, then_if, then_item};
 
 mod advance;
+mod asked;
 mod begin;
 mod calls;
 mod declaring;

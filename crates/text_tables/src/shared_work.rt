@@ -1,24 +1,22 @@
 //! What a team of one thread gives to its code: chunks, sections, and whether a lock is free.
 
-use c_model::{Answer, Ask, Point, Work};
-use std::alloc::{AllocError, Global};
+ghost use Rattle.std.specs.Prelude.{◌≡◌};
+ghost use Rattle.c_syntax.specs.Tree.{Tree};
+ghost use Rattle.c_model.specs.declared.question.Answer.TheVariants as of_answer;
+ghost use Rattle.c_model.specs.Answers.{AnswersFirst, IsChunkAnswer, IsSectionAnswer};
+ghost use Rattle.c_model.specs.Occurring.{IsAskOfNext};
+ghost use Rattle.c_steps.specs.Held.{task_at};
+ghost use Rattle.c_steps.specs.Made.{IsMadeFor};
 
-/// What is left of shared work that has begun.
-#[derive(Clone, Copy)]
-enum Left {
-    /// These iterations of a loop, as one chunk.
-    Iterations(u64),
-    /// The sections from one number up to another one.
-    Sections(u32, u32),
-    /// Nothing.
-    Nothing,
-}
+use c_model::{Answer, Ask, Point};
+use c_steps::{Code, Control};
+use std::alloc::{AllocError, Global};
 
 /// The shared work and the locks of a run of one thread.
 #[derive(Drop)]
 pub(crate) struct Team {
-    /// The shared work that has begun and hasn't ended.
-    works: Vec<Left>,
+    /// How often each shared work was asked for that has begun and hasn't ended.
+    works: Vec<u32>,
     /// The wait identifiers of the locks that are owned, and the numbers of criticals.
     owned: Vec<u32>,
 }
@@ -33,42 +31,57 @@ impl Team {
     }
 
     /// The answer to what the code asks.
-    pub fn answer(&mut self, ask: Ask) -> Answer {
+    #[tactic(auto, using(c_steps::proofs::Asked::chunk_answers, c_steps::proofs::Asked::section_answers, c_model::proofs::Asking::free_answers_first), unfolding(c_model::specs::Answers::IsLockAnswer))]
+    pub fn answer(&mut self, code: &Code, control: &Control, ask: Ask) -> Answer
+        requires { IsMadeFor code.now control.now }
+        ensures { (tree : Tree) → IsAskOfNext ask tree (task_at code.now control.now).todo → AnswersFirst (task_at code.now control.now).todo result }
+    {
         match ask {
-            Ask::Chunk => Answer::Chunk(self.next_chunk()),
-            Ask::Section => Answer::Section(self.next_section()),
+            Ask::Chunk => Answer::Chunk(self.next_chunk(control.asked_count(code))),
+            Ask::Section => Answer::Section(self.next_section(control.asked_sections(code))),
             Ask::LockFree(id) => Answer::Free(!self.owned.contains(&id)),
         }
     }
 
-    /// All iterations of the loop that began last, once.
-    fn next_chunk(&mut self) -> Option<(u64, u64)> {
-        let work = self.works.last_mut()?;
-        match *work {
-            Left::Iterations(count) if count > 0 => {
-                *work = Left::Nothing;
-                Some((0, count))
-            }
-            _ => None,
+    /// All iterations of a loop of so many, once.
+    #[tactic(auto, unfolding(c_model::specs::Answers::IsChunkAnswer))]
+    fn next_chunk(&mut self, count: u64) -> Option<(u64, u64)>
+        ensures { IsChunkAnswer count (of_answer.Chunk result) }
+    {
+        if self.take() == 0 && count > 0 {
+            Some((0, count))
+        } else {
+            None
         }
     }
 
-    /// The next of the sections that began last.
-    fn next_section(&mut self) -> Option<u32> {
-        let work = self.works.last_mut()?;
-        match *work {
-            Left::Sections(next, count) if next < count => {
-                *work = Left::Sections(next + 1, count);
-                Some(next)
-            }
-            _ => None,
+    /// The next of so many sections.
+    #[tactic(auto, unfolding(c_model::specs::Answers::IsSectionAnswer))]
+    fn next_section(&mut self, count: u32) -> Option<u32>
+        ensures { IsSectionAnswer count (of_answer.Section result) }
+    {
+        let number = self.take();
+        if number < count {
+            Some(number)
+        } else {
+            None
         }
+    }
+
+    /// The work that began last is asked for. Says how often it was before.
+    fn take(&mut self) -> u32 {
+        let Some(asked) = self.works.last_mut() else {
+            return 0;
+        };
+        let before = *asked;
+        *asked = before.saturating_add(1);
+        before
     }
 
     /// What an event says of shared work and locks.
     pub fn follow(&mut self, point: Point) -> Result<(), AllocError> {
         match point {
-            Point::WorkBegin { work, .. } => self.works.push(left_of(work))?,
+            Point::WorkBegin { .. } => self.works.push(0)?,
             Point::WorkEnd { .. } => {
                 let _ended = self.works.pop();
             }
@@ -84,14 +97,5 @@ impl Team {
         if let Some(place) = self.owned.iter().position(|id| *id == wait_id) {
             let _given_back = self.owned.swap_remove(place);
         }
-    }
-}
-
-/// What is left of shared work that begins.
-fn left_of(work: Work) -> Left {
-    match work {
-        Work::Loop { count, .. } => Left::Iterations(count),
-        Work::Sections(count) => Left::Sections(0, count),
-        Work::Single => Left::Nothing,
     }
 }
