@@ -137,6 +137,7 @@ impl Driver {
     }
 
     /// The run goes on with this code.
+    #[tactic(auto, using(crate::proofs::Controls::one_more))]
     fn keep(&mut self, control: Control) -> Result<Option<End>, RowFault>
         requires { IsMadeFor self.old control }
     {
@@ -200,7 +201,7 @@ impl Driver {
         requires begun { IsMadeFor self.old begun }
     {
         self.account.event(point)?;
-        self.controls.push(control)?;
+        self.keep(control)?;
         self.keep(begun)
     }
 

@@ -1,0 +1,11 @@
+-- The code that is open is of one program.
+use Rattle.std.proofs.Common.{◌≡◌, List, [], ◌∷◌, ◌++◌, sym, subst}
+use Rattle.std.specs.List.{All}
+use Rattle.std.proofs.lemmas.List.Elements.{All-append, All-cons, All-nil}
+use Rattle.c_syntax.specs.Numbered.{TreeView}
+use Rattle.c_steps.specs.Held.{Held}
+use Rattle.c_steps.specs.Made.{IsMadeFor}
+
+pub one_more : (program : TreeView) (controls after : List Held) (control : Held) → All (IsMadeFor program) controls → IsMadeFor program control → after ≡ controls ++ control ∷ [] → All (IsMadeFor program) after
+one_more program controls after control all made is =
+    subst (All (IsMadeFor program)) (sym is) (All-append (IsMadeFor program) controls (control ∷ []) all (All-cons (IsMadeFor program) control [] made (All-nil (IsMadeFor program))))
