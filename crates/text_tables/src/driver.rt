@@ -139,7 +139,8 @@ impl Driver {
     /// The run goes on with this code.
     #[tactic(auto, using(crate::proofs::Controls::one_more))]
     fn keep(&mut self, control: Control) -> Result<Option<End>, RowFault>
-        requires { IsMadeFor self.old control }
+        requires made { IsMadeFor self.old control }
+        ensures program { self.new ≡ self.old }
     {
         self.controls.push(control)?;
         Ok(None)
