@@ -103,11 +103,7 @@ impl Driver {
 
     /// Advances this code, which began last.
     #[tactic(auto, using(c_steps::proofs::Creating::creation_stands, c_steps::proofs::Creating::creation_fits))]
-    fn advance_code(
-        &mut self,
-        alloc: Global,
-        mut control: Control,
-    ) -> Result<Option<End>, RowFault>
+    fn advance_code(&mut self, alloc: Global, mut control: Control) -> Result<Option<End>, RowFault>
         requires { IsMadeFor self.old control }
     {
         if control.reserve(&self.code).is_err() {
@@ -122,9 +118,25 @@ impl Driver {
             Next::Event(Point::ParallelBegin { codeptr, requested }, node) => {
                 self.fork(alloc, control, codeptr, requested, node)
             }
-            Next::Event(Point::TaskCreate { codeptr, undeferred }, node) => {
-                let point = Point::TaskCreate { codeptr, undeferred };
-                match create(alloc, &self.code, &mut self.cells, &mut control, point, node) {
+            Next::Event(
+                Point::TaskCreate {
+                    codeptr,
+                    undeferred,
+                },
+                node,
+            ) => {
+                let point = Point::TaskCreate {
+                    codeptr,
+                    undeferred,
+                };
+                match create(
+                    alloc,
+                    &self.code,
+                    &mut self.cells,
+                    &mut control,
+                    point,
+                    node,
+                ) {
                     Ok(task) => self.follow(control, task, point),
                     Err(_) => Err(RowFault::Memory),
                 }
@@ -159,7 +171,12 @@ impl Driver {
     }
 
     /// An event has happened, by which no other code begins.
-    fn pass(&mut self, mut control: Control, point: Point, node: u32) -> Result<Option<End>, RowFault>
+    fn pass(
+        &mut self,
+        mut control: Control,
+        point: Point,
+        node: u32,
+    ) -> Result<Option<End>, RowFault>
         requires made { IsMadeFor self.old control }
         requires event { IsEventOfNext self.old point node (task_at self.old control).todo }
         requires passes { 0 < control.passes }

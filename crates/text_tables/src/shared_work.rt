@@ -61,11 +61,7 @@ impl Team {
         ensures { IsSectionAnswer count (of_answer.Section result) }
     {
         let number = self.take();
-        if number < count {
-            Some(number)
-        } else {
-            None
-        }
+        if number < count { Some(number) } else { None }
     }
 
     /// The work that began last is asked for. Says how often it was before.
