@@ -13,7 +13,7 @@ use omp_model::Event;
 use ompt_calls::{Call, Snapshot, is_registered};
 
 /// What a turn came to, for the caller that runs the tools.
-#[derive(Debug, Drop)]
+#[derive(Drop)]
 pub enum Went {
     /// Silent steps alone.
     Quiet,

@@ -5,7 +5,7 @@ ghost use Rattle.std.specs.Prelude.{◌≡◌};
 use std::marker::Model;
 
 /// A parallel construct (OpenMP 5.2, 10.1) with an empty block.
-#[derive(Clone, Copy, Debug, PartialEq, Eq)]
+#[derive(Clone, Copy, PartialEq, Eq)]
 pub struct Block {
     /// How many threads its `num_threads` asks for.
     pub requested: u8,
@@ -14,7 +14,7 @@ pub struct Block {
 }
 
 /// The parallel blocks of a main, in order. Contracts see them as their list.
-#[derive(Debug, Drop)]
+#[derive(Drop)]
 pub struct Blocks(pub Vec<Block>);
 
 impl Model for Blocks {

@@ -1,7 +1,7 @@
 //! Why a run ended.
 
 /// The cause in which a run ended.
-#[derive(Clone, Copy, Debug, PartialEq, Eq)]
+#[derive(Clone, Copy, PartialEq, Eq)]
 pub enum Cause {
     /// Every thread that was made has ended, and main returned 0.
     Done,

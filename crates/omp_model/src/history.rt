@@ -6,7 +6,7 @@ use ompt_calls::{Call, Target};
 use std::marker::Model;
 
 /// What one entry of a history is.
-#[derive(Clone, Copy, Debug, PartialEq, Eq)]
+#[derive(Clone, Copy, PartialEq, Eq)]
 pub enum What {
     /// One turn of the thread.
     Go,
@@ -17,7 +17,7 @@ pub enum What {
 }
 
 /// One entry of a history: what happened, and on which thread.
-#[derive(Clone, Copy, Debug, PartialEq, Eq)]
+#[derive(Clone, Copy, PartialEq, Eq)]
 pub struct Entry {
     /// The thread's number, from 0.
     pub thread: u8,
@@ -26,7 +26,7 @@ pub struct Entry {
 }
 
 /// The entries of a run, in order. Contracts see it as their list.
-#[derive(Debug, Drop)]
+#[derive(Drop)]
 pub struct History(pub Vec<Entry>);
 
 impl Model for History {
@@ -48,7 +48,7 @@ impl History {
 }
 
 /// What is recorded of an event that a tool heard.
-#[derive(Clone, Copy, Debug, PartialEq, Eq)]
+#[derive(Clone, Copy, PartialEq, Eq)]
 pub struct EventRecord {
     /// The position of the event's Go in the history, from 0.
     pub seq: u32,

@@ -3,7 +3,7 @@
 use crate::limits::TEAM_LIMIT;
 
 /// What stands in a task's code.
-#[derive(Clone, Copy, Debug, PartialEq, Eq)]
+#[derive(Clone, Copy, PartialEq, Eq)]
 pub enum Instruction {
     /// A block is entered: a silent step.
     EnterBlock,
@@ -16,7 +16,7 @@ pub enum Instruction {
 }
 
 /// How far a task has come.
-#[derive(Clone, Copy, Debug, PartialEq, Eq)]
+#[derive(Clone, Copy, PartialEq, Eq)]
 pub enum Condition {
     /// It was made, and hasn't started.
     Made,
@@ -27,7 +27,7 @@ pub enum Condition {
 }
 
 /// Where a task stands.
-#[derive(Clone, Copy, Debug, PartialEq, Eq)]
+#[derive(Clone, Copy, PartialEq, Eq)]
 pub enum TaskStage {
     /// Its code goes on.
     Running,
@@ -63,7 +63,7 @@ pub struct Region {
 }
 
 /// How far a thread has come.
-#[derive(Clone, Copy, Debug, PartialEq, Eq)]
+#[derive(Clone, Copy, PartialEq, Eq)]
 pub enum ThreadStage {
     /// It wasn't made.
     Unmade,
@@ -76,7 +76,7 @@ pub enum ThreadStage {
 }
 
 /// An event of the machine, with its callback (OpenMP 5.2, 19.5.2).
-#[derive(Clone, Copy, Debug, PartialEq, Eq)]
+#[derive(Clone, Copy, PartialEq, Eq)]
 pub enum Event {
     /// The thread begins: `ompt_callback_thread_begin` (19.5.2.1).
     ThreadBegin,
@@ -129,7 +129,7 @@ pub enum Event {
 }
 
 /// The callback that a thread is inside.
-#[derive(Clone, Copy, Debug, PartialEq, Eq)]
+#[derive(Clone, Copy, PartialEq, Eq)]
 pub struct Callback {
     /// The event that it is of.
     pub event: Event,
@@ -138,7 +138,7 @@ pub struct Callback {
 }
 
 /// What halted a run.
-#[derive(Clone, Copy, Debug, PartialEq, Eq)]
+#[derive(Clone, Copy, PartialEq, Eq)]
 pub enum Halt {
     /// The trap with this number: the program did what it must not.
     Trap(u8),
@@ -147,7 +147,7 @@ pub enum Halt {
 }
 
 /// What a turn came to.
-#[derive(Clone, Copy, Debug, PartialEq, Eq)]
+#[derive(Clone, Copy, PartialEq, Eq)]
 pub enum Outcome {
     /// There is no turn: nothing stands next, or an event that isn't enabled.
     Idle,

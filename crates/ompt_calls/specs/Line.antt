@@ -4,7 +4,7 @@ use Rattle.std.specs.Fmt.{decimal}
 use Rattle.ompt_calls.specs.declared.call.Word.{Word}
 use Rattle.ompt_calls.specs.declared.call.Frame.{Frame}
 use Rattle.ompt_calls.specs.declared.call.Call.{Call}
-use Rattle.ompt_calls.specs.declared.call.Call.TheVariants.{ThreadBegin, ThreadEnd, ParallelBegin, ParallelEnd, ImplicitTask, SyncRegionWait, SyncRegion}
+use Rattle.ompt_calls.specs.declared.call.Call.TheVariants.{ThreadBegin, ThreadEnd, ParallelBegin, ParallelEnd, TaskCreate, TaskSchedule, ImplicitTask, SyncRegionWait, MutexReleased, Work, Masked, SyncRegion, LockInit, LockDestroy, MutexAcquire, MutexAcquired, Dispatch}
 
 -- the parts, with one space between
 abbrev pub spaced : List (List ℕ) → List ℕ
@@ -28,12 +28,28 @@ parts_of (ParallelBegin task frame region requested flags codeptr) =
     codes "parallel_begin" ∷ word_text task ∷ frame_text frame ∷ word_text region ∷ decimal requested ∷ decimal flags ∷ decimal codeptr ∷ []
 parts_of (ParallelEnd region task flags codeptr) =
     codes "parallel_end" ∷ word_text region ∷ word_text task ∷ decimal flags ∷ decimal codeptr ∷ []
+parts_of (TaskCreate task frame fresh flags has_dependences codeptr) =
+    codes "task_create" ∷ word_text task ∷ frame_text frame ∷ word_text fresh ∷ decimal flags ∷ decimal has_dependences ∷ decimal codeptr ∷ []
+parts_of (TaskSchedule prior status next) = codes "task_schedule" ∷ word_text prior ∷ decimal status ∷ word_text next ∷ []
 parts_of (ImplicitTask endpoint region task actual index flags) =
     codes "implicit_task" ∷ decimal endpoint ∷ word_text region ∷ word_text task ∷ decimal actual ∷ decimal index ∷ decimal flags ∷ []
 parts_of (SyncRegionWait kind endpoint region task codeptr) =
     codes "sync_region_wait" ∷ decimal kind ∷ decimal endpoint ∷ word_text region ∷ word_text task ∷ decimal codeptr ∷ []
+parts_of (MutexReleased kind wait_id codeptr) = codes "mutex_released" ∷ decimal kind ∷ decimal wait_id ∷ decimal codeptr ∷ []
+parts_of (Work kind endpoint region task count codeptr) =
+    codes "work" ∷ decimal kind ∷ decimal endpoint ∷ word_text region ∷ word_text task ∷ decimal count ∷ decimal codeptr ∷ []
+parts_of (Masked endpoint region task codeptr) =
+    codes "masked" ∷ decimal endpoint ∷ word_text region ∷ word_text task ∷ decimal codeptr ∷ []
 parts_of (SyncRegion kind endpoint region task codeptr) =
     codes "sync_region" ∷ decimal kind ∷ decimal endpoint ∷ word_text region ∷ word_text task ∷ decimal codeptr ∷ []
+parts_of (LockInit kind hint variant wait_id codeptr) =
+    codes "lock_init" ∷ decimal kind ∷ decimal hint ∷ decimal variant ∷ decimal wait_id ∷ decimal codeptr ∷ []
+parts_of (LockDestroy kind wait_id codeptr) = codes "lock_destroy" ∷ decimal kind ∷ decimal wait_id ∷ decimal codeptr ∷ []
+parts_of (MutexAcquire kind hint variant wait_id codeptr) =
+    codes "mutex_acquire" ∷ decimal kind ∷ decimal hint ∷ decimal variant ∷ decimal wait_id ∷ decimal codeptr ∷ []
+parts_of (MutexAcquired kind wait_id codeptr) = codes "mutex_acquired" ∷ decimal kind ∷ decimal wait_id ∷ decimal codeptr ∷ []
+parts_of (Dispatch region task kind start iterations) =
+    codes "dispatch" ∷ word_text region ∷ word_text task ∷ decimal kind ∷ decimal start ∷ decimal iterations ∷ []
 
 -- the text of a call
 abbrev pub call_text : Call → List ℕ

@@ -6,7 +6,7 @@ ghost use Rattle.ompt_calls.specs.Number.{number_of};
 use omp_codes::callbacks;
 
 /// A data word of a tool: `ompt_data_t` (OpenMP 5.2, 19.4.4.4), named by a number in place of an address.
-#[derive(Clone, Copy, Debug, PartialEq, Eq)]
+#[derive(Clone, Copy, PartialEq, Eq)]
 pub struct Word {
     /// Which word: t + 1 for thread t; the number of the region or the task; 0 for NULL.
     pub identity: u32,
@@ -15,7 +15,7 @@ pub struct Word {
 }
 
 /// The frame of a task: `ompt_frame_t` (OpenMP 5.2, 19.4.4), with numbers in place of addresses.
-#[derive(Clone, Copy, Debug, PartialEq, Eq)]
+#[derive(Clone, Copy, PartialEq, Eq)]
 pub struct Frame {
     /// The first procedure frame of the task's code: its `exit_frame`; 0 where there is none.
     pub exit: u32,
@@ -24,7 +24,7 @@ pub struct Frame {
 }
 
 /// A callback, with its arguments in the order of the specification (OpenMP 5.2, 19.5.2).
-#[derive(Clone, Copy, Debug, PartialEq, Eq)]
+#[derive(Clone, Copy, PartialEq, Eq)]
 pub enum Call {
     /// `ompt_callback_thread_begin`: kind 1 is the initial thread, 2 a worker.
     ThreadBegin {
@@ -51,6 +51,21 @@ pub enum Call {
         flags: u32,
         codeptr: u64,
     },
+    /// `ompt_callback_task_create` (19.5.2.7): the task is the encountering one, the frame is its own, and `fresh` is the new task.
+    TaskCreate {
+        task: Word,
+        frame: Frame,
+        fresh: Word,
+        flags: u32,
+        has_dependences: u32,
+        codeptr: u64,
+    },
+    /// `ompt_callback_task_schedule` (19.5.2.10): status 1 says that the prior task has ended, 7 that the thread goes from it to another one.
+    TaskSchedule {
+        prior: Word,
+        status: u32,
+        next: Word,
+    },
     /// `ompt_callback_implicit_task`: endpoint 1 is the begin, 2 the end.
     ImplicitTask {
         endpoint: u32,
@@ -68,6 +83,28 @@ pub enum Call {
         task: Word,
         codeptr: u64,
     },
+    /// `ompt_callback_mutex_released` (19.5.2.15).
+    MutexReleased {
+        kind: u32,
+        wait_id: u32,
+        codeptr: u64,
+    },
+    /// `ompt_callback_work` (19.5.2.5): endpoint 1 is the begin, 2 the end.
+    Work {
+        kind: u32,
+        endpoint: u32,
+        region: Word,
+        task: Word,
+        count: u64,
+        codeptr: u64,
+    },
+    /// `ompt_callback_masked` (19.5.2.12): endpoint 1 is the begin, 2 the end.
+    Masked {
+        endpoint: u32,
+        region: Word,
+        task: Word,
+        codeptr: u64,
+    },
     /// `ompt_callback_sync_region` (19.5.2.13): endpoint 1 is the begin, 2 the end.
     SyncRegion {
         kind: u32,
@@ -75,6 +112,43 @@ pub enum Call {
         region: Word,
         task: Word,
         codeptr: u64,
+    },
+    /// `ompt_callback_lock_init` (19.5.2.14). `variant` is its argument `impl`.
+    LockInit {
+        kind: u32,
+        hint: u32,
+        variant: u32,
+        wait_id: u32,
+        codeptr: u64,
+    },
+    /// `ompt_callback_lock_destroy` (19.5.2.15).
+    LockDestroy {
+        kind: u32,
+        wait_id: u32,
+        codeptr: u64,
+    },
+    /// `ompt_callback_mutex_acquire` (19.5.2.14). `variant` is its argument `impl`.
+    MutexAcquire {
+        kind: u32,
+        hint: u32,
+        variant: u32,
+        wait_id: u32,
+        codeptr: u64,
+    },
+    /// `ompt_callback_mutex_acquired` (19.5.2.15).
+    MutexAcquired {
+        kind: u32,
+        wait_id: u32,
+        codeptr: u64,
+    },
+    /// `ompt_callback_dispatch` (19.5.2.6), with two numbers in place of its instance. Kind 3 is a chunk of a loop: its first iteration,
+    /// counted from 0, and its length. Kind 2 is a section: its place, and 0.
+    Dispatch {
+        region: Word,
+        task: Word,
+        kind: u32,
+        start: u64,
+        iterations: u64,
     },
 }
 
@@ -88,9 +162,19 @@ impl Call {
             Call::ThreadEnd { .. } => callbacks::THREAD_END,
             Call::ParallelBegin { .. } => callbacks::PARALLEL_BEGIN,
             Call::ParallelEnd { .. } => callbacks::PARALLEL_END,
+            Call::TaskCreate { .. } => callbacks::TASK_CREATE,
+            Call::TaskSchedule { .. } => callbacks::TASK_SCHEDULE,
             Call::ImplicitTask { .. } => callbacks::IMPLICIT_TASK,
             Call::SyncRegionWait { .. } => callbacks::SYNC_REGION_WAIT,
+            Call::MutexReleased { .. } => callbacks::MUTEX_RELEASED,
+            Call::Work { .. } => callbacks::WORK,
+            Call::Masked { .. } => callbacks::MASKED,
             Call::SyncRegion { .. } => callbacks::SYNC_REGION,
+            Call::LockInit { .. } => callbacks::LOCK_INIT,
+            Call::LockDestroy { .. } => callbacks::LOCK_DESTROY,
+            Call::MutexAcquire { .. } => callbacks::MUTEX_ACQUIRE,
+            Call::MutexAcquired { .. } => callbacks::MUTEX_ACQUIRED,
+            Call::Dispatch { .. } => callbacks::DISPATCH,
         }
     }
 }

@@ -62,6 +62,22 @@ impl Display for Call {
                 flags,
                 codeptr,
             } => write!(f, "parallel_end {region} {task} {flags} {codeptr}"),
+            Call::TaskCreate {
+                task,
+                frame,
+                fresh,
+                flags,
+                has_dependences,
+                codeptr,
+            } => write!(
+                f,
+                "task_create {task} {frame} {fresh} {flags} {has_dependences} {codeptr}"
+            ),
+            Call::TaskSchedule {
+                prior,
+                status,
+                next,
+            } => write!(f, "task_schedule {prior} {status} {next}"),
             Call::ImplicitTask {
                 endpoint,
                 region,
@@ -83,6 +99,28 @@ impl Display for Call {
                 f,
                 "sync_region_wait {kind} {endpoint} {region} {task} {codeptr}"
             ),
+            Call::MutexReleased {
+                kind,
+                wait_id,
+                codeptr,
+            } => write!(f, "mutex_released {kind} {wait_id} {codeptr}"),
+            Call::Work {
+                kind,
+                endpoint,
+                region,
+                task,
+                count,
+                codeptr,
+            } => write!(
+                f,
+                "work {kind} {endpoint} {region} {task} {count} {codeptr}"
+            ),
+            Call::Masked {
+                endpoint,
+                region,
+                task,
+                codeptr,
+            } => write!(f, "masked {endpoint} {region} {task} {codeptr}"),
             Call::SyncRegion {
                 kind,
                 endpoint,
@@ -90,6 +128,40 @@ impl Display for Call {
                 task,
                 codeptr,
             } => write!(f, "sync_region {kind} {endpoint} {region} {task} {codeptr}"),
+            Call::LockInit {
+                kind,
+                hint,
+                variant,
+                wait_id,
+                codeptr,
+            } => write!(f, "lock_init {kind} {hint} {variant} {wait_id} {codeptr}"),
+            Call::LockDestroy {
+                kind,
+                wait_id,
+                codeptr,
+            } => write!(f, "lock_destroy {kind} {wait_id} {codeptr}"),
+            Call::MutexAcquire {
+                kind,
+                hint,
+                variant,
+                wait_id,
+                codeptr,
+            } => write!(
+                f,
+                "mutex_acquire {kind} {hint} {variant} {wait_id} {codeptr}"
+            ),
+            Call::MutexAcquired {
+                kind,
+                wait_id,
+                codeptr,
+            } => write!(f, "mutex_acquired {kind} {wait_id} {codeptr}"),
+            Call::Dispatch {
+                region,
+                task,
+                kind,
+                start,
+                iterations,
+            } => write!(f, "dispatch {region} {task} {kind} {start} {iterations}"),
         }
     }
 }

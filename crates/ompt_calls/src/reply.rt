@@ -1,7 +1,7 @@
 //! What a tool answers to a call: the words that it stores.
 
 /// The place of a data word, as a call's tool names it.
-#[derive(Clone, Copy, Debug, PartialEq, Eq)]
+#[derive(Clone, Copy, PartialEq, Eq)]
 pub enum WordAt {
     /// The word of the thread on which the event occurs.
     Thread,
@@ -14,7 +14,7 @@ pub enum WordAt {
 }
 
 /// A store into a data word.
-#[derive(Clone, Copy, Debug, PartialEq, Eq)]
+#[derive(Clone, Copy, PartialEq, Eq)]
 pub struct Store {
     /// Where. A store at a place that isn't there takes no effect.
     pub place: WordAt,
@@ -23,7 +23,7 @@ pub struct Store {
 }
 
 /// What a tool answers to a call: at most three stores, which take effect in this order.
-#[derive(Clone, Copy, Debug, PartialEq, Eq)]
+#[derive(Clone, Copy, PartialEq, Eq)]
 pub struct Reply {
     /// The first store.
     pub first: Option<Store>,

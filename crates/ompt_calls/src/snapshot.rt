@@ -8,7 +8,7 @@ use crate::reply::WordAt;
 use std::marker::Model;
 
 /// A data word that a tool may store into.
-#[derive(Clone, Copy, Debug, PartialEq, Eq)]
+#[derive(Clone, Copy, PartialEq, Eq)]
 pub enum Target {
     /// The word of the thread with this number.
     Thread(u32),
@@ -19,7 +19,7 @@ pub enum Target {
 }
 
 /// A level of tasks, as `ompt_get_task_info` tells it (OpenMP 5.2, 19.6.1.14).
-#[derive(Clone, Copy, Debug, PartialEq, Eq)]
+#[derive(Clone, Copy, PartialEq, Eq)]
 pub struct TaskLevel {
     /// Its `ompt_task_flag_t`.
     pub flags: u32,
@@ -34,7 +34,7 @@ pub struct TaskLevel {
 }
 
 /// A parallel region around a task, as `ompt_get_parallel_info` tells it (OpenMP 5.2, 19.6.1.13).
-#[derive(Clone, Copy, Debug, PartialEq, Eq)]
+#[derive(Clone, Copy, PartialEq, Eq)]
 pub struct RegionLevel {
     /// Its data word.
     pub word: Word,
@@ -43,7 +43,7 @@ pub struct RegionLevel {
 }
 
 /// The levels of tasks, the current one first: those on a thread's stack, and those beyond. Contracts see them as their list.
-#[derive(Debug, Drop)]
+#[derive(Drop)]
 pub struct TaskLevels(pub Vec<TaskLevel>);
 
 impl Model for TaskLevels {
@@ -56,7 +56,7 @@ impl Model for TaskLevels {
 }
 
 /// The parallel regions around a thread's current task, the innermost first. Contracts see them as their list.
-#[derive(Debug, Drop)]
+#[derive(Drop)]
 pub struct RegionLevels(pub Vec<RegionLevel>);
 
 impl Model for RegionLevels {
@@ -69,7 +69,7 @@ impl Model for RegionLevels {
 }
 
 /// What a tool can inquire during a call.
-#[derive(Debug, Drop)]
+#[derive(Drop)]
 pub struct Snapshot {
     /// The thread's data word.
     pub thread: Word,

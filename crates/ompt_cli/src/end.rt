@@ -12,7 +12,7 @@ use c_tokens::{NOWHERE, Spot, TokenFault};
 use itoa::Buffer;
 
 /// Why a text is refused.
-#[derive(Clone, Copy, Debug, PartialEq, Eq)]
+#[derive(Clone, Copy, PartialEq, Eq)]
 pub enum Refusal {
     /// The first fault of its tokens: number 1, 2 or 3.
     Tokens(TokenFault),
@@ -27,7 +27,7 @@ pub enum Refusal {
 }
 
 /// How a command ended.
-#[derive(Clone, Copy, Debug, PartialEq, Eq)]
+#[derive(Clone, Copy, PartialEq, Eq)]
 pub enum End {
     /// The run is whole, and main returned 0.
     Done,

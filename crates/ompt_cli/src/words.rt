@@ -5,7 +5,7 @@ ghost use Rattle.std.specs.Fmt.{decimal};
 ghost use Rattle.ompt_cli.specs.Words.{InForm, InFormWith, command_word, texts};
 
 /// A command that runs a program.
-#[derive(Clone, Copy, Debug, PartialEq, Eq)]
+#[derive(Clone, Copy, PartialEq, Eq)]
 pub enum Command {
     /// It writes a line for each event.
     List,

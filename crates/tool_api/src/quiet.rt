@@ -9,7 +9,7 @@ use crate::registrar::Registrar;
 use ompt_calls::{Call, Reply, Snapshot};
 
 /// A part that registers nothing, answers 0 to `initialize`, and stores nothing.
-#[derive(Clone, Copy, Debug, PartialEq, Eq)]
+#[derive(Clone, Copy, PartialEq, Eq)]
 pub struct Quiet;
 
 impl ToolPart for Quiet {

@@ -14,7 +14,7 @@ const ALWAYS: u8 = 5;
 
 /// What a tool has registered while it is initialized. Contracts see it as a mask: bit n for the callback with number n
 /// in `ompt_callbacks_t` (OpenMP 5.2, 19.4.2).
-#[derive(Debug, Drop)]
+#[derive(Drop)]
 pub struct Registrar {
     /// The callbacks: bit n for number n.
     mask: u64,

@@ -20,7 +20,7 @@ const NOTHING: Reply = Reply {
 };
 
 /// A part that keeps a record of each call of `callback`, in order. Contracts see it as that list.
-#[derive(Debug, Drop)]
+#[derive(Drop)]
 pub struct Lister {
     /// The records, in the order of the calls.
     events: Vec<EventRecord>,
