@@ -64,7 +64,7 @@ no_meeting = record { what = Barrier 0 0; taken = [] }
 abbrev pub last_meeting : TeamView → ℕ → TeamMeeting
 last_meeting team member = slice_index_or team.meetings (last_number team member) no_meeting
 
--- it had one, and it was a loop, or had sections, or was a barrier
+-- it had one, and it was a loop, or had sections
 pub record HasMet (is_such : Meeting → Bool) (team : TeamView) (member : ℕ) : Type 0 where
   pub of_team : member < length team.members
   pub some : 0 < (member_at team member).met
@@ -75,9 +75,6 @@ IsInLoop team member = HasMet is_loop team member
 
 abbrev pub IsInSections : TeamView → ℕ → Type 0
 IsInSections team member = HasMet is_sections team member
-
-abbrev pub IsAtBarrier : TeamView → ℕ → Type 0
-IsAtBarrier team member = HasMet is_barrier team member
 
 -- the member has taken one chunk or section more in the meeting that it had last
 abbrev pub with_taken : TeamMeeting → ℕ → TeamMeeting

@@ -1,7 +1,7 @@
 //! A team: its members, and what they have met.
 
-ghost use Rattle.std.specs.Prelude.{◌≡◌, ◌<◌, ◌≤◌, [], IfOk, OnOk, OnErr, IsTrue, length, replicate, take, map, slice_get};
-ghost use Rattle.team_parts.specs.Team.{new_member, IsInLoop, IsInSections, IsAtBarrier, meeting_answer, answer_to_meet, after_meeting, next_chunk, after_chunk, next_section, after_section, with_begun, may_pass, with_passed, last_number};
+ghost use Rattle.std.specs.Prelude.{◌≡◌, ◌<◌, ◌≤◌, [], IfOk, OnOk, OnErr, length, replicate, take, map, slice_get};
+ghost use Rattle.team_parts.specs.Team.{new_member, IsInLoop, IsInSections, meeting_answer, answer_to_meet, after_meeting, next_chunk, after_chunk, next_section, after_section, with_begun, may_pass, with_passed, last_number};
 ghost use Rattle.team_parts.specs.Meetings.{HasChunk};
 ghost use Rattle.team_parts.specs.Gatherings.{meeting_of};
 ghost use Rattle.team_parts.specs.Sound.{IsFewest};
@@ -149,9 +149,9 @@ impl Team {
         gathering.take_section(size, member)
     }
 
-    /// The member begins to wait at the barrier that it met last.
+    /// The member begins to wait at the barrier that it met last, if it met one.
     pub fn arrive(&mut self, member: u32)
-        requires { IsAtBarrier self.old member }
+        requires { member < length self.old.members }
         ensures { self.new ≡ with_begun self.old member }
     {
         let barriers = self.members[member as usize].barriers;
@@ -163,17 +163,16 @@ impl Team {
     /// are unfinished: where all members have begun to wait here and none is unfinished, or where the wait of some
     /// member has ended here (OpenMP 5.2, 15.3.1).
     pub fn may_pass(&self, member: u32, unfinished: u32) -> bool
-        requires { IsAtBarrier self.now member }
+        requires { member < length self.now.members }
         ensures { result ≡ may_pass self.now member unfinished }
     {
         let barriers = self.members[member as usize].barriers;
         barriers <= self.fewest_begun && unfinished == 0 || barriers <= self.most_passed
     }
 
-    /// The member's wait at the barrier that it met last ends.
+    /// The member's wait at the barrier that it met last ends, if it met one.
     pub fn pass(&mut self, member: u32)
-        requires barrier { IsAtBarrier self.old member }
-        requires may { IsTrue (may_pass self.old member 0) }
+        requires { member < length self.old.members }
         ensures { self.new ≡ with_passed self.old member }
     {
         let barriers = self.members[member as usize].barriers;

@@ -7,7 +7,7 @@ use Rattle.team_parts.proofs.team.Team.arrive.Goals as goal
 pub invariant_of-self : goal.invariant_of-self
 invariant_of-self c =
     let inside = c.self.inside in
-    let of_team : c.args.member < length inside.members.items = omega (arith, c.requires.of_team, ap (λ (team : TeamView). length team.members) c.self.view_is) in
+    let of_team : c.args.member < length inside.members.items = omega (arith, c.requires, ap (λ (team : TeamView). length team.members) c.self.view_is) in
     let read = get_or_read inside.members.items c.args.member c.index.result.now of_team c.index.ensures new_member in
     let written = get_or_read inside.members.items c.args.member c.index_mut.result.now of_team c.index_mut.ensures.value new_member in
     let fewest = rw (c.deref.ensures.value, read, written) at c.fewest_begun-self-inside.ensures in
