@@ -18,10 +18,10 @@ unfolding items_from_next
 next-by view item items true is same = same
 next-by view item items false is same = ap (λ passed. if passed then items_from_next view items else item ∷ items) is
 
-next-once : (view : View) (items : List Item) → items_from_next view (items_from_next view items) ≡ items_from_next view items
+pub next_once : (view : View) (items : List Item) → items_from_next view (items_from_next view items) ≡ items_from_next view items
 unfolding items_from_next
-next-once view [] = refl
-next-once view (item ∷ items) = next-by view item items (is_passed_over item view) refl (next-once view items)
+next_once view [] = refl
+next_once view (item ∷ items) = next-by view item items (is_passed_over item view) refl (next_once view items)
 
 -- what stands in the task as next isn't looked at but for what was found there
 same-step : (items : List Item) (program : TreeView) (view : View) (now : Moment) → step_at items program view (settled_moment view now) ≡ step_at items program view now
@@ -30,10 +30,10 @@ same-step (item ∷ items) program view now = refl
 
 pub settled_silent : (program : TreeView) (view : View) (now : Moment) → silent program view (settled_moment view now) ≡ silent program view now
 unfolding silent
-settled_silent program view now = ap (λ (items : List Item). step_at items program view (settled_moment view now)) (next-once view now.task.todo) ∙ same-step (items_from_next view now.task.todo) program view now
+settled_silent program view now = ap (λ (items : List Item). step_at items program view (settled_moment view now)) (next_once view now.task.todo) ∙ same-step (items_from_next view now.task.todo) program view now
 
 once-task : (view : View) (task : Task) → settled_task view (settled_task view task) ≡ settled_task view task
-once-task view task = ap (λ (items : List Item). record task { todo = items }) (next-once view task.todo)
+once-task view task = ap (λ (items : List Item). record task { todo = items }) (next_once view task.todo)
 
 pub settled_event : (view : View) (point : Point) (executes : Bool) (task : Task) → after_event view point executes (settled_task view task) ≡ after_event view point executes task
 settled_event view point executes task = ap (λ (task : Task). settled_after_event point executes task) (once-task view task)
@@ -42,7 +42,7 @@ pub settled_answer : (view : View) (given : Answer) (now : Moment) → after_ans
 settled_answer view given now = ap (λ (task : Task). settled_after_answer given (record now { task = task })) (once-task view now.task)
 
 pub settled_creation : (program : TreeView) (view : View) (now : Moment) → explicit_task program view (settled_moment view now) ≡ explicit_task program view now
-settled_creation program view now = ap (λ (items : List Item). explicit_task_of program (created_construct items) now) (next-once view now.task.todo)
+settled_creation program view now = ap (λ (items : List Item). explicit_task_of program (created_construct items) now) (next_once view now.task.todo)
 
 pub ended_silent : (program : TreeView) (view : View) (now : Moment) → now.task.todo ≡ [] → silent program view now ≡ Ends (unwrap_or now.task.returned (pos 0))
 unfolding silent items_from_next

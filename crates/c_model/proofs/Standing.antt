@@ -1,5 +1,6 @@
 -- What stands next is told by its form.
-use Rattle.std.specs.Prelude.{ℕ, if◌then◌else◌, Bool, true, false, List, [], ◌∷◌, ◌++◌, length, Result, Ok, Err, ℤ, pos}
+use Rattle.std.specs.Prelude.{ℕ, ◌≡◌, if◌then◌else◌, Bool, true, false, List, [], ◌∷◌, ◌++◌, length, Result, Ok, Err, ℤ, pos, refl}
+use Rattle.std.proofs.Common.{subst}
 use Rattle.c_syntax.specs.declared.node.Directive.{Directive}
 use Rattle.c_syntax.specs.declared.node.Directive.TheVariants as directive
 use Rattle.c_syntax.specs.declared.node.LockCall.{LockCall}
@@ -25,7 +26,7 @@ use Rattle.c_model.specs.Task.{Here, Item, Moment, OpenCall, Outcome}
 use Rattle.c_model.specs.Task.Item.{Start, Declare, Leave, Test, Third, Initialise, Return, FallOff, Forked, Inside, MakeCells, NextChunk, Iterations, NextSection, Combine, EndWork, EndMasked, Sync, Acquire, Release, TestLock, Tested}
 use Rattle.c_model.specs.Task.Outcome.{StepsTo, Asks, Occurs, Ends, Traps, Limits}
 use Rattle.c_model.specs.Step.{begin_standalone, begin_statement, begin_construct, begin_inside, is_event, is_event_statement, is_inside_event, is_test, items_from_next, silent, stands, step_at, step_of, stands_at}
-use Rattle.c_model.specs.Standing.{Fits}
+use Rattle.c_model.specs.Standing.{FitsTask, Fits}
 
 -- outcomes by their kind
 fits-step : (next : Moment) → Fits (StepsTo next) false
@@ -39,10 +40,6 @@ fits-question ask tree = tt
 fits-event : (point : Point) (tree : Tree) → Fits (Occurs point tree) true
 unfolding Fits
 fits-event point tree = tt
-
-fits-end : (number : ℤ) → Fits (Ends number) true
-unfolding Fits
-fits-end number = tt
 
 fits-trap : (trap : ℕ) (stands : Bool) → Fits (Traps trap) stands
 unfolding Fits
@@ -79,7 +76,7 @@ fits-right : (kind : NodeKind) (here : Here) (call : Tree) (env : List Entry) (t
 fits-right node.TestLock here call env to = fits-event _ _
 fits-right other here call env to = fits-call here call env to
 
-ruleset fits = (fits-step, fits-question, fits-event, fits-end, fits-trap, fits-limit, fits-result, fits-choice, fits-binds, fits-call, fits-right, fits-returns)
+ruleset fits = (fits-step, fits-question, fits-event, fits-trap, fits-limit, fits-result, fits-choice, fits-binds, fits-call, fits-right, fits-returns)
 
 fits-step-of : (kind : NodeKind) (here : Here) (tree : Tree) (items : List Item) → Fits (makes_step kind here tree items) false
 fits-step-of (node.Assign which) here tree items = search fits
@@ -171,11 +168,38 @@ fits-item (Release tree id) here = fits-event _ _
 fits-item (TestLock call id to) here = fits-question _ _
 fits-item (Tested to) here = fits-step _
 
-fits-at : (items : List Item) (program : TreeView) (view : View) (now : Moment) → Fits (step_at items program view now) (stands_at items)
+fits-of-item : (outcome : Outcome) (stands : Bool) → Fits outcome stands → FitsTask outcome stands
+unfolding Fits FitsTask
+fits-of-item (StepsTo next) true fits = fits
+fits-of-item (StepsTo next) false fits = fits
+fits-of-item (Asks ask tree) true fits = fits
+fits-of-item (Asks ask tree) false fits = fits
+fits-of-item (Occurs point tree) true fits = fits
+fits-of-item (Occurs point tree) false fits = fits
+fits-of-item (Ends number) stands fits = absurd fits
+fits-of-item (Traps trap) stands fits = tt
+fits-of-item (Limits limit) stands fits = tt
+
+fits-end : (number : ℤ) → FitsTask (Ends number) true
+unfolding FitsTask
+fits-end number = tt
+
+fits-at : (items : List Item) (program : TreeView) (view : View) (now : Moment) → FitsTask (step_at items program view now) (stands_at items)
 fits-at [] program view now = fits-end _
-fits-at (item ∷ items) program view now = fits-item item (record { program = program; view = view; task = record now.task { todo = items }; store = now.store })
+fits-at (item ∷ items) program view now = fits-of-item _ _ (fits-item item (record { program = program; view = view; task = record now.task { todo = items }; store = now.store }))
 
 -- whether an event or the end stands next, for every task
-pub stands_fits : (program : TreeView) (view : View) (now : Moment) → Fits (silent program view now) (stands view now.task)
+pub stands_fits : (program : TreeView) (view : View) (now : Moment) → FitsTask (silent program view now) (stands view now.task)
 unfolding silent
 stands_fits program view now = fits-at (items_from_next view now.task.todo) program view now
+
+-- the code ends only where nothing is left of it
+ends-nothing : (items : List Item) (program : TreeView) (view : View) (now : Moment) (number : ℤ) → step_at items program view now ≡ Ends number → items ≡ []
+unfolding Fits
+ends-nothing [] program view now number ends = refl
+ends-nothing (item ∷ items) program view now number ends =
+    absurd (subst (λ outcome. Fits outcome (is_event item)) ends (fits-item item (record { program = program; view = view; task = record now.task { todo = items }; store = now.store })))
+
+pub end_is_of_nothing : (program : TreeView) (view : View) (now : Moment) (number : ℤ) → silent program view now ≡ Ends number → items_from_next view now.task.todo ≡ []
+unfolding silent
+end_is_of_nothing program view now number ends = ends-nothing (items_from_next view now.task.todo) program view now number ends

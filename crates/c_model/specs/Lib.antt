@@ -15,7 +15,11 @@ pub mod Step
 pub mod Answers
 pub mod Going
 pub mod Standing
+pub mod Upcoming
 pub mod Known
 pub mod Begin
 pub mod Occurring
 pub mod Width
+pub mod Scoped
+pub mod Formed
+pub mod Made

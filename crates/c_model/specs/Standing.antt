@@ -3,7 +3,8 @@ use Rattle.std.specs.Prelude.{Bool, true, false}
 use Rattle.c_model.specs.Task.{Outcome}
 use Rattle.c_model.specs.Task.Outcome.{StepsTo, Asks, Occurs, Ends, Traps, Limits}
 
--- where an event or the end stands next, nothing is a silent step and nothing is asked; where none does, no event occurs and the code doesn't end
+-- An item that is an event by its form comes to an event, and another one to a silent step or a question. A trap or a limit may come of both, and the
+-- end of neither.
 unfoldable pub Fits : Outcome → Bool → Type 0
 Fits (StepsTo next) true = ⊥
 Fits (StepsTo next) false = Unit {0}
@@ -11,7 +12,19 @@ Fits (Asks ask tree) true = ⊥
 Fits (Asks ask tree) false = Unit {0}
 Fits (Occurs point tree) true = Unit {0}
 Fits (Occurs point tree) false = ⊥
-Fits (Ends number) true = Unit {0}
-Fits (Ends number) false = ⊥
+Fits (Ends number) stands = ⊥
 Fits (Traps trap) stands = Unit {0}
 Fits (Limits limit) stands = Unit {0}
+
+-- where an event or the end stands next, nothing is a silent step and nothing is asked; where none does, no event occurs and the code doesn't end
+unfoldable pub FitsTask : Outcome → Bool → Type 0
+FitsTask (StepsTo next) true = ⊥
+FitsTask (StepsTo next) false = Unit {0}
+FitsTask (Asks ask tree) true = ⊥
+FitsTask (Asks ask tree) false = Unit {0}
+FitsTask (Occurs point tree) true = Unit {0}
+FitsTask (Occurs point tree) false = ⊥
+FitsTask (Ends number) true = Unit {0}
+FitsTask (Ends number) false = ⊥
+FitsTask (Traps trap) stands = Unit {0}
+FitsTask (Limits limit) stands = Unit {0}

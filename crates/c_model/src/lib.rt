@@ -13,20 +13,24 @@
 //! - `Statements`, `Calls`, `Constructs`: one definition for each form of statement and each stage of a construct;
 //! - `Step`: what a task does next: one line for each form;
 //! - `Standing`: which outcomes there are where an event or the end stands next;
+//! - `Upcoming`: what comes next by its form, and which regions are open;
 //! - `Known`: the traps and limits that a task's code can come to;
 //! - `Answers`: which answers are given to what a task asks;
 //! - `Going`: how it goes on after an answer or an event;
 //! - `Begin`: how the code of main, of a member of a team and of an explicit task begins;
 //! - `Occurring`: of which item an event or a question is;
-//! - `Width`: how many names a task ever has in scope.
+//! - `Width`: how many names a task ever has in scope;
+//! - `Scoped`: that the names and functions that a task's code uses are in scope, and `Made`: that the cells that it uses were made;
+//! - `Formed`: which forms the nodes of a program's tree have.
 //!
 //! `docs/statements.md` tells the same in a page. `src/` has the types and numbers that the definitions share with the code. Nothing
 //! here runs a program: the interpreter is to be proved equal to `silent`, `after_answer` and `after_event`.
 //!
 //! The definitions are total. A child that is missing is an empty program, a name that nothing declares reads as 0, traps with an
-//! index and can't be set, a form that can't stand where it stands is an empty statement, as a declarator that no block has. None of
-//! them is met in a program that breaks no rule, which isn't proved here. An answer to what wasn't asked changes nothing; `Answers`
-//! says which answers are given.
+//! index and can't be set, a function that there isn't has an empty body, a cell that wasn't made reads as 0, a form that can't stand where it
+//! stands is an empty statement, as a declarator that no block has. In a program that breaks no rule no task uses a name, a function or a cell that
+//! there isn't, and the nodes of its tree have the forms of `Formed`: the laws below say it. That what an explicit task copies by rule is in scope where
+//! it is created isn't proved, and of its cells the law speaks only where it is. An answer to what wasn't asked changes nothing; `Answers` says which answers are given.
 //!
 //! Proved, by the contract of the function that is named:
 //!
@@ -40,12 +44,16 @@
 //! - an event is of the item that stands next, and stands at its construct, directive or call ([`events_are_of_what_stands_next`]);
 //! - what is asked, the item that stands next asks, in its construct or call ([`questions_are_of_what_stands_next`]);
 //! - no task of a program ever has more names in scope than the program's width, and no call that is open has when it goes on
-//!   ([`no_environment_grows_past_the_width`]).
+//!   ([`no_environment_grows_past_the_width`]);
+//! - the nodes of the tree that words spell have the forms of `Formed` ([`spelled_trees_are_formed`]);
+//! - no task of a program that breaks no rule uses a name that isn't in scope, or calls what is no function of the file with so many
+//!   parameters ([`no_task_uses_an_unknown_name`]), and a name in scope has its entry ([`names_in_scope_are_found`]);
+//! - each cell that a task uses was made ([`each_cell_that_a_task_uses_was_made`], [`cells_in_scope_are_made`]).
 //!
 //! In `proofs/` programs and expressions are computed: `Values` at the edges of numbers, arrays and loops, `Examples` with a loop, a recursion
 //! and a loop that is shared out, `Hiding` with a loop whose variable has the name of one that it reduces, `Waiting` with locks, `single`,
 //! `barrier`, `masked` and sections, `Criticals` with criticals, and `Tasks` with explicit tasks. `WidthExamples`
-//! has the widths of some of them.
+//! has the widths of some of them, and `ScopedExamples` their forms, and that one of them breaks no rule and so knows its names.
 //! That the definitions are C's and OpenMP's is for their reader to judge.
 #![tactic(auto)]
 
@@ -55,16 +63,20 @@ mod limits;
 mod point;
 mod question;
 mod traps;
+mod upcoming;
 mod view;
 
 pub use entry::Entry;
 pub use laws::{
-    answers_are_asked_for, ended_code_has_no_step, events_are_of_what_stands_next,
-    no_environment_grows_past_the_width, questions_are_of_what_stands_next,
-    settling_changes_nothing, standing_is_told_by_form, traps_and_limits_are_known,
+    answers_are_asked_for, cells_in_scope_are_made, each_cell_that_a_task_uses_was_made,
+    ended_code_has_no_step, events_are_of_what_stands_next, names_in_scope_are_found,
+    no_environment_grows_past_the_width, no_task_uses_an_unknown_name,
+    questions_are_of_what_stands_next, settling_changes_nothing, spelled_trees_are_formed,
+    standing_is_told_by_form, traps_and_limits_are_known,
 };
 pub use limits::{CALL_LIMIT, CALLS, CELL_LIMIT, CELLS, LINE_UNIT, LOCK_UNIT, TEXT, TEXT_LIMIT};
 pub use point::{MutexKind, Point, Schedule, SyncKind, SyncStage, Target, Work, WorkKind};
 pub use question::{Answer, Ask};
 pub use traps::{INDEX, OVERFLOW, ZERO_DIVIDE};
+pub use upcoming::Upcoming;
 pub use view::View;
