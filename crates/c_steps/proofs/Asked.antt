@@ -1,10 +1,9 @@
 -- Answers within what there is of the shared work that asks.
-use Rattle.std.proofs.Common.{◌≡◌, ℕ, List, [], ◌∷◌, length, slice_get, Option, sym, ap, ◌∙◌}
+use Rattle.std.proofs.Common.{◌≡◌, ℕ, List, [], ◌∷◌, slice_get, Option, sym, ap, ◌∙◌}
 use Rattle.c_syntax.specs.Tree.{Tree}
 use Rattle.c_model.specs.declared.question.Answer.{Answer}
 use Rattle.c_model.specs.declared.question.Ask.TheVariants as ask
 use Rattle.c_model.specs.Answers.{AnswersFirst, AnswersItem, IsChunkAnswer, IsSectionAnswer}
-use Rattle.c_model.specs.Clauses.{sections_of}
 use Rattle.c_model.specs.Occurring.{IsAskOf, IsAskOfNext}
 use Rattle.c_model.specs.Task.{Item}
 use Rattle.c_model.specs.Task.Item.{NextChunk, NextSection}

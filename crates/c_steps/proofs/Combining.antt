@@ -6,16 +6,9 @@ use Rattle.std.proofs.Math.Seq.{drop-append-add, take-append-add}
 range_whole : {X : Type 0} (from : ℕ) (names : List X) → slice_range names from (length names) ≡ drop from names
 range_whole from names = take_all (length names - from) (drop from names) (omega (arith, length-drop from names))
 
-module _ {X : Type 0} (base count : ℕ) (file names : List X) where
-  own_names : take (length names - base) (drop base names) ≡ drop base names
-  own_names = take_all (length names - base) (drop base names) (omega (arith, length-drop base names))
+module _ {X : Type 0} (count : ℕ) (file own : List X) where
+  pub names_around : file ++ take (min count (length own)) own ≡ take (length file + count) (file ++ own)
+  names_around = ap (λ own. file ++ own) (take_min count own) ∙ sym (take-append-add file own count)
 
-  pub names_around :
-      file ++ take (min count (length (take (length names - base) (drop base names)))) (take (length names - base) (drop base names))
-      ≡ take (length file + count) (file ++ drop base names)
-  names_around = rw own_names (ap (λ own. file ++ own) (take_min count (drop base names)) ∙ sym (take-append-add file (drop base names) count))
-
-  pub names_behind :
-      slice_range (take (length names - base) (drop base names)) (min count (length (take (length names - base) (drop base names)))) (length (take (length names - base) (drop base names)))
-      ≡ drop (length file + count) (file ++ drop base names)
-  names_behind = rw own_names (range_whole (min count (length (drop base names))) (drop base names) ∙ drop_min count (drop base names) ∙ sym (drop-append-add file (drop base names) count))
+  pub names_behind : slice_range own (min count (length own)) (length own) ≡ drop (length file + count) (file ++ own)
+  names_behind = range_whole (min count (length own)) own ∙ drop_min count own ∙ sym (drop-append-add file own count)

@@ -1,5 +1,5 @@
 -- Where an explicit task is created, its construct stands next, and there is room for its cells.
-use Rattle.std.proofs.Common.{◌≡◌, ◌≤◌, ◌++◌, nat_lt, if◌then◌else◌, ℕ, Bool, true, false, List, [], ◌∷◌, length, slice_get, Result, Ok, Err, ℤ, pos, refl, sym, ap, subst, arith}
+use Rattle.std.proofs.Common.{◌≡◌, ◌≤◌, ◌++◌, nat_lt, if◌then◌else◌, ℕ, Bool, true, false, List, [], ◌∷◌, length, slice_get, Result, Ok, Err, ℤ, pos, refl, sym, subst, arith}
 use Rattle.c_syntax.specs.declared.node.Directive.{Directive}
 use Rattle.c_syntax.specs.declared.node.Directive.TheVariants as directive
 use Rattle.c_syntax.specs.declared.node.LockCall.{LockCall}
@@ -13,7 +13,6 @@ use Rattle.c_syntax.specs.Numbered.{TreeView, tree_at}
 use Rattle.c_check.specs.Loops.{child_at}
 use Rattle.c_model.specs.declared.entry.Entry.{Entry}
 use Rattle.c_model.specs.declared.limits.TheConstants.{CELLS, CELL_LIMIT}
-use Rattle.c_model.specs.declared.point.Point.{Point}
 use Rattle.c_model.specs.declared.point.Point.TheVariants.{TaskCreate}
 use Rattle.c_model.specs.declared.point.Target.{Target}
 use Rattle.c_model.specs.declared.point.Target.TheVariants as target
@@ -28,7 +27,7 @@ use Rattle.c_model.specs.Copies.{with_task_cells}
 use Rattle.c_model.specs.Loops.{loop_of}
 use Rattle.c_model.specs.Program.{place_of}
 use Rattle.c_model.specs.Standing.{Fits}
-use Rattle.c_model.specs.Step.{begin_construct, begin_inside, begin_standalone, begin_statement, items_from_next, settled_moment, silent, step_at, step_of}
+use Rattle.c_model.specs.Step.{begin_construct, begin_inside, begin_standalone, begin_statement, items_from_next, silent, step_at, step_of}
 use Rattle.c_model.specs.Task.{Here, Item, Moment, Outcome, Store, Task}
 use Rattle.c_model.specs.Task.Item.{Start, Initialise, Forked, Inside, EndWork, EndMasked, Sync, Acquire, Release}
 use Rattle.c_model.specs.Task.Outcome.{StepsTo, Asks, Occurs, Ends, Traps, Limits}
@@ -36,7 +35,7 @@ use Rattle.c_model.specs.Value.{cell_of, is_zero}
 use Rattle.c_model.proofs.Standing.{fits-call, fits-item, fits-return, fits-statement}
 use Rattle.c_steps.specs.Advancing.{IsLeft}
 use Rattle.c_steps.specs.Beginning.{IsCreation}
-use Rattle.c_steps.specs.Held.{Held, bound_in, moment_at, task_at}
+use Rattle.c_steps.specs.Held.{Held, bound_in, moment_at}
 use Rattle.c_steps.specs.Items.{todo_at}
 
 -- the first of these items creates an explicit task, for whose cells there is room

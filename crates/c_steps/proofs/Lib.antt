@@ -1,4 +1,5 @@
 mod Advancing
+pub mod Around
 pub mod Asked
 mod BeginCall
 pub mod Beginning

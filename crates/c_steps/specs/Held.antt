@@ -1,5 +1,5 @@
 -- What a control is seen as, and the task's code that it stands for.
-use Rattle.std.specs.Prelude.{ℕ, List, ◌++◌, drop, take, Option, ℤ}
+use Rattle.std.specs.Prelude.{ℕ, List, ◌++◌, drop, take, Option, Result, Ok, Err, ℤ}
 use Rattle.c_syntax.specs.Numbered.{TreeView, tree_at}
 use Rattle.c_model.specs.declared.entry.Entry.{Entry}
 use Rattle.c_model.specs.declared.view.View.{View}
@@ -60,6 +60,11 @@ outcome_at program (next.Event point node) now = Occurs point (tree_at program.t
 outcome_at program (next.Ended number) now = Ends number
 outcome_at program (next.Trap trap) now = Traps trap
 outcome_at program (next.Limit limit) now = Limits limit
+
+-- the answer of a step that asks nothing and comes to no event: it was made, or it traps with this number
+abbrev pub next_of : Result (Unit {0}) ℕ → Next
+next_of (Ok it) = next.Quiet
+next_of (Err trap) = next.Trap trap
 
 -- what the expressions of the function that was called last are evaluated in
 abbrev pub scope_in : TreeView → View → Held → Store → Scope

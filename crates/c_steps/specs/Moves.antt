@@ -12,6 +12,7 @@ use Rattle.c_model.specs.declared.point.WorkKind.{WorkKind}
 use Rattle.c_steps.specs.declared.listed.ListedPlace.{ListedPlace}
 use Rattle.c_steps.specs.declared.item.Item.{Item}
 use Rattle.c_steps.specs.declared.item.Item.TheVariants as item
+use Rattle.c_steps.specs.declared.control.begin.TheConstants.{STEPS}
 use Rattle.c_steps.specs.Held.{Held}
 use Rattle.c_steps.specs.Items.{begun}
 
@@ -131,7 +132,7 @@ cleared held =
 
 -- room is made for the 64 silent steps of a turn, one that only asks, a look at what stands next, and an event
 abbrev pub roomy : Held → Held
-roomy held = record held { spare = 66; passes = 1; frames_now = 0; names_now = 0 }
+roomy held = record held { spare = STEPS; passes = 1; frames_now = 0; names_now = 0 }
 
 -- no code is left, these names are in scope, and the rest of the room is for more
 abbrev pub beginning : List Entry → Held → Held

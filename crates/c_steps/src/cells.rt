@@ -54,6 +54,7 @@ impl Cells {
     }
 
     /// How many cells there are.
+    #[inline(always)]
     pub(crate) fn count(&self) -> usize
         ensures { result ≡ length self.now.cells }
     {
@@ -68,6 +69,7 @@ impl Cells {
     }
 
     /// The numbers in the cells.
+    #[inline(always)]
     pub(crate) fn items(&self) -> &[i32]
         ensures { result.now ≡ self.now.cells }
     {
@@ -83,6 +85,7 @@ impl Cells {
     }
 
     /// The number in a cell, 0 where it wasn't made.
+    #[inline(always)]
     pub(crate) fn number(&self, cell: usize) -> i32
         ensures { result ≡ cell_at self.now.cells cell }
     {
@@ -93,6 +96,7 @@ impl Cells {
     }
 
     /// Whether there may be so many more cells.
+    #[inline(always)]
     pub(crate) fn has_room(&self, count: usize) -> bool
         ensures { nat_lt CELL_LIMIT (length self.now.cells + count) ≡ not result }
     {
@@ -114,11 +118,12 @@ impl Cells {
     }
 
     /// A new cell holds this number.
+    #[inline(always)]
     pub(crate) fn push(&mut self, number: i32)
         requires { length self.old.cells < CELL_LIMIT }
         ensures { self.new ≡ record self.old { cells = self.old.cells ++ number ∷ [] } }
     {
-        self.cells.push(number).unwrap();
+        self.cells.push_reserved(number);
     }
 
     /// So many new cells hold this number.
@@ -141,6 +146,7 @@ impl Cells {
     }
 
     /// A cell holds this number from now on. Nothing changes where it wasn't made.
+    #[inline(always)]
     pub(crate) fn set(&mut self, cell: usize, number: i32)
         ensures { self.new ≡ record self.old { cells = slice_set self.old.cells cell number } }
     {

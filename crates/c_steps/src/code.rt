@@ -30,9 +30,9 @@ pub struct Code {
     program: Program,
     file: FileNames,
     functions: Functions,
-    /// The most names that a function has in scope beside those of the file.
+    /// No function has more names in scope beside those of the file.
     width: usize,
-    /// The most names that one silent step brings into scope.
+    /// No silent step brings more names into scope.
     step_names: usize,
 }
 
@@ -71,6 +71,7 @@ impl Code {
     }
 
     /// The names of the file.
+    #[inline(always)]
     pub fn file(&self) -> &[Entry]
         ensures names { result.now ≡ (file_bound self.now).env }
         ensures entries { AreEntries result.now }
@@ -86,6 +87,7 @@ impl Code {
     }
 
     /// The function with a name, if there is one.
+    #[inline(always)]
     pub fn function(&self, name: u32) -> Option<u32>
         ensures function { part_at self.now.trees result ≡ function_named self.now name }
         ensures there { IsPart self.now.trees result }
@@ -93,14 +95,14 @@ impl Code {
         self.functions.get(name)
     }
 
-    /// The most names that a function has in scope beside those of the file.
+    /// No function has more names in scope beside those of the file: its parameters, and what its statements bring along their nesting.
     pub fn width(&self) -> usize
         ensures { result ≡ most_of_functions self.now (parts (root_tree self.now)) }
     {
         self.width
     }
 
-    /// The most names that one silent step brings into scope.
+    /// No silent step brings more names into scope: one more than the most parts that a node has, or variables that its clauses list.
     pub fn step_names(&self) -> usize
         ensures { result ≡ step_names self.now }
     {
@@ -108,6 +110,7 @@ impl Code {
     }
 
     /// The program's tree.
+    #[inline(always)]
     pub fn tree(&self) -> &Tree
         ensures { result.now ≡ self.now }
     {
@@ -122,6 +125,7 @@ impl Code {
     }
 
     /// What a part is.
+    #[inline(always)]
     pub fn kind(&self, part: Option<u32>) -> NodeKind
         requires { IsPart self.now.trees part }
         ensures { result ≡ kind_of (part_at self.now.trees part) }
@@ -130,6 +134,7 @@ impl Code {
     }
 
     /// The child of a part at a place.
+    #[inline(always)]
     pub fn child(&self, part: Option<u32>, place: u32) -> Option<u32>
         requires { IsPart self.now.trees part }
         ensures child { part_at self.now.trees result ≡ child_at (part_at self.now.trees part) place }
@@ -140,6 +145,7 @@ impl Code {
     }
 
     /// The number of a part's name, 0 where it has none.
+    #[inline(always)]
     pub fn name(&self, part: Option<u32>) -> u32
         requires { IsPart self.now.trees part }
         ensures { result ≡ name_of (part_at self.now.trees part) }
@@ -148,6 +154,7 @@ impl Code {
     }
 
     /// The value of a part's number, 0 where it has none.
+    #[inline(always)]
     pub fn number(&self, part: Option<u32>) -> i32
         requires { IsPart self.now.trees part }
         ensures { result ≡ pos (number_of (part_at self.now.trees part)) }
@@ -165,6 +172,7 @@ impl Code {
     }
 
     /// The slot of the name that stands where a node begins.
+    #[inline(always)]
     pub fn slot(&self, node: u32) -> u32
         requires { node < length self.now.trees }
         ensures { result ≡ slot_of_name self.now (tree_at self.now.trees node) }
@@ -173,6 +181,7 @@ impl Code {
     }
 
     /// The child of a part at a place, where those from there on are what is left.
+    #[inline(always)]
     pub(crate) fn part(&self, whole: Option<u32>, place: u32) -> Option<u32>
         requires { IsPart self.now.trees whole }
         ensures parts { parts_from (part_at self.now.trees whole) place ≡ with_part self.now.trees (part_at self.now.trees whole) place result }

@@ -9,6 +9,7 @@ ghost use Rattle.c_steps.specs.Rooming.{IsEntry, open_calls};
 ghost use Rattle.c_steps.specs.Moves.{bound, closed, cut, ended, last_call, opened, passing, pushed, stepping, then_if, then_item};
 
 mod advance;
+mod around;
 mod asked;
 mod begin;
 mod calls;
@@ -28,8 +29,9 @@ mod standing;
 mod statement;
 mod statements;
 mod steps;
+mod upcoming;
 
-use crate::frame::Frame;
+use crate::frame::{Frame, begun};
 use crate::item::Item;
 use crate::names::Names;
 use crate::stack::Stack;
@@ -96,43 +98,22 @@ impl Model for Control {
 
 impl Control {
     /// The item that stands next begins.
-    #[tactic(auto, using(crate::proofs::Frames::plain_top, crate::proofs::Frames::replaced_top))]
+    #[inline(always)]
     fn begin(&mut self)
         requires { CanBegin self.old.frames }
         ensures { self.new ≡ record self.old { frames = begun self.old.frames } }
     {
-        match self.stack.top() {
-            Some(Frame::One(_)) => self.drop_top(),
-            Some(
-                Frame::Parts {
-                    block,
-                    place,
-                    at,
-                    names,
-                },
-            ) => self.replace_top(Frame::Parts {
-                block,
-                place,
-                at: at + 1,
-                names,
-            }),
-            Some(
-                Frame::Combines {
-                    construct,
-                    from,
-                    names,
-                    ..
-                },
-            ) => self.replace_top(Frame::Combining {
-                construct,
-                from,
-                names,
-            }),
-            Some(Frame::Combining { .. } | Frame::Caller { .. }) | None => {}
+        let Some(frame) = self.stack.top() else {
+            return;
+        };
+        match begun(frame) {
+            Some(other) => self.replace_top(other),
+            None => self.drop_top(),
         }
     }
 
     /// A silent step begins, with the item that stands next.
+    #[inline(always)]
     fn step(&mut self)
         requires begin { CanBegin self.old.frames }
         requires spare { 0 < self.old.spare }
@@ -158,6 +139,7 @@ impl Control {
 
     /// A frame more, which is no call.
     #[tactic(auto, using(crate::proofs::Frames::plain_count))]
+    #[inline(always)]
     fn push(&mut self, frame: Frame)
         requires room { 0 < self.old.frames_now }
         requires plain { IsPlain frame }
@@ -168,6 +150,7 @@ impl Control {
     }
 
     /// An item more stands next.
+    #[inline(always)]
     fn then(&mut self, item: Item)
         requires { 0 < self.old.frames_now }
         ensures { self.new ≡ then_item item self.old }
@@ -176,6 +159,7 @@ impl Control {
     }
 
     /// An item more stands next, if there is one.
+    #[inline(always)]
     fn then_if(&mut self, item: Option<Item>)
         requires { 0 < self.old.frames_now }
         ensures { self.new ≡ then_if item self.old }
@@ -186,6 +170,7 @@ impl Control {
     }
 
     /// A name more is in scope.
+    #[inline(always)]
     fn bind(&mut self, entry: Entry)
         requires room { 0 < self.old.names_now }
         requires entry { IsEntry entry }
@@ -197,6 +182,7 @@ impl Control {
     }
 
     /// So many names of the function that was called last stay in scope.
+    #[inline(always)]
     fn cut(&mut self, count: usize)
         ensures { self.new ≡ cut count self.old }
     {
@@ -206,6 +192,7 @@ impl Control {
 
     /// A call is opened, whose value goes there.
     #[tactic(auto, using(crate::proofs::Frames::caller_count))]
+    #[inline(always)]
     fn open(&mut self, to: Target)
         requires room { 0 < self.old.frames_now }
         requires few { open_calls self.old.frames < CALL_LIMIT }
@@ -225,7 +212,7 @@ impl Control {
         ensures to { result ≡ option_map (λ call. call.1) (last_call self.old.frames) }
     {
         while let Some(frame) = self.stack.top() {
-            match frame {
+            match *frame {
                 Frame::Caller { base, to } => {
                     self.end_call(base);
                     return Some(to);
@@ -237,6 +224,7 @@ impl Control {
     }
 
     /// The frame on top goes, which is no call.
+    #[inline(always)]
     fn drop_top(&mut self)
         requires { open_calls (drop 1 self.old.frames) ≡ open_calls self.old.frames }
         ensures { self.new ≡ record self.old { frames = drop 1 self.old.frames } }
@@ -245,6 +233,7 @@ impl Control {
     }
 
     /// Another frame stands in place of the one on top. Neither is a call.
+    #[inline(always)]
     fn replace_top(&mut self, frame: Frame)
         requires { open_calls (slice_set self.old.frames 0 frame) ≡ open_calls self.old.frames }
         ensures { self.new ≡ record self.old { frames = slice_set self.old.frames 0 frame } }
@@ -253,6 +242,7 @@ impl Control {
     }
 
     /// The frame on top goes, which is a call. The names of the function that called begin there.
+    #[inline(always)]
     fn end_call(&mut self, base: usize)
         requires { open_calls self.old.frames ≡ open_calls (drop 1 self.old.frames) + 1 }
         ensures { self.new ≡ ended base self.old }

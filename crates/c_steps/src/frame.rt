@@ -1,5 +1,9 @@
 //! What a control's stack holds.
 
+ghost use Rattle.std.specs.Prelude.{◌∷◌, []};
+ghost use Rattle.c_steps.specs.Ready.{CanBegin};
+ghost use Rattle.c_steps.specs.Standing.{BeginsAs};
+
 use crate::item::Item;
 use crate::listed::ListedPlace;
 use c_model::Target;
@@ -36,4 +40,37 @@ pub(crate) enum Frame {
         base: usize,
         to: Target,
     },
+}
+
+/// The frame when the item has begun that stands next by it. `None` where nothing is left of it.
+#[inline(always)]
+pub(crate) fn begun(frame: &Frame) -> Option<Frame>
+    requires { CanBegin (frame.now ∷ []) }
+    ensures { BeginsAs frame.now result }
+{
+    match *frame {
+        Frame::One(_) => None,
+        Frame::Parts {
+            block,
+            place,
+            at,
+            names,
+        } => Some(Frame::Parts {
+            block,
+            place,
+            at: at + 1,
+            names,
+        }),
+        Frame::Combines {
+            construct,
+            from,
+            names,
+            ..
+        } => Some(Frame::Combining {
+            construct,
+            from,
+            names,
+        }),
+        Frame::Combining { .. } | Frame::Caller { .. } => Some(*frame),
+    }
 }

@@ -7,6 +7,9 @@
 //! - [`Control::advance`] makes one silent step, or says what stands next: a question, an event, the end, a trap or a limit ([`Next`]).
 //! - [`Control::give`] goes on after an answer, and [`Control::passed`] behind an event.
 //! - [`Control::stands`] tells whether an event or the end stands next.
+//! - [`Control::upcoming`] tells what comes next as far as its form does, and [`Control::is_in_work`], [`Control::is_in_exclusive`] and
+//!   [`Control::is_in_critical`] in which regions of constructs the task is.
+//! - [`Control::value`] is the number of an expression where the code stands.
 //! - [`Control::asked_count`] and [`Control::asked_sections`] tell how much there is of the work that asks.
 //! - [`Control::main`], [`Control::member`] and [`Control::task`] are how the code of each kind of task begins. [`Control::blank`] and
 //!   [`Control::clear`] have no code, and [`Control::reserve`] makes room.

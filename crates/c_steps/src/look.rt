@@ -30,11 +30,14 @@ pub(crate) enum Look {
 
 /// What a frame on top says of what stands next.
 #[tactic(auto, using(crate::proofs::Looking::shows_one, crate::proofs::Looking::shows_reduction, crate::proofs::Looking::caller_nothing))]
-pub(crate) fn look_at(code: &Code, frame: Frame) -> Look
-    requires { IsFrame code.now frame }
-    ensures { Looks code.now frame result }
+#[inline(always)]
+pub(crate) fn look_at(code: &Code, frame: &Frame) -> Look
+    requires { IsFrame code.now frame.now }
+    ensures { Looks code.now frame.now result }
 {
-    match frame {
+    match *frame {
+        Frame::One(Item::Start(part)) => Look::Found(Item::Start(part)),
+        Frame::One(Item::Leave(names)) => Look::Found(Item::Leave(names)),
         Frame::One(item) => Look::Found(item),
         Frame::Parts {
             block,
@@ -63,6 +66,7 @@ pub(crate) fn look_at(code: &Code, frame: Frame) -> Look
 
 /// What the parts of a block say that are left.
 #[tactic(auto, using(crate::proofs::Looking::shows_part, crate::proofs::Looking::instead_next, crate::proofs::Looking::instead_leave))]
+#[inline(always)]
 fn look_at_parts(code: &Code, block: u32, place: u32, at: u32, names: usize) -> Look
     requires { block < length code.now.trees }
     ensures { Looks code.now (parts_frame block place at names) result }
@@ -82,6 +86,7 @@ fn look_at_parts(code: &Code, block: u32, place: u32, at: u32, names: usize) -> 
 }
 
 /// What the reductions of a construct say that are left.
+#[inline(never)]
 fn look_at_reductions(code: &Code, construct: u32, from: ListedPlace, names: usize) -> Look
     requires { construct < length code.now.trees }
     ensures { Looks code.now (reductions_frame construct from names) result }
@@ -106,6 +111,7 @@ fn look_at_reductions(code: &Code, construct: u32, from: ListedPlace, names: usi
 }
 
 /// A part of a block as an item.
+#[inline(always)]
 fn item_of_part(code: &Code, node: u32) -> Item
     requires { node < length code.now.trees }
     ensures item { item_at code.now result ≡ item_of_part (tree_at code.now.trees node) }
@@ -120,6 +126,7 @@ fn item_of_part(code: &Code, node: u32) -> Item
 }
 
 /// The declarator of a part of a block behind so many. What declares no names is its own only one.
+#[inline(always)]
 fn declarator(code: &Code, part: u32, at: u32) -> Option<u32>
     requires { part < length code.now.trees }
     ensures found { IfSome result (λ node. declarators_from (kind_of (tree_at code.now.trees part)) (tree_at code.now.trees part) at ≡ tree_at code.now.trees node ∷ declarators_from (kind_of (tree_at code.now.trees part)) (tree_at code.now.trees part) (at + 1)) }

@@ -38,6 +38,7 @@ impl Names {
     }
 
     /// How many names there are.
+    #[inline(always)]
     pub(crate) fn len(&self) -> usize
         ensures { result ≡ length self.now.list }
     {
@@ -45,6 +46,7 @@ impl Names {
     }
 
     /// The names.
+    #[inline(always)]
     pub(crate) fn items(&self) -> &[Entry]
         ensures { result.now ≡ self.now.list }
     {
@@ -52,13 +54,14 @@ impl Names {
     }
 
     /// A name comes into scope.
+    #[inline(always)]
     pub(crate) fn push(&mut self, entry: Entry)
         requires { 0 < self.old.free }
         ensures list { self.new.list ≡ self.old.list ++ entry ∷ [] }
         ensures free { self.new.free + 1 ≡ self.old.free }
     {
         self.free -= 1;
-        self.items.push(entry).unwrap();
+        self.items.push_reserved(entry);
     }
 
     /// Names come into scope.
@@ -72,6 +75,7 @@ impl Names {
     }
 
     /// The first names stay, so many. What goes leaves its room.
+    #[inline(always)]
     pub(crate) fn truncate(&mut self, count: usize)
         ensures list { self.new.list ≡ take count self.old.list }
         ensures free { self.new.free + length self.new.list ≡ self.old.free + length self.old.list }

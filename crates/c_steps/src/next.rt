@@ -1,5 +1,8 @@
 //! What an advance comes to.
 
+ghost use Rattle.std.specs.Prelude.{◌≡◌};
+ghost use Rattle.c_steps.specs.Held.{next_of};
+
 use c_model::{Ask, Point};
 
 /// What a task's code comes to next.
@@ -17,4 +20,14 @@ pub enum Next {
     Trap(u8),
     /// The step or the event that stands next would pass the limit with this number. Nothing was done.
     Limit(u8),
+}
+
+/// The same of a step that asks nothing and comes to no event: it was made, or it traps with this number.
+pub(crate) fn made(step: Result<(), u8>) -> Next
+    ensures { result ≡ next_of step }
+{
+    match step {
+        Ok(()) => Next::Quiet,
+        Err(trap) => Next::Trap(trap),
+    }
 }

@@ -8,6 +8,7 @@ use c_model::{OVERFLOW, ZERO_DIVIDE};
 use c_syntax::{BinaryOp, ReductionOp, UnaryOp};
 
 /// What an operator makes of two numbers, or its trap.
+#[inline(always)]
 pub(crate) fn binary_result(operator: BinaryOp, left: i32, right: i32) -> Result<i32, u8>
     ensures { result ≡ binary_result operator left right }
 {
@@ -38,6 +39,7 @@ pub(crate) fn unary_result(operator: UnaryOp, number: i32) -> Result<i32, u8>
 }
 
 /// The value of `||` or `&&` where the left operand decides it.
+#[inline(always)]
 pub(crate) fn deciding_value(operator: BinaryOp, left: i32) -> Option<i32>
     ensures { result ≡ deciding_value operator left }
 {
@@ -73,24 +75,28 @@ fn lesser(left: i32, right: i32) -> i32
 }
 
 /// 1 or 0.
+#[inline(always)]
 fn truth(holds: bool) -> i32
     ensures { result ≡ truth holds }
 {
     if holds { 1 } else { 0 }
 }
 
+#[inline(always)]
 fn sum(left: i32, right: i32) -> Result<i32, u8>
     ensures { result ≡ in_range (left +ℤ right) }
 {
     left.checked_add(right).ok_or(OVERFLOW)
 }
 
+#[inline(always)]
 fn difference(left: i32, right: i32) -> Result<i32, u8>
     ensures { result ≡ in_range (left -ℤ right) }
 {
     left.checked_sub(right).ok_or(OVERFLOW)
 }
 
+#[inline(always)]
 fn product(left: i32, right: i32) -> Result<i32, u8>
     ensures { result ≡ in_range (left *ℤ right) }
 {
@@ -104,6 +110,7 @@ fn opposite(number: i32) -> Result<i32, u8>
 }
 
 /// Toward 0.
+#[inline(always)]
 fn quotient(left: i32, right: i32) -> Result<i32, u8>
     ensures { result ≡ quotient left right }
 {
@@ -114,6 +121,7 @@ fn quotient(left: i32, right: i32) -> Result<i32, u8>
 }
 
 /// What a division toward 0 leaves.
+#[inline(always)]
 fn remainder(left: i32, right: i32) -> Result<i32, u8>
     ensures { result ≡ remainder left right }
 {

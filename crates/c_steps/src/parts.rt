@@ -11,6 +11,7 @@ ghost use Rattle.c_steps.specs.Rests.{parts_from, with_part};
 use c_syntax::{NodeKind, Tree};
 
 /// What a part is.
+#[inline(always)]
 pub(crate) fn kind_of_part(tree: &Tree, part: Option<u32>) -> NodeKind
     requires { IsPart tree.now.trees part }
     ensures { result ≡ kind_of (part_at tree.now.trees part) }
@@ -22,6 +23,7 @@ pub(crate) fn kind_of_part(tree: &Tree, part: Option<u32>) -> NodeKind
 }
 
 /// The child of a part at a place.
+#[inline(always)]
 pub(crate) fn child_of_part(tree: &Tree, part: Option<u32>, place: u32) -> Option<u32>
     requires { IsPart tree.now.trees part }
     ensures child { part_at tree.now.trees result ≡ child_at (part_at tree.now.trees part) place }
@@ -35,6 +37,7 @@ pub(crate) fn child_of_part(tree: &Tree, part: Option<u32>, place: u32) -> Optio
 }
 
 /// The number of a part's name, 0 where it has none.
+#[inline(always)]
 pub(crate) fn name_of_part(tree: &Tree, part: Option<u32>) -> u32
     requires { IsPart tree.now.trees part }
     ensures { result ≡ name_of (part_at tree.now.trees part) }
@@ -46,6 +49,7 @@ pub(crate) fn name_of_part(tree: &Tree, part: Option<u32>) -> u32
 }
 
 /// The value of a part's number, 0 where it has none.
+#[inline(always)]
 pub(crate) fn number_of_part(tree: &Tree, part: Option<u32>) -> i32
     requires { IsPart tree.now.trees part }
     ensures { result ≡ pos (number_of (part_at tree.now.trees part)) }
@@ -58,6 +62,7 @@ pub(crate) fn number_of_part(tree: &Tree, part: Option<u32>) -> i32
 
 /// The child of a part at a place, where the parts from there on are what is left of the whole.
 #[tactic(auto, using(crate::proofs::Rests::part_here, crate::proofs::Rests::part_none, crate::proofs::Rests::part_missing))]
+#[inline(always)]
 pub(crate) fn next_part(tree: &Tree, whole: Option<u32>, place: u32) -> Option<u32>
     requires { IsPart tree.now.trees whole }
     ensures parts { parts_from (part_at tree.now.trees whole) place ≡ with_part tree.now.trees (part_at tree.now.trees whole) place result }

@@ -41,6 +41,7 @@ pub(crate) struct Scope<'a> {
 impl<'a> Scope<'a> {
     /// The entry of a name, the newest one. A name that nothing declares has one that no cell belongs to.
     #[tactic(auto, using(crate::proofs::Entries::is_entry))]
+    #[inline(always)]
     pub(crate) fn entry(&self, name: u32) -> Entry
         ensures entry { result ≡ entry_of (scope_of self.now).env name }
         ensures cells { AreEntries (scope_of self.now).env → IsEntry result }
@@ -57,6 +58,7 @@ impl<'a> Scope<'a> {
 
     /// The number of an expression, or its trap. One that is missing is 0.
     #[tactic(auto, using(crate::proofs::Values::value_is))]
+    #[inline(always)]
     pub(crate) fn value(&self, part: Option<u32>) -> Result<i32, u8>
         requires part { IsPart self.now.tree.now.trees part }
         requires view { HasNumbers self.now.view }
@@ -70,6 +72,7 @@ impl<'a> Scope<'a> {
 
     /// The cell of a place, or a trap.
     #[tactic(auto, using(crate::proofs::Values::cell_is))]
+    #[inline(always)]
     pub(crate) fn place_cell(&self, place: Option<u32>) -> Result<usize, u8>
         requires place { IsPart self.now.tree.now.trees place }
         requires view { HasNumbers self.now.view }
@@ -146,6 +149,7 @@ impl<'a> Scope<'a> {
 
     /// The number of an operand. One that is missing is 0.
     #[cycle(values)]
+    #[inline(always)]
     fn operand(&self, node: u32, place: u32) -> Result<i32, u8>
         requires node { node < length self.now.tree.now.trees }
         requires view { HasNumbers self.now.view }
@@ -159,6 +163,7 @@ impl<'a> Scope<'a> {
 
     #[cycle(values)]
     #[tactic(auto, using(crate::proofs::Values::cell_is))]
+    #[inline(always)]
     fn node_cell(&self, node: u32) -> Result<usize, u8>
         requires node { node < length self.now.tree.now.trees }
         requires view { HasNumbers self.now.view }
@@ -175,6 +180,7 @@ impl<'a> Scope<'a> {
     }
 
     #[cycle(values)]
+    #[inline(always)]
     fn unary(&self, operator: UnaryOp, node: u32) -> Result<i32, u8>
         requires node { node < length self.now.tree.now.trees }
         requires view { HasNumbers self.now.view }
@@ -188,6 +194,7 @@ impl<'a> Scope<'a> {
 
     /// The right operand isn't looked at where the left one decides.
     #[cycle(values)]
+    #[inline(always)]
     fn binary(&self, operator: BinaryOp, node: u32) -> Result<i32, u8>
         requires node { node < length self.now.tree.now.trees }
         requires view { HasNumbers self.now.view }
@@ -208,6 +215,7 @@ impl<'a> Scope<'a> {
 
 /// The newest entry of a name, those of the file coming before the others. A name that nothing declares has one that no cell belongs to.
 #[tactic(auto, using(crate::proofs::ValuesNamed::named_behind))]
+#[inline(always)]
 pub(crate) fn entry_among(file: &[Entry], names: &[Entry], name: u32) -> Entry
     ensures { result ≡ entry_of (file.now ++ names.now) name }
 {
@@ -230,6 +238,7 @@ pub(crate) fn slot_entry(file: &[Entry], names: &[Entry], slot: u32) -> Entry
 
 /// The newest entry of a name.
 #[tactic(auto, using(crate::proofs::ValuesNamed::named_last, crate::proofs::ValuesNamed::named_none))]
+#[inline(always)]
 fn newest_named(entries: &[Entry], name: u32) -> Option<Entry>
     ensures { (found : SeenEntry) → unwrap_or result found ≡ last_named name found entries.now }
 {
@@ -244,6 +253,7 @@ fn newest_named(entries: &[Entry], name: u32) -> Option<Entry>
 }
 
 /// The newest entry of a name, or that of a name that nothing declares.
+#[inline(always)]
 fn file_entry(entries: &[Entry], name: u32) -> Entry
     ensures { result ≡ last_named name no_entry entries.now }
 {
@@ -306,6 +316,7 @@ fn no_entry() -> Entry
 }
 
 /// The cell of an element, or the trap of its index.
+#[inline(always)]
 fn element(entry: Entry, index: i32) -> Result<usize, u8>
     ensures { result ≡ element entry index }
 {
@@ -316,6 +327,7 @@ fn element(entry: Entry, index: i32) -> Result<usize, u8>
 }
 
 /// What is in a cell; 0 where there is none.
+#[inline(always)]
 pub(crate) fn number_in(cells: &[i32], cell: usize) -> i32
     ensures { result ≡ cell_at cells.now cell }
 {

@@ -1,6 +1,7 @@
 //! A stack with room kept for more.
 
 ghost use Rattle.std.specs.Prelude.{◌≡◌, ◌+◌, ◌<◌, ◌≤◌, [], ◌∷◌, drop, length, max, reverse, slice_get, slice_set, IfOk, OnErr, OnOk};
+ghost use Rattle.std.specs.Option.{option_map};
 ghost use Rattle.c_steps.specs.declared.stack.TheConstants.{LEAST_ROOM};
 
 use std::alloc::{AllocError, Global};
@@ -41,6 +42,7 @@ impl<T: Copy + Drop> Stack<T> {
     }
 
     /// How many are on it.
+    #[inline(always)]
     pub(crate) fn len(&self) -> usize
         ensures { result ≡ length self.now.frames }
     {
@@ -48,13 +50,15 @@ impl<T: Copy + Drop> Stack<T> {
     }
 
     /// What is on top.
-    pub(crate) fn top(&self) -> Option<T>
-        ensures { result ≡ slice_get self.now.frames 0 }
+    #[inline(always)]
+    pub(crate) fn top(&self) -> Option<&T>
+        ensures { option_map (λ top. top.now) result ≡ slice_get self.now.frames 0 }
     {
-        self.items.last().copied()
+        self.items.last()
     }
 
     /// All that is on it, the top last.
+    #[inline(always)]
     pub(crate) fn items(&self) -> &[T]
         ensures { result.now ≡ reverse self.now.frames }
     {
@@ -62,16 +66,18 @@ impl<T: Copy + Drop> Stack<T> {
     }
 
     /// It comes on top.
+    #[inline(always)]
     pub(crate) fn push(&mut self, frame: T)
         requires { 0 < self.old.free }
         ensures frames { self.new.frames ≡ frame ∷ self.old.frames }
         ensures free { self.new.free + 1 ≡ self.old.free }
     {
         self.free -= 1;
-        self.items.push(frame).unwrap();
+        self.items.push_reserved(frame);
     }
 
     /// What is on top goes, and leaves its room.
+    #[inline(always)]
     pub(crate) fn pop(&mut self) -> Option<T>
         ensures top { result ≡ slice_get self.old.frames 0 }
         ensures frames { self.new.frames ≡ drop 1 self.old.frames }
@@ -83,13 +89,14 @@ impl<T: Copy + Drop> Stack<T> {
     }
 
     /// It stands in place of what was on top, if anything was.
+    #[inline(always)]
     pub(crate) fn replace(&mut self, frame: T)
         ensures { self.new ≡ record self.old { frames = slice_set self.old.frames 0 frame } }
     {
         let Some(_) = self.items.pop() else {
             return;
         };
-        self.items.push(frame).unwrap();
+        self.items.push_reserved(frame);
     }
 
     /// Nothing is left on it.

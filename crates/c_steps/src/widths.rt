@@ -151,7 +151,7 @@ fn count_of(counts: bool) -> usize
     if counts { 1 } else { 0 }
 }
 
-/// The most names of one function beside those of the file.
+/// The most names that a function may have beside those of the file.
 #[tactic(auto, using(crate::proofs::InnerNames::number_at_is), unfolding(c_check::specs::Tasks::from_place, c_model::specs::Width::most_of_functions))]
 pub(crate) fn most_of_functions(program: &Program, inner: &[usize]) -> Result<usize, AllocError>
     requires { inner.now ≡ map (widths.inner_names program.now) program.now.trees }
@@ -181,7 +181,7 @@ fn function_names(program: &Program, inner: &[usize], function: u32) -> Result<u
         .ok_or(AllocError)
 }
 
-/// The most names that one silent step brings into scope.
+/// No silent step brings more names into scope: one more than the most of any node.
 #[tactic(auto, using(crate::proofs::InnerNames::steps_more), unfolding(crate::specs::Widths::most_of_steps))]
 pub(crate) fn step_names(tree: &Tree) -> Result<usize, AllocError>
     ensures { IfOk result (λ most. most ≡ numbers.step_names tree.now) }

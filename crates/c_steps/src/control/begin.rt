@@ -7,6 +7,7 @@ ghost use Rattle.c_model.specs.Width.{most_of_functions};
 ghost use Rattle.c_steps.specs.Held.{task_at};
 ghost use Rattle.c_steps.specs.Made.{IsBlank, IsMadeFor, blank_held};
 ghost use Rattle.c_steps.specs.Moves.{cleared, roomy};
+ghost use Rattle.c_steps.specs.declared.control.begin.TheConstants.{STEPS};
 
 use crate::code::Code;
 use crate::control::Control;
@@ -96,7 +97,8 @@ impl Control {
         self.open_calls = 0;
     }
 
-    /// Makes room for the silent steps of a turn, one that only asks, and an event. Without memory nothing changes.
+    /// Makes room for the 64 silent steps of a turn, one that only asks, a look at what stands next, and an event. Without memory nothing
+    /// changes.
     #[tactic(auto, using(crate::proofs::Beginning::made_roomy))]
     pub fn reserve(&mut self, code: &Code) -> Result<(), AllocError>
         requires made { IsMadeFor code.now self.old }
@@ -116,7 +118,7 @@ impl Control {
 
     /// How many names the silent steps bring for which room is made, and the event. More than a `usize` counts are want of memory.
     fn names_of_steps(&self) -> Result<usize, AllocError>
-        ensures { IfOk result (λ names. names ≡ self.now.step_names * 66 + 1) }
+        ensures { IfOk result (λ names. names ≡ self.now.step_names * STEPS + 1) }
     {
         let names = self.step_names.checked_mul(STEPS).ok_or(AllocError)?;
         names.checked_add(1).ok_or(AllocError)

@@ -76,6 +76,7 @@ impl Control {
     }
 
     /// The call of a declarator whose cell was made. Its variable comes into scope behind it.
+    #[inline(never)]
     pub(super) fn begin_initialise(
         &mut self,
         code: &Code,
@@ -167,6 +168,7 @@ impl Control {
     }
 
     /// `omp_test_lock` begins with its event.
+    #[inline(never)]
     fn begin_test(&self, code: &Code, cells: &Cells, view: View, call: u32, to: Target) -> Next
         requires { call < length code.now.trees }
         ensures step { outcome_at code.now result (moment_at code.now self.now cells.now) ≡ calls.begin_test (here_at code.now view self.now cells.now) (tree_at code.now.trees call) to }
@@ -293,6 +295,7 @@ impl Control {
     }
 
     /// The end of an `omp_test_lock` that came to own its lock.
+    #[inline(never)]
     pub(super) fn end_test(
         &mut self,
         code: &Code,
@@ -312,6 +315,7 @@ impl Control {
     }
 
     /// A lock routine that gives nothing.
+    #[inline(never)]
     pub(super) fn begin_lock_call(
         &self,
         code: &Code,

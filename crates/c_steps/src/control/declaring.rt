@@ -28,6 +28,7 @@ use c_syntax::NodeKind;
 
 impl Control {
     /// A declarator of a block.
+    #[inline(never)]
     pub(super) fn declare(&mut self, code: &Code, cells: &mut Cells, view: View, node: u32) -> Next
         requires ready { IsStepping code.now self.old }
         requires node { node < length code.now.trees }

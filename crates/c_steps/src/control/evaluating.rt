@@ -18,6 +18,7 @@ use c_model::{Entry, View};
 impl Control {
     /// What the expressions of the function that was called last are evaluated in.
     #[tactic(auto, using(crate::proofs::Entries::are_together), unfolding(crate::specs::Items::file_names))]
+    #[inline(always)]
     pub(super) fn scope<'a>(&'a self, code: &'a Code, cells: &'a [i32], view: View) -> Scope<'a>
         ensures tree { result.tree.now ≡ code.now }
         ensures scope { scope_of result ≡ record { env = env_at code.now self.now; cells = cells.now; view = view } }
@@ -35,7 +36,8 @@ impl Control {
 
     /// The names of the function that was called last.
     #[tactic(auto, using(crate::proofs::Entries::are_own))]
-    fn own_entries(&self) -> &[Entry]
+    #[inline(always)]
+    pub(super) fn own_entries(&self) -> &[Entry]
         ensures names { result.now ≡ drop self.now.base self.now.names }
         ensures entries { AreEntries result.now }
     {
@@ -44,6 +46,7 @@ impl Control {
 
     /// The entry of a name, the newest one. A name that nothing declares has one that no cell belongs to.
     #[tactic(auto, using(crate::proofs::Entries::is_entry_there), unfolding(crate::specs::Items::file_names))]
+    #[inline(always)]
     pub(super) fn entry(&self, code: &Code, name: u32) -> Entry
         ensures entry { result ≡ entry_of (env_at code.now self.now) name }
         ensures cells { IsEntry result }
@@ -51,8 +54,11 @@ impl Control {
         entry_among(code.file(), self.own_entries(), name)
     }
 
-    /// The number of an expression, or its trap.
-    pub(super) fn value(
+    /// The number of an expression, or the number of its trap: 1 where a result doesn't fit a cell, 2 where a divisor is 0, 3 where an index is
+    /// outside its array. An expression that is missing is 0. The names are those in scope where the code stands, and neither control nor
+    /// cells change.
+    #[inline(always)]
+    pub fn value(
         &self,
         code: &Code,
         cells: &Cells,
@@ -67,6 +73,7 @@ impl Control {
     }
 
     /// The cell of a place, or a trap.
+    #[inline(always)]
     pub(super) fn place_cell(
         &self,
         code: &Code,
@@ -83,6 +90,7 @@ impl Control {
     }
 
     /// How many names of the function that was called last are in scope.
+    #[inline(always)]
     pub(super) fn own_names(&self) -> usize
         ensures { result ≡ length (drop self.now.base self.now.names) }
     {

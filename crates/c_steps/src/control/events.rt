@@ -53,6 +53,7 @@ impl Control {
     }
 
     /// A construct begins. A combined directive begins as the parallel construct that it has outside.
+    #[inline(never)]
     pub(super) fn begin_construct(
         &self,
         code: &Code,
@@ -244,6 +245,7 @@ fn begin_critical(code: &Code, node: u32) -> Next
 }
 
 /// A directive without a statement begins: a barrier or a taskwait.
+#[inline(never)]
 pub(super) fn begin_standalone(code: &Code, which: Standalone, node: u32) -> Next
     requires { node < length code.now.trees }
     ensures step { (now : Moment) → outcome_at code.now result now ≡ steps.begin_standalone which (tree_at code.now.trees node) }
@@ -257,6 +259,7 @@ pub(super) fn begin_standalone(code: &Code, which: Standalone, node: u32) -> Nex
 }
 
 /// An event of a barrier or taskwait.
+#[inline(never)]
 pub(super) fn synchronise(code: &Code, node: u32, kind: SyncKind, stage: SyncStage) -> Next
     requires { node < length code.now.trees }
     ensures step { (now : Moment) → outcome_at code.now result now ≡ constructs.synchronises (tree_at code.now.trees node) kind stage }
@@ -275,6 +278,7 @@ pub(super) fn synchronise(code: &Code, node: u32, kind: SyncKind, stage: SyncSta
 }
 
 /// A region that was forked is over.
+#[inline(never)]
 pub(super) fn end_parallel(code: &Code, node: u32) -> Next
     requires { node < length code.now.trees }
     ensures step { (now : Moment) → outcome_at code.now result now ≡ constructs.end_parallel (tree_at code.now.trees node) }
@@ -286,6 +290,7 @@ pub(super) fn end_parallel(code: &Code, node: u32) -> Next
 }
 
 /// The statement of a `masked` construct has ended.
+#[inline(never)]
 pub(super) fn end_masked(code: &Code, node: u32) -> Next
     requires { node < length code.now.trees }
     ensures step { (now : Moment) → outcome_at code.now result now ≡ constructs.end_masked (tree_at code.now.trees node) }
@@ -297,6 +302,7 @@ pub(super) fn end_masked(code: &Code, node: u32) -> Next
 }
 
 /// The task's part of a worksharing construct ends.
+#[inline(never)]
 pub(super) fn end_work(code: &Code, node: u32, kind: WorkKind, count: u64) -> Next
     requires { node < length code.now.trees }
     ensures step { (now : Moment) → outcome_at code.now result now ≡ constructs.end_work (tree_at code.now.trees node) kind count }
@@ -315,6 +321,7 @@ pub(super) fn end_work(code: &Code, node: u32, kind: WorkKind, count: u64) -> Ne
 }
 
 /// A lock or critical comes to be owned.
+#[inline(never)]
 pub(super) fn acquire(code: &Code, node: u32, kind: MutexKind, wait_id: u32) -> Next
     requires { node < length code.now.trees }
     ensures step { (now : Moment) → outcome_at code.now result now ≡ constructs.acquires (tree_at code.now.trees node) kind wait_id }
@@ -333,6 +340,7 @@ pub(super) fn acquire(code: &Code, node: u32, kind: MutexKind, wait_id: u32) -> 
 }
 
 /// A critical is given back.
+#[inline(never)]
 pub(super) fn release(code: &Code, node: u32, wait_id: u32) -> Next
     requires { node < length code.now.trees }
     ensures step { (now : Moment) → outcome_at code.now result now ≡ constructs.releases (tree_at code.now.trees node) wait_id }
@@ -348,6 +356,7 @@ pub(super) fn release(code: &Code, node: u32, wait_id: u32) -> Next
 }
 
 /// The next chunk of a loop is asked for.
+#[inline(never)]
 pub(super) fn next_chunk(shared: Loop) -> Next
     ensures step { (program : TreeView) (now : Moment) → outcome_at program result now ≡ constructs.next_chunk (loop_at program shared) }
     ensures unchanged { IsUnchanging result }
@@ -357,6 +366,7 @@ pub(super) fn next_chunk(shared: Loop) -> Next
 }
 
 /// The next section of a construct is asked for.
+#[inline(never)]
 pub(super) fn next_section(node: u32) -> Next
     ensures step { (program : TreeView) (now : Moment) → outcome_at program result now ≡ constructs.next_section (tree_at program.trees node) }
     ensures unchanged { IsUnchanging result }
@@ -366,6 +376,7 @@ pub(super) fn next_section(node: u32) -> Next
 }
 
 /// An `omp_test_lock` asks whether its lock is free.
+#[inline(never)]
 pub(super) fn ask_lock(node: u32, wait_id: u32) -> Next
     ensures step { (program : TreeView) (now : Moment) → outcome_at program result now ≡ Asks (ask.LockFree wait_id) (tree_at program.trees node) }
     ensures unchanged { IsUnchanging result }

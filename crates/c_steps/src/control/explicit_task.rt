@@ -34,7 +34,7 @@ impl Control {
             return;
         };
         let part = statement(code, node);
-        into.inherit(self.own());
+        into.inherit(self.own_entries());
         into.make_task_cells(code, cells, node);
         into.then(Item::Start(part));
     }

@@ -22,6 +22,7 @@ use c_syntax::ReductionOp;
 impl Control {
     /// An iteration begins: the loop's variable is set, and the body stands next, and then the iterations behind, or the next chunk.
     #[tactic(auto, unfolding(crate::specs::Items::todo_at, crate::specs::Items::calls_at))]
+    #[inline(never)]
     pub(super) fn begin_iteration(
         &mut self,
         code: &Code,
@@ -53,6 +54,7 @@ impl Control {
     }
 
     /// A reduction variable is combined with the one among the first so many names.
+    #[inline(never)]
     pub(super) fn combine(
         &mut self,
         code: &Code,
@@ -88,7 +90,7 @@ impl Control {
     fn cell_around(&self, code: &Code, name: u32, names: usize) -> usize
         ensures { result ≡ (entry_of (take (with_file code.now names) (env_at code.now self.now)) name).first }
     {
-        let own = &self.names.items()[self.base..];
+        let own = self.own_entries();
         let around = &own[..names.min(own.len())];
         entry_among(code.file(), around, name).first as usize
     }
@@ -97,7 +99,7 @@ impl Control {
     fn cell_of_copy(&self, code: &Code, name: u32, names: usize) -> usize
         ensures { result ≡ (first_named name (drop (with_file code.now names) (env_at code.now self.now))).first }
     {
-        let own = &self.names.items()[self.base..];
+        let own = self.own_entries();
         first_named(&own[names.min(own.len())..], name).first as usize
     }
 }

@@ -1,6 +1,6 @@
 //! Where the code of a member of a team begins.
 
-ghost use Rattle.std.specs.Prelude.{ℕ, ◌≡◌, ◌<◌, ◌≤◌, length, drop, IfSome};
+ghost use Rattle.std.specs.Prelude.{ℕ, ◌≡◌, ◌<◌, ◌≤◌, length, IfSome};
 ghost use Rattle.c_syntax.specs.Tree.{Tree as syntax_tree};
 ghost use Rattle.std.specs.Option.{option_map};
 ghost use Rattle.c_syntax.specs.Numbered.{TreeView, tree_at};
@@ -38,16 +38,8 @@ impl Control {
         let Some(node) = forked_node(self.front(code, MEMBER_0)) else {
             return;
         };
-        into.inherit(self.own());
+        into.inherit(self.own_entries());
         into.begin_member(code, node, self.own_names());
-    }
-
-    /// The names of the function that was called last.
-    pub(super) fn own(&self) -> &[Entry]
-        ensures names { result.now ≡ drop self.now.base self.now.names }
-        ensures entries { AreEntries result.now }
-    {
-        &self.names.items()[self.base..]
     }
 
     /// No code is left, these names are in scope, and the rest of the room is for more.

@@ -23,6 +23,7 @@ use c_model::{TEXT, View};
 impl Control {
     /// `printf`: its numbers from left to right, and then its text.
     #[tactic(auto, using(crate::proofs::ValuesAll::ok_values, crate::proofs::ValuesAll::trap_values))]
+    #[inline(never)]
     pub(super) fn begin_print(
         &mut self,
         code: &Code,

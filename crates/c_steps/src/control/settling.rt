@@ -16,6 +16,7 @@ use c_syntax::{Directive, NodeKind};
 impl Control {
     /// What stands next, when what the task goes past is left out. `None` where nothing is left in the function.
     #[tactic(auto, using(crate::proofs::Settling::over_top, crate::proofs::Settling::instead_top, crate::proofs::Settling::past_top, crate::proofs::Settling::front_top, crate::proofs::Settling::nothing_top, crate::proofs::Settling::none_top, crate::proofs::Settling::settled_at_front, crate::proofs::Settling::settled_at_end, crate::proofs::Settling::settles_none))]
+    #[inline(always)]
     pub(crate) fn settle(&mut self, code: &Code, view: View) -> Option<Item>
         requires { AreFrames code.now self.old.frames }
         ensures task { task_at code.now self.new ≡ settled_task view (task_at code.now self.old) }
@@ -42,6 +43,7 @@ impl Control {
 }
 
 /// Whether a task goes past an item without a step: a member of a team other than member 0 past a `masked` construct.
+#[inline(always)]
 pub(super) fn is_passed_over(code: &Code, item: Item, view: View) -> bool
     requires { IsItem code.now item }
     ensures { result ≡ is_passed_over (item_at code.now item) view }

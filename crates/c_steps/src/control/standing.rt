@@ -1,6 +1,6 @@
 //! What stands next, told without a change.
 
-ghost use Rattle.std.specs.Prelude.{◌≡◌, ◌∷◌, [], slice_get, IfSome};
+ghost use Rattle.std.specs.Prelude.{◌≡◌, slice_get, IfSome};
 ghost use Rattle.std.specs.Option.{option_map};
 ghost use Rattle.c_syntax.specs.Tree.{kind_of};
 ghost use Rattle.c_model.specs.Step as steps;
@@ -8,13 +8,13 @@ ghost use Rattle.c_steps.specs.Held.{task_at};
 ghost use Rattle.c_steps.specs.Items.{item_at, todo_at};
 ghost use Rattle.c_steps.specs.Made.{IsMadeFor};
 ghost use Rattle.c_steps.specs.Nodes.{IsPart, part_at};
-ghost use Rattle.c_steps.specs.Ready.{AreFrames, CanBegin, IsFrame, IsItem};
-ghost use Rattle.c_steps.specs.Standing.{BeginsAs, Fronts};
+ghost use Rattle.c_steps.specs.Ready.{AreFrames, IsFrame, IsItem};
+ghost use Rattle.c_steps.specs.Standing.{Fronts};
 
 use crate::code::Code;
 use crate::control::Control;
 use crate::control::settling::is_passed_over;
-use crate::frame::Frame;
+use crate::frame::{Frame, begun};
 use crate::item::Item;
 use crate::look::{Look, look_at};
 use c_model::View;
@@ -69,7 +69,7 @@ fn front_of(code: &Code, view: View, frame: Frame) -> Front
 {
     let mut shown = frame;
     loop {
-        match look_at(code, shown) {
+        match look_at(code, &shown) {
             Look::Nothing => return Front::Nothing,
             Look::Over => return Front::Over,
             Look::Instead(other) => shown = other,
@@ -77,7 +77,7 @@ fn front_of(code: &Code, view: View, frame: Frame) -> Front
                 if !is_passed_over(code, item, view) {
                     return Front::Found(item);
                 }
-                match begun(shown) {
+                match begun(&shown) {
                     Some(other) => shown = other,
                     None => return Front::Over,
                 }
@@ -86,40 +86,8 @@ fn front_of(code: &Code, view: View, frame: Frame) -> Front
     }
 }
 
-/// The frame when the item has begun that stands next by it. `None` where nothing is left of it.
-fn begun(frame: Frame) -> Option<Frame>
-    requires { CanBegin (frame ∷ []) }
-    ensures { BeginsAs frame result }
-{
-    match frame {
-        Frame::One(_) => None,
-        Frame::Parts {
-            block,
-            place,
-            at,
-            names,
-        } => Some(Frame::Parts {
-            block,
-            place,
-            at: at + 1,
-            names,
-        }),
-        Frame::Combines {
-            construct,
-            from,
-            names,
-            ..
-        } => Some(Frame::Combining {
-            construct,
-            from,
-            names,
-        }),
-        Frame::Combining { .. } | Frame::Caller { .. } => Some(frame),
-    }
-}
-
 /// Whether an item is an event by its form.
-fn is_event(code: &Code, item: Item) -> bool
+pub(super) fn is_event(code: &Code, item: Item) -> bool
     requires { IsItem code.now item }
     ensures { result ≡ steps.is_event (item_at code.now item) }
 {

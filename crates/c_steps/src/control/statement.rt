@@ -14,12 +14,13 @@ use crate::cells::Cells;
 use crate::code::Code;
 use crate::control::Control;
 use crate::control::events::begin_standalone;
-use crate::next::Next;
+use crate::next::{Next, made};
 use c_model::View;
 use c_syntax::NodeKind;
 
 impl Control {
     /// A statement begins. What can't stand as one is an empty statement, and so is one that is missing.
+    #[inline(always)]
     pub(super) fn begin_statement(
         &mut self,
         code: &Code,
@@ -42,6 +43,7 @@ impl Control {
         }
     }
 
+    #[inline(never)]
     fn begin_node(&mut self, code: &Code, cells: &mut Cells, view: View, node: u32) -> Next
         requires ready { IsStepping code.now self.old }
         requires node { node < length code.now.trees }
@@ -59,7 +61,7 @@ impl Control {
             NodeKind::For => self.begin_for(code, cells, view, node),
             NodeKind::Return => self.begin_return(code, cells, view, node),
             NodeKind::SetCall => self.begin_set_call(code, cells, view, node),
-            NodeKind::Step => self.begin_step(code, cells, view, node),
+            NodeKind::Step => made(self.begin_step(code, cells, view, node)),
             NodeKind::Called => self.begin_called(code, cells, view, node),
             NodeKind::Print => self.begin_print(code, cells, view, node),
             NodeKind::LockCall(which) => self.begin_lock_call(code, cells, view, which, node),

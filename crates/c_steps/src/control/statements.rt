@@ -19,7 +19,7 @@ use crate::code::Code;
 use crate::control::Control;
 use crate::frame::Frame;
 use crate::item::Item;
-use crate::next::Next;
+use crate::next::{Next, made};
 use c_model::View;
 use c_syntax::NodeKind;
 
@@ -130,6 +130,7 @@ impl Control {
 
     /// A plain `for` begins with its first part, which may declare a variable, and then its test stands next.
     #[tactic(auto, using(crate::proofs::Frames::all_names), unfolding(crate::specs::Items::todo_at, crate::specs::Items::calls_at))]
+    #[inline(never)]
     pub(super) fn begin_for(
         &mut self,
         code: &Code,
@@ -162,12 +163,13 @@ impl Control {
                     Next::Quiet
                 }
             },
-            _ => self.make_step(code, cells, view, first, Some(test)),
+            _ => made(self.make_step(code, cells, view, first, Some(test))),
         }
     }
 
     /// The test of a plain `for`. Where it is 0 so many names stay in scope.
     #[tactic(auto, using(crate::proofs::Frames::cut_names, crate::proofs::Frames::take_shorter), unfolding(crate::specs::Items::todo_at, crate::specs::Items::calls_at))]
+    #[inline(never)]
     pub(super) fn test_for(
         &mut self,
         code: &Code,
@@ -214,6 +216,7 @@ impl Control {
     }
 
     /// The third part of a plain `for`, and then its test stands next.
+    #[inline(never)]
     pub(super) fn third_for(
         &mut self,
         code: &Code,
@@ -231,7 +234,7 @@ impl Control {
         ensures frames { AreFrames code.now self.new.frames }
     {
         let third = code.child(Some(node), 2);
-        self.make_step(code, cells, view, third, Some(Item::Test { node, names }))
+        made(self.make_step(code, cells, view, third, Some(Item::Test { node, names })))
     }
 }
 

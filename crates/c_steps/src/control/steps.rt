@@ -6,7 +6,7 @@ ghost use Rattle.c_syntax.specs.Numbered.{tree_at};
 ghost use Rattle.c_model.specs.Coming.{sets, with_result};
 ghost use Rattle.c_model.specs.Statements as statements;
 ghost use Rattle.c_model.specs.Value.{binary_value};
-ghost use Rattle.c_steps.specs.Held.{here_at, moment_at, outcome_at};
+ghost use Rattle.c_steps.specs.Held.{here_at, moment_at, next_of, outcome_at};
 ghost use Rattle.c_steps.specs.Items.{items_if};
 ghost use Rattle.c_steps.specs.Nodes.{IsPart, part_at};
 ghost use Rattle.c_steps.specs.Ready.{AreFrames, FitsProgram, IsItem, IsSettled, IsStepping};
@@ -16,7 +16,6 @@ use crate::cells::Cells;
 use crate::code::Code;
 use crate::control::Control;
 use crate::item::Item;
-use crate::next::Next;
 use crate::numbers::{binary_result, deciding_value};
 use c_model::View;
 use c_syntax::{BinaryOp, Bump, NodeKind, Setting};
@@ -29,13 +28,13 @@ impl Control {
         cells: &mut Cells,
         view: View,
         node: u32,
-    ) -> Next
+    ) -> Result<(), u8>
         requires ready { IsStepping code.now self.old }
         requires node { node < length code.now.trees }
         requires view { HasNumbers view }
-        ensures step { outcome_at code.now result (moment_at code.now self.new cells.new) ≡ statements.begin_step (here_at code.now view self.old cells.old) (tree_at code.now.trees node) }
-        ensures settled { IsSettled result self.old cells.old self.new cells.new }
-        ensures numbers { FitsProgram code.now result }
+        ensures step { outcome_at code.now (next_of result) (moment_at code.now self.new cells.new) ≡ statements.begin_step (here_at code.now view self.old cells.old) (tree_at code.now.trees node) }
+        ensures settled { IsSettled (next_of result) self.old cells.old self.new cells.new }
+        ensures numbers { FitsProgram code.now (next_of result) }
         ensures frames { AreFrames code.now self.new.frames }
     {
         let step = code.child(Some(node), 0);
@@ -51,14 +50,14 @@ impl Control {
         view: View,
         part: Option<u32>,
         then: Option<Item>,
-    ) -> Next
+    ) -> Result<(), u8>
         requires ready { IsStepping code.now self.old }
         requires part { IsPart code.now.trees part }
         requires then { IfSome then (IsItem code.now) }
         requires view { HasNumbers view }
-        ensures step { outcome_at code.now result (moment_at code.now self.new cells.new) ≡ statements.makes_step (kind_of (part_at code.now.trees part)) (here_at code.now view self.old cells.old) (part_at code.now.trees part) (items_if code.now then) }
-        ensures settled { IsSettled result self.old cells.old self.new cells.new }
-        ensures numbers { FitsProgram code.now result }
+        ensures step { outcome_at code.now (next_of result) (moment_at code.now self.new cells.new) ≡ statements.makes_step (kind_of (part_at code.now.trees part)) (here_at code.now view self.old cells.old) (part_at code.now.trees part) (items_if code.now then) }
+        ensures settled { IsSettled (next_of result) self.old cells.old self.new cells.new }
+        ensures numbers { FitsProgram code.now (next_of result) }
         ensures frames { AreFrames code.now self.new.frames }
     {
         match code.kind(part) {
@@ -80,7 +79,7 @@ impl Control {
             _ => {
                 self.step();
                 self.then_if(then);
-                Next::Quiet
+                Ok(())
             }
         }
     }
@@ -95,18 +94,18 @@ impl Control {
         place: Option<u32>,
         right: Result<i32, u8>,
         then: Option<Item>,
-    ) -> Next
+    ) -> Result<(), u8>
         requires ready { IsStepping code.now self.old }
         requires place { IsPart code.now.trees place }
         requires then { IfSome then (IsItem code.now) }
         requires view { HasNumbers view }
-        ensures step { outcome_at code.now result (moment_at code.now self.new cells.new) ≡ statements.assigns (here_at code.now view self.old cells.old) which (part_at code.now.trees place) right (items_if code.now then) }
-        ensures settled { IsSettled result self.old cells.old self.new cells.new }
-        ensures numbers { FitsProgram code.now result }
+        ensures step { outcome_at code.now (next_of result) (moment_at code.now self.new cells.new) ≡ statements.assigns (here_at code.now view self.old cells.old) which (part_at code.now.trees place) right (items_if code.now then) }
+        ensures settled { IsSettled (next_of result) self.old cells.old self.new cells.new }
+        ensures numbers { FitsProgram code.now (next_of result) }
         ensures frames { AreFrames code.now self.new.frames }
     {
         match self.place_cell(code, cells, view, place) {
-            Err(trap) => Next::Trap(trap),
+            Err(trap) => Err(trap),
             Ok(cell) => {
                 let number = new_number(which, cells.number(cell), right);
                 self.set_cell(code, cells, view, cell, number, then)
@@ -124,22 +123,22 @@ impl Control {
         cell: usize,
         number: Result<i32, u8>,
         then: Option<Item>,
-    ) -> Next
+    ) -> Result<(), u8>
         requires ready { IsStepping code.now self.old }
         requires then { IfSome then (IsItem code.now) }
         ensures step { let here = here_at code.now view self.old cells.old in
-            outcome_at code.now result (moment_at code.now self.new cells.new) ≡ with_result number (λ number. sets here cell number (items_if code.now then)) }
-        ensures settled { IsSettled result self.old cells.old self.new cells.new }
-        ensures numbers { FitsProgram code.now result }
+            outcome_at code.now (next_of result) (moment_at code.now self.new cells.new) ≡ with_result number (λ number. sets here cell number (items_if code.now then)) }
+        ensures settled { IsSettled (next_of result) self.old cells.old self.new cells.new }
+        ensures numbers { FitsProgram code.now (next_of result) }
         ensures frames { AreFrames code.now self.new.frames }
     {
         match number {
-            Err(trap) => Next::Trap(trap),
+            Err(trap) => Err(trap),
             Ok(number) => {
                 self.step();
                 self.then_if(then);
                 cells.set(cell, number);
-                Next::Quiet
+                Ok(())
             }
         }
     }

@@ -7,26 +7,26 @@ use Rattle.c_steps.proofs.control.Control.settle.Goals as goal
 -- src/control/settling.rt:27:9
 pub loop-frame-smaller-in-Over : goal.loop-frame-smaller-in-Over
 loop-frame-smaller-in-Over c =
-    let top : Some c.in-Some.frame ≡ slice_get c.loop-frame.self.frames 0 = search rules in
+    let top : Some c.in-Some.frame.now ≡ slice_get c.loop-frame.self.frames 0 = search rules in
     (moved _ _ _ _ _ _ c.loop-frame.invariant.rest c.drop_top.ensures (over_top c.args.code.now c.args.view _ _ _ c.loop-frame.invariant.so top c.in-Over.ensures)).less
 
 -- src/control/settling.rt:27:9
 pub loop-frame-preserved-in-Over : goal.loop-frame-preserved-in-Over
 loop-frame-preserved-in-Over c =
-    let top : Some c.in-Some.frame ≡ slice_get c.loop-frame.self.frames 0 = search rules in
+    let top : Some c.in-Some.frame.now ≡ slice_get c.loop-frame.self.frames 0 = search rules in
     let next = moved _ _ _ _ _ _ c.loop-frame.invariant.rest c.drop_top.ensures (over_top c.args.code.now c.args.view _ _ _ c.loop-frame.invariant.so top c.in-Over.ensures) in
     record { so = next.so; rest = next.rest }
 
 -- src/control/settling.rt:27:9
 pub loop-frame-smaller-in-Instead : goal.loop-frame-smaller-in-Instead
 loop-frame-smaller-in-Instead c =
-    let top : Some c.in-Some.frame ≡ slice_get c.loop-frame.self.frames 0 = search rules in
+    let top : Some c.in-Some.frame.now ≡ slice_get c.loop-frame.self.frames 0 = search rules in
     (moved _ _ _ _ _ _ c.loop-frame.invariant.rest c.replace_top.ensures (instead_top c.args.code.now c.args.view _ _ _ c.loop-frame.invariant.so top _ c.in-Instead.ensures)).less
 
 -- src/control/settling.rt:34:25
 pub returns-then-not-is_passed_over-clause-task : goal.returns-then-not-is_passed_over-clause-task
 returns-then-not-is_passed_over-clause-task c =
-    let top : Some c.in-Some.frame ≡ slice_get c.loop-frame.self.frames 0 = search rules in
+    let top : Some c.in-Some.frame.now ≡ slice_get c.loop-frame.self.frames 0 = search rules in
     let stays : is_passed_over (item_at c.args.code.now c.in-Found.item) c.args.view ≡ false = search rules in
     let front = front_top c.args.code.now c.args.view _ _ _ c.loop-frame.invariant.so top c.in-Found.item c.in-Found.ensures in
     settled_at_front c.args.code.now c.args.view _ _ c.in-Found.item c.loop-frame.invariant.rest c.loop-frame.invariant.so front stays
@@ -35,19 +35,19 @@ returns-then-not-is_passed_over-clause-task c =
 pub returns-then-not-is_passed_over-clause-found :
     goal.returns-then-not-is_passed_over-clause-found
 returns-then-not-is_passed_over-clause-found c =
-    let top : Some c.in-Some.frame ≡ slice_get c.loop-frame.self.frames 0 = search rules in
+    let top : Some c.in-Some.frame.now ≡ slice_get c.loop-frame.self.frames 0 = search rules in
     front_top c.args.code.now c.args.view _ _ _ c.loop-frame.invariant.so top c.in-Found.item c.in-Found.ensures
 
 -- src/control/settling.rt:36:21
 pub begin-requires : goal.begin-requires
 begin-requires c =
-    let top : Some c.in-Some.frame ≡ slice_get c.loop-frame.self.frames 0 = search rules in
+    let top : Some c.in-Some.frame.now ≡ slice_get c.loop-frame.self.frames 0 = search rules in
     (front_top c.args.code.now c.args.view _ _ _ c.loop-frame.invariant.so top c.in-Found.item c.in-Found.ensures).can_begin
 
 -- src/control/settling.rt:27:9
 pub loop-frame-preserved : goal.loop-frame-preserved
 loop-frame-preserved c =
-    let top : Some c.in-Some.frame ≡ slice_get c.loop-frame.self.frames 0 = search rules in
+    let top : Some c.in-Some.frame.now ≡ slice_get c.loop-frame.self.frames 0 = search rules in
     let past : is_passed_over (item_at c.args.code.now c.in-Found.item) c.args.view ≡ true = search rules in
     let next = moved _ _ _ _ _ _ c.loop-frame.invariant.rest c.begin.ensures (past_top c.args.code.now c.args.view _ _ _ c.loop-frame.invariant.so top c.in-Found.item c.in-Found.ensures past) in
     record { so = next.so; rest = next.rest }
