@@ -1,0 +1,7 @@
+mod Written
+mod Rows
+mod Facts
+mod Coming
+mod Turns
+mod Recording
+mod SerialLaws

@@ -1,0 +1,81 @@
+-- Silent steps: what a thread does between events. A step of its current task's code may have to be told the next chunk, the next section, or
+-- whether a lock is owned.
+use Rattle.std.specs.Prelude.{ℕ, not, if◌then◌else◌, slice_index_or, Option, None, option_map}
+use Rattle.c_syntax.specs.Tree.{Tree}
+use Rattle.c_syntax.specs.Derivation.{nothing}
+use Rattle.c_model.specs.declared.question.Answer.{Answer}
+use Rattle.c_model.specs.declared.question.Answer.TheVariants as answer
+use Rattle.c_model.specs.declared.question.Ask.{Ask}
+use Rattle.c_model.specs.declared.question.Ask.TheVariants as ask
+use Rattle.c_model.specs.Clauses.{statements_among}
+use Rattle.c_model.specs.Going.{after_answer}
+use Rattle.c_model.specs.Parts.{parts}
+use Rattle.c_model.specs.Program.{place_of}
+use Rattle.c_model.specs.Step.{silent}
+use Rattle.c_model.specs.Task.{Outcome}
+use Rattle.c_model.specs.Task.Outcome.{Asks, Ends, Limits, Occurs, StepsTo, Traps}
+use Rattle.team_parts.specs.Team.{TeamView, after_chunk, after_section, next_chunk, next_section}
+use Rattle.omp_world.specs.declared.event.Halt.{Halt}
+use Rattle.omp_world.specs.declared.event.Halt.TheVariants.{Limit, Trap}
+use Rattle.omp_world.specs.declared.event.Share.{Share}
+use Rattle.omp_world.specs.declared.event.Share.TheVariants.{Chunk, Section}
+use Rattle.omp_world.specs.State.{Run, World}
+use Rattle.omp_world.specs.Members.{current, current_index, current_region, current_team, is_member, moment_of, view_of}
+use Rattle.omp_world.specs.Gates.{is_owned}
+use Rattle.omp_world.specs.Changes.{gone_to, sharing, with_team}
+
+-- what the team and the locks answer to what is asked
+abbrev pub answer_to : World → ℕ → Ask → Answer
+answer_to W t ask.Chunk = answer.Chunk (if is_member W t then next_chunk (current_team W t) (current_index W t) else None)
+answer_to W t ask.Section = answer.Section (if is_member W t then next_section (current_team W t) (current_index W t) else None)
+answer_to W t (ask.LockFree wait_id) = answer.Free (not (is_owned W wait_id))
+
+-- the team after that
+abbrev pub team_asked : TeamView → ℕ → Ask → TeamView
+team_asked team i ask.Chunk = after_chunk team i
+team_asked team i ask.Section = after_section team i
+team_asked team i (ask.LockFree wait_id) = team
+
+abbrev pub team_after : World → ℕ → Ask → TeamView
+team_after W t ask = if is_member W t then team_asked (current_team W t) (current_index W t) ask else current_team W t
+
+-- the share of work that was taken, if one was
+abbrev pub share_of_chunk : ℕ × ℕ → Share
+share_of_chunk chunk = Chunk chunk.0 chunk.1
+
+-- a section stands at its directive, and a first one without a directive at its statement
+abbrev pub share_of_section : Tree → ℕ → Share
+share_of_section construct section = Section (place_of (slice_index_or (statements_among (parts construct)) section nothing))
+
+abbrev pub share_taken : Tree → Answer → Option Share
+share_taken construct (answer.Chunk chunk) = option_map share_of_chunk chunk
+share_taken construct (answer.Section section) = option_map (share_of_section construct) section
+share_taken construct (answer.Free free) = None
+
+-- the world after what was asked in this construct or call has been answered
+abbrev pub answered_by : World → ℕ → Ask → Tree → Answer → World
+answered_by W t ask tree given =
+    with_team
+    (sharing (gone_to W (current W t) (after_answer (view_of W t) given (moment_of W t))) t (share_taken tree given))
+    (current_region W t)
+    (team_after W t ask)
+
+abbrev pub answered : World → ℕ → Ask → Tree → World
+answered W t ask tree = answered_by W t ask tree (answer_to W t ask)
+
+-- What one silent step comes to: the world after it, or the trap or limit that halts the run. An event or the end is no silent step, and nothing is done
+-- there.
+pub data Silence : Type 0 where
+  Goes : (after : World) → Silence
+  Stops : Halt → Silence
+
+abbrev pub silence_of : World → ℕ → Outcome → Silence
+silence_of W t (StepsTo now) = Goes (gone_to W (current W t) now)
+silence_of W t (Asks ask tree) = Goes (answered W t ask tree)
+silence_of W t (Occurs point tree) = Goes W
+silence_of W t (Ends number) = Goes W
+silence_of W t (Traps trap) = Stops (Trap trap)
+silence_of W t (Limits limit) = Stops (Limit limit)
+
+unfoldable pub silent_step : Run → World → ℕ → Silence
+silent_step run W t = silence_of W t (silent run.program (view_of W t) (moment_of W t))

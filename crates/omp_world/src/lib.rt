@@ -1,0 +1,44 @@
+//! The profile's OpenMP machine over programs, as definitions.
+//!
+//! Nothing runs on them yet: today's machine is that of `omp_model`, for programs of empty parallel blocks, and this one will take its place.
+//! `docs/programs.md` tells it in words. `specs/` says it over the tree of a program, plain lists and numbers:
+//!
+//! - `State`: threads, tasks, regions, cells and locks, and what stands beside them;
+//! - `Members`: where a thread is: its task, its region, its number in the region's team;
+//! - `Gates`: what a thread comes to next, and whether it has to wait for it, with no expression evaluated;
+//! - `Changes`: the words of change, of which effects are made;
+//! - `Silent`: silent steps, and what the team and the locks answer to what a step asks;
+//! - `Going` and `Returning`: what happens at an event's Go, with the traps and limits that it meets, and at its callback's Back;
+//! - `Turn`: up to 64 silent steps and an event;
+//! - `Words`, `Frames`, `Snapshots`, `Calls`: what a tool hears of an event, and what it can inquire meanwhile;
+//! - `Legal`, `Cause`, `Heard`, `Records`: histories, why a run ends, and what is heard of it;
+//! - `Serial`, `Storing`, `Running`: the serial order.
+//!
+//! What one task's code does between events is `c_model`'s, what a team meets `team_parts`', tasks with their ready order `task_pool`'s, and locks
+//! `sync_objects`'. The entries of histories are those of `omp_model`.
+//!
+//! The definitions are total. A thread that isn't a member of its region's team meets nothing and is dealt nothing, a finished task doesn't
+//! start, and nothing happens to what wasn't made. No law says yet that no run meets one of these.
+//!
+//! Proved, by the contract of the function that is named:
+//!
+//! - a thread is enabled exactly where it is inside no callback, the run isn't halted and its turn is one ([`enabled_threads_have_turns`]);
+//! - two serial histories of a run in which nothing is stored, and that go on to its end, are the same, and each is the one that `serial`
+//!   computes ([`serial_history_is_one`]).
+//!
+//! In `proofs/` serial runs of small programs are computed: `Rows` has seven with each line that a tool hears, the cause and the count of entries,
+//! and `Facts` single lines, a run with stores, states and a snapshot. That the definitions are OpenMP's is for their reader to judge.
+#![tactic(auto)]
+
+mod event;
+mod laws;
+mod limits;
+mod parts;
+
+pub use event::{Callback, Endpoint, Event, Halt, Outcome, Share};
+pub use laws::{enabled_threads_have_turns, serial_history_is_one};
+pub use limits::{
+    IMPLICIT_REGION, INITIAL_TASK, MISMATCH, NESTING, STACK, STACK_LIMIT, STEPS, STEPS_OF_A_TURN,
+    STORE_LIMIT, TASKS, TEAM_SIZE, TURN_LIMIT, TURNS,
+};
+pub use parts::{RegionHead, ThreadStage};
