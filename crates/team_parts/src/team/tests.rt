@@ -95,7 +95,7 @@ fn next_section(team: &mut Team, member: u32) -> Result<Option<u32>, Fail> {
 
 fn arrive(team: &mut Team, member: u32) -> Result<(), Fail> {
     match last_met(team, member) {
-        Meeting::Barrier { .. } => {
+        Meeting::Barrier { .. } if member < team.size() => {
             team.arrive(member);
             Ok(())
         }
@@ -105,14 +105,14 @@ fn arrive(team: &mut Team, member: u32) -> Result<(), Fail> {
 
 fn may_pass(team: &Team, member: u32, unfinished: u32) -> Result<bool, Fail> {
     match last_met(team, member) {
-        Meeting::Barrier { .. } => Ok(team.may_pass(member, unfinished)),
+        Meeting::Barrier { .. } if member < team.size() => Ok(team.may_pass(member, unfinished)),
         _ => Err(Fail::from("no barrier")),
     }
 }
 
 fn pass(team: &mut Team, member: u32) -> Result<(), Fail> {
     match last_met(team, member) {
-        Meeting::Barrier { .. } if team.may_pass(member, 0) => {
+        Meeting::Barrier { .. } if member < team.size() && team.may_pass(member, 0) => {
             team.pass(member);
             Ok(())
         }
