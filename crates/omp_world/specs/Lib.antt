@@ -17,3 +17,6 @@ pub mod Serial
 pub mod Storing
 pub mod Records
 pub mod Running
+pub mod Made
+pub mod Named
+pub mod Conditions

@@ -12,19 +12,27 @@
 //! - `Turn`: up to 64 silent steps and an event;
 //! - `Words`, `Frames`, `Snapshots`, `Calls`: what a tool hears of an event, and what it can inquire meanwhile;
 //! - `Legal`, `Cause`, `Heard`, `Records`: histories, why a run ends, and what is heard of it;
-//! - `Serial`, `Storing`, `Running`: the serial order.
+//! - `Serial`, `Storing`, `Running`: the serial order;
+//! - `Made`, `Named`, `Conditions`: what a state names, and what a tool hears and inquires, was made, and how far its tasks have come.
 //!
 //! What one task's code does between events is `c_model`'s, what a team meets `team_parts`', tasks with their ready order `task_pool`'s, and locks
 //! `sync_objects`'. The entries of histories are those of `omp_model`.
 //!
 //! The definitions are total. A thread that isn't a member of its region's team meets nothing and is dealt nothing, a finished task doesn't
-//! start, and nothing happens to what wasn't made. No law says yet that no run meets one of these.
+//! start, and nothing happens to what wasn't made. No run meets the first two, and what a run names was made: the laws below say so. Of the region of
+//! a `ParallelEnd` they don't say that there is one, and not 0.
 //!
 //! Proved, by the contract of the function that is named:
 //!
 //! - a thread is enabled exactly where it is inside no callback, the run isn't halted and its turn is one ([`enabled_threads_have_turns`]);
 //! - two serial histories of a run in which nothing is stored, and that go on to its end, are the same, and each is the one that `serial`
-//!   computes ([`serial_history_is_one`]).
+//!   computes ([`serial_history_is_one`]);
+//! - after each legal history of a run that has a thread, all that the state names was made ([`what_a_run_names_was_made`]), and each thread with a
+//!   task is a member of its region's team ([`threads_with_tasks_are_members`]);
+//! - what a tool hears of an event that has just occurred, and what it can inquire, was made ([`what_a_tool_hears_was_made`]), so the stores of its
+//!   reply may stand ([`stores_of_replies_may_stand`]);
+//! - after each legal history of a run that has a thread, each task on a stack is under way, each ready one is ready, and what is to start, to finish
+//!   or to become ready does so ([`tasks_are_orderly`]).
 //!
 //! In `proofs/` serial runs of small programs are computed: `Rows` has seven with each line that a tool hears, the cause and the count of entries,
 //! and `Facts` single lines, a run with stores, states and a snapshot. That the definitions are OpenMP's is for their reader to judge.
@@ -36,7 +44,11 @@ mod limits;
 mod parts;
 
 pub use event::{Callback, Endpoint, Event, Halt, Outcome, Share};
-pub use laws::{enabled_threads_have_turns, serial_history_is_one};
+pub use laws::{
+    enabled_threads_have_turns, serial_history_is_one, stores_of_replies_may_stand,
+    tasks_are_orderly, threads_with_tasks_are_members, what_a_run_names_was_made,
+    what_a_tool_hears_was_made,
+};
 pub use limits::{
     IMPLICIT_REGION, INITIAL_TASK, MISMATCH, NESTING, STACK, STACK_LIMIT, STEPS, STEPS_OF_A_TURN,
     STORE_LIMIT, TASKS, TEAM_SIZE, TURN_LIMIT, TURNS,
