@@ -17,10 +17,10 @@ use Rattle.omp_world.specs.declared.limits.TheConstants.{IMPLICIT_REGION, INITIA
 use Rattle.omp_world.specs.declared.parts.RegionHead.{RegionHead}
 use Rattle.omp_world.specs.declared.parts.ThreadStage.{ThreadStage}
 use Rattle.omp_world.specs.declared.parts.ThreadStage.TheVariants as stage
-use Rattle.omp_world.specs.State.{Region, Task, Thread, World, no_region, no_task, pooled_at, region_at, task_at, task_with, thread_at, unmade, with_region, with_task, with_thread}
+use Rattle.omp_world.specs.State.{Region, Task, Thread, World, is_under_way, no_region, no_task, pooled_at, region_at, task_at, task_with, thread_at, unmade, with_region, with_task, with_thread}
 use Rattle.omp_world.specs.Members.{is_outermost, region_of}
 use Rattle.omp_world.specs.Words.{is_made_thread}
-use Rattle.omp_world.specs.Changes.{all_summoned, detained, finished, is_fresh, is_under_way, made, opened, popped, readied, region_made, started, summoned, taken_up, task_made, pushed, with_code, with_head, with_team}
+use Rattle.omp_world.specs.Changes.{all_summoned, detained, finished, is_fresh, made, opened, popped, readied, region_made, started, summoned, taken_up, task_made, pushed, with_code, with_head, with_team}
 use Rattle.omp_world.specs.Made.{IsTask, IsRegion, IsThread, IsRegionOf, IsTaskOf, MadeThread, MadeRegion, IsMadeWorld}
 use Rattle.omp_world.proofs.Later.{at-set, SameTeam, same-team, Later, later-same, later-then, task-later, region-later, thread-later, made-region-later}
 

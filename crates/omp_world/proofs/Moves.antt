@@ -13,9 +13,9 @@ use Rattle.task_pool.specs.declared.task.TaskKind.TheVariants as kind
 use Rattle.task_pool.specs.Tasks.{is_explicit, is_finished, task_at as pool_task_at, no_task as no_pool_task, with_condition}
 use Rattle.task_pool.specs.View.{fresh_task, is_other, with_finished, with_ready, with_started}
 use Rattle.omp_world.specs.declared.limits.TheConstants.{INITIAL_TASK}
-use Rattle.omp_world.specs.State.{Task, Thread, World, no_task, pooled_at, task_at, task_with, thread_at, unmade}
+use Rattle.omp_world.specs.State.{Task, Thread, World, is_under_way, no_task, pooled_at, task_at, task_with, thread_at, unmade}
 use Rattle.omp_world.specs.Members.{current}
-use Rattle.omp_world.specs.Changes.{detained, finished, is_fresh, is_under_way, popped, readied, started, taken_up, task_made}
+use Rattle.omp_world.specs.Changes.{detained, finished, is_fresh, popped, readied, started, taken_up, task_made}
 use Rattle.omp_world.specs.Words.{is_made_thread}
 use Rattle.omp_world.specs.Made.{IsMadeWorld, IsTask, IsThread}
 use Rattle.omp_world.specs.Conditions.{AreOrderly, Distinct, HasEnded, IsReady, IsToStart, IsUnderWay, Lacks, WasCreated, WasTakenUp, has_started}

@@ -15,7 +15,7 @@ use Rattle.omp_world.specs.declared.parts.RegionHead.{RegionHead}
 use Rattle.omp_world.specs.declared.parts.ThreadStage.{ThreadStage}
 use Rattle.omp_world.specs.declared.parts.ThreadStage.TheVariants as stage
 use Rattle.omp_world.specs.declared.event.Share.{Share}
-use Rattle.omp_world.specs.State.{Region, Thread, World, pooled_at, region_at, task_at, task_with, thread_at, with_region, with_task, with_thread}
+use Rattle.omp_world.specs.State.{Region, Thread, World, is_under_way, pooled_at, region_at, task_at, task_with, thread_at, with_region, with_task, with_thread}
 use Rattle.omp_world.specs.Members.{is_outermost}
 
 -- Threads.
@@ -83,10 +83,6 @@ task_made W parent r kind code =
 abbrev pub is_fresh : Condition → Bool
 is_fresh condition.Made = true
 is_fresh other = false
-
-abbrev pub is_under_way : Condition → Bool
-is_under_way condition.Started = true
-is_under_way other = false
 
 abbrev pub readied : World → ℕ → World
 readied W k = if is_fresh (pooled_at W k).condition then record W { pool = with_ready W.pool k } else W

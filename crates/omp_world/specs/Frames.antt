@@ -2,18 +2,11 @@
 -- the Go of an event.
 use Rattle.std.specs.Prelude.{ℕ, ◌+◌, ◌*◌, length, drop, ◌==◌, ◌&&◌, ◌||◌, not, Bool, true, false, if◌then◌else◌}
 use Rattle.ompt_calls.specs.declared.call.Frame.{Frame}
-use Rattle.task_pool.specs.declared.task.Condition.{Condition}
-use Rattle.task_pool.specs.declared.task.Condition.TheVariants as condition
 use Rattle.omp_world.specs.declared.limits.TheConstants.{INITIAL_TASK}
 use Rattle.omp_world.specs.declared.event.Event.{Event}
 use Rattle.omp_world.specs.declared.event.Event.TheVariants.{InitialTaskBegin, MemberBegin, TaskBegin}
-use Rattle.omp_world.specs.State.{World, pooled_at, task_at, thread_at}
+use Rattle.omp_world.specs.State.{World, is_under_way, pooled_at, task_at, thread_at}
 use Rattle.omp_world.specs.Members.{current}
-
--- a task that has started and hasn't finished
-abbrev pub is_started : Condition → Bool
-is_started condition.Started = true
-is_started other = false
 
 -- the event starts the current task of its thread
 abbrev pub starts_task : Event → Bool
@@ -39,11 +32,11 @@ is_inside W t event u k below =
 -- the initial task's code has no frame outside of it
 abbrev pub exit_word : World → ℕ → ℕ → ℕ → ℕ
 exit_word W u k below =
-    if is_started (pooled_at W k).condition && not (k == INITIAL_TASK) then frame_base u below else 0
+    if is_under_way (pooled_at W k).condition && not (k == INITIAL_TASK) then frame_base u below else 0
 
 abbrev pub enter_word : World → ℕ → Event → ℕ → ℕ → ℕ → ℕ
 enter_word W t event u k below =
-    if is_started (pooled_at W k).condition && is_inside W t event u k below then frame_base u below + 32768 else 0
+    if is_under_way (pooled_at W k).condition && is_inside W t event u k below then frame_base u below + 32768 else 0
 
 -- the frame of a task of thread u with so many below it, at an event of thread t
 abbrev pub frame_of : World → ℕ → Event → ℕ → ℕ → ℕ → Frame

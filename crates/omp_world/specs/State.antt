@@ -1,12 +1,14 @@
 -- The state of the machine: threads, tasks, regions, cells and locks, and beside them the callbacks that haven't returned, the counts of silent
 -- steps and turns, and what halted the run.
-use Rattle.std.specs.Prelude.{ℕ, ◌-◌, false, List, [], ◌∷◌, Option, None, replicate, slice_index_or, slice_set}
+use Rattle.std.specs.Prelude.{ℕ, ◌-◌, Bool, true, false, List, [], ◌∷◌, Option, None, replicate, slice_index_or, slice_set}
 use Rattle.c_syntax.specs.Numbered.{TreeView}
 use Rattle.c_check.specs.Seen.{critical_count}
 use Rattle.c_model.specs.Task.{Store, Task as Code}
 use Rattle.c_model.specs.Begin.{blank_task, first_store, main_task}
 use Rattle.task_pool.specs.Tasks.{task_at as pool_task_at}
 use Rattle.task_pool.specs.View.{PoolView, no_pool, with_added}
+use Rattle.task_pool.specs.declared.task.Condition.{Condition}
+use Rattle.task_pool.specs.declared.task.Condition.TheVariants as condition
 use Rattle.task_pool.specs.declared.task.Task.{Task as PoolTask}
 use Rattle.task_pool.specs.declared.task.TaskKind.TheVariants as kind
 use Rattle.team_parts.specs.Team.{TeamView, new_member}
@@ -112,6 +114,11 @@ task_at W k = slice_index_or W.tasks k no_task
 
 abbrev pub pooled_at : World → ℕ → PoolTask
 pooled_at W k = pool_task_at W.pool.tasks k
+
+-- a task that has started and hasn't finished
+abbrev pub is_under_way : Condition → Bool
+is_under_way condition.Started = true
+is_under_way other = false
 
 -- the region with this identity
 abbrev pub region_at : World → ℕ → Region
