@@ -13,6 +13,7 @@ pub mod Statements
 pub mod Constructs
 pub mod Step
 pub mod Answers
+pub mod Asked
 pub mod Going
 pub mod Standing
 pub mod Upcoming

@@ -15,7 +15,7 @@
 //! - `Standing`: which outcomes there are where an event or the end stands next;
 //! - `Upcoming`: what comes next by its form, and which regions are open;
 //! - `Known`: the traps and limits that a task's code can come to;
-//! - `Answers`: which answers are given to what a task asks;
+//! - `Answers`: which answers are given to what a task asks, and `Asked`: how much there is of the work that asks;
 //! - `Going`: how it goes on after an answer or an event;
 //! - `Begin`: how the code of main, of a member of a team and of an explicit task begins;
 //! - `Occurring`: of which item an event or a question is;

@@ -9,7 +9,7 @@ use Rattle.c_model.specs.Task.{Item}
 use Rattle.c_model.specs.Task.Item.{NextChunk, NextSection}
 use Rattle.c_model.specs.declared.view.View.{View}
 use Rattle.c_model.specs.Step.{items_from_next}
-use Rattle.c_steps.specs.Asked.{count_asked, count_of_item, sections_asked, sections_of_item}
+use Rattle.c_model.specs.Asked.{count_asked, count_of_item, sections_asked, sections_of_item}
 use Rattle.c_steps.proofs.Giving.{nothing_past}
 
 pub chunk_answers : (items : List Item) (tree : Tree) (given : Answer) → IsAskOfNext ask.Chunk tree items → IsChunkAnswer (count_asked items) given → AnswersFirst items given

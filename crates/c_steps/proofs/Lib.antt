@@ -28,6 +28,7 @@ mod PrintingText
 pub mod Replacing
 pub mod Rests
 mod Returning
+mod Sections
 mod Settling
 pub mod Standing
 mod StepNames

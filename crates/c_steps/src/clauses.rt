@@ -8,6 +8,7 @@ ghost use Rattle.c_syntax.specs.Numbered.{tree_at};
 ghost use Rattle.c_check.specs.Statements as statements;
 ghost use Rattle.c_model.specs.Clauses as clauses;
 ghost use Rattle.c_model.specs.Parts.{parts};
+ghost use Rattle.c_model.specs.Program.{place_of};
 ghost use Rattle.c_steps.specs.Nodes.{IsPart, part_at};
 ghost use Rattle.c_steps.specs.Rests.{clauses_from, statements_from, with_clause, with_statement, IsFound};
 
@@ -183,21 +184,44 @@ pub(crate) fn section_count(code: &Code, construct: u32) -> u32
 }
 
 /// What a section executes, counted from 0. A part that is missing past the last.
-#[tactic(auto, unfolding(c_check::specs::Tasks::from_place))]
+#[tactic(auto, using(crate::proofs::Sections::nth_section))]
 pub(crate) fn section(code: &Code, construct: u32, number: u32) -> Option<u32>
     requires { construct < length code.now.trees }
     ensures statement { part_at code.now.trees result ≡ slice_index_or (clauses.sections_of (tree_at code.now.trees construct)) number nothing }
     ensures there { IsPart code.now.trees result }
 {
+    section_statement(code, nth_statement(code, construct, number))
+}
+
+/// A part of a construct behind its clauses, counted from 0. A part that is missing past the last.
+#[tactic(auto, unfolding(c_check::specs::Tasks::from_place))]
+fn nth_statement(code: &Code, construct: u32, number: u32) -> Option<u32>
+    requires { construct < length code.now.trees }
+    ensures statement { part_at code.now.trees result ≡ slice_index_or (clauses.statements_among (parts (tree_at code.now.trees construct))) number nothing }
+    ensures there { IsPart code.now.trees result }
+{
     let (mut left, mut place) = (number, 0);
     while let Some(found) = next_statement(code, construct, place) {
         if left == 0 {
-            return section_statement(code, found.part);
+            return found.part;
         }
         left -= 1;
         place = found.next;
     }
     None
+}
+
+impl Code {
+    /// The place of a section as tools are told it, counted from 0: its directive's, or its statement's where it has none. 0 past the last.
+    pub fn section_place(&self, construct: u32, number: u32) -> u64
+        requires { construct < length self.now.trees }
+        ensures { result ≡ place_of (slice_index_or (clauses.statements_among (parts (tree_at self.now.trees construct))) number nothing) }
+    {
+        match nth_statement(self, construct, number) {
+            Some(part) => self.place(part),
+            None => 0,
+        }
+    }
 }
 
 /// What a section executes. The first one may be a statement without a `section` before it.

@@ -97,6 +97,13 @@ impl Model for Control {
 }
 
 impl Control {
+    /// What the last call that ended gave, if it gave something. At the end of main's code it is what main returned.
+    pub fn returned(&self) -> Option<i32>
+        ensures { result ≡ self.now.returned }
+    {
+        self.returned
+    }
+
     /// The item that stands next begins.
     #[inline(always)]
     fn begin(&mut self)

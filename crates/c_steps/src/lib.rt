@@ -9,7 +9,7 @@
 //! - [`Control::stands`] tells whether an event or the end stands next.
 //! - [`Control::upcoming`] tells what comes next as far as its form does, and [`Control::is_in_work`], [`Control::is_in_exclusive`] and
 //!   [`Control::is_in_critical`] in which regions of constructs the task is.
-//! - [`Control::value`] is the number of an expression where the code stands.
+//! - [`Control::value`] is the number of an expression where the code stands, and [`Control::returned`] what the last call gave.
 //! - [`Control::asked_count`] and [`Control::asked_sections`] tell how much there is of the work that asks.
 //! - [`Control::main`], [`Control::member`] and [`Control::task`] are how the code of each kind of task begins. [`Control::blank`] and
 //!   [`Control::clear`] have no code, and [`Control::reserve`] makes room.
@@ -19,8 +19,9 @@
 //!
 //! The modules: `code` with `file`, `functions`, `widths`; `parts`, `clauses`, `listed` and `loops`, which read the tree; `scope` with
 //! `numbers`, the numbers of expressions, and `printing`; `names`, `stack` and `cells`, which have room; `item`, `frame` and `look`, what stands
-//! next; `copies`, a construct's own cells; and `control`, with a file for each family of forms. In `specs/` `Items`, `Held`, `Made`, `Passing`
-//! and `Advancing` are what contracts of public calls cite; the others serve those of private ones.
+//! next; `copies`, a construct's own cells; and `control`, with a file for each family of forms, `around` for the regions that a task is in, and
+//! `upcoming` for what comes next. In `specs/` `Items`, `Held`, `Made`, `Passing` and `Advancing` are what contracts of public calls cite; the
+//! others serve those of private ones.
 //!
 //! Nothing is claimed of the time of a step. That the cells are those that the control's names have is the caller's to see to.
 #![tactic(auto)]

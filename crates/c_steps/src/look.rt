@@ -35,6 +35,7 @@ pub(crate) fn look_at(code: &Code, frame: &Frame) -> Look
     requires { IsFrame code.now frame.now }
     ensures { Looks code.now frame.now result }
 {
+    // The two items that stand next most often have arms of their own, so that nothing else of an item is copied for them.
     match *frame {
         Frame::One(Item::Start(part)) => Look::Found(Item::Start(part)),
         Frame::One(Item::Leave(names)) => Look::Found(Item::Leave(names)),

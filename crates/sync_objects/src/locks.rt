@@ -110,12 +110,14 @@ impl Locks {
         }
     }
 
-    /// The task owns the lock from now on.
+    /// The task owns the lock from now on, if it is initialised.
     pub fn take(&mut self, id: u32, task: TaskId)
-        requires { answer_to_may_take self.old.locks id ≡ Ok true }
         ensures { self.new ≡ record self.old { locks = with_owner self.old.locks id (Some task) } }
     {
-        set_hold(&mut self.entries, id, Hold::Owned(task));
+        match self.hold(id) {
+            Hold::Absent => {}
+            Hold::Free | Hold::Owned(_) => set_hold(&mut self.entries, id, Hold::Owned(task)),
+        }
     }
 
     /// The task gives the lock back, which is free from now on. Where the lock isn't initialised, or the task doesn't

@@ -1,7 +1,7 @@
 //! A team: its members, and what they have met.
 
 ghost use Rattle.std.specs.Prelude.{◌≡◌, ◌<◌, ◌≤◌, [], IfOk, OnOk, OnErr, length, replicate, take, map, slice_get};
-ghost use Rattle.team_parts.specs.Team.{new_member, IsInLoop, IsInSections, meeting_answer, answer_to_meet, after_meeting, next_chunk, after_chunk, next_section, after_section, with_begun, may_pass, with_passed, last_number};
+ghost use Rattle.team_parts.specs.Team.{new_member, meeting_answer, answer_to_meet, after_meeting, next_chunk, after_chunk, next_section, after_section, with_begun, may_pass, with_passed, last_number};
 ghost use Rattle.team_parts.specs.Meetings.{HasChunk};
 ghost use Rattle.team_parts.specs.Gatherings.{meeting_of};
 ghost use Rattle.team_parts.specs.Sound.{IsFewest};
@@ -124,29 +124,33 @@ impl Team {
     }
 
     /// The member takes the next chunk of the loop that it met last: its first iteration, counted from 0, and its
-    /// length. There is none where no iteration is left for the member.
+    /// length. There is none where no iteration is left for the member, or where it met something else last, or nothing.
     pub fn next_chunk(&mut self, member: u32) -> Option<(u64, u64)>
-        requires { IsInLoop self.old member }
+        requires { member < length self.old.members }
         ensures answer { result ≡ next_chunk self.old member }
         ensures taken { self.new ≡ after_chunk self.old member }
     {
         let size = self.members.len() as u64;
         let last = self.last_number(member);
-        let gathering = &mut self.meetings[last];
-        gathering.take_chunk(size, member)
+        match self.meetings.get_mut(last) {
+            Some(gathering) => gathering.take_chunk(size, member),
+            None => None,
+        }
     }
 
     /// The member takes the next section of the construct that it met last: its number, counted from 0. There is none
-    /// where each was taken.
+    /// where each was taken, or where the member met something else last, or nothing.
     pub fn next_section(&mut self, member: u32) -> Option<u32>
-        requires { IsInSections self.old member }
+        requires { member < length self.old.members }
         ensures answer { result ≡ next_section self.old member }
         ensures taken { self.new ≡ after_section self.old member }
     {
         let size = self.members.len() as u64;
         let last = self.last_number(member);
-        let gathering = &mut self.meetings[last];
-        gathering.take_section(size, member)
+        match self.meetings.get_mut(last) {
+            Some(gathering) => gathering.take_section(size, member),
+            None => None,
+        }
     }
 
     /// The member begins to wait at the barrier that it met last, if it met one.

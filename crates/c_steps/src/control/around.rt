@@ -1,7 +1,6 @@
 //! In which regions of constructs a task is.
 
 ghost use Rattle.std.specs.Prelude.{◌≡◌};
-ghost use Rattle.c_syntax.specs.Numbered.{TreeView};
 ghost use Rattle.c_model.specs.Upcoming.{has_such, is_in_critical, is_in_exclusive, is_in_work};
 ghost use Rattle.c_steps.specs.Around.{frame_has, is_such, item_is};
 ghost use Rattle.c_steps.specs.Held.{task_at};
