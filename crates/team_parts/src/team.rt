@@ -113,14 +113,22 @@ impl Team {
         ensures met { OnOk result (self.new ≡ after_meeting self.old member what) }
         ensures mismatch { OnErr result (self.new ≡ self.old) }
     {
-        let number = self.members[member as usize].met as usize;
-        let is_first = is_first(&self.meetings, number, what)?;
+        let is_first = self.meeting_answer(member, what)?;
         if is_first {
             self.meetings.push(fresh_gathering(what)).unwrap();
             self.room -= 1;
         }
         self.members[member as usize] = self.members[member as usize].with_meeting(what);
         Ok(is_first)
+    }
+
+    /// What [`Team::meet`] would answer where the member meets this next.
+    pub fn meeting_answer(&self, member: u32, what: Meeting) -> Result<bool, Mismatch>
+        requires { member < length self.now.members }
+        ensures { result ≡ answer_to_meet self.now member what }
+    {
+        let number = self.members[member as usize].met as usize;
+        is_first(&self.meetings, number, what)
     }
 
     /// The member takes the next chunk of the loop that it met last: its first iteration, counted from 0, and its

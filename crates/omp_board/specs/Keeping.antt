@@ -1,0 +1,40 @@
+-- How the tasks are kept: the control of each one that has code, controls without code, and room.
+use Rattle.std.specs.Prelude.{ℕ, ◌+◌, ◌≤◌, List, Option, Some, None, IfSome, length, map, slice_index_or}
+use Rattle.std.specs.List.{All}
+use Rattle.c_syntax.specs.Numbered.{TreeView}
+use Rattle.c_steps.specs.Held.{Held}
+use Rattle.c_steps.specs.Made.{IsMadeFor}
+use Rattle.omp_world.specs.State.{Task as Seen}
+use Rattle.omp_board.specs.declared.task.Task.{Task}
+use Rattle.omp_board.specs.Tasks.{TaskRoom, code_of}
+
+-- what a task that is kept is seen as
+abbrev pub seen_task : TreeView → Task → Seen
+seen_task program task =
+    record { code = code_of program task.control; thread = task.thread; forked = task.forked; word = task.word }
+
+abbrev pub seen_tasks : TreeView → List Task → List Seen
+seen_tasks program tasks = map (seen_task program) tasks
+
+-- a task without code
+abbrev pub kept_nothing : Task
+kept_nothing = record { control = None; thread = 0; forked = 0; word = 0 }
+
+abbrev pub control_at : List Task → ℕ → Option Held
+control_at tasks k = (slice_index_or tasks k kept_nothing).control
+
+abbrev pub IsOfProgram : TreeView → Task → Type 0
+IsOfProgram program task = IfSome task.control (IsMadeFor program)
+
+-- the control has the room that is said
+pub record HasRoomIn (room : TaskRoom) (held : Held) : Type 0 where
+  pub steps : room.steps ≤ held.spare
+  pub passes : room.passes ≤ held.passes
+
+-- each control is of the program, and there is as much room as is said
+pub record IsKept (program : TreeView) (tasks : List Task) (capacity : ℕ) (blanks : List Held) (room : TaskRoom) : Type 0 where
+  pub controls : All (IsOfProgram program) tasks
+  pub blanks : All (IsMadeFor program) blanks
+  pub spare : room.tasks ≤ length blanks
+  pub slots : length tasks + room.tasks ≤ capacity
+  pub steps : IfSome (control_at tasks room.task) (HasRoomIn room)

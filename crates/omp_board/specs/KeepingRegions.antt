@@ -1,0 +1,30 @@
+-- How the regions are kept.
+use Rattle.std.specs.Prelude.{ℕ, ◌+◌, ◌<◌, ◌≤◌, ◌^◌, List, Option, Some, None, IfSome, IsSome, length, map, slice_index_or}
+use Rattle.team_parts.specs.Team.{TeamView}
+use Rattle.omp_world.specs.State.{Region as Seen, fresh_head}
+use Rattle.omp_board.specs.declared.region.Region.{Region}
+use Rattle.omp_board.specs.Regions.{IsFreshTeam, RegionRoom, seen_team}
+
+abbrev pub seen_region : Region → Seen
+seen_region region = record { head = region.head; team = seen_team region.team }
+
+abbrev pub seen_regions : List Region → List Seen
+seen_regions regions = map seen_region regions
+
+-- a region without members
+abbrev pub kept_nothing : Region
+kept_nothing = record { head = fresh_head 0 0; team = None }
+
+abbrev pub team_at : List Region → ℕ → Option TeamView
+team_at regions r = (slice_index_or regions r kept_nothing).team
+
+-- there is a team for a region to come, where there is room for one
+abbrev pub HasTeam : ℕ → Option TeamView → Type 0
+HasTeam count team = (1 ≤ count → IsSome team) × IfSome team IsFreshTeam
+
+-- there is as much room as is said
+pub record IsKept (regions : List Region) (capacity : ℕ) (fresh : Option TeamView) (room : RegionRoom) : Type 0 where
+  pub slots : length regions + room.regions ≤ capacity
+  pub few : length regions + room.regions < 2 ^ 32
+  pub fresh_team : HasTeam room.regions fresh
+  pub meetings : IfSome (team_at regions room.region) (λ (team : TeamView). room.meetings ≤ team.room)

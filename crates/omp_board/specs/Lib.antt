@@ -1,0 +1,6 @@
+pub mod Codes
+pub mod Tasks
+pub mod Keeping
+pub mod Threads
+pub mod Regions
+pub mod KeepingRegions

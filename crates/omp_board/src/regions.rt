@@ -1,0 +1,334 @@
+//! The parallel regions of a run, with what their teams have met.
+
+ghost use Rattle.std.specs.Prelude.{◌≡◌, ◌<◌, ◌≤◌, ◌&&◌, ◌++◌, ◌∷◌, [], Bool, true, IfOk, OnOk, IsOk, length, slice_set, take};
+ghost use Rattle.std.specs.List.{list_all};
+ghost use Rattle.team_parts.specs.Meetings.{HasChunk};
+ghost use Rattle.team_parts.specs.Team.{may_pass, with_begun, with_passed};
+ghost use Rattle.omp_world.specs.State.{fresh_head, fresh_region};
+ghost use Rattle.omp_board.specs.Regions.{after_chunk_in, after_meeting_in, after_section_in, first_regions, is_member_in, meeting_in, next_chunk_in, next_section_in, region_in, team_in, turn_room, with_head_in, with_team_in};
+
+use crate::region::Region;
+use omp_world::RegionHead;
+use std::alloc::{AllocError, Global};
+use std::marker::Model;
+use team_parts::{Meeting, Mismatch, TEAM_LIMIT, Team};
+
+/// For a meeting of which region's team there is room, and for how many more regions.
+#[derive(Clone, Copy)]
+struct Room {
+    region: u32,
+    meetings: usize,
+    regions: usize,
+}
+
+/// The parallel regions of a run. Contracts see them by identity, at 0 one without members, and room.
+///
+/// One that isn't there reads as one without members.
+#[derive(Drop)]
+pub struct Regions {
+    /// Where its memory comes from.
+    alloc: Global,
+    /// The regions, by identity. At 0 stands none.
+    list: Vec<Region>,
+    /// The team of the next region.
+    fresh: Option<Team>,
+    /// What there is room for.
+    room: Room,
+}
+
+impl Model for Regions {
+    ghost use Rattle.std.specs.Prelude.{vec_capacity};
+    ghost use Rattle.omp_board.specs.Regions.{RegionsView};
+    ghost use Rattle.omp_board.specs.KeepingRegions.{IsKept, seen_regions};
+
+    ghost Value = { RegionsView };
+
+    ghost view = { λ all. record {
+      regions = seen_regions all.list.items;
+      room = record { region = all.room.region; meetings = all.room.meetings; regions = all.room.regions };
+    } };
+
+    ghost invariant = { λ all. IsKept all.list.items (vec_capacity all.list) all.fresh
+        (record { region = all.room.region; meetings = all.room.meetings; regions = all.room.regions }) };
+}
+
+impl Regions {
+    /// The implicit region of the initial task, with one member.
+    pub fn new(alloc: Global) -> Result<Regions, AllocError>
+        ensures { IfOk result (λ all. all ≡ first_regions) }
+    {
+        let mut list = Vec::new(alloc);
+        list.push(Region {
+            head: fresh_head(0, 0),
+            team: None,
+        })?;
+        list.push(Region {
+            head: fresh_head(0, 1),
+            team: Some(Team::new(alloc, 1)?),
+        })?;
+        Ok(Regions {
+            alloc,
+            list,
+            fresh: None,
+            room: Room {
+                region: 0,
+                meetings: 0,
+                regions: 0,
+            },
+        })
+    }
+
+    /// Makes room for a turn in this region: for one meeting of its team, and for one more region. That there are more regions than a `u32` counts
+    /// is want of memory too.
+    pub fn reserve(&mut self, region: u32) -> Result<(), AllocError>
+        ensures kept { self.new ≡ record self.old { room = self.new.room } }
+        ensures room { OnOk result (self.new.room ≡ turn_room region) }
+    {
+        if self.list.len() >= u32::MAX as usize {
+            return Err(AllocError);
+        }
+        self.list.reserve(1)?;
+        if self.fresh.is_none() {
+            self.fresh = Some(Team::new(self.alloc, TEAM_LIMIT as u32)?);
+        }
+        if let Some(kept) = self.list.get_mut(region as usize) {
+            if let Some(team) = &mut kept.team {
+                team.reserve()?;
+            }
+        }
+        self.room = Room {
+            region,
+            meetings: 1,
+            regions: 1,
+        };
+        Ok(())
+    }
+
+    /// The identity of the next region.
+    pub fn next(&self) -> usize
+        ensures { result ≡ length self.now.regions }
+    {
+        self.list.len()
+    }
+
+    /// The encountering task of the region, or 0.
+    pub fn task(&self, region: u32) -> u32
+        ensures { result ≡ (region_in self.now region).head.task }
+    {
+        match self.list.get(region as usize) {
+            Some(kept) => kept.head.task,
+            None => 0,
+        }
+    }
+
+    /// How many members the region's team has.
+    pub fn size(&self, region: u32) -> u8
+        ensures { result ≡ (region_in self.now region).head.size }
+    {
+        match self.list.get(region as usize) {
+            Some(kept) => kept.head.size,
+            None => 0,
+        }
+    }
+
+    /// What a tool last stored into the region's data word, or 0.
+    pub fn word(&self, region: u32) -> u64
+        ensures { result ≡ (region_in self.now region).head.word }
+    {
+        match self.list.get(region as usize) {
+            Some(kept) => kept.head.word,
+            None => 0,
+        }
+    }
+
+    /// Whether all members of the region have left it.
+    pub fn all_left(&self, region: u32) -> bool
+        ensures { result ≡ list_all (λ (flag : Bool). flag) (take (region_in self.now region).head.size (region_in self.now region).head.left) }
+    {
+        match self.list.get(region as usize) {
+            Some(kept) => all_left(&kept.head),
+            None => true,
+        }
+    }
+
+    /// Whether the region's team has a member with this number.
+    pub fn is_member(&self, region: u32, member: u8) -> bool
+        ensures { result ≡ is_member_in self.now region member }
+    {
+        match self.team(region) {
+            Some(team) => u32::from(member) < team.size(),
+            None => false,
+        }
+    }
+
+    /// One more region is made, which this task has encountered, for so many members.
+    pub fn add(&mut self, task: u32, size: u8)
+        requires room { 0 < self.old.room.regions }
+        requires some { 1 ≤ size }
+        requires few { size ≤ TEAM_LIMIT }
+        ensures { self.new ≡ record self.old { regions = self.old.regions ++ fresh_region task size ∷ []; room = record self.old.room { regions = 0 } } }
+    {
+        self.room.regions = 0;
+        let mut team = self.fresh.take();
+        if let Some(team) = &mut team {
+            team.fit(u32::from(size));
+        }
+        self.list
+            .push(Region {
+                head: fresh_head(task, size),
+                team,
+            })
+            .unwrap();
+    }
+
+    /// The member with this number has begun, with this implicit task.
+    pub fn begin_member(&mut self, region: u32, member: u8, task: u32)
+        ensures { self.new ≡ with_head_in self.old region (record (region_in self.old region).head { members = slice_set (region_in self.old region).head.members member task }) }
+    {
+        if let Some(kept) = self.list.get_mut(region as usize) {
+            if let Some(place) = kept.head.members.get_mut(member as usize) {
+                *place = task;
+            }
+        }
+    }
+
+    /// The member with this number has left.
+    pub fn leave(&mut self, region: u32, member: u8)
+        ensures { self.new ≡ with_head_in self.old region (record (region_in self.old region).head { left = slice_set (region_in self.old region).head.left member true }) }
+    {
+        if let Some(kept) = self.list.get_mut(region as usize) {
+            if let Some(place) = kept.head.left.get_mut(member as usize) {
+                *place = true;
+            }
+        }
+    }
+
+    /// The region is over.
+    pub fn end(&mut self, region: u32)
+        ensures { self.new ≡ with_head_in self.old region (record (region_in self.old region).head { ended = true }) }
+    {
+        if let Some(kept) = self.list.get_mut(region as usize) {
+            kept.head.ended = true;
+        }
+    }
+
+    /// This is stored into the region's data word.
+    pub fn store_word(&mut self, region: u32, word: u64)
+        ensures { self.new ≡ with_head_in self.old region (record (region_in self.old region).head { word = word }) }
+    {
+        if let Some(kept) = self.list.get_mut(region as usize) {
+            kept.head.word = word;
+        }
+    }
+
+    /// What the team answers where the member meets this next.
+    pub fn meeting_answer(&self, region: u32, member: u8, what: Meeting) -> Result<bool, Mismatch>
+        ensures { result ≡ meeting_in self.now region member what }
+    {
+        match self.team(region) {
+            Some(team) if u32::from(member) < team.size() => team.meeting_answer(
+                u32::from(member),
+                what,
+            ),
+            _ => Ok(false),
+        }
+    }
+
+    /// The member meets this next, as its team does. A thread that isn't a member meets nothing.
+    pub fn meet(&mut self, region: u32, member: u8, what: Meeting)
+        requires of_region { self.old.room.region ≡ region }
+        requires room { 0 < self.old.room.meetings }
+        requires chunk { HasChunk what }
+        requires same { IsOk (meeting_in self.old region member what) }
+        ensures { self.new ≡ record (after_meeting_in self.old region member what) { room = record self.old.room { meetings = 0 } } }
+    {
+        self.room.meetings = 0;
+        if let Some(team) = self.team_of(region, member) {
+            let _ = team.meet(u32::from(member), what);
+        }
+    }
+
+    /// The member takes the next chunk of the loop that it met last: its first iteration, counted from 0, and its length. There is none where no
+    /// iteration is left for the member.
+    pub fn next_chunk(&mut self, region: u32, member: u8) -> Option<(u64, u64)>
+        ensures answer { result ≡ next_chunk_in self.old region member }
+        ensures taken { self.new ≡ after_chunk_in self.old region member }
+    {
+        self.team_of(region, member)?.next_chunk(u32::from(member))
+    }
+
+    /// The member takes the next section of the construct that it met last: its number, counted from 0. There is none where each was taken.
+    pub fn next_section(&mut self, region: u32, member: u8) -> Option<u32>
+        ensures answer { result ≡ next_section_in self.old region member }
+        ensures taken { self.new ≡ after_section_in self.old region member }
+    {
+        self.team_of(region, member)?
+            .next_section(u32::from(member))
+    }
+
+    /// The member begins to wait at the barrier that it met last.
+    pub fn arrive(&mut self, region: u32, member: u8)
+        ensures { self.new ≡ with_team_in self.old region (with_begun (team_in self.old region) member) }
+    {
+        if let Some(team) = self.team_of(region, member) {
+            team.arrive(u32::from(member));
+        }
+    }
+
+    /// The member's wait at the barrier that it met last ends.
+    pub fn pass(&mut self, region: u32, member: u8)
+        ensures { self.new ≡ with_team_in self.old region (with_passed (team_in self.old region) member) }
+    {
+        if let Some(team) = self.team_of(region, member) {
+            team.pass(u32::from(member));
+        }
+    }
+
+    /// Whether the member's wait at the barrier that it met last may end, while so many explicit tasks of the region are unfinished.
+    pub fn may_pass(&self, region: u32, member: u8, unfinished: u32) -> bool
+        ensures { result ≡ (is_member_in self.now region member && may_pass (team_in self.now region) member unfinished) }
+    {
+        match self.team(region) {
+            Some(team) if u32::from(member) < team.size() => {
+                team.may_pass(u32::from(member), unfinished)
+            }
+            _ => false,
+        }
+    }
+
+    /// The region's team, if it has members.
+    fn team(&self, region: u32) -> Option<&Team> {
+        self.list.get(region as usize)?.team.as_ref()
+    }
+
+    /// The region's team, if it has a member with this number.
+    fn team_of(&mut self, region: u32, member: u8) -> Option<&mut Team> {
+        let team = self.list.get_mut(region as usize)?.team.as_mut()?;
+        if u32::from(member) < team.size() {
+            Some(team)
+        } else {
+            None
+        }
+    }
+}
+
+/// A region of a task, which so many members are to join.
+fn fresh_head(task: u32, size: u8) -> RegionHead
+    ensures { result ≡ fresh_head task size }
+{
+    RegionHead {
+        task,
+        size,
+        word: 0,
+        members: [0; TEAM_LIMIT],
+        left: [false; TEAM_LIMIT],
+        ended: false,
+    }
+}
+
+/// Whether all members have left.
+fn all_left(head: &RegionHead) -> bool
+    ensures { result ≡ list_all (λ (flag : Bool). flag) (take head.now.size head.now.left) }
+{
+    head.left.iter().take(head.size as usize).all(|flag| *flag)
+}

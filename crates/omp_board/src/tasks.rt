@@ -1,0 +1,416 @@
+//! The tasks of a run with their code, and what all code shares.
+
+ghost use Rattle.std.specs.Prelude.{◌≡◌, ◌<◌, ◌≤◌, IfOk, OnOk, length, slice_get, slice_index_or};
+ghost use Rattle.c_syntax.specs.Derivation.{nothing};
+ghost use Rattle.c_syntax.specs.Numbered.{tree_at};
+ghost use Rattle.c_model.specs.declared.limits.TheConstants.{CELL_LIMIT};
+ghost use Rattle.c_model.specs.Answers.{AnswersFirst};
+ghost use Rattle.c_model.specs.Asked.{count_asked, sections_asked};
+ghost use Rattle.c_model.specs.Begin.{blank_task, created_construct, explicit_task_of};
+ghost use Rattle.c_model.specs.Clauses.{statements_among};
+ghost use Rattle.c_model.specs.Copies.{with_task_cells};
+ghost use Rattle.c_model.specs.Going.{settled_after_answer, settled_after_event};
+ghost use Rattle.c_model.specs.Parts.{parts};
+ghost use Rattle.c_model.specs.Program.{place_of};
+ghost use Rattle.c_model.specs.Step.{settled_moment, silent};
+ghost use Rattle.c_model.specs.Upcoming as upcoming;
+ghost use Rattle.c_steps.specs.Beginning.{IsCreation};
+ghost use Rattle.c_steps.specs.Held.{outcome_at};
+ghost use Rattle.c_steps.specs.Passing.{IsEventOfNext};
+ghost use Rattle.c_steps.specs.Ready.{FitsProgram};
+ghost use Rattle.c_steps.specs.Scopes.{HasNumbers};
+ghost use Rattle.omp_world.specs.Going.{member_code};
+ghost use Rattle.omp_board.specs.Tasks.{HasPass, HasSteps, IsNamedIn, IsStill, code_in, first_tasks, gone_in, moment_in, one_pass_less, one_step_less, room_after, task_in, turn_room, with_code_in, with_one_more, with_task_in};
+
+use crate::task::{Task, task_with};
+use c_check::Program;
+use c_model::{Answer, Point, Upcoming, View};
+use c_steps::{Cells, Code, Control, Next};
+use std::alloc::{AllocError, Global};
+use std::marker::Model;
+
+/// What member 0 of a team sees. It goes past nothing, so that what stands first in its code comes next.
+const MEMBER_0: View = View {
+    index: 0,
+    team: 1,
+    max: 1,
+};
+
+/// How many silent steps, answers and looks there is room for in a turn.
+const STEPS_AHEAD: u32 = 66;
+
+/// The most controls without code that are kept for tasks to come.
+const BLANKS: usize = 32;
+
+/// Of which task's code there is room for how much, and for how many more tasks.
+#[derive(Clone, Copy)]
+struct Room {
+    task: u32,
+    steps: u32,
+    passes: u32,
+    tasks: usize,
+}
+
+/// The tasks of a run with their code, and the cells and the text that all code shares. Contracts see the program, the tasks by identity, at 0 one
+/// without code, the cells with the text, and room.
+///
+/// A task that has ended keeps no code. One that isn't there reads as one without code.
+#[derive(Drop)]
+pub struct Tasks {
+    /// Where its memory comes from.
+    alloc: Global,
+    /// The program.
+    code: Code,
+    /// What all code shares.
+    cells: Cells,
+    /// The tasks, by identity. At 0 stands none.
+    list: Vec<Task>,
+    /// Controls for tasks to come.
+    blanks: Vec<Control>,
+    /// What there is room for.
+    room: Room,
+}
+
+impl Model for Tasks {
+    ghost use Rattle.std.specs.Prelude.{vec_capacity};
+    ghost use Rattle.omp_board.specs.Tasks.{TasksView, tasks_code};
+    ghost use Rattle.omp_board.specs.Keeping.{IsKept, seen_tasks};
+
+    ghost Value = { TasksView };
+
+    ghost coded = { tasks_code };
+
+    ghost view = { λ tasks. record {
+      program = tasks.code;
+      tasks = seen_tasks tasks.code tasks.list.items;
+      store = tasks.cells;
+      room = record { task = tasks.room.task; steps = tasks.room.steps; passes = tasks.room.passes; tasks = tasks.room.tasks };
+    } };
+
+    ghost invariant = { λ tasks. IsKept tasks.code tasks.list.items (vec_capacity tasks.list) tasks.blanks.items
+        (record { task = tasks.room.task; steps = tasks.room.steps; passes = tasks.room.passes; tasks = tasks.room.tasks }) };
+}
+
+impl Tasks {
+    /// The initial task of a program, before its first step.
+    pub fn new(alloc: Global, program: Program) -> Result<Tasks, AllocError>
+        ensures { IfOk result (λ tasks. tasks ≡ first_tasks program) }
+    {
+        let code = Code::new(alloc, program)?;
+        let cells = Cells::new(alloc, &code)?;
+        let main = Control::main(alloc, &code)?;
+        let mut list = Vec::new(alloc);
+        list.push(task_with(None))?;
+        list.push(task_with(Some(main)))?;
+        let blanks = Vec::with_capacity(alloc, BLANKS)?;
+        Ok(Tasks {
+            alloc,
+            code,
+            cells,
+            list,
+            blanks,
+            room: Room {
+                task: 0,
+                steps: 0,
+                passes: 0,
+                tasks: 0,
+            },
+        })
+    }
+
+    /// Makes room for a turn of which this is the current task: for the silent steps of its code, an event, and one more task.
+    pub fn reserve(&mut self, task: u32) -> Result<(), AllocError>
+        ensures kept { self.new ≡ record self.old { room = self.new.room } }
+        ensures room { OnOk result (self.new.room ≡ turn_room task) }
+    {
+        self.list.reserve(1)?;
+        if self.blanks.is_empty() {
+            let blank = Control::blank(self.alloc, &self.code)?;
+            self.blanks.push(blank)?;
+        }
+        if let Some(kept) = self.list.get_mut(task as usize) {
+            if let Some(control) = &mut kept.control {
+                control.reserve(&self.code)?;
+            }
+        }
+        self.room = Room {
+            task,
+            steps: STEPS_AHEAD,
+            passes: 1,
+            tasks: 1,
+        };
+        Ok(())
+    }
+
+    /// The identity of the next task.
+    pub fn next(&self) -> usize
+        ensures { result ≡ length self.now.tasks }
+    {
+        self.list.len()
+    }
+
+    /// The region that the task has forked and that isn't over, or 0.
+    pub fn forked(&self, task: u32) -> u32
+        ensures { result ≡ (task_in self.now task).forked }
+    {
+        match self.list.get(task as usize) {
+            Some(kept) => kept.forked,
+            None => 0,
+        }
+    }
+
+    /// What a tool last stored into the task's data word, or 0.
+    pub fn word(&self, task: u32) -> u64
+        ensures { result ≡ (task_in self.now task).word }
+    {
+        match self.list.get(task as usize) {
+            Some(kept) => kept.word,
+            None => 0,
+        }
+    }
+
+    /// The thread has taken the task up.
+    pub fn set_thread(&mut self, task: u32, thread: u8)
+        ensures { self.new ≡ with_task_in self.old task (record (task_in self.old task) { thread = thread }) }
+    {
+        if let Some(kept) = self.list.get_mut(task as usize) {
+            kept.thread = thread;
+        }
+    }
+
+    /// The task has forked this region, or, with 0, the region that it had forked is over.
+    pub fn set_forked(&mut self, task: u32, region: u32)
+        ensures { self.new ≡ with_task_in self.old task (record (task_in self.old task) { forked = region }) }
+    {
+        if let Some(kept) = self.list.get_mut(task as usize) {
+            kept.forked = region;
+        }
+    }
+
+    /// This is stored into the task's data word.
+    pub fn store_word(&mut self, task: u32, word: u64)
+        ensures { self.new ≡ with_task_in self.old task (record (task_in self.old task) { word = word }) }
+    {
+        if let Some(kept) = self.list.get_mut(task as usize) {
+            kept.word = word;
+        }
+    }
+
+    /// What comes next in the task's code, as a thread that sees this of its team executes it.
+    pub fn upcoming(&self, task: u32, view: View) -> Upcoming
+        ensures { result ≡ upcoming.upcoming_of view (code_in self.now task) }
+    {
+        match self.control(task) {
+            Some(control) => control.upcoming(&self.code, view),
+            None => Upcoming::End,
+        }
+    }
+
+    /// What stands first in the task's code.
+    pub fn standing(&self, task: u32) -> Upcoming
+        ensures { result ≡ upcoming.upcoming_among (code_in self.now task).todo }
+    {
+        self.upcoming(task, MEMBER_0)
+    }
+
+    /// Whether the task is in a region of a worksharing construct.
+    pub fn is_in_work(&self, task: u32) -> bool
+        ensures { result ≡ upcoming.is_in_work (code_in self.now task) }
+    {
+        match self.control(task) {
+            Some(control) => control.is_in_work(&self.code),
+            None => false,
+        }
+    }
+
+    /// Whether the task is in a region of a worksharing, masked or critical construct.
+    pub fn is_in_exclusive(&self, task: u32) -> bool
+        ensures { result ≡ upcoming.is_in_exclusive (code_in self.now task) }
+    {
+        match self.control(task) {
+            Some(control) => control.is_in_exclusive(&self.code),
+            None => false,
+        }
+    }
+
+    /// Whether the task is in a region of the critical with this wait identifier.
+    pub fn is_in_critical(&self, task: u32, wait_id: u32) -> bool
+        ensures { result ≡ upcoming.is_in_critical (code_in self.now task) wait_id }
+    {
+        match self.control(task) {
+            Some(control) => control.is_in_critical(&self.code, wait_id),
+            None => false,
+        }
+    }
+
+    /// What the last call in the task's code gave, if it gave something.
+    pub fn returned(&self, task: u32) -> Option<i32>
+        ensures { result ≡ (code_in self.now task).returned }
+    {
+        match self.control(task) {
+            Some(control) => control.returned(),
+            None => None,
+        }
+    }
+
+    /// How many iterations the loop has that asks for a chunk next, or 0.
+    pub fn asked_count(&self, task: u32) -> u64
+        ensures { result ≡ count_asked (code_in self.now task).todo }
+    {
+        match self.control(task) {
+            Some(control) => control.asked_count(&self.code),
+            None => 0,
+        }
+    }
+
+    /// How many sections the construct has that asks for one next, or 0.
+    pub fn asked_sections(&self, task: u32) -> u32
+        ensures { result ≡ sections_asked (code_in self.now task).todo }
+    {
+        match self.control(task) {
+            Some(control) => control.asked_sections(&self.code),
+            None => 0,
+        }
+    }
+
+    /// The place of a section as tools are told it, counted from 0, of the construct with this node.
+    pub fn section_place(&self, construct: u32, section: u32) -> u64
+        requires { construct < length self.now.program.trees }
+        ensures { result ≡ place_of (slice_index_or (statements_among (parts (tree_at self.now.program.trees construct))) section nothing) }
+    {
+        self.code.section_place(construct, section)
+    }
+
+    /// Makes a silent step of the task's code, or says what stands next. At anything but a silent step the task has left out what it goes past, and
+    /// nothing else has changed.
+    pub fn step(&mut self, task: u32, view: View) -> Next
+        requires view { HasNumbers view }
+        requires room { HasSteps self.old.room task }
+        ensures outcome { outcome_at self.old.program result (moment_in self.new task) ≡ silent self.old.program view (moment_in self.old task) }
+        ensures rest { self.new ≡ record (gone_in self.old task (moment_in self.new task)) { room = room_after result self.old.room } }
+        ensures still { IsStill result → moment_in self.new task ≡ settled_moment view (moment_in self.old task) }
+        ensures fits { FitsProgram self.old.program result }
+        ensures named { IsNamedIn self.old.program result (code_in self.new task).todo }
+    {
+        let Some(kept) = self.list.get_mut(task as usize) else {
+            return Next::Ended(0);
+        };
+        let Some(control) = &mut kept.control else {
+            return Next::Ended(0);
+        };
+        let next = control.advance(&self.code, &mut self.cells, view);
+        if let Next::Quiet = next {
+            self.room.steps -= 1;
+        }
+        next
+    }
+
+    /// What the task's code has asked is answered.
+    pub fn give(&mut self, task: u32, answer: Answer)
+        requires room { HasSteps self.old.room task }
+        requires asked { AnswersFirst (code_in self.old task).todo answer }
+        ensures { self.new ≡ record (gone_in self.old task (settled_after_answer answer (moment_in self.old task))) { room = one_step_less self.old.room } }
+    {
+        if let Some(kept) = self.list.get_mut(task as usize) {
+            if let Some(control) = &mut kept.control {
+                control.give(&self.code, &mut self.cells, answer);
+                self.room.steps -= 1;
+            }
+        }
+    }
+
+    /// The task's code goes past an event, which stands next at this node. `executes` counts at the begin of a `single` alone.
+    pub fn pass(&mut self, task: u32, point: Point, node: u32, executes: bool)
+        requires room { HasPass self.old.room task }
+        requires event { IsEventOfNext self.old.program point node (code_in self.old task).todo }
+        ensures { self.new ≡ record (with_code_in self.old task (settled_after_event point executes (code_in self.old task))) { room = one_pass_less self.old.room } }
+    {
+        if let Some(kept) = self.list.get_mut(task as usize) {
+            if let Some(control) = &mut kept.control {
+                control.passed(&self.code, point, node, executes);
+                self.room.passes -= 1;
+            }
+        }
+    }
+
+    /// One more task is made, of a member of the region that this task has forked. Where it hasn't forked one, the task has no code.
+    pub fn add_member(&mut self, parent: u32)
+        requires { 0 < self.old.room.tasks }
+        ensures { self.new ≡ with_one_more self.old (member_code (code_in self.old parent)) }
+    {
+        self.room.tasks = 0;
+        let member = self.member_of(parent);
+        self.list.push(task_with(member)).unwrap();
+    }
+
+    /// One more task is made, of the task construct that stands next in this task's code, with the cells of its own.
+    pub fn add_explicit(&mut self, creator: u32)
+        requires room { 0 < self.old.room.tasks }
+        requires created { IsCreation (slice_get (code_in self.old creator).todo 0) }
+        requires cells { length (with_task_cells self.old.program (record { env = (code_in self.old creator).env; cells = self.old.store.cells }) (created_construct (code_in self.old creator).todo)).cells ≤ CELL_LIMIT }
+        ensures task { self.new.tasks ≡ (with_one_more self.old (explicit_task_of self.old.program (created_construct (code_in self.old creator).todo) (moment_in self.old creator)).task).tasks }
+        ensures rest { self.new ≡ record self.old {
+          tasks = self.new.tasks;
+          store = (explicit_task_of self.old.program (created_construct (code_in self.old creator).todo) (moment_in self.old creator)).store;
+          room = record self.old.room { tasks = 0 };
+        } }
+    {
+        self.room.tasks = 0;
+        let task = self.task_of(creator);
+        self.list.push(task_with(task)).unwrap();
+    }
+
+    /// Nothing is kept of the task's code.
+    pub fn empty(&mut self, task: u32)
+        ensures { self.new ≡ with_code_in self.old task blank_task }
+    {
+        let Some(kept) = self.list.get_mut(task as usize) else {
+            return;
+        };
+        let Some(mut control) = kept.control.take() else {
+            return;
+        };
+        control.clear(&self.code);
+        if self.blanks.len() < self.blanks.capacity() {
+            self.blanks.push(control).unwrap();
+        }
+    }
+
+    /// What is kept of the task's code, if it has some.
+    fn control(&self, task: u32) -> Option<&Control> {
+        self.list.get(task as usize)?.control.as_ref()
+    }
+
+    /// The code of a member of the region that this task has forked, with a control that was kept for it.
+    fn member_of(&mut self, parent: u32) -> Option<Control> {
+        match self.standing(parent) {
+            Upcoming::RegionEnd => {}
+            _ => return None,
+        }
+        let mut member = self.blanks.pop()?;
+        self.control(parent)?.member(&self.code, &mut member);
+        Some(member)
+    }
+
+    /// The code of the explicit task whose construct stands next in this task's code, with a control that was kept for it.
+    fn task_of(&mut self, creator: u32) -> Option<Control> {
+        let mut task = self.blanks.pop()?;
+        let control = self.list.get(creator as usize)?.control.as_ref()?;
+        control.task(&self.code, &mut self.cells, &mut task);
+        Some(task)
+    }
+
+    /// The bytes that were printed.
+    pub fn text(&self) -> &[u8]
+        ensures { result.now ≡ self.now.store.text }
+    {
+        self.cells.text()
+    }
+
+    /// The bytes that were printed, and nothing else is kept.
+    pub fn into_text(self) -> Vec<u8>
+        ensures { result.items ≡ self.store.text }
+    {
+        self.cells.into_text()
+    }
+}
