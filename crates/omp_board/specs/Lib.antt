@@ -4,3 +4,4 @@ pub mod Keeping
 pub mod Threads
 pub mod Regions
 pub mod KeepingRegions
+pub mod Board

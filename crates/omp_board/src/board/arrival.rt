@@ -1,0 +1,258 @@
+//! What a thread comes to next, and whether it has to wait for it. No expression is evaluated for that.
+
+ghost use Rattle.std.specs.Prelude.{◌≡◌};
+ghost use Rattle.c_model.specs.Upcoming.{upcoming_of};
+ghost use Rattle.omp_world.specs.State.{pooled_at, task_at, thread_at};
+ghost use Rattle.omp_world.specs.Members.{code_of, current, view_of};
+ghost use Rattle.omp_world.specs.Gates as gates;
+
+use crate::board::Board;
+use c_model::{SyncKind, SyncStage, Upcoming, View};
+use omp_world::{Arrival, Event, IMPLICIT_REGION, INITIAL_TASK, STACK_LIMIT, ThreadStage};
+use task_pool::{Condition, TaskKind};
+
+impl Board {
+    /// What the thread comes to next.
+    #[tactic(auto, unfolding(omp_world::specs::Gates::arrival))]
+    pub fn arrival(&self, thread: u8) -> Arrival
+        ensures { result ≡ gates.arrival self.now.world thread }
+    {
+        self.arrival_seeing(thread, self.view(thread))
+    }
+
+    /// The same, where the code of the thread's current task sees this.
+    #[tactic(auto, unfolding(omp_world::specs::Gates::arrival))]
+    pub(super) fn arrival_seeing(&self, thread: u8, view: View) -> Arrival
+        requires { view ≡ view_of self.now.world thread }
+        ensures { result ≡ gates.arrival self.now.world thread }
+    {
+        let Some(found) = self.threads.get(thread as usize) else {
+            return Arrival::Waits;
+        };
+        match found.stage() {
+            ThreadStage::Unmade | ThreadStage::Ended => return Arrival::Waits,
+            ThreadStage::Made => return Arrival::Meets(Event::ThreadBegin),
+            ThreadStage::Begun => {}
+        }
+        if found.invited() != 0 {
+            return Arrival::Meets(Event::MemberBegin {
+                region: found.invited(),
+                task: self.next_task(),
+            });
+        }
+        let current = found.current();
+        if found.undeferred() != 0 {
+            return Arrival::Meets(Event::TaskBegin {
+                prior: current,
+                task: found.undeferred(),
+            });
+        }
+        if let Some(share) = found.taken() {
+            return Arrival::Meets(Event::Dispatch(share));
+        }
+        if current == 0 {
+            self.arrival_without_task(thread)
+        } else {
+            self.arrival_in(thread, current, self.tasks.upcoming(current, view))
+        }
+    }
+
+    /// What a thread without a task comes to next.
+    fn arrival_without_task(&self, thread: u8) -> Arrival
+        ensures { result ≡ gates.arrival_without_task self.now.world thread }
+    {
+        if thread == 0 {
+            return arrival_around(self.condition(INITIAL_TASK));
+        }
+        if self.main_returned() && self.has_no_tasks(IMPLICIT_REGION) {
+            Arrival::Meets(Event::ThreadEnd)
+        } else {
+            Arrival::Waits
+        }
+    }
+
+    /// What a thread comes to in its current task, where this comes next in the task's code.
+    fn arrival_in(&self, thread: u8, task: u32, upcoming: Upcoming) -> Arrival
+        requires { task ≡ current self.now.world thread }
+        ensures { result ≡ gates.arrival_in self.now.world thread task upcoming }
+    {
+        match upcoming {
+            Upcoming::Step => Arrival::Steps,
+            Upcoming::Event => Arrival::Comes,
+            Upcoming::End => self.arrival_at_end(thread, task, self.kind(task)),
+            Upcoming::RegionEnd => comes_if(self.all_left(self.tasks.forked(task))),
+            Upcoming::Sync { kind, stage } => self.arrival_at_sync(thread, kind, stage),
+            Upcoming::Acquire(wait_id) => comes_if(!self.is_owned(wait_id)),
+            Upcoming::Test(wait_id) => {
+                if self.is_owned(wait_id) {
+                    Arrival::Steps
+                } else {
+                    Arrival::Comes
+                }
+            }
+        }
+    }
+
+    /// What a thread comes to at an event of a barrier or taskwait.
+    fn arrival_at_sync(&self, thread: u8, kind: SyncKind, stage: SyncStage) -> Arrival
+        ensures { result ≡ gates.arrival_at_sync self.now.world thread kind stage }
+    {
+        match stage {
+            SyncStage::WaitEnd => {
+                if self.may_end(thread, kind) {
+                    Arrival::Comes
+                } else {
+                    self.starts_if(thread)
+                }
+            }
+            SyncStage::RegionBegin | SyncStage::WaitBegin | SyncStage::RegionEnd => Arrival::Comes,
+        }
+    }
+
+    /// What a thread comes to at the end of its current task's code.
+    fn arrival_at_end(&self, thread: u8, task: u32, kind: TaskKind) -> Arrival
+        ensures { result ≡ gates.arrival_at_end self.now.world thread task kind }
+    {
+        match kind {
+            TaskKind::Initial => self.arrival_behind_main(thread),
+            TaskKind::Implicit => Arrival::Meets(Event::MemberEnd {
+                region: self.region_of(task),
+                task,
+            }),
+            TaskKind::Explicit | TaskKind::Undeferred => Arrival::Meets(Event::TaskEnd { task }),
+        }
+    }
+
+    /// What thread 0 comes to after main has returned.
+    fn arrival_behind_main(&self, thread: u8) -> Arrival
+        ensures { result ≡ gates.arrival_behind_main self.now.world thread }
+    {
+        if !self.has_no_tasks(self.current_region(thread)) {
+            return self.starts_if(thread);
+        }
+        if self.workers_over() {
+            Arrival::Meets(Event::InitialTaskEnd)
+        } else {
+            Arrival::Waits
+        }
+    }
+
+    /// A thread that waits starts the newest task that it may start, if there is one.
+    fn starts_if(&self, thread: u8) -> Arrival
+        ensures { result ≡ gates.starts_if self.now.world thread (gates.next_task self.now.world thread) }
+    {
+        match self.next_allowed(thread) {
+            Some(task) => Arrival::Meets(Event::TaskBegin {
+                prior: self.current(thread),
+                task,
+            }),
+            None => Arrival::Waits,
+        }
+    }
+
+    /// Whether the wait of the thread's current task may end.
+    fn may_end(&self, thread: u8, kind: SyncKind) -> bool
+        ensures { result ≡ gates.may_end self.now.world thread kind }
+    {
+        match kind {
+            SyncKind::Taskwait => self.pool.open_children(self.current(thread)) == 0,
+            SyncKind::Barrier | SyncKind::Worksharing | SyncKind::Parallel => {
+                let region = self.current_region(thread);
+                let member = self.member_index(thread, region);
+                self.regions
+                    .may_pass(region, member, self.pool.unfinished(region))
+            }
+        }
+    }
+
+    /// The newest task of the thread's region that descends from all tasks that the thread holds, if there is one.
+    fn next_allowed(&self, thread: u8) -> Option<u32>
+        ensures { result ≡ gates.next_task self.now.world thread }
+    {
+        let region = self.current_region(thread);
+        self.pool.newest_allowed(region, &[])?;
+        let found = self.threads.get(thread as usize)?;
+        let mut held = [0; STACK_LIMIT];
+        let mut count = 0;
+        for task in found.stack() {
+            if !self.is_in_barrier(*task) {
+                held[count] = *task;
+                count += 1;
+            }
+        }
+        self.pool.newest_allowed(region, &held[..count])
+    }
+
+    /// Whether the task is suspended in a barrier.
+    fn is_in_barrier(&self, task: u32) -> bool
+        ensures { result ≡ gates.is_in_barrier (task_at self.now.world task).code.todo }
+    {
+        match self.tasks.standing(task) {
+            Upcoming::Sync { kind, stage } => is_barrier(kind) && is_begun_stage(stage),
+            _ => false,
+        }
+    }
+
+    /// Whether nothing is left of main's code.
+    pub fn main_returned(&self) -> bool
+        ensures { result ≡ gates.main_returned self.now.world }
+    {
+        matches!(self.tasks.standing(INITIAL_TASK), Upcoming::End)
+    }
+
+    /// Whether no explicit task of the region is unfinished.
+    fn has_no_tasks(&self, region: u32) -> bool
+        ensures { result ≡ gates.has_no_tasks self.now.world region }
+    {
+        self.pool.unfinished(region) == 0
+    }
+
+    /// Whether each worker that was made has ended.
+    fn workers_over(&self) -> bool
+        ensures { result ≡ gates.workers_over self.now.world }
+    {
+        self.threads
+            .iter()
+            .skip(1)
+            .all(|thread| is_out(thread.stage()))
+    }
+}
+
+/// An event of the code, where nothing keeps the thread from it.
+fn comes_if(may: bool) -> Arrival
+    ensures { result ≡ gates.comes_if may }
+{
+    if may { Arrival::Comes } else { Arrival::Waits }
+}
+
+/// What thread 0 comes to without a task, where the initial task has come so far.
+fn arrival_around(condition: Condition) -> Arrival
+    ensures { result ≡ gates.arrival_around condition }
+{
+    match condition {
+        Condition::Made => Arrival::Meets(Event::InitialTaskBegin),
+        Condition::Ready | Condition::Started => Arrival::Waits,
+        Condition::Finished => Arrival::Meets(Event::ThreadEnd),
+    }
+}
+
+/// Whether a thread that has come so far wasn't made, or has ended.
+pub(super) fn is_out(stage: ThreadStage) -> bool
+    ensures { result ≡ gates.is_out stage }
+{
+    matches!(stage, ThreadStage::Unmade | ThreadStage::Ended)
+}
+
+/// Whether what is waited for is a barrier.
+pub(super) fn is_barrier(kind: SyncKind) -> bool
+    ensures { result ≡ gates.is_barrier kind }
+{
+    !matches!(kind, SyncKind::Taskwait)
+}
+
+/// Whether a task at this event of a barrier is suspended in it.
+fn is_begun_stage(stage: SyncStage) -> bool
+    ensures { result ≡ gates.is_begun_stage stage }
+{
+    !matches!(stage, SyncStage::RegionBegin)
+}

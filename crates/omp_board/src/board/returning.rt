@@ -1,0 +1,44 @@
+//! What takes hold at the Back of an event's callback.
+
+ghost use Rattle.std.specs.Prelude.{◌≡◌};
+ghost use Rattle.omp_world.specs.Returning as returning;
+
+use crate::board::Board;
+use crate::board::arrival::is_barrier;
+use c_model::SyncStage;
+use omp_world::{Event, ThreadStage};
+
+impl Board {
+    /// The callback of the thread's event has returned, and what comes of the event takes hold.
+    #[tactic(auto, unfolding(omp_world::specs::Returning::at_back))]
+    pub fn back(&mut self, thread: u8, event: Event)
+        ensures { self.new ≡ record self.old { world = returning.at_back self.old.world thread event } }
+    {
+        match event {
+            Event::ThreadEnd => self.set_stage(thread, ThreadStage::Ended),
+            Event::ParallelBegin { region, .. } => self.open(thread, region),
+            Event::ParallelEnd { .. } => self.set_forked(self.current(thread), 0),
+            Event::MemberEnd { region, .. } => {
+                let member = self.member_index(thread, region);
+                self.leave(region, member);
+            }
+            Event::TaskCreate {
+                task,
+                undeferred: true,
+                ..
+            } => self.detain(thread, task),
+            Event::TaskCreate { task, .. } => self.make_ready(task),
+            Event::TaskEnd { task } => self.finish(task),
+            Event::Sync {
+                kind,
+                stage: SyncStage::WaitBegin,
+                ..
+            } => {
+                if is_barrier(kind) {
+                    self.arrive(thread);
+                }
+            }
+            _ => {}
+        }
+    }
+}

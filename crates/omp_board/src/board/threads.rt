@@ -1,0 +1,101 @@
+//! What changes of threads.
+
+ghost use Rattle.std.specs.Prelude.{◌≡◌, ◌<◌, length};
+ghost use Rattle.omp_world.specs.declared.limits.TheConstants.{STACK_LIMIT};
+ghost use Rattle.omp_world.specs.State.{thread_at};
+ghost use Rattle.omp_world.specs.Changes as changes;
+ghost use Rattle.omp_world.specs.Changes.{all_summoned};
+
+use crate::board::Board;
+use crate::thread::Thread;
+use omp_world::{Share, ThreadStage};
+
+impl Board {
+    /// How far the thread has come.
+    pub fn stage(&self, thread: u8) -> ThreadStage
+        ensures { result ≡ (thread_at self.now.world thread).stage }
+    {
+        match self.threads.get(thread as usize) {
+            Some(thread) => thread.stage(),
+            None => ThreadStage::Unmade,
+        }
+    }
+
+    /// How many tasks are on the thread's stack.
+    pub fn depth(&self, thread: u8) -> usize
+        ensures { result ≡ length (thread_at self.now.world thread).stack }
+    {
+        match self.threads.get(thread as usize) {
+            Some(thread) => thread.depth(),
+            None => 0,
+        }
+    }
+
+    /// The thread has come so far.
+    pub(super) fn set_stage(&mut self, thread: u8, stage: ThreadStage)
+        ensures { self.new ≡ record self.old { world = changes.staged self.old.world thread stage } }
+    {
+        if let Some(thread) = self.threads.get_mut(thread as usize) {
+            thread.set_stage(stage);
+        }
+    }
+
+    /// The thread takes a task up: it is to join no region and to start no undeferred task any more.
+    pub(super) fn take_up(&mut self, thread: u8, task: u32)
+        requires { length (thread_at self.old.world thread).stack < STACK_LIMIT }
+        ensures { self.new ≡ record self.old { world = changes.taken_up self.old.world thread task } }
+    {
+        if let Some(thread) = self.threads.get_mut(thread as usize) {
+            thread.push(task);
+        }
+        self.tasks.set_thread(task, thread);
+    }
+
+    /// The thread's current task is taken off its stack.
+    pub(super) fn pop(&mut self, thread: u8)
+        ensures { self.new ≡ record self.old { world = changes.popped self.old.world thread } }
+    {
+        if let Some(thread) = self.threads.get_mut(thread as usize) {
+            thread.pop();
+        }
+    }
+
+    /// The thread is to start this undeferred task next.
+    pub(super) fn detain(&mut self, thread: u8, task: u32)
+        ensures { self.new ≡ record self.old { world = changes.detained self.old.world thread task } }
+    {
+        if let Some(thread) = self.threads.get_mut(thread as usize) {
+            thread.detain(task);
+        }
+    }
+
+    /// The thread has taken a share of work, or that was told.
+    pub(super) fn share(&mut self, thread: u8, share: Option<Share>)
+        ensures { self.new ≡ record self.old { world = changes.sharing self.old.world thread share } }
+    {
+        if let Some(thread) = self.threads.get_mut(thread as usize) {
+            thread.share(share);
+        }
+    }
+
+    /// The members of a region are to join it, which this thread has forked.
+    pub(super) fn open(&mut self, thread: u8, region: u32)
+        ensures { self.new ≡ record self.old { world = changes.opened self.old.world thread region } }
+    {
+        if self.is_outermost(region) {
+            let size = self.regions.size(region);
+            summon(&mut self.threads, region, size as usize);
+        } else if let Some(thread) = self.threads.get_mut(thread as usize) {
+            thread.summon(region);
+        }
+    }
+}
+
+/// The first threads, so many, are to join the region.
+fn summon(threads: &mut [Thread], region: u32, size: usize)
+    ensures { threads.new ≡ all_summoned region size threads.old }
+{
+    for thread in threads.iter_mut().take(size) {
+        thread.summon(region);
+    }
+}
