@@ -58,7 +58,7 @@ world_code =
     (λ p. record { threads = p.0; tasks = p.1.0; pool = p.1.1.0; regions = p.1.1.1.0; store = p.1.1.1.1.0; locks = p.1.1.1.1.1 })
     (λ _. refl)
 
-abbrev room_code : Coded BoardRoom
+abbrev pub room_code : Coded BoardRoom
 room_code =
     code_by (ℕ × (ℕ × (ℕ × (ℕ × (ℕ × (ℕ × (ℕ × ℕ)))))))
     (coded× coded_ℕ (coded× coded_ℕ (coded× coded_ℕ (coded× coded_ℕ (coded× coded_ℕ (coded× coded_ℕ (coded× coded_ℕ coded_ℕ)))))))

@@ -1,7 +1,9 @@
 //! The board of a run: what its turns change.
 
-ghost use Rattle.std.specs.Prelude.{◌≡◌, ◌≤◌, ◌-◌, ◌∷◌, IfOk, OnOk, length, replicate};
-ghost use Rattle.omp_world.specs.State.{first_world, initial_thread, unmade};
+ghost use Rattle.std.specs.Prelude.{◌≡◌, ◌≤◌, ◌-◌, ◌∷◌, IfOk, OnOk, length, replicate, reverse};
+ghost use Rattle.c_model.specs.Upcoming.{upcoming_among};
+ghost use Rattle.omp_world.specs.declared.limits.TheConstants.{STACK_LIMIT};
+ghost use Rattle.omp_world.specs.State.{first_world, initial_thread, region_at, task_at, thread_at, unmade};
 ghost use Rattle.omp_world.specs.Members.{current, current_index, current_region, is_outermost, member_index, region_of, view_of};
 ghost use Rattle.omp_board.specs.Board.{HasEvent, run_in};
 ghost use Rattle.c_steps.specs.Scopes.{HasNumbers};
@@ -22,7 +24,7 @@ use crate::regions::Regions;
 use crate::tasks::Tasks;
 use crate::thread::Thread;
 use c_check::Program;
-use c_model::View;
+use c_model::{Upcoming, View};
 use omp_world::{IMPLICIT_REGION, ThreadStage};
 use std::alloc::{AllocError, Global};
 use std::marker::Model;
@@ -150,6 +152,45 @@ impl Board {
         ensures { result ≡ current_index self.now.world thread }
     {
         self.member_index(thread, self.current_region(thread))
+    }
+
+    /// The tasks that the thread has taken up, the current one last.
+    pub fn stack(&self, thread: u8) -> &[u32]
+        ensures tasks { reverse result.now ≡ (thread_at self.now.world thread).stack }
+        ensures few { length result.now ≤ STACK_LIMIT }
+    {
+        match self.threads.get(thread as usize) {
+            Some(thread) => thread.stack(),
+            None => &[],
+        }
+    }
+
+    /// The encountering task of the region, or 0.
+    pub fn encountering(&self, region: u32) -> u32
+        ensures { result ≡ (region_at self.now.world region).head.task }
+    {
+        self.regions.task(region)
+    }
+
+    /// How many members the region's team has.
+    pub fn size(&self, region: u32) -> u8
+        ensures { result ≡ (region_at self.now.world region).head.size }
+    {
+        self.regions.size(region)
+    }
+
+    /// The region that the task has forked and that isn't over, or 0.
+    pub fn forked(&self, task: u32) -> u32
+        ensures { result ≡ (task_at self.now.world task).forked }
+    {
+        self.tasks.forked(task)
+    }
+
+    /// What stands first in the task's code.
+    pub fn standing(&self, task: u32) -> Upcoming
+        ensures { result ≡ upcoming_among (task_at self.now.world task).code.todo }
+    {
+        self.tasks.standing(task)
     }
 
     /// What the code of the thread's current task sees.
