@@ -20,6 +20,8 @@ mod tasks;
 mod threads;
 mod words;
 
+pub use meeting::sync_number;
+
 use crate::regions::Regions;
 use crate::tasks::Tasks;
 use crate::thread::Thread;

@@ -8,4 +8,4 @@ mod task;
 mod tasks;
 mod thread;
 
-pub use board::Board;
+pub use board::{Board, sync_number};
