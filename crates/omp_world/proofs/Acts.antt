@@ -7,12 +7,13 @@ use Rattle.task_pool.specs.declared.task.TaskKind.TheVariants as kind
 use Rattle.task_pool.specs.Tasks.{is_finished}
 use Rattle.omp_model.specs.declared.history.Entry.{Entry}
 use Rattle.omp_world.specs.declared.limits.TheConstants.{INITIAL_TASK}
+use Rattle.omp_world.specs.declared.event.Arrival.TheVariants.{Meets}
 use Rattle.omp_world.specs.declared.event.Callback.{Callback}
 use Rattle.omp_world.specs.declared.event.Event.{Event}
 use Rattle.omp_world.specs.declared.event.Event.TheVariants as event
 use Rattle.omp_world.specs.State.{Run, World, pending_at, pooled_at, region_at, task_at}
 use Rattle.omp_world.specs.Members.{current}
-use Rattle.omp_world.specs.Gates.{Meets, arrival}
+use Rattle.omp_world.specs.Gates.{arrival}
 use Rattle.omp_world.specs.Changes.{popped, taken_up}
 use Rattle.omp_world.specs.Turn.{walk}
 use Rattle.omp_world.specs.Legal.{after}

@@ -15,12 +15,14 @@ use Rattle.task_pool.specs.declared.task.TaskKind.TheVariants as kind
 use Rattle.omp_world.specs.declared.limits.TheConstants.{IMPLICIT_REGION, INITIAL_TASK}
 use Rattle.omp_world.specs.declared.parts.ThreadStage.{ThreadStage}
 use Rattle.omp_world.specs.declared.parts.ThreadStage.TheVariants as thread_stage
+use Rattle.omp_world.specs.declared.event.Arrival.{Arrival}
+use Rattle.omp_world.specs.declared.event.Arrival.TheVariants.{Comes, Meets, Steps, Waits}
 use Rattle.omp_world.specs.declared.event.Event.{Event}
 use Rattle.omp_world.specs.declared.event.Event.TheVariants as event
 use Rattle.omp_world.specs.declared.event.Share.{Share}
 use Rattle.omp_world.specs.State.{World, pooled_at, task_at, thread_at}
 use Rattle.omp_world.specs.Members.{code_of, current, current_region, region_of, view_of}
-use Rattle.omp_world.specs.Gates.{Arrival, Waits, Steps, Comes, Meets, all_left, arrival, arrival_around, arrival_at, arrival_at_end, arrival_at_sync, arrival_in, arrival_invited, arrival_of_task, arrival_of_worker, arrival_with_share, arrival_with_undeferred, arrival_without_task, has_no_tasks, is_owned, main_returned, may_end, next_task, starts_if, workers_over}
+use Rattle.omp_world.specs.Gates.{all_left, arrival, arrival_around, arrival_at, arrival_at_end, arrival_at_sync, arrival_in, arrival_invited, arrival_of_task, arrival_of_worker, arrival_with_share, arrival_with_undeferred, arrival_without_task, has_no_tasks, is_owned, main_returned, may_end, next_task, starts_if, workers_over}
 use Rattle.omp_world.specs.Turn.{goes_on}
 use Rattle.omp_world.specs.Words.{is_made_thread}
 use Rattle.omp_world.specs.Made.{IsThread}

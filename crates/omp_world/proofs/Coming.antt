@@ -22,6 +22,7 @@ use Rattle.task_pool.specs.declared.task.TaskKind.{TaskKind}
 use Rattle.task_pool.specs.declared.task.TaskKind.TheVariants as kind
 use Rattle.omp_world.specs.declared.parts.ThreadStage.{ThreadStage}
 use Rattle.omp_world.specs.declared.parts.ThreadStage.TheVariants as thread_stage
+use Rattle.omp_world.specs.declared.event.Arrival.TheVariants.{Comes, Meets, Waits}
 use Rattle.omp_world.specs.declared.event.Event.{Event}
 use Rattle.omp_world.specs.declared.event.Halt.{Halt}
 use Rattle.omp_world.specs.declared.event.Share.{Share}
@@ -29,7 +30,7 @@ use Rattle.omp_world.specs.State.{Run, World, pooled_at, thread_at}
 use Rattle.omp_world.specs.declared.event.Event.TheVariants.{InitialTaskEnd, MemberBegin, TaskBegin, ThreadEnd}
 use Rattle.omp_world.specs.declared.limits.TheConstants.{IMPLICIT_REGION, INITIAL_TASK}
 use Rattle.omp_world.specs.Members.{code_of, current, current_region, moment_of, view_of}
-use Rattle.omp_world.specs.Gates.{Waits, Comes, Meets, arrival, arrival_around, arrival_at, arrival_at_end, arrival_in, arrival_of_worker, arrival_with_share, arrival_with_undeferred, arrival_without_task, has_no_tasks, main_returned, next_task, starts_if, workers_over}
+use Rattle.omp_world.specs.Gates.{arrival, arrival_around, arrival_at, arrival_at_end, arrival_in, arrival_of_worker, arrival_with_share, arrival_with_undeferred, arrival_without_task, has_no_tasks, main_returned, next_task, starts_if, workers_over}
 use Rattle.omp_world.specs.Going.{Going, Nothing, Happens, Halts, going_by, going_in_code, told, unless}
 
 -- it occurs, or meets a trap or a limit

@@ -12,12 +12,13 @@ use Rattle.omp_model.specs.declared.history.What.{What}
 use Rattle.omp_model.specs.declared.history.What.TheVariants.{Go, Put, Back}
 use Rattle.omp_model.specs.declared.history.Entry.{Entry}
 use Rattle.omp_world.specs.declared.limits.TheConstants.{INITIAL_TASK}
+use Rattle.omp_world.specs.declared.event.Arrival.TheVariants.{Steps}
 use Rattle.omp_world.specs.declared.event.Callback.{Callback}
 use Rattle.omp_world.specs.declared.event.Event.{Event}
 use Rattle.omp_world.specs.declared.event.Outcome.{Outcome}
 use Rattle.omp_world.specs.declared.event.Outcome.TheVariants as outcome
 use Rattle.omp_world.specs.State.{Run, State, Thread, World, first, first_world, pending_at, pooled_at, thread_at, unmade}
-use Rattle.omp_world.specs.Gates.{Steps, arrival}
+use Rattle.omp_world.specs.Gates.{arrival}
 use Rattle.omp_world.specs.Silent.{Silence, Goes, Stops, silent_step}
 use Rattle.omp_world.specs.Words.{stored}
 use Rattle.omp_world.specs.Turn.{called, goes_on, turn, walk}

@@ -1,6 +1,8 @@
 -- What silent steps keep of the world a turn keeps up to its event, whatever that is.
 use Rattle.std.proofs.Common.{◌≡◌, ℕ, zero, suc, ◌+◌, Bool, true, false, nat_le, nat_lt, if◌then◌else◌, List, [], ◌∷◌, Option, Some, None, refl, ap, ◌∙◌, subst}
 use Rattle.omp_world.specs.declared.limits.TheConstants.{STEPS, STEPS_OF_A_TURN, TURNS, TURN_LIMIT}
+use Rattle.omp_world.specs.declared.event.Arrival.{Arrival}
+use Rattle.omp_world.specs.declared.event.Arrival.TheVariants.{Comes, Meets, Steps, Waits}
 use Rattle.omp_world.specs.declared.event.Event.{Event}
 use Rattle.omp_world.specs.declared.event.Halt.{Halt}
 use Rattle.omp_world.specs.declared.event.Halt.TheVariants.{Limit}
@@ -8,7 +10,7 @@ use Rattle.omp_world.specs.declared.event.Outcome.{Outcome}
 use Rattle.omp_world.specs.declared.event.Outcome.TheVariants as outcome
 use Rattle.omp_model.specs.declared.history.Entry.{Entry}
 use Rattle.omp_world.specs.State.{Run, State, World}
-use Rattle.omp_world.specs.Gates.{Arrival, Waits, Steps, Comes, Meets, arrival}
+use Rattle.omp_world.specs.Gates.{arrival}
 use Rattle.omp_world.specs.Silent.{Silence, Goes, Stops, silent_step}
 use Rattle.omp_world.specs.Going.{Going, Nothing, Happens, Halts, effect_of, fault_of, going_beside, going_in_code, unless}
 use Rattle.omp_world.specs.Legal.{after_from, entered}

@@ -3,6 +3,8 @@ use Rattle.std.specs.Prelude.{◌≡◌, ℕ, zero, suc, ◌+◌, ◌<◌, ◌&&
 use Rattle.std.proofs.lemmas.Bool.{true≢false, and_parts, leb-false}
 use Rattle.std.proofs.Common.{sym, ap, ◌∙◌, subst, add-one, lt-ltb, arith}
 use Rattle.omp_world.specs.declared.limits.TheConstants.{STEPS, STEPS_OF_A_TURN, TURNS, TURN_LIMIT}
+use Rattle.omp_world.specs.declared.event.Arrival.{Arrival}
+use Rattle.omp_world.specs.declared.event.Arrival.TheVariants.{Comes, Meets, Steps, Waits}
 use Rattle.omp_world.specs.declared.event.Callback.{Callback}
 use Rattle.omp_world.specs.declared.event.Event.{Event}
 use Rattle.omp_world.specs.declared.event.Outcome.{Outcome}
@@ -11,7 +13,7 @@ use Rattle.omp_world.specs.Legal.{back_from, back}
 use Rattle.omp_world.specs.declared.event.Halt.{Halt}
 use Rattle.omp_world.specs.declared.event.Halt.TheVariants.{Limit}
 use Rattle.omp_world.specs.State.{Run, World, State, pending_at}
-use Rattle.omp_world.specs.Gates.{Arrival, Waits, Steps, Comes, Meets, arrival}
+use Rattle.omp_world.specs.Gates.{arrival}
 use Rattle.omp_world.specs.Silent.{Silence, Goes, Stops, silent_step}
 use Rattle.omp_world.specs.Going.{Going, Nothing, Happens, Halts, fault_of, effect_of, going_beside, going_in_code, unless}
 use Rattle.omp_world.specs.Turn.{Walk, Turn, after_steps, after_walk, called, counted, enabled, goes_on, halted, has_outcome, stepped, turn, unlimited, walk, walk_by, walk_on, walked, with_going, without_event}

@@ -22,22 +22,13 @@ use Rattle.sync_objects.specs.Owners.{look_up}
 use Rattle.omp_world.specs.declared.limits.TheConstants.{IMPLICIT_REGION, INITIAL_TASK}
 use Rattle.omp_world.specs.declared.parts.ThreadStage.{ThreadStage}
 use Rattle.omp_world.specs.declared.parts.ThreadStage.TheVariants as thread_stage
+use Rattle.omp_world.specs.declared.event.Arrival.{Arrival}
+use Rattle.omp_world.specs.declared.event.Arrival.TheVariants.{Comes, Meets, Steps, Waits}
 use Rattle.omp_world.specs.declared.event.Event.{Event}
 use Rattle.omp_world.specs.declared.event.Event.TheVariants.{Dispatch, InitialTaskBegin, InitialTaskEnd, MemberBegin, MemberEnd, TaskBegin, TaskEnd, ThreadBegin, ThreadEnd}
 use Rattle.omp_world.specs.declared.event.Share.{Share}
 use Rattle.omp_world.specs.State.{Thread, World, pooled_at, region_at, task_at, thread_at}
 use Rattle.omp_world.specs.Members.{code_of, current, current_index, current_region, current_team, is_member, region_of, view_of}
-
--- what a thread comes to next
-pub data Arrival : Type 0 where
-  -- nothing, or what it has to wait for
-  Waits : Arrival
-  -- a silent step of its current task's code
-  Steps : Arrival
-  -- an event of its current task's code
-  Comes : Arrival
-  -- an event that stands beside all code
-  Meets : Event → Arrival
 
 -- an event of the code, where nothing keeps the thread from it
 abbrev pub comes_if : Bool → Arrival

@@ -1,6 +1,8 @@
 -- A turn: up to 64 silent steps of a thread, and then the next event, where the thread has come to one for which it doesn't wait.
 use Rattle.std.specs.Prelude.{ℕ, zero, suc, ◌+◌, ◌&&◌, Bool, true, false, nat_le, nat_lt, if◌then◌else◌, Option, Some, None, is_none, slice_set}
 use Rattle.omp_world.specs.declared.limits.TheConstants.{STEPS, STEPS_OF_A_TURN, TURNS, TURN_LIMIT}
+use Rattle.omp_world.specs.declared.event.Arrival.{Arrival}
+use Rattle.omp_world.specs.declared.event.Arrival.TheVariants.{Comes, Meets, Steps, Waits}
 use Rattle.omp_world.specs.declared.event.Callback.{Callback}
 use Rattle.omp_world.specs.declared.event.Event.{Event}
 use Rattle.omp_world.specs.declared.event.Halt.{Halt}
@@ -8,7 +10,7 @@ use Rattle.omp_world.specs.declared.event.Halt.TheVariants.{Limit}
 use Rattle.omp_world.specs.declared.event.Outcome.{Outcome}
 use Rattle.omp_world.specs.declared.event.Outcome.TheVariants as outcome
 use Rattle.omp_world.specs.State.{Run, World, State, pending_at}
-use Rattle.omp_world.specs.Gates.{Arrival, Waits, Steps, Comes, Meets, arrival}
+use Rattle.omp_world.specs.Gates.{arrival}
 use Rattle.omp_world.specs.Silent.{Silence, Goes, Stops, silent_step}
 use Rattle.omp_world.specs.Going.{Going, Nothing, Happens, Halts, going_beside, going_in_code}
 

@@ -1,4 +1,4 @@
-//! The events of the machine, with their callbacks (OpenMP 5.2, 19.5.2).
+//! The events of the machine, with their callbacks (OpenMP 5.2, 19.5.2), and what threads and turns come to.
 
 use c_model::{MutexKind, SyncKind, SyncStage, WorkKind};
 
@@ -116,6 +116,19 @@ pub enum Event {
         wait_id: u32,
         codeptr: u64,
     },
+}
+
+/// What a thread comes to next.
+#[derive(Clone, Copy)]
+pub enum Arrival {
+    /// Nothing, or what it has to wait for.
+    Waits,
+    /// A silent step of its current task's code.
+    Steps,
+    /// An event of its current task's code.
+    Comes,
+    /// An event that stands beside all code.
+    Meets(Event),
 }
 
 /// The callback that a thread is inside.

@@ -4,7 +4,7 @@ ghost use Rattle.std.specs.Prelude.{◌≡◌, ◌≤◌, ◌&&◌, ℕ, List, S
 ghost use Rattle.omp_model.specs.declared.history.Entry.{Entry};
 ghost use Rattle.omp_world.specs.Calls.{call_of, callback_of};
 ghost use Rattle.omp_world.specs.Conditions.{BackActs, GoActs, IsOrderly};
-ghost use Rattle.omp_world.specs.Gates.{Meets, arrival};
+ghost use Rattle.omp_world.specs.Gates.{arrival};
 ghost use Rattle.omp_world.specs.Legal.{Legal, after};
 ghost use Rattle.omp_world.specs.Made.{IsMadeState, IsRegion, IsTeam};
 ghost use Rattle.omp_world.specs.Members.{current, is_member};
@@ -13,6 +13,7 @@ ghost use Rattle.omp_world.specs.Serial.{StoresNothing, WholeSerial, serial};
 ghost use Rattle.omp_world.specs.Snapshots.{snap_of};
 ghost use Rattle.omp_world.specs.State.{Run, State, pending_at, region_at};
 ghost use Rattle.omp_world.specs.Turn.{enabled, has_outcome, turn, unlimited, walk};
+ghost use Rattle.omp_world.specs.declared.event.Arrival.TheVariants.{Meets};
 ghost use Rattle.omp_world.specs.declared.event.Callback.{Callback};
 ghost use Rattle.omp_world.specs.declared.event.Event.{Event};
 ghost use Rattle.omp_world.specs.declared.event.Outcome.TheVariants.{Happens};

@@ -43,7 +43,7 @@ mod laws;
 mod limits;
 mod parts;
 
-pub use event::{Callback, Endpoint, Event, Halt, Outcome, Share};
+pub use event::{Arrival, Callback, Endpoint, Event, Halt, Outcome, Share};
 pub use laws::{
     enabled_threads_have_turns, serial_history_is_one, stores_of_replies_may_stand,
     tasks_are_orderly, threads_with_tasks_are_members, what_a_run_names_was_made,
