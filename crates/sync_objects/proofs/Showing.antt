@@ -1,5 +1,5 @@
 -- The locks that the places are seen as: what is looked up, and how they change.
-use Rattle.std.proofs.Common.{◌≡◌, ◌≢◌, ℕ, zero, suc, ◌+◌, ◌<◌, ◌≤◌, ◌∙◌, true, List, [], ◌∷◌, ◌++◌, Option, Some, None, Ok, refl, sym, ap, subst, inl, inr, arith, lt-ltb}
+use Rattle.std.proofs.Common.{◌≡◌, ◌≢◌, ◌⊎◌, ℕ, zero, suc, ◌+◌, ◌<◌, ◌≤◌, ◌∙◌, List, [], ◌∷◌, ◌++◌, Option, Some, None, refl, sym, ap, subst, inl, inr, arith, lt-ltb}
 use Rattle.std.proofs.lemmas.Bool.{cases_eq, cases_lt, eq-eqb, ne_eqb, le-ltb}
 use Rattle.sync_objects.specs.declared.lock.Lock.{Lock}
 use Rattle.sync_objects.specs.declared.entry.Entry.{Entry}
@@ -8,7 +8,6 @@ use Rattle.sync_objects.specs.declared.entry.Hold.TheVariants as hold
 use Rattle.sync_objects.specs.Owners.{free_lock, critical_locks, look_up, in_order, without, with_owner}
 use Rattle.sync_objects.specs.Places.{lock_of, and_lock, locks_of, AreAbove, IsRising, hold_of, with_hold, with_place, free_entry}
 use Rattle.sync_objects.specs.View.{LocksView}
-use Rattle.sync_objects.specs.Answers.{may_take_of}
 use Rattle.sync_objects.proofs.Rising.{above-lower, critical_entries, rising-with_hold, rising-with_place}
 
 pub view-equal : (one other : LocksView) → one.locks ≡ other.locks → one.room ≡ other.room → one ≡ other
@@ -161,10 +160,23 @@ absent-is (hold.Owned owner) id none = cc
 pub hold-absent : (entries : List Entry) (id : ℕ) → IsRising entries → look_up (locks_of entries) id ≡ None → hold_of entries id ≡ hold.Absent
 hold-absent entries id rising none = absent-is (hold_of entries id) id (sym (shown-look_up entries id rising) ∙ none)
 
--- a lock that may be taken is there
-pub taken-there : (found : Option Lock) → may_take_of found ≡ Ok true → (lock : Lock) × (found ≡ Some lock)
-taken-there None may = cc
-taken-there (Some lock) may = (lock, refl)
+-- where a hold isn't absent, there is a lock
+pub lock-there : (known : Hold) (id : ℕ) → (known ≡ hold.Free) ⊎ ((owner : ℕ) × (known ≡ hold.Owned owner)) → (lock : Lock) × (lock_of id known ≡ Some lock)
+lock-there hold.Absent id (inl free) = cc
+lock-there hold.Absent id (inr owned) = absurd (cc owned.1)
+lock-there hold.Free id there = (free_lock id, refl)
+lock-there (hold.Owned owner) id there = (record { id = id; owner = Some owner }, refl)
+
+-- an owner of no lock changes nothing
+pub owner-none : (locks : List Lock) (id : ℕ) (owner : Option ℕ) → look_up locks id ≡ None → with_owner locks id owner ≡ locks
+unfolding look_up with_owner
+owner-none [] id owner none = refl
+owner-none (lock ∷ locks) id owner none = elim (cases_eq lock.id id) [
+  | inl same ↦ let found : Some lock ≡ None = rw (eq-eqb lock.id id same) at none in cc
+  | inr apart ↦
+      let rest : look_up locks id ≡ None = rw (ne_eqb lock.id id apart) at none in
+      rw (ne_eqb lock.id id apart) (ap (λ (others : List Lock). lock ∷ others) (owner-none locks id owner rest))
+]
 
 -- what a change of the places makes of what is seen
 pub record Shows (new : List Entry) (wanted : List Lock) : Type 0 where

@@ -9,7 +9,7 @@
 //! - [`Locks::init`], [`Locks::destroy`], [`Locks::may_take`] and [`Locks::give`] answer what those definitions have, and
 //!   after a fault nothing has changed;
 //! - [`Locks::init`] puts a free lock in order, [`Locks::destroy`] takes one out, [`Locks::take`] and [`Locks::give`]
-//!   change one owner, and all else stays;
+//!   change one owner, and all else stays. Where no such lock is initialised, [`Locks::take`] changes nothing;
 //! - only [`Locks::new`] and [`Locks::reserve`] take memory, and nothing but memory keeps them from their answer. After
 //!   want of memory nothing has changed. [`Locks::reserve`] makes room for one lock, and [`Locks::init`] uses it up;
 //! - [`LockFault::number`] is the number of the trap.

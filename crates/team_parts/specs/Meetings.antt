@@ -30,18 +30,6 @@ is_same (Single at) (Single at') = at == at'
 is_same (Barrier at kind) (Barrier at' kind') = at == at' && kind == kind'
 is_same _ _ = false
 
-abbrev pub is_loop : Meeting → Bool
-is_loop (Loop at start count step schedule) = true
-is_loop (Sections at count) = false
-is_loop (Single at) = false
-is_loop (Barrier at kind) = false
-
-abbrev pub is_sections : Meeting → Bool
-is_sections (Loop at start count step schedule) = false
-is_sections (Sections at count) = true
-is_sections (Single at) = false
-is_sections (Barrier at kind) = false
-
 abbrev pub is_barrier : Meeting → Bool
 is_barrier (Loop at start count step schedule) = false
 is_barrier (Sections at count) = false

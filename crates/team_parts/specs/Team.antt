@@ -6,7 +6,7 @@ use Rattle.team_parts.specs.declared.meeting.Meeting.TheVariants.{Barrier}
 use Rattle.team_parts.specs.declared.meeting.Mismatch.{Mismatch}
 use Rattle.team_parts.specs.declared.meeting.TheConstants.{TEAM_LIMIT}
 use Rattle.team_parts.specs.declared.member.Member.{Member}
-use Rattle.team_parts.specs.Meetings.{TeamMeeting, one_more, is_same, is_loop, is_sections, is_barrier}
+use Rattle.team_parts.specs.Meetings.{TeamMeeting, one_more, is_same, is_barrier}
 use Rattle.team_parts.specs.Chunks.{next_chunk_of, next_section_of}
 
 -- the members by number, the meetings that some member has had, in their order, and how many more there is room for.
@@ -54,7 +54,7 @@ after_meeting team member what =
     let met = member_at team member in
     with_member (with_place team (slice_get team.meetings met.met) what) member (with_meeting met what)
 
--- the meeting that the member had last
+-- the meeting that the member had last; the first of the team, if there is one, where the member had none
 abbrev pub last_number : TeamView → ℕ → ℕ
 last_number team member = (member_at team member).met - 1
 
@@ -63,18 +63,6 @@ no_meeting = record { what = Barrier 0 0; taken = [] }
 
 abbrev pub last_meeting : TeamView → ℕ → TeamMeeting
 last_meeting team member = slice_index_or team.meetings (last_number team member) no_meeting
-
--- it had one, and it was a loop, or had sections
-pub record HasMet (is_such : Meeting → Bool) (team : TeamView) (member : ℕ) : Type 0 where
-  pub of_team : member < length team.members
-  pub some : 0 < (member_at team member).met
-  pub such : IsTrue (is_such (last_meeting team member).what)
-
-abbrev pub IsInLoop : TeamView → ℕ → Type 0
-IsInLoop team member = HasMet is_loop team member
-
-abbrev pub IsInSections : TeamView → ℕ → Type 0
-IsInSections team member = HasMet is_sections team member
 
 -- the member has taken one chunk or section more in the meeting that it had last
 abbrev pub with_taken : TeamMeeting → ℕ → TeamMeeting

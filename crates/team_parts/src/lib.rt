@@ -17,7 +17,7 @@
 //! - [`Team::meet`] tells whether the member is the first here, or answers [`Mismatch`] exactly where another member has
 //!   met something else in this place, and then nothing has changed;
 //! - [`Team::next_chunk`] and [`Team::next_section`] answer what the definitions have, none exactly where nothing is left
-//!   for the member, and count what was taken;
+//!   for the member or what it met last has none, and count what was taken;
 //! - [`Team::arrive`], [`Team::may_pass`] and [`Team::pass`]: a wait may end where all members have begun theirs at this
 //!   barrier and no explicit task is unfinished, or where that of some member has ended here;
 //! - only [`Team::new`] and [`Team::reserve`] take memory, and after want of it nothing has changed. [`Team::reserve`]

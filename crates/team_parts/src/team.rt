@@ -132,7 +132,8 @@ impl Team {
     }
 
     /// The member takes the next chunk of the loop that it met last: its first iteration, counted from 0, and its
-    /// length. There is none where no iteration is left for the member, or where it met something else last, or nothing.
+    /// length. There is none where no iteration is left for the member, or where what it met last is no loop. A member
+    /// that has met nothing asks at the team's first meeting, and where there is none has no chunk.
     pub fn next_chunk(&mut self, member: u32) -> Option<(u64, u64)>
         requires { member < length self.old.members }
         ensures answer { result ≡ next_chunk self.old member }
@@ -140,14 +141,13 @@ impl Team {
     {
         let size = self.members.len() as u64;
         let last = self.last_number(member);
-        match self.meetings.get_mut(last) {
-            Some(gathering) => gathering.take_chunk(size, member),
-            None => None,
-        }
+        let gathering = self.meetings.get_mut(last)?;
+        gathering.take_chunk(size, member)
     }
 
     /// The member takes the next section of the construct that it met last: its number, counted from 0. There is none
-    /// where each was taken, or where the member met something else last, or nothing.
+    /// where each was taken, or where what it met last has no sections. A member that has met nothing asks at the team's
+    /// first meeting, and where there is none has no section.
     pub fn next_section(&mut self, member: u32) -> Option<u32>
         requires { member < length self.old.members }
         ensures answer { result ≡ next_section self.old member }
@@ -155,10 +155,8 @@ impl Team {
     {
         let size = self.members.len() as u64;
         let last = self.last_number(member);
-        match self.meetings.get_mut(last) {
-            Some(gathering) => gathering.take_section(size, member),
-            None => None,
-        }
+        let gathering = self.meetings.get_mut(last)?;
+        gathering.take_section(size, member)
     }
 
     /// The member begins to wait at the barrier that it met last, if it met one.

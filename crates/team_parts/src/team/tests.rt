@@ -1,8 +1,7 @@
 //! What no clause says: that the calls succeed, that the definitions mean what was meant, and that long lists of calls
 //! agree with plain lists of all that each member met and took.
-ghost use Rattle.std.specs.Prelude.{◌≡◌, Bool, false, IsTrue};
+ghost use Rattle.std.specs.Prelude.{IsTrue};
 ghost use Rattle.team_parts.specs.Meetings.{HasChunk};
-ghost use Rattle.team_parts.specs.Team.{HasMet};
 
 mod plain;
 
@@ -40,10 +39,7 @@ fn team_at(alloc: Global, what: Meeting) -> Result<Team, Fail> {
 }
 
 /// What the member met last, or a single construct where it has met nothing.
-fn last_met(team: &Team, member: u32) -> Meeting
-    ensures { (is_such : Meeting → Bool) → is_such (Meeting.Single 0) ≡ false → IsTrue (is_such result) →
-        HasMet is_such team.now member }
-{
+fn last_met(team: &Team, member: u32) -> Meeting {
     let nothing = Meeting::Single { at: 0 };
     let Some(found) = team.members.get(member as usize) else {
         return nothing;
@@ -80,17 +76,17 @@ fn meet(team: &mut Team, member: u32, what: Meeting) -> Result<Result<bool, Mism
 }
 
 fn next_chunk(team: &mut Team, member: u32) -> Result<Option<(u64, u64)>, Fail> {
-    match last_met(team, member) {
-        Meeting::Loop { .. } => Ok(team.next_chunk(member)),
-        _ => Err(Fail::from("no loop")),
+    if member >= team.size() {
+        return Err(Fail::from("no such member"));
     }
+    Ok(team.next_chunk(member))
 }
 
 fn next_section(team: &mut Team, member: u32) -> Result<Option<u32>, Fail> {
-    match last_met(team, member) {
-        Meeting::Sections { .. } => Ok(team.next_section(member)),
-        _ => Err(Fail::from("no sections")),
+    if member >= team.size() {
+        return Err(Fail::from("no such member"));
     }
+    Ok(team.next_section(member))
 }
 
 fn arrive(team: &mut Team, member: u32) -> Result<(), Fail> {
