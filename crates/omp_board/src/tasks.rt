@@ -143,10 +143,10 @@ impl Tasks {
     }
 
     /// The identity of the next task.
-    pub fn next(&self) -> usize
+    pub fn next(&self) -> u32
         ensures { result ≡ length self.now.tasks }
     {
-        self.list.len()
+        self.list.len() as u32
     }
 
     /// The region that the task has forked and that isn't over, or 0.
