@@ -228,7 +228,7 @@ past_point before W t now what =
 
 -- What an event beside all code changes.
 
--- the code of a member, where the end of the region that was forked stands next in this code; else there is none
+-- the code of a member, where the end of the region that was forked stands first in this code; else there is none
 abbrev pub has_forked : List Item → Bool
 has_forked (Forked construct ∷ items) = true
 has_forked other = false

@@ -28,7 +28,8 @@ walked S made stop = record { state = S; made = made; stop = stop }
 abbrev pub stepped : State → World → State
 stepped S after = record S { world = after; steps = S.steps + 1 }
 
--- a step or an event of the code is tried from where its task has left out what it goes past
+-- The state in which a step or an event of the code halts the run, and from which an event of the code occurs: the task has left out what it goes past.
+-- Where the code isn't tried, it is left as it is.
 abbrev pub going_past : State → ℕ → State
 going_past S t = record S { world = gone_past S.world t }
 
