@@ -1,7 +1,6 @@
 -- What is to start, to finish or to become ready does so.
 use Rattle.std.proofs.Common.{◌≡◌, ℕ, ◌≤◌, false, List, length, sym, ap, subst, arith}
 use Rattle.std.specs.Prelude.{Option, Some}
-use Rattle.c_model.specs.Begin.{member_task}
 use Rattle.task_pool.specs.declared.task.Task.{Task as PoolTask}
 use Rattle.task_pool.specs.declared.task.TaskKind.TheVariants as kind
 use Rattle.task_pool.specs.Tasks.{is_finished}
@@ -15,6 +14,7 @@ use Rattle.omp_world.specs.State.{Run, World, pending_at, pooled_at, region_at, 
 use Rattle.omp_world.specs.Members.{current}
 use Rattle.omp_world.specs.Gates.{arrival}
 use Rattle.omp_world.specs.Changes.{popped, taken_up}
+use Rattle.omp_world.specs.Going.{member_code}
 use Rattle.omp_world.specs.Turn.{walk}
 use Rattle.omp_world.specs.Legal.{after}
 use Rattle.omp_world.specs.Made.{IsMadeWorld}
@@ -29,7 +29,7 @@ use Rattle.omp_world.proofs.OrderlyRuns.{orderly-after, orderly-walk}
 member-starts : (W : World) (r : ℕ) → AreOrderly W → IsMadeWorld W → Starts (member_made W r) (length W.tasks)
 member-starts W r all made =
     let parent = (region_at W r).head.task in
-    let fresh = fresh-is W parent r kind.Implicit (member_task (task_at W parent).code) all made (λ is. cc) in
+    let fresh = fresh-is W parent r kind.Implicit (member_code (task_at W parent).code) all made (λ is. cc) in
     started-is (member_made W r) (length W.tasks) (ap (λ (x : PoolTask). is_finished x.condition) fresh)
 
 go-acts : (W : World) (t : ℕ) (e : Event) → AreOrderly W → IsMadeWorld W → Reached W t e → GoActs W t e

@@ -161,6 +161,77 @@ scheduling-starts : take 2 (drop 12 (lines scheduling_run (serial scheduling_run
 unfolding children acts each target function init first_part second_part third_part outside_acts clause_outside statements after_all inside_acts mention unlisted_in loops_in find still_in_scope after stands_in stands_among child_count names is_among with_each masked_badly critical_badly spoiled is_loop_inside not_listed slot_in construct_at slots_copied number_among shared_by_rule sharing_at copies_around statement_of from_place told_by_all with_parameters last_named first_named last_of_slot with_declarators clauses_among statements_among expression_among schedule_among listed_among with_listed with_slots combining_all trees_in flat_declarations function_among variables_among items_from_next silent printed_text text_behind_percent text_behind_backslash value values all_values descends_within last_where dealt_count critical_locks look_up in_order without with_owner call_of all_summoned arrival fault_of_point fault_of effect_of_point effect_of going_in_code at_back enabled_among serial_from silent_step state_of levels_from down_from regions_after walk unlimited turn enabled
 scheduling-starts = refl
 
+-- Thread 0 waits in the region's barrier, so it holds its implicit task there only as one that is suspended in a barrier, and starts the task that the
+-- other member has made.
+-- int main(void) {
+-- #pragma omp parallel num_threads(2)
+-- {
+-- if (omp_get_thread_num() == 1) {
+-- #pragma omp task
+-- ;
+-- }
+-- }
+-- return 0;
+-- }
+abbrev suspended_program : Tree
+suspended_program =
+    at 1 1 node.Program 0 0 (
+    Some (at 1 1 (node.Function returns.Int) 0 0 (
+    Some (at 1 5 node.Name 1 0 [])
+    ∷ Some (at 1 9 (node.Params params.Void) 0 0 [])
+    ∷ Some (at 1 16 node.Block 0 0 (
+    Some (at 2 1 (node.Construct directive.Parallel) 0 0 (
+    Some (at 2 22 (node.Clause lead.Blank) 0 0 (
+    Some (at 2 22 node.NumThreads 0 0 (Some (at 2 34 node.Number 0 2 []) ∷ [])) ∷ []))
+    ∷ Some (at 3 1 node.Block 0 0 (
+    Some (at 4 1 node.If 0 0 (
+    Some (at 4 5 (node.Binary binary.Equal) 0 0 (
+    Some (at 4 5 (node.Getter getter.ThreadNum) 0 0 [])
+    ∷ Some (at 4 29 node.Number 0 1 []) ∷ []))
+    ∷ Some (at 4 32 node.Block 0 0 (
+    Some (at 5 1 (node.Construct directive.Task) 0 0 (Some (at 6 1 node.Empty 0 0 []) ∷ [])) ∷ [])) ∷ [])) ∷ [])) ∷ []))
+    ∷ Some (at 9 1 node.Return 0 0 (Some (at 9 8 node.Number 0 0 []) ∷ [])) ∷ [])) ∷ [])) ∷ [])
+
+abbrev suspended_run : Run
+suspended_run = run_of 2 1 suspended_program
+
+suspended-starts : line_behind 10 suspended_run ≡ Some (line 20 0 (call.TaskSchedule (word 2) 7 (word 4)))
+unfolding children acts each target function init first_part second_part third_part outside_acts clause_outside statements after_all inside_acts mention unlisted_in loops_in find still_in_scope after stands_in stands_among child_count names is_among with_each masked_badly critical_badly spoiled is_loop_inside not_listed slot_in construct_at slots_copied number_among shared_by_rule sharing_at copies_around statement_of from_place told_by_all with_parameters last_named first_named last_of_slot with_declarators clauses_among statements_among expression_among schedule_among listed_among with_listed with_slots combining_all trees_in flat_declarations function_among variables_among items_from_next silent printed_text text_behind_percent text_behind_backslash value values all_values descends_within last_where dealt_count critical_locks look_up in_order without with_owner call_of all_summoned arrival fault_of_point fault_of effect_of_point effect_of going_in_code at_back enabled_among serial_from silent_step state_of levels_from down_from regions_after walk unlimited turn enabled
+suspended-starts = refl
+
+-- A nested region has a team of one, though two threads are there and asked for.
+-- int main(void) {
+-- #pragma omp parallel num_threads(1)
+-- #pragma omp parallel num_threads(2)
+-- ;
+-- return 0;
+-- }
+abbrev lone_program : Tree
+lone_program =
+    at 1 1 node.Program 0 0 (
+    Some (at 1 1 (node.Function returns.Int) 0 0 (
+    Some (at 1 5 node.Name 1 0 [])
+    ∷ Some (at 1 9 (node.Params params.Void) 0 0 [])
+    ∷ Some (at 1 16 node.Block 0 0 (
+    Some (at 2 1 (node.Construct directive.Parallel) 0 0 (
+    Some (at 2 22 (node.Clause lead.Blank) 0 0 (
+    Some (at 2 22 node.NumThreads 0 0 (Some (at 2 34 node.Number 0 1 []) ∷ [])) ∷ []))
+    ∷ Some (at 3 1 (node.Construct directive.Parallel) 0 0 (
+    Some (at 3 22 (node.Clause lead.Blank) 0 0 (
+    Some (at 3 22 node.NumThreads 0 0 (Some (at 3 34 node.Number 0 2 []) ∷ [])) ∷ []))
+    ∷ Some (at 4 1 node.Empty 0 0 []) ∷ [])) ∷ []))
+    ∷ Some (at 5 1 node.Return 0 0 (Some (at 5 8 node.Number 0 0 []) ∷ [])) ∷ [])) ∷ [])) ∷ [])
+
+abbrev lone_run : Run
+lone_run = run_of 2 1 lone_program
+
+lone-begins : take 2 (drop 4 (lines lone_run (serial lone_run))) ≡
+    line 8 0 (call.ParallelBegin (word 2) (frame 2 32770) (word 3) 2 2147483649 196609)
+    ∷ line 10 0 (call.ImplicitTask 1 (word 3) (word 3) 1 0 2)
+    ∷ []
+unfolding children acts each target function init first_part second_part third_part outside_acts clause_outside statements after_all inside_acts mention unlisted_in loops_in find still_in_scope after stands_in stands_among child_count names is_among with_each masked_badly critical_badly spoiled is_loop_inside not_listed slot_in construct_at slots_copied number_among shared_by_rule sharing_at copies_around statement_of from_place told_by_all with_parameters last_named first_named last_of_slot with_declarators clauses_among statements_among expression_among schedule_among listed_among with_listed with_slots combining_all trees_in flat_declarations function_among variables_among items_from_next silent printed_text text_behind_percent text_behind_backslash value values all_values descends_within last_where dealt_count critical_locks look_up in_order without with_owner call_of all_summoned arrival fault_of_point fault_of effect_of_point effect_of going_in_code at_back enabled_among serial_from silent_step state_of levels_from down_from regions_after walk unlimited turn enabled
+lone-begins = refl
+
 -- A lock is given back by a task that doesn't own it.
 -- #include <omp.h>
 -- omp_lock_t l;

@@ -10,7 +10,7 @@ use Rattle.omp_world.specs.Legal.{after}
 use Rattle.omp_world.specs.Made.{IsMadeWorld, IsRegion, IsTeam}
 use Rattle.omp_world.proofs.MadeWords.{MadeAfter, after-same}
 use Rattle.omp_world.proofs.MadeEvents.{current-made, step-made}
-use Rattle.omp_world.proofs.MadeRuns.{made-after, silence-then}
+use Rattle.omp_world.proofs.MadeRuns.{made-after, past-then, silence-then}
 use Rattle.omp_world.proofs.Turning.{of-walk}
 
 -- a thread with a task
@@ -20,7 +20,7 @@ member-made W t made some = lt-ltb (current_index W t) (length (current_team W t
 -- after silent steps
 pub made-walk : (run : Run) (S : State) (t left made : ℕ) → IsMadeWorld S.world → IsMadeWorld (walk run left made S t).state.world
 made-walk run S t left made all =
-    (of-walk run t (MadeAfter S.world) (λ W steps so. silence-then S.world W (silent_step run W t) all so (step-made run W t so.world)) left made S (after-same S.world all)).world
+    (of-walk run t (MadeAfter S.world) (λ W so. past-then S.world W t all so) (λ W steps so. silence-then S.world W (silent_step run W t) all so (step-made run W t so.world)) left made S (after-same S.world all)).world
 
 module _ (run : Run) (history : List Entry) (there : 1 ≤ run.threads) where
   pub member-after : (t : ℕ) → 1 ≤ current (after run history).world t → is_member (after run history).world t ≡ true

@@ -1,7 +1,8 @@
 mod Written
 mod Rows
 mod Facts
-mod Coming
+pub mod GonePast
+pub mod Coming
 mod Turns
 mod Recording
 mod SerialLaws

@@ -14,7 +14,7 @@ use Rattle.c_model.specs.declared.point.Work.{Work}
 use Rattle.c_model.specs.declared.point.Work.TheVariants as work
 use Rattle.c_model.specs.declared.question.Ask.{Ask}
 use Rattle.c_model.specs.declared.question.Ask.TheVariants as ask
-use Rattle.c_model.specs.Begin.{blank_task, explicit_task, member_task}
+use Rattle.c_model.specs.Begin.{blank_task, explicit_task}
 use Rattle.c_model.specs.Going.{after_answer, after_event}
 use Rattle.c_model.specs.Step.{silent}
 use Rattle.c_model.specs.Task.{Moment, Outcome, Task as Code}
@@ -36,7 +36,7 @@ use Rattle.omp_world.specs.Members.{current, current_index, current_region, curr
 use Rattle.omp_world.specs.Gates.{held_tasks, is_barrier, next_task}
 use Rattle.omp_world.specs.Changes.{begun, emptied, finished, gone_to, member_begun, met, passed, popped, region_made, sharing, started, taken_up, task_made, with_code}
 use Rattle.omp_world.specs.Silent.{Silence, Goes, Stops, answer_to, answered, share_taken, silence_of, silent_step, team_after, team_asked}
-use Rattle.omp_world.specs.Going.{Going, Nothing, Happens, Halts, after_creation, after_fork, after_meeting_at, after_member, after_sync, barrier_met, effect_of, effect_of_point, event_of_point, executes_point, fault_of, fault_of_point, going_beside, going_by, going_in_code, kind_of_task, past_point, team_size, told, trap_if, unless, work_begin, work_met}
+use Rattle.omp_world.specs.Going.{Going, Nothing, Happens, Halts, after_creation, after_fork, after_meeting_at, after_member, after_sync, barrier_met, effect_of, effect_of_point, event_of_point, executes_point, fault_of, fault_of_point, going_beside, going_by, going_in_code, kind_of_task, member_code, past_point, team_size, told, trap_if, unless, work_begin, work_met}
 use Rattle.omp_world.specs.Returning.{after_created, at_back}
 use Rattle.omp_world.specs.Words.{is_made_thread, stored}
 use Rattle.omp_world.specs.Made.{HasOccurred, IsMadeWorld, IsRegion, IsRegionOf, IsTask, IsTaskOf, IsThread, MadeEvent, MadeMember, MadeRegion}
@@ -238,7 +238,7 @@ after-joined W t r i k made one =
 go-member : (W : World) (t r k : ℕ) → IsMadeWorld W → IsThread W t → ComingMember W t r k → MadeGo W (after_member W t r k) t (event.MemberBegin r k)
 go-member W t r k made there comes =
     let parent = (region_at W r).head.task in
-    let code = member_task (task_at W parent).code in
+    let code = member_code (task_at W parent).code in
     let W1 = task_made W parent r kind.Implicit code in
     let after = after_member W t r k in
     let created = after-task_made W parent r kind.Implicit code made comes.region.made in

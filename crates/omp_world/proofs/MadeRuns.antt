@@ -3,6 +3,7 @@ use Rattle.std.proofs.Common.{◌≡◌, ℕ, zero, suc, ◌+◌, ◌-◌, ◌<�
 use Rattle.std.specs.Prelude.{Option, Some, None}
 use Rattle.std.proofs.lemmas.List.{length-replicate, length-set}
 use Rattle.std.proofs.lemmas.List.Elements.{All-nil}
+use Rattle.c_model.specs.Step.{settled_task}
 use Rattle.ompt_calls.specs.declared.snapshot.Target.{Target}
 use Rattle.omp_model.specs.declared.history.What.{What}
 use Rattle.omp_model.specs.declared.history.What.TheVariants.{Go, Put, Back}
@@ -12,7 +13,8 @@ use Rattle.omp_world.specs.declared.event.Event.{Event}
 use Rattle.omp_world.specs.declared.event.Outcome.{Outcome}
 use Rattle.omp_world.specs.declared.event.Outcome.TheVariants as outcome
 use Rattle.omp_world.specs.State.{Run, State, World, first, first_world, pending_at, region_at, task_at, thread_at, unmade}
-use Rattle.omp_world.specs.Members.{region_of}
+use Rattle.omp_world.specs.Members.{code_of, current, region_of, view_of}
+use Rattle.omp_world.specs.Changes.{gone_past}
 use Rattle.omp_world.specs.Silent.{Silence, Goes, Stops, silent_step}
 use Rattle.omp_world.specs.Returning.{at_back}
 use Rattle.omp_world.specs.Words.{stored}
@@ -20,7 +22,7 @@ use Rattle.omp_world.specs.Turn.{called, goes_on, turn}
 use Rattle.omp_world.specs.Legal.{after, back_from, does, put_from}
 use Rattle.omp_world.specs.Made.{IsIdentity, IsMadeState, IsMadeWorld, MadePending, MadeRegion, MadeThread}
 use Rattle.omp_world.proofs.Later.{Later, at-set}
-use Rattle.omp_world.proofs.MadeWords.{MadeAfter, after-same, after-then}
+use Rattle.omp_world.proofs.MadeWords.{MadeAfter, after-code, after-same, after-then}
 use Rattle.omp_world.proofs.MadeEvents.{MadeGo, MadeGoing, MadeSilence, back-made, beside-made, coming, current-made, in_code-made, occurred-later, step-made, stored-made}
 use Rattle.omp_world.proofs.Arriving.{Arrives, arrives, thread-goes}
 use Rattle.omp_world.proofs.Turning.{AfterSilence, GoFrom, GoOf, OfCode, Beside, Turned, of-entries, of-turn}
@@ -31,6 +33,11 @@ use Rattle.omp_world.proofs.Turns.{Leaves, leaves-turn}
 pub silence-then : (W between : World) (silence : Silence) → IsMadeWorld W → MadeAfter W between → MadeSilence between silence → AfterSilence (MadeAfter W) silence
 silence-then W between (Goes after) made first next = after-then W between after made first next
 silence-then W between (Stops halt) made first next = tt
+
+-- a task leaves out what it goes past
+pub past-then : (W between : World) (t : ℕ) → IsMadeWorld W → MadeAfter W between → MadeAfter W (gone_past between t)
+past-then W between t made first =
+    after-then W between (gone_past between t) made first (after-code between (current between t) (settled_task (view_of between t) (code_of between t)) first.world)
 
 -- the Go of an event
 go-made : (run : Run) (W after : World) (t : ℕ) (e : Event) → IsMadeWorld W → GoOf run W t e after → MadeGo W after t e
@@ -58,7 +65,7 @@ turned run W after t (outcome.Halts halt) made so = so
 pub turn-made : (run : Run) (S : State) (t : ℕ) → IsMadeWorld S.world → MadeTurn S.world t (turn run S t).state.world (turn run S t).outcome
 turn-made run S t made =
     turned run S.world (turn run S t).state.world t (turn run S t).outcome made
-    (of-turn run t (MadeAfter S.world) (λ W steps so. silence-then S.world W (silent_step run W t) made so (step-made run W t so.world)) S (after-same S.world made))
+    (of-turn run t (MadeAfter S.world) (λ W so. past-then S.world W t made so) (λ W steps so. silence-then S.world W (silent_step run W t) made so (step-made run W t so.world)) S (after-same S.world made))
 
 -- States.
 

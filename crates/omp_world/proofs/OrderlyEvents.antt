@@ -11,7 +11,7 @@ use Rattle.c_model.specs.declared.point.SyncStage.TheVariants as stage
 use Rattle.c_model.specs.declared.point.Work.{Work}
 use Rattle.c_model.specs.declared.point.Work.TheVariants as work
 use Rattle.c_model.specs.declared.question.Ask.{Ask}
-use Rattle.c_model.specs.Begin.{explicit_task, member_task}
+use Rattle.c_model.specs.Begin.{explicit_task}
 use Rattle.c_model.specs.Going.{after_answer}
 use Rattle.c_model.specs.Step.{silent}
 use Rattle.c_model.specs.Task.{Moment, Outcome, Store}
@@ -35,7 +35,7 @@ use Rattle.omp_world.specs.Members.{current, current_index, current_region, is_m
 use Rattle.omp_world.specs.Gates.{held_tasks, is_barrier, next_task}
 use Rattle.omp_world.specs.Changes.{all_summoned, begun, emptied, finished, gone_to, met, opened, passed, popped, sharing, started, summoned, taken_up, task_made, with_code}
 use Rattle.omp_world.specs.Silent.{Silence, Goes, Stops, answer_to, answered, share_taken, silence_of, silent_step}
-use Rattle.omp_world.specs.Going.{Going, Nothing, Happens, Halts, after_creation, after_meeting_at, after_member, after_sync, barrier_met, effect_of, effect_of_point, event_of_point, fault_of, fault_of_point, going_beside, going_by, going_in_code, kind_of_task, past_point, told, unless, work_begin, work_met}
+use Rattle.omp_world.specs.Going.{Going, Nothing, Happens, Halts, after_creation, after_meeting_at, after_member, after_sync, barrier_met, effect_of, effect_of_point, event_of_point, fault_of, fault_of_point, going_beside, going_by, going_in_code, kind_of_task, member_code, past_point, told, unless, work_begin, work_met}
 use Rattle.omp_world.specs.Returning.{after_created, at_back}
 use Rattle.omp_world.specs.Words.{stored}
 use Rattle.omp_world.specs.Made.{HasOccurred, IsMadeWorld, IsRegionOf, IsTask, IsThread}
@@ -206,7 +206,7 @@ begins-apart W t k all (Ready some is) = apart-ready W t k (ready-is W t k all i
 begins-member : (W : World) (t r : ℕ) → AreOrderly W → IsMadeWorld W → IsThread W t → IsRegionOf W t r → OrderlyAfter t W (after_member W t r (length W.tasks))
 begins-member W t r all made there one =
     let parent = (region_at W r).head.task in
-    let code = member_task (task_at W parent).code in
+    let code = member_code (task_at W parent).code in
     let k = length W.tasks in
     let W1 = task_made W parent r kind.Implicit code in
     let W3 = taken_up (started W1 k) t k in

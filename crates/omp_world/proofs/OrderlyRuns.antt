@@ -18,7 +18,9 @@ use Rattle.omp_world.specs.declared.event.Event.{Event}
 use Rattle.omp_world.specs.declared.event.Outcome.{Outcome}
 use Rattle.omp_world.specs.declared.event.Outcome.TheVariants as outcome
 use Rattle.omp_world.specs.State.{Run, State, Thread, World, first, first_world, pending_at, pooled_at, thread_at, unmade}
+use Rattle.omp_world.specs.Members.{current}
 use Rattle.omp_world.specs.Gates.{arrival}
+use Rattle.omp_world.specs.Changes.{gone_past}
 use Rattle.omp_world.specs.Silent.{Silence, Goes, Stops, silent_step}
 use Rattle.omp_world.specs.Words.{stored}
 use Rattle.omp_world.specs.Turn.{called, goes_on, turn, walk}
@@ -26,13 +28,13 @@ use Rattle.omp_world.specs.Legal.{after, back_from, does, put_from}
 use Rattle.omp_world.specs.Made.{IsMadeState, IsMadeWorld, MadePending}
 use Rattle.omp_world.specs.Conditions.{AreOrderly, EventOrderly, IsOrderly, IsUnderWay, PendingOrderly}
 use Rattle.omp_world.proofs.Later.{at-set}
-use Rattle.omp_world.proofs.MadeWords.{pool-at}
+use Rattle.omp_world.proofs.MadeWords.{after-same, pool-at}
 use Rattle.omp_world.proofs.MadeEvents.{MadeSilence, step-made}
-use Rattle.omp_world.proofs.MadeRuns.{at-replicate, first-made, state-does}
+use Rattle.omp_world.proofs.MadeRuns.{at-replicate, first-made, past-then, state-does}
 use Rattle.omp_world.proofs.Arriving.{Arrives, arrives, thread-goes}
 use Rattle.omp_world.proofs.Turning.{AfterSilence, Beside, GoFrom, GoOf, OfCode, Turned, of-entries, of-turn, of-walk}
 use Rattle.omp_world.proofs.Turns.{Leaves, leaves-turn}
-use Rattle.omp_world.proofs.Conditions.{OrderlyAfter, Still, after-still, event-still, orderly-still, orderly-then, still-same, still-then}
+use Rattle.omp_world.proofs.Conditions.{OrderlyAfter, Still, after-still, event-still, orderly-still, orderly-then, still-same, still-task, still-then}
 use Rattle.omp_world.proofs.OrderlyEvents.{OrderlyGo, OrderlyGoing, StillSilence, back-orderly, beside-orderly, in_code-orderly, still-step, still-stored}
 
 -- A turn.
@@ -48,6 +50,10 @@ reaches-then W between (Stops halt) first made still = tt
 
 reaches-step : (run : Run) (W : World) (t : ℕ) (X : World) → arrival X t ≡ Steps → Reaches W X → AfterSilence (Reaches W) (silent_step run X t)
 reaches-step run W t X steps so = reaches-then W X (silent_step run X t) so (step-made run X t so.world) (still-step run X t)
+
+reaches-past : (W : World) (t : ℕ) (X : World) → Reaches W X → Reaches W (gone_past X t)
+reaches-past W t X so =
+    record { world = (past-then X X t so.world (after-same X so.world)).world; still = still-then W X (gone_past X t) so.still (still-task X (current X t) _ refl) }
 
 go-orderly : (run : Run) (W after : World) (t : ℕ) (e : Event) → AreOrderly W → IsMadeWorld W → GoOf run W t e after → OrderlyGo W after t e
 go-orderly run W after t e all made (OfCode comes happens) =
@@ -74,7 +80,7 @@ turned run W after t (outcome.Halts halt) all so = so.still
 turn-orderly : (run : Run) (S : State) (t : ℕ) → AreOrderly S.world → IsMadeWorld S.world → OrderlyTurn S.world t (turn run S t).state.world (turn run S t).outcome
 turn-orderly run S t all made =
     turned run S.world (turn run S t).state.world t (turn run S t).outcome all
-    (of-turn run t (Reaches S.world) (reaches-step run S.world t) S (record { world = made; still = still-same S.world }))
+    (of-turn run t (Reaches S.world) (reaches-past S.world t) (reaches-step run S.world t) S (record { world = made; still = still-same S.world }))
 
 -- States.
 
@@ -182,5 +188,5 @@ module _ (run : Run) (history : List Entry) (there : 1 ≤ run.threads) where
   pub orderly-walk : (t count : ℕ) → AreOrderly (walk run count 0 (after run history) t).state.world
   orderly-walk t count =
       let S = after run history in
-      let reaches = of-walk run t (Reaches S.world) (reaches-step run S.world t) count 0 S (record { world = (sound-after run history there).made.world; still = still-same S.world }) in
+      let reaches = of-walk run t (Reaches S.world) (reaches-past S.world t) (reaches-step run S.world t) count 0 S (record { world = (sound-after run history there).made.world; still = still-same S.world }) in
       orderly-still S.world (walk run count 0 S t).state.world reaches.still orderly-after.world

@@ -14,10 +14,12 @@ use Rattle.omp_world.specs.declared.event.Halt.{Halt}
 use Rattle.omp_world.specs.declared.event.Halt.TheVariants.{Limit}
 use Rattle.omp_world.specs.State.{Run, World, State, pending_at}
 use Rattle.omp_world.specs.Gates.{arrival}
+use Rattle.omp_world.specs.Changes.{gone_past}
 use Rattle.omp_world.specs.Silent.{Silence, Goes, Stops, silent_step}
 use Rattle.omp_world.specs.Going.{Going, Nothing, Happens, Halts, fault_of, effect_of, going_beside, going_in_code, unless}
-use Rattle.omp_world.specs.Turn.{Walk, Turn, after_steps, after_walk, called, counted, enabled, goes_on, halted, has_outcome, stepped, turn, unlimited, walk, walk_by, walk_on, walked, with_going, without_event}
+use Rattle.omp_world.specs.Turn.{Walk, Turn, after_steps, after_walk, called, counted, enabled, goes_on, going_past, halted, has_outcome, stepped, turn, unlimited, walk, walk_by, walk_on, walked, with_going, without_event}
 use Rattle.omp_world.proofs.Coming.{IsGo, comes_goes}
+use Rattle.omp_world.proofs.GonePast.{comes-past}
 
 -- a Go is an outcome, and so is the trap or limit that it meets
 has-going : (S : State) (made t : ℕ) (going : Going) → IsGo going → has_outcome (with_going S made t going).outcome ≡ true
@@ -33,7 +35,7 @@ unless-is None which after = tt
 has-at-rest : (run : Run) (S : State) (t : ℕ) (next : Arrival) → arrival S.world t ≡ next → (next ≡ Steps → ⊥) → has_outcome (after_steps run S 0 t next).outcome ≡ goes_on next
 has-at-rest run S t Waits is other = refl
 has-at-rest run S t Steps is other = absurd (other refl)
-has-at-rest run S t Comes is other = has-going S 0 t (going_in_code run S.world t) (comes_goes S.world t run is)
+has-at-rest run S t Comes is other = has-going (going_past S t) 0 t (going_in_code run (gone_past S.world t) t) (comes_goes (gone_past S.world t) t run (comes-past S.world t is))
 has-at-rest run S t (Meets event) is other = has-going S 0 t (going_beside S.world t event) (unless-is (fault_of S.world t event) event (effect_of S.world t event))
 
 -- behind a silent step there is always an outcome
@@ -48,7 +50,7 @@ going-behind S made t (Halts halt) = refl
 has-behind : (run : Run) (S : State) (made t : ℕ) (next : Arrival) → has_outcome (after_steps run S (suc made) t next).outcome ≡ true
 has-behind run S made t Waits = quiet-behind S made
 has-behind run S made t Steps = quiet-behind S made
-has-behind run S made t Comes = going-behind S made t (going_in_code run S.world t)
+has-behind run S made t Comes = going-behind (going_past S t) made t (going_in_code run (gone_past S.world t) t)
 has-behind run S made t (Meets event) = going-behind S made t (going_beside S.world t event)
 
 abbrev ends_well : Run → ℕ → Walk → Bool
@@ -59,9 +61,9 @@ has-by run S made t (Goes after) more has = has after
 has-by run S made t (Stops halt) more has = refl
 
 has-step : (run : Run) (S : State) (made t : ℕ) (over : Bool) (more : World → Walk) → ((W : World) → ends_well run t (more W) ≡ true) →
-    ends_well run t (if over then walked S made (Some (Limit STEPS)) else walk_by S made (silent_step run S.world t) more) ≡ true
+    ends_well run t (if over then walked S made (Some (Limit STEPS)) else walk_by (going_past S t) made (silent_step run S.world t) more) ≡ true
 has-step run S made t true more has = refl
-has-step run S made t false more has = has-by run S made t (silent_step run S.world t) more has
+has-step run S made t false more has = has-by run (going_past S t) made t (silent_step run S.world t) more has
 
 has-on : (run : Run) (S : State) (made t : ℕ) (next : Arrival) (more : World → Walk) → ((W : World) → ends_well run t (more W) ≡ true) → ends_well run t (walk_on run S t (suc made) next more) ≡ true
 has-on run S made t Steps more has = has-step run S (suc made) t (nat_le run.steps S.steps) more has
@@ -103,14 +105,14 @@ pub record Keeps (S after : State) : Type 0 where
   pub pending : after.pending ≡ S.pending
 
 -- a walk that stops, or goes on as it may, keeps what it may
-by-keeps : (S : State) (made : ℕ) (silence : Silence) (more : World → Walk) → ((W : World) → Keeps S (more W).state) → Keeps S (walk_by S made silence more).state
-by-keeps S made (Goes after) more keeps = keeps after
-by-keeps S made (Stops halt) more keeps = record { turns = refl; halt = refl; pending = refl }
+by-keeps : (S : State) (t made : ℕ) (silence : Silence) (more : World → Walk) → ((W : World) → Keeps S (more W).state) → Keeps S (walk_by (going_past S t) made silence more).state
+by-keeps S t made (Goes after) more keeps = keeps after
+by-keeps S t made (Stops halt) more keeps = record { turns = refl; halt = refl; pending = refl }
 
 step-keeps : (run : Run) (S : State) (t made : ℕ) (over : Bool) (more : World → Walk) → ((W : World) → Keeps S (more W).state) →
-    Keeps S (if over then walked S made (Some (Limit STEPS)) else walk_by S made (silent_step run S.world t) more).state
+    Keeps S (if over then walked S made (Some (Limit STEPS)) else walk_by (going_past S t) made (silent_step run S.world t) more).state
 step-keeps run S t made true more keeps = record { turns = refl; halt = refl; pending = refl }
-step-keeps run S t made false more keeps = by-keeps S made (silent_step run S.world t) more keeps
+step-keeps run S t made false more keeps = by-keeps S t made (silent_step run S.world t) more keeps
 
 on-keeps : (run : Run) (S : State) (t made : ℕ) (next : Arrival) (more : World → Walk) → ((W : World) → Keeps S (more W).state) → Keeps S (walk_on run S t made next more).state
 on-keeps run S t made Steps more keeps = step-keeps run S t made (nat_le run.steps S.steps) more keeps
@@ -145,7 +147,7 @@ leaves-going S made t (Halts halt) = (refl, refl, refl)
 leaves-after-steps : (run : Run) (S : State) (made t : ℕ) (next : Arrival) → Leaves S t (after_steps run S made t next).state (after_steps run S made t next).outcome
 leaves-after-steps run S made t Waits = leaves-without S made t
 leaves-after-steps run S made t Steps = leaves-without S made t
-leaves-after-steps run S made t Comes = leaves-going S made t (going_in_code run S.world t)
+leaves-after-steps run S made t Comes = leaves-going (going_past S t) made t (going_in_code run (gone_past S.world t) t)
 leaves-after-steps run S made t (Meets event) = leaves-going S made t (going_beside S.world t event)
 
 -- a walk's state, from which the turn goes on or at which it stops

@@ -1,6 +1,7 @@
 -- The words of change, of which the effects of events are made.
 use Rattle.std.specs.Prelude.{ℕ, zero, suc, Bool, true, false, if◌then◌else◌, List, [], ◌∷◌, ◌++◌, drop, Option, slice_set}
 use Rattle.c_model.specs.Begin.{blank_task}
+use Rattle.c_model.specs.Step.{settled_task}
 use Rattle.c_model.specs.Task.{Moment, Task as Code}
 use Rattle.task_pool.specs.declared.task.Condition.{Condition}
 use Rattle.task_pool.specs.declared.task.Condition.TheVariants as condition
@@ -16,7 +17,7 @@ use Rattle.omp_world.specs.declared.parts.ThreadStage.{ThreadStage}
 use Rattle.omp_world.specs.declared.parts.ThreadStage.TheVariants as stage
 use Rattle.omp_world.specs.declared.event.Share.{Share}
 use Rattle.omp_world.specs.State.{Region, Thread, World, is_under_way, pooled_at, region_at, task_at, task_with, thread_at, with_region, with_task, with_thread}
-use Rattle.omp_world.specs.Members.{is_outermost}
+use Rattle.omp_world.specs.Members.{code_of, current, is_outermost, view_of}
 
 -- Threads.
 
@@ -69,6 +70,10 @@ opened W t r =
 
 abbrev pub with_code : World → ℕ → Code → World
 with_code W k code = with_task W k (record (task_at W k) { code = code })
+
+-- the thread's task has left out what it goes past without a step
+abbrev pub gone_past : World → ℕ → World
+gone_past W t = with_code W (current W t) (settled_task (view_of W t) (code_of W t))
 
 -- the code of a task and what it shares with all tasks have come to this
 abbrev pub gone_to : World → ℕ → Moment → World

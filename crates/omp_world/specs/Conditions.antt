@@ -1,7 +1,6 @@
 -- How far the tasks have come that threads name: what is on a stack is under way, what is in the ready order is ready, and what a thread is to start
 -- was only made.
 use Rattle.std.specs.Prelude.{◌≡◌, ℕ, ◌≤◌, Bool, true, false, List, [], ◌∷◌, All, Option, Some, None}
-use Rattle.c_model.specs.Begin.{member_task}
 use Rattle.task_pool.specs.declared.task.Condition.{Condition}
 use Rattle.task_pool.specs.declared.task.Condition.TheVariants as condition
 use Rattle.task_pool.specs.declared.task.TaskKind.TheVariants as kind
@@ -13,6 +12,7 @@ use Rattle.omp_world.specs.declared.event.Event.{Event}
 use Rattle.omp_world.specs.declared.event.Event.TheVariants.{InitialTaskBegin, InitialTaskEnd, MemberBegin, MemberEnd, TaskBegin, TaskCreate, TaskEnd}
 use Rattle.omp_world.specs.State.{State, World, pending_at, pooled_at, region_at, task_at, thread_at}
 use Rattle.omp_world.specs.Changes.{finished, popped, readied, started, taken_up, task_made}
+use Rattle.omp_world.specs.Going.{member_code}
 use Rattle.omp_world.specs.Made.{IsTask}
 
 -- a task that has started, whether or not it has finished
@@ -97,7 +97,7 @@ Finishes W k = finished W k ≡ record W { pool = with_finished W.pool k }
 -- the world in which a member's task starts: the task was made
 abbrev pub member_made : World → ℕ → World
 member_made W r =
-    let parent = (region_at W r).head.task in task_made W parent r kind.Implicit (member_task (task_at W parent).code)
+    let parent = (region_at W r).head.task in task_made W parent r kind.Implicit (member_code (task_at W parent).code)
 
 -- what starts or finishes at the event's Go does so; what becomes ready or finishes at the Back does so
 abbrev pub GoActs : World → ℕ → Event → Type 0

@@ -1,18 +1,19 @@
 -- Silent steps: what a thread does between events. A step of its current task's code may have to be told the next chunk, the next section, or
 -- whether a lock is owned.
-use Rattle.std.specs.Prelude.{ℕ, not, if◌then◌else◌, slice_index_or, Option, None, option_map}
+use Rattle.std.specs.Prelude.{ℕ, ◌+◌, ◌&&◌, nat_le, nat_lt, not, if◌then◌else◌, Bool, List, slice_index_or, Option, Some, None, option_map}
 use Rattle.c_syntax.specs.Tree.{Tree}
 use Rattle.c_syntax.specs.Derivation.{nothing}
 use Rattle.c_model.specs.declared.question.Answer.{Answer}
 use Rattle.c_model.specs.declared.question.Answer.TheVariants as answer
 use Rattle.c_model.specs.declared.question.Ask.{Ask}
 use Rattle.c_model.specs.declared.question.Ask.TheVariants as ask
+use Rattle.c_model.specs.Asked.{count_asked, sections_asked}
 use Rattle.c_model.specs.Clauses.{statements_among}
 use Rattle.c_model.specs.Going.{after_answer}
 use Rattle.c_model.specs.Parts.{parts}
 use Rattle.c_model.specs.Program.{place_of}
-use Rattle.c_model.specs.Step.{silent}
-use Rattle.c_model.specs.Task.{Outcome}
+use Rattle.c_model.specs.Step.{settled_task, silent}
+use Rattle.c_model.specs.Task.{Item, Outcome}
 use Rattle.c_model.specs.Task.Outcome.{Asks, Ends, Limits, Occurs, StepsTo, Traps}
 use Rattle.team_parts.specs.Team.{TeamView, after_chunk, after_section, next_chunk, next_section}
 use Rattle.omp_world.specs.declared.event.Halt.{Halt}
@@ -20,14 +21,38 @@ use Rattle.omp_world.specs.declared.event.Halt.TheVariants.{Limit, Trap}
 use Rattle.omp_world.specs.declared.event.Share.{Share}
 use Rattle.omp_world.specs.declared.event.Share.TheVariants.{Chunk, Section}
 use Rattle.omp_world.specs.State.{Run, World}
-use Rattle.omp_world.specs.Members.{current, current_index, current_region, current_team, is_member, moment_of, view_of}
+use Rattle.omp_world.specs.Members.{code_of, current, current_index, current_region, current_team, is_member, moment_of, view_of}
 use Rattle.omp_world.specs.Gates.{is_owned}
 use Rattle.omp_world.specs.Changes.{gone_to, sharing, with_team}
 
+-- What the team deals is given where it fits the work that asks: a chunk that has an iteration and lies within the loop, and a section that the
+-- construct has. The team counts it as taken all the same.
+abbrev pub fits_loop : ℕ → ℕ × ℕ → Bool
+fits_loop count chunk = nat_lt 0 chunk.1 && nat_le (chunk.0 + chunk.1) count
+
+abbrev pub fitting_chunk : ℕ → Option (ℕ × ℕ) → Option (ℕ × ℕ)
+fitting_chunk count None = None
+fitting_chunk count (Some chunk) = if fits_loop count chunk then Some chunk else None
+
+abbrev pub fitting_section : ℕ → Option ℕ → Option ℕ
+fitting_section count None = None
+fitting_section count (Some section) = if nat_lt section count then Some section else None
+
+-- what the team deals to the thread next
+abbrev pub chunk_dealt : World → ℕ → Option (ℕ × ℕ)
+chunk_dealt W t = if is_member W t then next_chunk (current_team W t) (current_index W t) else None
+
+abbrev pub section_dealt : World → ℕ → Option ℕ
+section_dealt W t = if is_member W t then next_section (current_team W t) (current_index W t) else None
+
+-- the code that asks: what asks stands first
+abbrev pub items_asking : World → ℕ → List Item
+items_asking W t = (settled_task (view_of W t) (code_of W t)).todo
+
 -- what the team and the locks answer to what is asked
 abbrev pub answer_to : World → ℕ → Ask → Answer
-answer_to W t ask.Chunk = answer.Chunk (if is_member W t then next_chunk (current_team W t) (current_index W t) else None)
-answer_to W t ask.Section = answer.Section (if is_member W t then next_section (current_team W t) (current_index W t) else None)
+answer_to W t ask.Chunk = answer.Chunk (fitting_chunk (count_asked (items_asking W t)) (chunk_dealt W t))
+answer_to W t ask.Section = answer.Section (fitting_section (sections_asked (items_asking W t)) (section_dealt W t))
 answer_to W t (ask.LockFree wait_id) = answer.Free (not (is_owned W wait_id))
 
 -- the team after that

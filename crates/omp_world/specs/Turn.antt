@@ -11,6 +11,7 @@ use Rattle.omp_world.specs.declared.event.Outcome.{Outcome}
 use Rattle.omp_world.specs.declared.event.Outcome.TheVariants as outcome
 use Rattle.omp_world.specs.State.{Run, World, State, pending_at}
 use Rattle.omp_world.specs.Gates.{arrival}
+use Rattle.omp_world.specs.Changes.{gone_past}
 use Rattle.omp_world.specs.Silent.{Silence, Goes, Stops, silent_step}
 use Rattle.omp_world.specs.Going.{Going, Nothing, Happens, Halts, going_beside, going_in_code}
 
@@ -27,6 +28,11 @@ walked S made stop = record { state = S; made = made; stop = stop }
 abbrev pub stepped : State → World → State
 stepped S after = record S { world = after; steps = S.steps + 1 }
 
+-- The state in which a step or an event of the code halts the run, and from which an event of the code occurs: the task has left out what it goes past.
+-- Where the code isn't tried, it is left as it is.
+abbrev pub going_past : State → ℕ → State
+going_past S t = record S { world = gone_past S.world t }
+
 abbrev pub walk_by : State → ℕ → Silence → (World → Walk) → Walk
 walk_by S made (Goes after) more = more after
 walk_by S made (Stops halt) more = walked S made (Some halt)
@@ -34,7 +40,9 @@ walk_by S made (Stops halt) more = walked S made (Some halt)
 -- the limit of silent steps is tested before the step is tried
 abbrev pub walk_on : Run → State → ℕ → ℕ → Arrival → (World → Walk) → Walk
 walk_on run S t made Steps more =
-    if nat_le run.steps S.steps then walked S made (Some (Limit STEPS)) else walk_by S made (silent_step run S.world t) more
+    if nat_le run.steps S.steps
+    then walked S made (Some (Limit STEPS))
+    else walk_by (going_past S t) made (silent_step run S.world t) more
 walk_on run S t made other more = walked S made None
 
 -- up to `left` more silent steps, after `made` ones
@@ -76,7 +84,7 @@ with_going S made t (Halts halt) = halted S halt
 abbrev pub after_steps : Run → State → ℕ → ℕ → Arrival → Turn
 after_steps run S made t Waits = without_event S made
 after_steps run S made t Steps = without_event S made
-after_steps run S made t Comes = with_going S made t (going_in_code run S.world t)
+after_steps run S made t Comes = with_going (going_past S t) made t (going_in_code run (gone_past S.world t) t)
 after_steps run S made t (Meets event) = with_going S made t (going_beside S.world t event)
 
 abbrev pub after_walk : Run → Walk → ℕ → Option Halt → Turn

@@ -9,7 +9,7 @@
 //! - `Changes`: the words of change, of which effects are made;
 //! - `Silent`: silent steps, and what the team and the locks answer to what a step asks;
 //! - `Going` and `Returning`: what happens at an event's Go, with the traps and limits that it meets, and at its callback's Back;
-//! - `Turn`: up to 64 silent steps and an event;
+//! - `Turn`: up to 64 silent steps and an event, and in what state a trap or a limit halts the run;
 //! - `Words`, `Frames`, `Snapshots`, `Calls`: what a tool hears of an event, and what it can inquire meanwhile;
 //! - `Legal`, `Cause`, `Heard`, `Records`: histories, why a run ends, and what is heard of it;
 //! - `Serial`, `Storing`, `Running`: the serial order;
@@ -21,6 +21,9 @@
 //! The definitions are total. A thread that isn't a member of its region's team meets nothing and is dealt nothing, a finished task doesn't
 //! start, and nothing happens to what wasn't made. No run meets the first two, and what a run names was made: the laws below say so. Of the region of
 //! a `ParallelEnd` they don't say that there is one, and not 0.
+//!
+//! What the team deals is given to the code only where it fits the work that asks, and a member has code only where the end of the region that was
+//! forked stands first in its encountering task's code. That each run is so is proved nowhere yet.
 //!
 //! Proved, by the contract of the function that is named:
 //!
@@ -35,7 +38,9 @@
 //!   or to become ready does so ([`tasks_are_orderly`]).
 //!
 //! In `proofs/` serial runs of small programs are computed: `Rows` has seven with each line that a tool hears, the cause and the count of entries,
-//! and `Facts` single lines, a run with stores, states and a snapshot. That the definitions are OpenMP's is for their reader to judge.
+//! and `Facts` single lines, a run with stores, states and a snapshot. That the definitions are OpenMP's is for their reader to judge. For the code
+//! that is to run on them, `GonePast` has what is left as it was where a task leaves out what it goes past, and `Coming` what a task's code comes to
+//! where its thread comes to a step or an event of it.
 #![tactic(auto)]
 
 mod event;
