@@ -1,5 +1,5 @@
 -- What happens at an event's Go: the trap or limit that it meets, or the event with its numbers and the world after it.
-use Rattle.std.specs.Prelude.{ℕ, ◌==◌, ◌||◌, nat_le, max, min, if◌then◌else◌, Bool, true, false, length, nat_abs, Option, Some, None, Result, Ok, Err, pos, int_lt}
+use Rattle.std.specs.Prelude.{ℕ, ◌==◌, ◌||◌, nat_le, max, min, if◌then◌else◌, Bool, true, false, List, [], ◌∷◌, length, nat_abs, Option, Some, None, Result, Ok, Err, pos, int_lt}
 use Rattle.c_model.specs.declared.point.MutexKind.{MutexKind}
 use Rattle.c_model.specs.declared.point.MutexKind.TheVariants as mutex
 use Rattle.c_model.specs.declared.point.Point.{Point}
@@ -15,10 +15,11 @@ use Rattle.c_model.specs.declared.point.Work.TheVariants as work
 use Rattle.c_model.specs.declared.point.WorkKind.{WorkKind}
 use Rattle.c_model.specs.declared.point.WorkKind.TheVariants as work_kind
 use Rattle.c_model.specs.declared.question.Answer.TheVariants as answer
-use Rattle.c_model.specs.Begin.{explicit_task, member_task}
+use Rattle.c_model.specs.Begin.{blank_task, explicit_task, member_task}
 use Rattle.c_model.specs.Going.{after_answer, after_event}
 use Rattle.c_model.specs.Step.{silent}
-use Rattle.c_model.specs.Task.{Moment, Outcome, Task as Code}
+use Rattle.c_model.specs.Task.{Item, Moment, Outcome, Task as Code}
+use Rattle.c_model.specs.Task.Item.{Forked}
 use Rattle.c_model.specs.Task.Outcome.{Asks, Ends, Limits, Occurs, StepsTo, Traps}
 use Rattle.c_model.specs.Upcoming.{is_in_critical, is_in_exclusive, is_in_work}
 use Rattle.task_pool.specs.declared.task.Full.{Full}
@@ -226,6 +227,15 @@ past_point before W t now what =
     with_code W (current W t) (after_event (view_of before t) what (executes_point before t what) now.task)
 
 -- What an event beside all code changes.
+
+-- a region that was forked stands next
+abbrev pub has_forked : List Item → Bool
+has_forked (Forked construct ∷ items) = true
+has_forked other = false
+
+-- the code of a member of the region that a task has forked. Where it hasn't forked one, there is no code
+abbrev pub member_code : Code → Code
+member_code code = if has_forked code.todo then member_task code else blank_task
 
 -- a member's implicit task is made and starts at once; its code is the region's
 abbrev pub after_member : World → ℕ → ℕ → ℕ → World
