@@ -1,6 +1,8 @@
 -- Codes of a task's code and of what has one, by which proofs tell them apart.
-use Rattle.std.specs.Prelude.{ℕ, ℤ, ◌≡◌, List, Option, ◌⊎◌, inl, inr, refl}
-use Rattle.std.specs.Coded.{Coded, code_by, coded×, coded⊎, coded_ℕ, coded_ℤ, coded_list, coded_option, coded_unit}
+use Rattle.std.specs.Prelude.{ℕ, ℤ, ◌≡◌, List, Option, ◌⊎◌, refl}
+use Rattle.std.proofs.Common.{inl, inr}
+use Rattle.std.specs.Coded.{Coded, code_by, coded×, coded⊎, coded_ℕ, coded_ℤ, coded_list, coded_option}
+use base.Stored.{coded_unit}
 use Rattle.c_syntax.specs.Codes.{tree_code}
 use Rattle.c_syntax.specs.Tree.{Tree}
 use Rattle.c_syntax.specs.declared.node.ReductionOp.{ReductionOp}

@@ -34,7 +34,7 @@ pub record HasRoomIn (room : TaskRoom) (held : Held) : Type 0 where
 -- each control is of the program, and there is as much room as is said
 pub record IsKept (program : TreeView) (tasks : List Task) (capacity : ℕ) (blanks : List Held) (room : TaskRoom) : Type 0 where
   pub controls : All (IsOfProgram program) tasks
-  pub blanks : All (IsMadeFor program) blanks
+  pub blanks_made : All (IsMadeFor program) blanks
   pub spare : room.tasks ≤ length blanks
   pub slots : length tasks + room.tasks ≤ capacity
   pub steps : IfSome (control_at tasks room.task) (HasRoomIn room)

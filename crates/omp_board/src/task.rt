@@ -1,5 +1,7 @@
 //! A task as it is kept.
 
+ghost use Rattle.std.specs.Prelude.{◌≡◌};
+
 use c_steps::Control;
 
 /// A task: its code, and what else the machine keeps of it beside the pool.

@@ -1,6 +1,8 @@
 //! The tasks of a run with their code, and what all code shares.
 
-ghost use Rattle.std.specs.Prelude.{◌≡◌, ◌<◌, ◌≤◌, IfOk, OnOk, length, slice_get, slice_index_or};
+ghost use Rattle.std.specs.Prelude.{◌≡◌, ◌<◌, ◌≤◌, IfNone, IfOk, IfSome, OnOk, length, slice_get, slice_index_or};
+ghost use Rattle.std.specs.List.{All};
+ghost use Rattle.std.specs.Option.{option_copied};
 ghost use Rattle.c_syntax.specs.Derivation.{nothing};
 ghost use Rattle.c_syntax.specs.Numbered.{tree_at};
 ghost use Rattle.c_model.specs.declared.limits.TheConstants.{CELL_LIMIT};
@@ -15,12 +17,14 @@ ghost use Rattle.c_model.specs.Program.{place_of};
 ghost use Rattle.c_model.specs.Step.{settled_moment, silent};
 ghost use Rattle.c_model.specs.Upcoming as upcoming;
 ghost use Rattle.c_steps.specs.Beginning.{IsCreation};
-ghost use Rattle.c_steps.specs.Held.{outcome_at};
+ghost use Rattle.c_steps.specs.Held.{outcome_at, task_at};
+ghost use Rattle.c_steps.specs.Made.{IsMadeFor};
 ghost use Rattle.c_steps.specs.Passing.{IsEventOfNext};
 ghost use Rattle.c_steps.specs.Ready.{FitsProgram};
 ghost use Rattle.c_steps.specs.Scopes.{HasNumbers};
 ghost use Rattle.omp_world.specs.Going.{member_code};
-ghost use Rattle.omp_board.specs.Tasks.{HasPass, HasSteps, IsNamedIn, IsStill, code_in, first_tasks, gone_in, moment_in, one_pass_less, one_step_less, room_after, task_in, turn_room, with_code_in, with_one_more, with_task_in};
+ghost use Rattle.omp_board.specs.Keeping.{IsOfProgram, control_at};
+ghost use Rattle.omp_board.specs.Tasks.{HasPass, HasSteps, IsNamedIn, IsStill, code_in, code_of, first_tasks, gone_in, moment_in, one_pass_less, one_step_less, room_after, task_in, turn_room, with_code_in, with_one_more, with_task_in};
 
 use crate::task::{Task, task_with};
 use c_check::Program;
@@ -173,40 +177,45 @@ impl Tasks {
     pub fn set_thread(&mut self, task: u32, thread: u8)
         ensures { self.new ≡ with_task_in self.old task (record (task_in self.old task) { thread = thread }) }
     {
-        if let Some(kept) = self.list.get_mut(task as usize) {
-            kept.thread = thread;
-        }
+        let Some(kept) = self.list.get_mut(task as usize) else {
+            return;
+        };
+        kept.thread = thread;
     }
 
     /// The task has forked this region, or, with 0, the region that it had forked is over.
     pub fn set_forked(&mut self, task: u32, region: u32)
         ensures { self.new ≡ with_task_in self.old task (record (task_in self.old task) { forked = region }) }
     {
-        if let Some(kept) = self.list.get_mut(task as usize) {
-            kept.forked = region;
-        }
+        let Some(kept) = self.list.get_mut(task as usize) else {
+            return;
+        };
+        kept.forked = region;
     }
 
     /// This is stored into the task's data word.
     pub fn store_word(&mut self, task: u32, word: u64)
         ensures { self.new ≡ with_task_in self.old task (record (task_in self.old task) { word = word }) }
     {
-        if let Some(kept) = self.list.get_mut(task as usize) {
-            kept.word = word;
-        }
+        let Some(kept) = self.list.get_mut(task as usize) else {
+            return;
+        };
+        kept.word = word;
     }
 
     /// What comes next in the task's code, as a thread that sees this of its team executes it.
+    #[tactic(auto, unfolding(c_model::specs::Step::items_from_next))]
     pub fn upcoming(&self, task: u32, view: View) -> Upcoming
         ensures { result ≡ upcoming.upcoming_of view (code_in self.now task) }
     {
-        match self.control(task) {
-            Some(control) => control.upcoming(&self.code, view),
+        match self.code_of(task) {
+            Some((code, control)) => control.upcoming(code, view),
             None => Upcoming::End,
         }
     }
 
     /// What stands first in the task's code.
+    #[tactic(auto, using(c_steps::proofs::Giving::nothing_past))]
     pub fn standing(&self, task: u32) -> Upcoming
         ensures { result ≡ upcoming.upcoming_among (code_in self.now task).todo }
     {
@@ -217,8 +226,8 @@ impl Tasks {
     pub fn is_in_work(&self, task: u32) -> bool
         ensures { result ≡ upcoming.is_in_work (code_in self.now task) }
     {
-        match self.control(task) {
-            Some(control) => control.is_in_work(&self.code),
+        match self.code_of(task) {
+            Some((code, control)) => control.is_in_work(code),
             None => false,
         }
     }
@@ -227,8 +236,8 @@ impl Tasks {
     pub fn is_in_exclusive(&self, task: u32) -> bool
         ensures { result ≡ upcoming.is_in_exclusive (code_in self.now task) }
     {
-        match self.control(task) {
-            Some(control) => control.is_in_exclusive(&self.code),
+        match self.code_of(task) {
+            Some((code, control)) => control.is_in_exclusive(code),
             None => false,
         }
     }
@@ -237,8 +246,8 @@ impl Tasks {
     pub fn is_in_critical(&self, task: u32, wait_id: u32) -> bool
         ensures { result ≡ upcoming.is_in_critical (code_in self.now task) wait_id }
     {
-        match self.control(task) {
-            Some(control) => control.is_in_critical(&self.code, wait_id),
+        match self.code_of(task) {
+            Some((code, control)) => control.is_in_critical(code, wait_id),
             None => false,
         }
     }
@@ -247,8 +256,8 @@ impl Tasks {
     pub fn returned(&self, task: u32) -> Option<i32>
         ensures { result ≡ (code_in self.now task).returned }
     {
-        match self.control(task) {
-            Some(control) => control.returned(),
+        match self.code_of(task) {
+            Some((_, control)) => control.returned(),
             None => None,
         }
     }
@@ -257,8 +266,8 @@ impl Tasks {
     pub fn asked_count(&self, task: u32) -> u64
         ensures { result ≡ count_asked (code_in self.now task).todo }
     {
-        match self.control(task) {
-            Some(control) => control.asked_count(&self.code),
+        match self.code_of(task) {
+            Some((code, control)) => control.asked_count(code),
             None => 0,
         }
     }
@@ -267,8 +276,8 @@ impl Tasks {
     pub fn asked_sections(&self, task: u32) -> u32
         ensures { result ≡ sections_asked (code_in self.now task).todo }
     {
-        match self.control(task) {
-            Some(control) => control.asked_sections(&self.code),
+        match self.code_of(task) {
+            Some((code, control)) => control.asked_sections(code),
             None => 0,
         }
     }
@@ -311,12 +320,14 @@ impl Tasks {
         requires asked { AnswersFirst (code_in self.old task).todo answer }
         ensures { self.new ≡ record (gone_in self.old task (settled_after_answer answer (moment_in self.old task))) { room = one_step_less self.old.room } }
     {
-        if let Some(kept) = self.list.get_mut(task as usize) {
-            if let Some(control) = &mut kept.control {
-                control.give(&self.code, &mut self.cells, answer);
-                self.room.steps -= 1;
-            }
-        }
+        let Some(kept) = self.list.get_mut(task as usize) else {
+            return;
+        };
+        let Some(control) = &mut kept.control else {
+            return;
+        };
+        control.give(&self.code, &mut self.cells, answer);
+        self.room.steps -= 1;
     }
 
     /// The task's code goes past an event, which stands next at this node. `executes` counts at the begin of a `single` alone.
@@ -325,12 +336,14 @@ impl Tasks {
         requires event { IsEventOfNext self.old.program point node (code_in self.old task).todo }
         ensures { self.new ≡ record (with_code_in self.old task (settled_after_event point executes (code_in self.old task))) { room = one_pass_less self.old.room } }
     {
-        if let Some(kept) = self.list.get_mut(task as usize) {
-            if let Some(control) = &mut kept.control {
-                control.passed(&self.code, point, node, executes);
-                self.room.passes -= 1;
-            }
-        }
+        let Some(kept) = self.list.get_mut(task as usize) else {
+            return;
+        };
+        let Some(control) = &mut kept.control else {
+            return;
+        };
+        control.passed(&self.code, point, node, executes);
+        self.room.passes -= 1;
     }
 
     /// One more task is made, of a member of the region that this task has forked. Where it hasn't forked one, the task has no code.
@@ -339,7 +352,7 @@ impl Tasks {
         ensures { self.new ≡ with_one_more self.old (member_code (code_in self.old parent)) }
     {
         self.room.tasks = 0;
-        let member = self.member_of(parent);
+        let member = begin_member(&self.code, &self.list, &mut self.blanks, parent);
         self.list.push(task_with(member)).unwrap();
     }
 
@@ -356,7 +369,13 @@ impl Tasks {
         } }
     {
         self.room.tasks = 0;
-        let task = self.task_of(creator);
+        let task = begin_explicit(
+            &self.code,
+            &mut self.cells,
+            &self.list,
+            &mut self.blanks,
+            creator,
+        );
         self.list.push(task_with(task)).unwrap();
     }
 
@@ -376,28 +395,16 @@ impl Tasks {
         }
     }
 
-    /// What is kept of the task's code, if it has some.
-    fn control(&self, task: u32) -> Option<&Control> {
-        self.list.get(task as usize)?.control.as_ref()
-    }
-
-    /// The code of a member of the region that this task has forked, with a control that was kept for it.
-    fn member_of(&mut self, parent: u32) -> Option<Control> {
-        match self.standing(parent) {
-            Upcoming::RegionEnd => {}
-            _ => return None,
+    /// The program, and what is left of the task's code, if it has some.
+    fn code_of(&self, task: u32) -> Option<(&Code, &Control)>
+        ensures code { IfSome result (λ found. task_at found.0.now found.1.now ≡ code_in self.now task) }
+        ensures made { IfSome result (λ found. IsMadeFor found.0.now found.1.now) }
+        ensures none { IfNone result (code_in self.now task ≡ blank_task) }
+    {
+        match control_of(&self.list, task) {
+            Some(control) => Some((&self.code, control)),
+            None => None,
         }
-        let mut member = self.blanks.pop()?;
-        self.control(parent)?.member(&self.code, &mut member);
-        Some(member)
-    }
-
-    /// The code of the explicit task whose construct stands next in this task's code, with a control that was kept for it.
-    fn task_of(&mut self, creator: u32) -> Option<Control> {
-        let mut task = self.blanks.pop()?;
-        let control = self.list.get(creator as usize)?.control.as_ref()?;
-        control.task(&self.code, &mut self.cells, &mut task);
-        Some(task)
     }
 
     /// The bytes that were printed.
@@ -413,4 +420,60 @@ impl Tasks {
     {
         self.cells.into_text()
     }
+}
+
+/// What is left of the task's code, if it has some.
+fn control_of(list: &[Task], task: u32) -> Option<&Control>
+    ensures { option_copied result ≡ control_at list.now task }
+{
+    list.get(task as usize)?.control.as_ref()
+}
+
+/// The code of a member of the region that this task has forked begins, with a control that was kept for it. Where the task hasn't forked one,
+/// there is none.
+fn begin_member(
+    code: &Code,
+    list: &[Task],
+    blanks: &mut Vec<Control>,
+    parent: u32,
+) -> Option<Control>
+    requires controls { All (IsOfProgram code.now) list.now }
+    requires blanks { All (IsMadeFor code.now) blanks.old.items }
+    requires some { 0 < length blanks.old.items }
+    ensures code { code_of code.now result ≡ member_code (code_of code.now (control_at list.now parent)) }
+    ensures made { IfSome result (IsMadeFor code.now) }
+    ensures blanks { All (IsMadeFor code.now) blanks.new.items }
+{
+    let parent = control_of(list, parent)?;
+    match parent.upcoming(code, MEMBER_0) {
+        Upcoming::RegionEnd => {
+            let mut member = blanks.pop()?;
+            parent.member(code, &mut member);
+            Some(member)
+        }
+        _ => None,
+    }
+}
+
+/// The code of the explicit task whose construct stands next in this task's code begins, with a control that was kept for it.
+fn begin_explicit(
+    code: &Code,
+    cells: &mut Cells,
+    list: &[Task],
+    blanks: &mut Vec<Control>,
+    creator: u32,
+) -> Option<Control>
+    requires controls { All (IsOfProgram code.now) list.now }
+    requires blanks { All (IsMadeFor code.now) blanks.old.items }
+    requires some { 0 < length blanks.old.items }
+    requires created { IsCreation (slice_get (code_of code.now (control_at list.now creator)).todo 0) }
+    requires room { length (with_task_cells code.now (record { env = (code_of code.now (control_at list.now creator)).env; cells = cells.old.cells }) (created_construct (code_of code.now (control_at list.now creator)).todo)).cells ≤ CELL_LIMIT }
+    ensures went { record { task = code_of code.now result; store = cells.new } ≡ explicit_task_of code.now (created_construct (code_of code.now (control_at list.now creator)).todo) (record { task = code_of code.now (control_at list.now creator); store = cells.old }) }
+    ensures made { IfSome result (IsMadeFor code.now) }
+    ensures blanks { All (IsMadeFor code.now) blanks.new.items }
+{
+    let creator = control_of(list, creator)?;
+    let mut task = blanks.pop()?;
+    creator.task(code, cells, &mut task);
+    Some(task)
 }
