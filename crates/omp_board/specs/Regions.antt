@@ -68,7 +68,8 @@ abbrev pub seen_team : Option TeamView → TeamView
 seen_team None = fresh_team 0
 seen_team (Some team) = record team { room = 0 }
 
--- a team for a region to come
+-- a team for a region to come. It has room for a meeting, since the region may be the one for whose team there is room
 pub record IsFreshTeam (team : TeamView) : Type 0 where
   pub members : team.members ≡ replicate TEAM_LIMIT new_member
   pub meetings : team.meetings ≡ []
+  pub room : 1 ≤ team.room

@@ -1,6 +1,6 @@
 //! What changes of tasks.
 
-ghost use Rattle.std.specs.Prelude.{◌≡◌, ◌<◌, ◌≤◌, Ok, IsOk, length, slice_get, slice_set};
+ghost use Rattle.std.specs.Prelude.{◌≡◌, ◌==◌, ◌<◌, ◌≤◌, Ok, IsOk, length, slice_get, slice_set};
 ghost use Rattle.c_model.specs.declared.limits.TheConstants.{CELL_LIMIT};
 ghost use Rattle.c_model.specs.Begin.{created_construct, explicit_task_of};
 ghost use Rattle.c_model.specs.Copies.{with_task_cells};
