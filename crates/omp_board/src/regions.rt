@@ -1,14 +1,14 @@
 //! The parallel regions of a run, with what their teams have met.
 
-ghost use Rattle.std.specs.Prelude.{◌≡◌, ◌<◌, ◌≤◌, ◌&&◌, ◌++◌, ◌∷◌, [], Bool, true, IfOk, OnOk, IsOk, length, slice_set, take};
+ghost use Rattle.std.specs.Prelude.{◌≡◌, ◌<◌, ◌≤◌, ◌&&◌, ◌++◌, ◌∷◌, [], Bool, true, IfOk, IfSome, IsOk, IsSome, OnErr, OnOk, length, slice_set, take};
 ghost use Rattle.std.specs.List.{list_all};
 ghost use Rattle.team_parts.specs.Meetings.{HasChunk};
 ghost use Rattle.team_parts.specs.Team.{may_pass, with_begun, with_passed};
-ghost use Rattle.omp_world.specs.State.{fresh_head, fresh_region};
-ghost use Rattle.omp_board.specs.Regions.{after_chunk_in, after_meeting_in, after_section_in, first_regions, is_member_in, meeting_in, next_chunk_in, next_section_in, region_in, team_in, turn_room, with_head_in, with_team_in};
+ghost use Rattle.omp_world.specs.State.{fresh_region};
+ghost use Rattle.omp_board.specs.Regions.{IsFreshTeam, after_chunk_in, after_meeting_in, after_section_in, first_regions, is_member_in, meeting_in, next_chunk_in, next_section_in, region_in, team_in, turn_room, with_head_in, with_team_in};
 
+use crate::head::{all_left, fresh_head, member_begun, member_left};
 use crate::region::Region;
-use omp_world::RegionHead;
 use std::alloc::{AllocError, Global};
 use std::marker::Model;
 use team_parts::{Meeting, Mismatch, TEAM_LIMIT, Team};
@@ -30,7 +30,7 @@ pub struct Regions {
     alloc: Global,
     /// The regions, by identity. At 0 stands none.
     list: Vec<Region>,
-    /// The team of the next region.
+    /// The team of the next region, with room for a meeting.
     fresh: Option<Team>,
     /// What there is room for.
     room: Room,
@@ -88,13 +88,9 @@ impl Regions {
             return Err(AllocError);
         }
         self.list.reserve(1)?;
-        if self.fresh.is_none() {
-            self.fresh = Some(Team::new(self.alloc, TEAM_LIMIT as u32)?);
-        }
+        reserve_team(self.alloc, &mut self.fresh)?;
         if let Some(kept) = self.list.get_mut(region as usize) {
-            if let Some(team) = &mut kept.team {
-                team.reserve()?;
-            }
+            kept.reserve()?;
         }
         self.room = Room {
             region,
@@ -155,8 +151,8 @@ impl Regions {
     pub fn is_member(&self, region: u32, member: u8) -> bool
         ensures { result ≡ is_member_in self.now region member }
     {
-        match self.team(region) {
-            Some(team) => u32::from(member) < team.size(),
+        match self.list.get(region as usize) {
+            Some(kept) => kept.has_member(member),
             None => false,
         }
     }
@@ -169,14 +165,12 @@ impl Regions {
         ensures { self.new ≡ record self.old { regions = self.old.regions ++ fresh_region task size ∷ []; room = record self.old.room { regions = 0 } } }
     {
         self.room.regions = 0;
-        let mut team = self.fresh.take();
-        if let Some(team) = &mut team {
-            team.fit(u32::from(size));
-        }
+        let mut team = self.fresh.take().unwrap();
+        team.fit(u32::from(size));
         self.list
             .push(Region {
                 head: fresh_head(task, size),
-                team,
+                team: Some(team),
             })
             .unwrap();
     }
@@ -185,52 +179,49 @@ impl Regions {
     pub fn begin_member(&mut self, region: u32, member: u8, task: u32)
         ensures { self.new ≡ with_head_in self.old region (record (region_in self.old region).head { members = slice_set (region_in self.old region).head.members member task }) }
     {
-        if let Some(kept) = self.list.get_mut(region as usize) {
-            if let Some(place) = kept.head.members.get_mut(member as usize) {
-                *place = task;
-            }
-        }
+        let Some(kept) = self.list.get_mut(region as usize) else {
+            return;
+        };
+        kept.head = member_begun(kept.head, member, task);
     }
 
     /// The member with this number has left.
     pub fn leave(&mut self, region: u32, member: u8)
         ensures { self.new ≡ with_head_in self.old region (record (region_in self.old region).head { left = slice_set (region_in self.old region).head.left member true }) }
     {
-        if let Some(kept) = self.list.get_mut(region as usize) {
-            if let Some(place) = kept.head.left.get_mut(member as usize) {
-                *place = true;
-            }
-        }
+        let Some(kept) = self.list.get_mut(region as usize) else {
+            return;
+        };
+        kept.head = member_left(kept.head, member);
     }
 
     /// The region is over.
     pub fn end(&mut self, region: u32)
         ensures { self.new ≡ with_head_in self.old region (record (region_in self.old region).head { ended = true }) }
     {
-        if let Some(kept) = self.list.get_mut(region as usize) {
-            kept.head.ended = true;
-        }
+        let Some(kept) = self.list.get_mut(region as usize) else {
+            return;
+        };
+        kept.head.ended = true;
     }
 
     /// This is stored into the region's data word.
     pub fn store_word(&mut self, region: u32, word: u64)
         ensures { self.new ≡ with_head_in self.old region (record (region_in self.old region).head { word = word }) }
     {
-        if let Some(kept) = self.list.get_mut(region as usize) {
-            kept.head.word = word;
-        }
+        let Some(kept) = self.list.get_mut(region as usize) else {
+            return;
+        };
+        kept.head.word = word;
     }
 
     /// What the team answers where the member meets this next.
     pub fn meeting_answer(&self, region: u32, member: u8, what: Meeting) -> Result<bool, Mismatch>
         ensures { result ≡ meeting_in self.now region member what }
     {
-        match self.team(region) {
-            Some(team) if u32::from(member) < team.size() => team.meeting_answer(
-                u32::from(member),
-                what,
-            ),
-            _ => Ok(false),
+        match self.list.get(region as usize) {
+            Some(kept) => kept.meeting_answer(member, what),
+            None => Ok(false),
         }
     }
 
@@ -243,9 +234,10 @@ impl Regions {
         ensures { self.new ≡ record (after_meeting_in self.old region member what) { room = record self.old.room { meetings = 0 } } }
     {
         self.room.meetings = 0;
-        if let Some(team) = self.team_of(region, member) {
-            let _ = team.meet(u32::from(member), what);
-        }
+        let Some(kept) = self.list.get_mut(region as usize) else {
+            return;
+        };
+        kept.meet(member, what);
     }
 
     /// The member takes the next chunk of the loop that it met last: its first iteration, counted from 0, and its length. There is none where no
@@ -254,7 +246,7 @@ impl Regions {
         ensures answer { result ≡ next_chunk_in self.old region member }
         ensures taken { self.new ≡ after_chunk_in self.old region member }
     {
-        self.team_of(region, member)?.next_chunk(u32::from(member))
+        self.list.get_mut(region as usize)?.next_chunk(member)
     }
 
     /// The member takes the next section of the construct that it met last: its number, counted from 0. There is none where each was taken.
@@ -262,73 +254,58 @@ impl Regions {
         ensures answer { result ≡ next_section_in self.old region member }
         ensures taken { self.new ≡ after_section_in self.old region member }
     {
-        self.team_of(region, member)?
-            .next_section(u32::from(member))
+        self.list.get_mut(region as usize)?.next_section(member)
     }
 
     /// The member begins to wait at the barrier that it met last.
     pub fn arrive(&mut self, region: u32, member: u8)
         ensures { self.new ≡ with_team_in self.old region (with_begun (team_in self.old region) member) }
     {
-        if let Some(team) = self.team_of(region, member) {
-            team.arrive(u32::from(member));
-        }
+        let Some(kept) = self.list.get_mut(region as usize) else {
+            return;
+        };
+        kept.arrive(member);
     }
 
     /// The member's wait at the barrier that it met last ends.
     pub fn pass(&mut self, region: u32, member: u8)
         ensures { self.new ≡ with_team_in self.old region (with_passed (team_in self.old region) member) }
     {
-        if let Some(team) = self.team_of(region, member) {
-            team.pass(u32::from(member));
-        }
+        let Some(kept) = self.list.get_mut(region as usize) else {
+            return;
+        };
+        kept.pass(member);
     }
 
     /// Whether the member's wait at the barrier that it met last may end, while so many explicit tasks of the region are unfinished.
     pub fn may_pass(&self, region: u32, member: u8, unfinished: u32) -> bool
         ensures { result ≡ (is_member_in self.now region member && may_pass (team_in self.now region) member unfinished) }
     {
-        match self.team(region) {
-            Some(team) if u32::from(member) < team.size() => {
-                team.may_pass(u32::from(member), unfinished)
-            }
-            _ => false,
-        }
-    }
-
-    /// The region's team, if it has members.
-    fn team(&self, region: u32) -> Option<&Team> {
-        self.list.get(region as usize)?.team.as_ref()
-    }
-
-    /// The region's team, if it has a member with this number.
-    fn team_of(&mut self, region: u32, member: u8) -> Option<&mut Team> {
-        let team = self.list.get_mut(region as usize)?.team.as_mut()?;
-        if u32::from(member) < team.size() {
-            Some(team)
-        } else {
-            None
+        match self.list.get(region as usize) {
+            Some(kept) => kept.may_pass(member, unfinished),
+            None => false,
         }
     }
 }
 
-/// A region of a task, which so many members are to join.
-fn fresh_head(task: u32, size: u8) -> RegionHead
-    ensures { result ≡ fresh_head task size }
+/// A team for a region to come, with room for a meeting.
+fn new_team(alloc: Global) -> Result<Team, AllocError>
+    ensures { IfOk result IsFreshTeam }
 {
-    RegionHead {
-        task,
-        size,
-        word: 0,
-        members: [0; TEAM_LIMIT],
-        left: [false; TEAM_LIMIT],
-        ended: false,
-    }
+    let mut team = Team::new(alloc, TEAM_LIMIT as u32)?;
+    team.reserve()?;
+    Ok(team)
 }
 
-/// Whether all members have left.
-fn all_left(head: &RegionHead) -> bool
-    ensures { result ≡ list_all (λ (flag : Bool). flag) (take head.now.size head.now.left) }
+/// Makes a team for a region to come, where there is none.
+fn reserve_team(alloc: Global, fresh: &mut Option<Team>) -> Result<(), AllocError>
+    requires { IfSome fresh.old IsFreshTeam }
+    ensures kept { IfSome fresh.new IsFreshTeam }
+    ensures some { OnOk result (IsSome fresh.new) }
+    ensures memory { OnErr result (fresh.new ≡ fresh.old) }
 {
-    head.left.iter().take(head.size as usize).all(|flag| *flag)
+    if fresh.is_none() {
+        *fresh = Some(new_team(alloc)?);
+    }
+    Ok(())
 }

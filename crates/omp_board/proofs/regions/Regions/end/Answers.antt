@@ -1,0 +1,14 @@
+use Rattle.std.proofs.Common.{◌<◌, length, refl, ap, ◌∙◌, arith, true}
+use Rattle.omp_world.specs.State.{Region as Seen}
+use Rattle.omp_board.specs.Regions.{RegionsView, region_in, with_head_in}
+use Rattle.omp_board.specs.contracts.regions.Regions.{the_view}
+use Rattle.omp_board.proofs.Seeing.{changed}
+use Rattle.omp_board.proofs.regions.Regions.end.Goals as goal
+
+pub returns : goal.returns
+returns c =
+    let kept = c.in-Some.kept.now in
+    let regions = c.self.inside.list.items in
+    let within : c.args.region < length regions = omega (arith, c.in-Some.ensures.variant.0 refl) in
+    changed (the_view c.self.inside) regions c.args.region kept (record kept { head = record kept.head { ended = true } }) (λ (seen : Seen). record seen { head = record seen.head { ended = true } }) refl within c.in-Some.ensures.value refl
+    ∙ ap (λ (view : RegionsView). with_head_in view c.args.region (record (region_in view c.args.region).head { ended = true })) c.self.view_is

@@ -1,0 +1,15 @@
+use Rattle.std.proofs.Common.{◌<◌, length, refl, ap, ◌∙◌, arith}
+use Rattle.omp_world.specs.State.{Region as Seen}
+use Rattle.team_parts.specs.Team.{with_passed}
+use Rattle.omp_board.specs.Regions.{RegionsView, team_in, with_team_in}
+use Rattle.omp_board.specs.contracts.regions.Regions.{the_view}
+use Rattle.omp_board.proofs.Seeing.{changed}
+use Rattle.omp_board.proofs.regions.Regions.pass.Goals as goal
+
+pub returns : goal.returns
+returns c =
+    let kept = c.in-Some.kept.now in
+    let regions = c.self.inside.list.items in
+    let within : c.args.region < length regions = omega (arith, c.in-Some.ensures.variant.0 refl) in
+    changed (the_view c.self.inside) regions c.args.region kept c.pass.new.self (λ (seen : Seen). record seen { team = with_passed seen.team c.args.member }) refl within c.in-Some.ensures.value c.pass.ensures.passed
+    ∙ ap (λ (view : RegionsView). with_team_in view c.args.region (with_passed (team_in view c.args.region) c.args.member)) c.self.view_is
