@@ -1,5 +1,5 @@
 -- How the regions are kept.
-use Rattle.std.specs.Prelude.{ℕ, ◌+◌, ◌<◌, ◌≤◌, ◌^◌, nat_lt, Bool, List, Option, Some, None, IfSome, IsSome, length, map, option_map, slice_index_or}
+use Rattle.std.specs.Prelude.{ℕ, ◌+◌, ◌<◌, ◌≤◌, ◌^◌, nat_lt, Bool, List, Option, None, IfSome, IsSome, length, map, option_map, slice_index_or}
 use Rattle.team_parts.specs.Team.{TeamView}
 use Rattle.omp_world.specs.State.{Region as Seen, fresh_head}
 use Rattle.omp_board.specs.declared.region.Region.{Region}
@@ -11,9 +11,12 @@ seen_region region = record { head = region.head; team = seen_team region.team }
 abbrev pub seen_regions : List Region → List Seen
 seen_regions regions = map seen_region regions
 
--- whether the team of a region has a member with this number
-abbrev pub has_member : Seen → ℕ → Bool
-has_member region i = nat_lt i (length region.team.members)
+-- its team, and whether a team has a member with this number
+abbrev pub team_of : Region → TeamView
+team_of region = seen_team region.team
+
+abbrev pub has_member : TeamView → ℕ → Bool
+has_member team i = nat_lt i (length team.members)
 
 -- for how many meetings the team of a region has room, if there is a team; so many are among them
 abbrev pub room_of : Region → Option ℕ

@@ -1,9 +1,9 @@
 -- What the regions of a run are seen as, with room, and how they are kept.
-use Rattle.std.specs.Prelude.{ℕ, ◌+◌, ◌≡◌, ◌<◌, ◌≤◌, ◌^◌, nat_lt, if◌then◌else◌, Bool, false, List, [], ◌∷◌, ◌++◌, Option, Some, None, IfSome, Result, Ok, length, replicate, slice_index_or, slice_set}
+use Rattle.std.specs.Prelude.{ℕ, ◌≡◌, ◌≤◌, nat_lt, if◌then◌else◌, Bool, false, List, [], ◌∷◌, Option, Some, None, Result, Ok, length, replicate, slice_index_or, slice_set}
 use Rattle.team_parts.specs.declared.meeting.Meeting.{Meeting}
 use Rattle.team_parts.specs.declared.meeting.Mismatch.{Mismatch}
 use Rattle.team_parts.specs.declared.meeting.TheConstants.{TEAM_LIMIT}
-use Rattle.team_parts.specs.Team.{TeamView, after_chunk, after_meeting, after_section, answer_to_meet, may_pass, new_member, next_chunk, next_section, with_begun, with_passed}
+use Rattle.team_parts.specs.Team.{TeamView, after_chunk, after_meeting, after_section, answer_to_meet, new_member, next_chunk, next_section}
 use Rattle.omp_world.specs.declared.parts.RegionHead.{RegionHead}
 use Rattle.omp_world.specs.State.{Region, fresh_region, fresh_team, no_region}
 

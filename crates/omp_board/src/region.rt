@@ -3,7 +3,7 @@
 ghost use Rattle.std.specs.Prelude.{◌≡◌, ◌&&◌, false, IsOk, IsTrue, None, Ok, OnErr, OnOk, if◌then◌else◌};
 ghost use Rattle.team_parts.specs.Meetings.{HasChunk};
 ghost use Rattle.team_parts.specs.Team.{after_chunk, after_meeting, after_section, answer_to_meet, may_pass, next_chunk, next_section, with_begun, with_passed};
-ghost use Rattle.omp_board.specs.KeepingRegions.{HasRoom, has_member, room_of, seen_region};
+ghost use Rattle.omp_board.specs.KeepingRegions.{HasRoom, has_member, room_of, seen_region, team_of};
 
 use omp_world::RegionHead;
 use std::alloc::AllocError;
@@ -33,7 +33,7 @@ impl Region {
 
     /// Whether the team has a member with this number.
     pub fn has_member(&self, member: u8) -> bool
-        ensures { result ≡ has_member (seen_region self.now) member }
+        ensures { result ≡ has_member (team_of self.now) member }
     {
         match &self.team {
             Some(team) => u32::from(member) < team.size(),
@@ -43,7 +43,7 @@ impl Region {
 
     /// What the team answers where the member meets this next.
     pub fn meeting_answer(&self, member: u8, what: Meeting) -> Result<bool, Mismatch>
-        ensures { result ≡ if has_member (seen_region self.now) member then answer_to_meet (seen_region self.now).team member what else Ok false }
+        ensures { result ≡ if has_member (team_of self.now) member then answer_to_meet (team_of self.now) member what else Ok false }
     {
         match &self.team {
             Some(team) if u32::from(member) < team.size() => team.meeting_answer(
@@ -58,9 +58,9 @@ impl Region {
     pub fn meet(&mut self, member: u8, what: Meeting)
         requires room { HasRoom self.old 1 }
         requires chunk { HasChunk what }
-        requires same { IsTrue (has_member (seen_region self.old) member) → IsOk (answer_to_meet (seen_region self.old).team member what) }
+        requires same { IsTrue (has_member (team_of self.old) member) → IsOk (answer_to_meet (team_of self.old) member what) }
         ensures { seen_region self.new ≡ record (seen_region self.old) {
-          team = if has_member (seen_region self.old) member then after_meeting (seen_region self.old).team member what else (seen_region self.old).team;
+          team = if has_member (team_of self.old) member then after_meeting (team_of self.old) member what else team_of self.old;
         } }
     {
         if let Some(team) = &mut self.team {
@@ -73,9 +73,9 @@ impl Region {
     /// The member takes the next chunk of the loop that it met last: its first iteration, counted from 0, and its length. There is none where no
     /// iteration is left for the member.
     pub fn next_chunk(&mut self, member: u8) -> Option<(u64, u64)>
-        ensures answer { result ≡ if has_member (seen_region self.old) member then next_chunk (seen_region self.old).team member else None }
+        ensures answer { result ≡ if has_member (team_of self.old) member then next_chunk (team_of self.old) member else None }
         ensures taken { seen_region self.new ≡ record (seen_region self.old) {
-          team = if has_member (seen_region self.old) member then after_chunk (seen_region self.old).team member else (seen_region self.old).team;
+          team = if has_member (team_of self.old) member then after_chunk (team_of self.old) member else team_of self.old;
         } }
         ensures room { room_of self.new ≡ room_of self.old }
     {
@@ -87,9 +87,9 @@ impl Region {
 
     /// The member takes the next section of the construct that it met last: its number, counted from 0. There is none where each was taken.
     pub fn next_section(&mut self, member: u8) -> Option<u32>
-        ensures answer { result ≡ if has_member (seen_region self.old) member then next_section (seen_region self.old).team member else None }
+        ensures answer { result ≡ if has_member (team_of self.old) member then next_section (team_of self.old) member else None }
         ensures taken { seen_region self.new ≡ record (seen_region self.old) {
-          team = if has_member (seen_region self.old) member then after_section (seen_region self.old).team member else (seen_region self.old).team;
+          team = if has_member (team_of self.old) member then after_section (team_of self.old) member else team_of self.old;
         } }
         ensures room { room_of self.new ≡ room_of self.old }
     {
@@ -101,7 +101,7 @@ impl Region {
 
     /// The member begins to wait at the barrier that it met last.
     pub fn arrive(&mut self, member: u8)
-        ensures begun { seen_region self.new ≡ record (seen_region self.old) { team = with_begun (seen_region self.old).team member } }
+        ensures begun { seen_region self.new ≡ record (seen_region self.old) { team = with_begun (team_of self.old) member } }
         ensures room { room_of self.new ≡ room_of self.old }
     {
         if let Some(team) = &mut self.team {
@@ -113,7 +113,7 @@ impl Region {
 
     /// The member's wait at the barrier that it met last ends.
     pub fn pass(&mut self, member: u8)
-        ensures passed { seen_region self.new ≡ record (seen_region self.old) { team = with_passed (seen_region self.old).team member } }
+        ensures passed { seen_region self.new ≡ record (seen_region self.old) { team = with_passed (team_of self.old) member } }
         ensures room { room_of self.new ≡ room_of self.old }
     {
         if let Some(team) = &mut self.team {
@@ -125,7 +125,7 @@ impl Region {
 
     /// Whether the member's wait at the barrier that it met last may end, while so many explicit tasks of the region are unfinished.
     pub fn may_pass(&self, member: u8, unfinished: u32) -> bool
-        ensures { result ≡ (has_member (seen_region self.now) member && may_pass (seen_region self.now).team member unfinished) }
+        ensures { result ≡ (has_member (team_of self.now) member && may_pass (team_of self.now) member unfinished) }
     {
         match &self.team {
             Some(team) if u32::from(member) < team.size() => {

@@ -7,9 +7,8 @@ ghost use Rattle.team_parts.specs.Team.{may_pass, with_begun, with_passed};
 ghost use Rattle.omp_world.specs.State.{fresh_region};
 ghost use Rattle.omp_board.specs.Regions.{IsFreshTeam, after_chunk_in, after_meeting_in, after_section_in, first_regions, is_member_in, meeting_in, next_chunk_in, next_section_in, region_in, team_in, turn_room, with_head_in, with_team_in};
 
-use crate::head::{all_left, fresh_head, with_member, without_member};
+use crate::head::{all_left, fresh_head, member_begun, member_left};
 use crate::region::Region;
-use omp_world::RegionHead;
 use std::alloc::{AllocError, Global};
 use std::marker::Model;
 use team_parts::{Meeting, Mismatch, TEAM_LIMIT, Team};
@@ -102,10 +101,10 @@ impl Regions {
     }
 
     /// The identity of the next region.
-    pub fn next(&self) -> u32
+    pub fn next(&self) -> usize
         ensures { result ≡ length self.now.regions }
     {
-        self.list.len() as u32
+        self.list.len()
     }
 
     /// The encountering task of the region, or 0.
@@ -183,7 +182,7 @@ impl Regions {
         let Some(kept) = self.list.get_mut(region as usize) else {
             return;
         };
-        kept.head = with_member(kept.head, member, task);
+        kept.head = member_begun(kept.head, member, task);
     }
 
     /// The member with this number has left.
@@ -193,7 +192,7 @@ impl Regions {
         let Some(kept) = self.list.get_mut(region as usize) else {
             return;
         };
-        kept.head = without_member(kept.head, member);
+        kept.head = member_left(kept.head, member);
     }
 
     /// The region is over.

@@ -1,4 +1,4 @@
-use Rattle.std.proofs.Common.{◌≡◌, ◌<◌, length, refl, ap, ◌∙◌, arith, set}
+use Rattle.std.proofs.Common.{◌<◌, length, refl, ap, ◌∙◌, arith, set}
 use Rattle.omp_world.specs.declared.parts.RegionHead.{RegionHead}
 use Rattle.omp_world.specs.State.{Region as Seen}
 use Rattle.omp_board.specs.Regions.{RegionsView, region_in, with_head_in}
@@ -12,5 +12,5 @@ returns c =
     let kept = c.in-Some.kept.now in
     let regions = c.self.inside.list.items in
     let within : c.args.region < length regions = omega (arith, c.in-Some.ensures.variant.0 refl) in
-    changed (the_view c.self.inside) regions c.args.region kept (record kept { head = c.with_member.result }) (λ (seen : Seen). record seen { head = record seen.head { members = set seen.head.members c.args.member c.args.task } }) refl within c.in-Some.ensures.value (ap (λ (head : RegionHead). seen_region (record kept { head = head })) c.with_member.ensures)
+    changed (the_view c.self.inside) regions c.args.region kept (record kept { head = c.member_begun-kept.result }) (λ (seen : Seen). record seen { head = record seen.head { members = set seen.head.members c.args.member c.args.task } }) refl within c.in-Some.ensures.value (ap (λ (head : RegionHead). seen_region (record kept { head = head })) c.member_begun-kept.ensures)
     ∙ ap (λ (view : RegionsView). with_head_in view c.args.region (record (region_in view c.args.region).head { members = set (region_in view c.args.region).head.members c.args.member c.args.task })) c.self.view_is

@@ -1,4 +1,4 @@
-use Rattle.std.proofs.Common.{◌≡◌, ◌<◌, length, refl, ap, ◌∙◌, arith, cond}
+use Rattle.std.proofs.Common.{◌<◌, length, refl, ap, ◌∙◌, arith, cond}
 use Rattle.omp_world.specs.State.{Region as Seen}
 use Rattle.team_parts.specs.Team.{after_chunk}
 use Rattle.omp_board.specs.Regions.{RegionsView, after_chunk_in}
@@ -12,5 +12,5 @@ returns-clause-taken c =
     let kept = c.in_ok-get_mut.field-0.now in
     let regions = c.self.inside.list.items in
     let within : c.args.region < length regions = omega (arith, c.in_ok-get_mut.ensures.variant.0 refl) in
-    changed (the_view c.self.inside) regions c.args.region kept c.next_chunk.new.self (λ (seen : Seen). record seen { team = cond (has_member seen c.args.member) (after_chunk seen.team c.args.member) seen.team }) refl within c.in_ok-get_mut.ensures.value c.next_chunk.ensures.taken
+    changed (the_view c.self.inside) regions c.args.region kept c.next_chunk.new.self (λ (seen : Seen). record seen { team = cond (has_member seen.team c.args.member) (after_chunk seen.team c.args.member) seen.team }) refl within c.in_ok-get_mut.ensures.value c.next_chunk.ensures.taken
     ∙ ap (λ (view : RegionsView). after_chunk_in view c.args.region c.args.member) c.self.view_is

@@ -1,4 +1,4 @@
-use Rattle.std.proofs.Common.{◌≡◌, ◌<◌, length, refl, ap, ◌∙◌, arith}
+use Rattle.std.proofs.Common.{◌<◌, length, refl, ap, ◌∙◌, arith}
 use Rattle.omp_world.specs.State.{Region as Seen}
 use Rattle.team_parts.specs.Team.{with_passed}
 use Rattle.omp_board.specs.Regions.{RegionsView, team_in, with_team_in}

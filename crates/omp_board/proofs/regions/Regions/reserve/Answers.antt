@@ -1,11 +1,21 @@
-use Rattle.std.proofs.Common.{rules, ◌≡◌, ◌<◌, ◌≤◌, ◌&&◌, ◌++◌, ◌∷◌, [], Bool, true, IfOk, IfSome, IsOk, IsSome, OnErr, OnOk, length, slice_set, take, ℕ, ◌+◌, ◌-◌, ◌*◌, ◌/◌, ◌%◌, false, nat_eq, nat_lt, List, slice_index_or, bit_and, bit_or, Fits, w8, w32, w64, Bor, MutBor}
-use Rattle.std.specs.List.{list_all}
-use Rattle.team_parts.specs.Meetings.{HasChunk}
-use Rattle.team_parts.specs.Team.{may_pass, with_begun, with_passed}
-use Rattle.omp_world.specs.State.{fresh_region}
-use Rattle.omp_board.specs.Regions.{IsFreshTeam, after_chunk_in, after_meeting_in, after_section_in, first_regions, is_member_in, meeting_in, next_chunk_in, next_section_in, region_in, team_in, turn_room, with_head_in, with_team_in}
+use Rattle.std.proofs.Common.{◌≡◌, ◌<◌, List, length, refl, ap, ◌∙◌, arith}
+use Rattle.omp_world.specs.State.{Region as Seen}
+use Rattle.omp_board.specs.Regions.{RegionsView}
+use Rattle.omp_board.specs.KeepingRegions.{seen_regions}
+use Rattle.omp_board.proofs.Seeing.{unchanged}
 use Rattle.omp_board.proofs.regions.Regions.reserve.Goals as goal
+use Rattle.omp_board.proofs.regions.Regions.reserve.Goals.{in-Some+in_ok-reserve-2, in_default}
 
--- src/regions.rt:84:5
 pub returns-clause-kept : goal.returns-clause-kept
-returns-clause-kept c = ?
+returns-clause-kept c =
+    let regions = c.reserve.new.self.items in
+    let before : seen_regions regions ≡ c.args.self.now.regions = ap seen_regions c.in_ok-reserve.ensures.items ∙ ap (λ (view : RegionsView). view.regions) c.self.view_is in
+    let after : seen_regions c.match-get_mut.self-inside.list.items ≡ seen_regions regions =
+    elim c.match-get_mut.branch [
+      | in-Some+in_ok-reserve-2 w ↦
+          let within : c.args.region < length regions = omega (arith, w.in-Some.ensures.variant.0 refl) in
+          rw w.self-inside-is (unchanged regions c.args.region w.in-Some.kept.now w.reserve-in-Some.new.self within w.in-Some.ensures.value w.reserve-in-Some.ensures.kept)
+      | in_default w ↦ rw w.self-inside-is refl
+    ]
+    in
+    ap (λ (all : List Seen). record { regions = all; room = record { region = c.args.region; meetings = 1; regions = 1 } }) (after ∙ before)
