@@ -1,1 +1,2 @@
+pub mod NoCode
 pub mod Seen
