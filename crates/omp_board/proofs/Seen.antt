@@ -1,19 +1,103 @@
--- Reading and writing the tasks that are kept, as they are seen.
-use Rattle.std.proofs.Common.{◌≡◌, ℕ, ◌≤◌, List, length, slice_get, slice_set, slice_index_or, Option, Some, None, refl, sym, ap, ◌∙◌}
+-- What the tasks that are kept are seen as, where one of them is written.
+use Rattle.std.proofs.Common.{◌≡◌, ℕ, ◌<◌, List, length, slice_set, slice_index_or, Some, refl, sym, ap, ◌∙◌, subst}
 use Rattle.std.proofs.Math.ListN.{get_or-map}
-use Rattle.std.proofs.lemmas.List.{map-set}
-use Rattle.std.proofs.lemmas.Option.{get_or_from_slice_get, unwrap_or-slice_get}
+use Rattle.std.proofs.lemmas.List.{get_or-set_same, map-set}
 use Rattle.c_syntax.specs.Numbered.{TreeView}
+use Rattle.c_model.specs.declared.view.View.{View}
+use Rattle.c_model.specs.Step.{settled_moment, silent}
+use Rattle.c_model.specs.Task.{Moment, Store}
+use Rattle.c_steps.specs.declared.next.Next.{Next}
+use Rattle.c_steps.specs.declared.next.Next.TheVariants as next
+use Rattle.c_steps.specs.Advancing.{IsKept as IsAfterAdvance, IsLeft, IsNamed}
+use Rattle.c_steps.specs.Held.{Held, moment_at, outcome_at, task_at}
 use Rattle.omp_world.specs.State.{Task as Seen, no_task}
 use Rattle.omp_board.specs.declared.task.Task.{Task}
 use Rattle.omp_board.specs.Keeping.{kept_nothing, seen_task, seen_tasks}
+use Rattle.omp_board.specs.Tasks.{IsNamedIn, IsStill, TaskRoom, TasksView, code_in, code_of, gone_in, moment_in, room_after, task_in, with_code_in, with_task_in}
 
-module _ (program : TreeView) (tasks : List Task) (k : ℕ) where
-  pub seen_at : slice_index_or (seen_tasks program tasks) k no_task ≡ seen_task program (slice_index_or tasks k kept_nothing)
-  seen_at = get_or-map (seen_task program) tasks k kept_nothing
+-- what the parts are seen as
+abbrev pub seen : TreeView → List Task → Store → TaskRoom → TasksView
+seen program tasks store room = record { program = program; tasks = seen_tasks program tasks; store = store; room = room }
 
-  pub seen_read : (kept : Task) → slice_get tasks k ≡ Some kept → slice_index_or (seen_tasks program tasks) k no_task ≡ seen_task program kept
-  seen_read kept is = seen_at ∙ ap (seen_task program) (get_or_from_slice_get tasks k kept kept_nothing is)
+pub seen_at : (program : TreeView) (tasks : List Task) (k : ℕ) → slice_index_or (seen_tasks program tasks) k no_task ≡ seen_task program (slice_index_or tasks k kept_nothing)
+seen_at program tasks k = get_or-map (seen_task program) tasks k kept_nothing
 
-  pub seen_write : (kept : Task) → seen_tasks program (slice_set tasks k kept) ≡ slice_set (seen_tasks program tasks) k (seen_task program kept)
-  seen_write kept = map-set (seen_task program) tasks k kept
+-- no step was made, so that the control is left alone
+left_by : (program : TreeView) (sight : View) (of : Next) (old : Held) (before : Store) (new : Held) (after : Store) → IsStill of → IsAfterAdvance program sight of old before new after → IsLeft program sight old before new after
+left_by program sight next.Quiet old before new after still kept = absurd still
+left_by program sight (next.Ask ask node) old before new after still kept = kept
+left_by program sight (next.Event point node) old before new after still kept = kept
+left_by program sight (next.Ended number) old before new after still kept = kept
+left_by program sight (next.Trap trap) old before new after still kept = kept
+left_by program sight (next.Limit limit) old before new after still kept = kept
+
+named_by : (program : TreeView) (of : Next) (new : Held) → IsNamed program of new → IsNamedIn program of (task_at program new).todo
+named_by program next.Quiet new named = tt
+named_by program (next.Ask ask node) new named = named
+named_by program (next.Event point node) new named = named
+named_by program (next.Ended number) new named = tt
+named_by program (next.Trap trap) new named = tt
+named_by program (next.Limit limit) new named = tt
+
+pub same_room : (of : Next) (room : TaskRoom) → (of ≡ next.Quiet → ⊥) → room_after of room ≡ room
+same_room next.Quiet room not = absurd (not refl)
+same_room (next.Ask ask node) room not = refl
+same_room (next.Event point node) room not = refl
+same_room (next.Ended number) room not = refl
+same_room (next.Trap trap) room not = refl
+same_room (next.Limit limit) room not = refl
+
+module _ (program : TreeView) (tasks : List Task) (store : Store) (room : TaskRoom) (view : TasksView) (is : seen program tasks store room ≡ view) (k : ℕ) (kept : Task) (found : kept ≡ slice_index_or tasks k kept_nothing) where
+  pub task_found : seen_task program kept ≡ task_in view k
+  task_found = ap (seen_task program) found ∙ sym (seen_at program tasks k) ∙ ap (λ (view : TasksView). task_in view k) is
+
+  -- the task is changed
+  pub wrote : (new : Task) (change : Seen → Seen) → seen_task program new ≡ change (seen_task program kept) → seen program (slice_set tasks k new) store room ≡ with_task_in view k (change (task_in view k))
+  wrote new change so =
+      ap (λ (now : List Seen). record (seen program tasks store room) { tasks = now }) (map-set (seen_task program) tasks k new ∙ ap (slice_set (seen_tasks program tasks) k) (so ∙ ap change task_found))
+      ∙ ap (λ (before : TasksView). with_task_in before k (change (task_in view k))) is
+
+  module _ (control new : Held) (after : Store) (is_kept : kept.control ≡ Some control) where
+    pub moment_found : moment_at program control store ≡ moment_in view k
+    moment_found =
+        let code : task_at program control ≡ code_in view k = sym (ap (code_of program) is_kept) ∙ ap (λ (task : Seen). task.code) task_found in
+        λ i. record { task = code i; store = (is i).store }
+
+    abbrev changed : Task
+    changed = record kept { control = Some new }
+
+    -- the task's code has gone on
+    pub gone : (now : Moment) (change : TaskRoom → TaskRoom) → moment_at program new after ≡ now → seen program (slice_set tasks k changed) after (change room) ≡ record (gone_in view k now) { room = change view.room }
+    gone now change went =
+        ap (λ (view : TasksView). record view { store = after; room = change room }) (wrote changed (λ (task : Seen). record task { code = task_at program new }) refl)
+        ∙ ap (λ (before : TasksView). record (with_code_in view k (task_at program new)) { store = after; room = change before.room }) is
+        ∙ ap (λ (now : Moment). record (gone_in view k now) { room = change view.room }) went
+
+    module _ (within : k < length tasks) where
+      abbrev behind : TasksView
+      behind = seen program (slice_set tasks k changed) after room
+
+      moment_now : moment_in behind k ≡ moment_at program new after
+      moment_now =
+          ap (λ (task : Seen). record { task = task.code; store = after })
+          (seen_at program (slice_set tasks k changed) k ∙ ap (seen_task program) (get_or-set_same tasks k changed kept_nothing within))
+
+      pub stepped : (of : Next) (sight : View) → outcome_at program of (moment_at program new after) ≡ silent program sight (moment_at program control store) → outcome_at view.program of (moment_in behind k) ≡ silent view.program sight (moment_in view k)
+      stepped of sight so =
+          subst (λ (program : TreeView). outcome_at program of (moment_in behind k) ≡ silent program sight (moment_in view k)) (ap (λ (view : TasksView). view.program) is)
+          (ap (outcome_at program of) moment_now ∙ so ∙ ap (silent program sight) moment_found)
+
+      pub gone_on : (change : TaskRoom → TaskRoom) (room_now : TaskRoom) → room_now ≡ change room → record behind { room = room_now } ≡ record (gone_in view k (moment_in behind k)) { room = change view.room }
+      gone_on change room_now is_room =
+          ap (λ (room : TaskRoom). seen program (slice_set tasks k changed) after room) is_room ∙ gone (moment_in behind k) change (sym moment_now)
+
+      pub stays : (of : Next) (sight : View) → IsAfterAdvance program sight of control store new after → IsStill of → moment_in behind k ≡ settled_moment sight (moment_in view k)
+      stays of sight kept still =
+          let left = left_by program sight of control store new after still kept in
+          moment_now ∙ (λ i. record { task = left.task i; store = left.store i }) ∙ ap (settled_moment sight) moment_found
+
+      pub named_so : (of : Next) → IsNamed program of new → IsNamedIn view.program of (code_in behind k).todo
+      named_so of named =
+          let so = named_by program of new named in
+          subst (λ (program : TreeView). IsNamedIn program of (code_in behind k).todo) (ap (λ (view : TasksView). view.program) is)
+          (subst (λ (now : Moment). IsNamedIn program of now.task.todo) (sym moment_now) so)

@@ -1,6 +1,6 @@
 //! The tasks of a run with their code, and what all code shares.
 
-ghost use Rattle.std.specs.Prelude.{◌≡◌, ◌<◌, ◌≤◌, IfNone, IfOk, IfSome, OnOk, length, slice_get, slice_index_or};
+ghost use Rattle.std.specs.Prelude.{◌≡◌, ◌<◌, ◌≤◌, IfNone, IfOk, IfSome, OnErr, OnOk, length, slice_get, slice_index_or};
 ghost use Rattle.std.specs.List.{All};
 ghost use Rattle.std.specs.Option.{option_copied};
 ghost use Rattle.c_syntax.specs.Derivation.{nothing};
@@ -23,7 +23,7 @@ ghost use Rattle.c_steps.specs.Passing.{IsEventOfNext};
 ghost use Rattle.c_steps.specs.Ready.{FitsProgram};
 ghost use Rattle.c_steps.specs.Scopes.{HasNumbers};
 ghost use Rattle.omp_world.specs.Going.{member_code};
-ghost use Rattle.omp_board.specs.Keeping.{IsOfProgram, control_at};
+ghost use Rattle.omp_board.specs.Keeping.{HasRoomIn, IsOfProgram, control_at, seen_tasks};
 ghost use Rattle.omp_board.specs.Tasks.{HasPass, HasSteps, IsNamedIn, IsStill, code_in, code_of, first_tasks, gone_in, moment_in, one_pass_less, one_step_less, room_after, task_in, turn_room, with_code_in, with_one_more, with_task_in};
 
 use crate::task::{Task, task_with};
@@ -132,11 +132,7 @@ impl Tasks {
             let blank = Control::blank(self.alloc, &self.code)?;
             self.blanks.push(blank)?;
         }
-        if let Some(kept) = self.list.get_mut(task as usize) {
-            if let Some(control) = &mut kept.control {
-                control.reserve(&self.code)?;
-            }
-        }
+        reserve_code(&self.code, &mut self.list, task)?;
         self.room = Room {
             task,
             steps: STEPS_AHEAD,
@@ -427,6 +423,23 @@ fn control_of(list: &[Task], task: u32) -> Option<&Control>
     ensures { option_copied result ≡ control_at list.now task }
 {
     list.get(task as usize)?.control.as_ref()
+}
+
+/// Makes room for a turn in the task's code, if it has some.
+fn reserve_code(code: &Code, list: &mut [Task], task: u32) -> Result<(), AllocError>
+    requires controls { All (IsOfProgram code.now) list.old }
+    ensures seen { seen_tasks code.now list.new ≡ seen_tasks code.now list.old }
+    ensures controls { All (IsOfProgram code.now) list.new }
+    ensures room { OnOk result (IfSome (control_at list.new task) (HasRoomIn (turn_room task))) }
+    ensures memory { OnErr result (list.new ≡ list.old) }
+{
+    let Some(kept) = list.get_mut(task as usize) else {
+        return Ok(());
+    };
+    let Some(control) = &mut kept.control else {
+        return Ok(());
+    };
+    control.reserve(code)
 }
 
 /// The code of a member of the region that this task has forked begins, with a control that was kept for it. Where the task hasn't forked one,
