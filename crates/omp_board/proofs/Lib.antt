@@ -1,2 +1,3 @@
 pub mod NoCode
 pub mod Seen
+pub mod Seeing

@@ -101,10 +101,10 @@ impl Regions {
     }
 
     /// The identity of the next region.
-    pub fn next(&self) -> usize
+    pub fn next(&self) -> u32
         ensures { result ≡ length self.now.regions }
     {
-        self.list.len()
+        self.list.len() as u32
     }
 
     /// The encountering task of the region, or 0.

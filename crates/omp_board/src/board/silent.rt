@@ -1,6 +1,6 @@
 //! Silent steps: what a thread does between events.
 
-ghost use Rattle.std.specs.Prelude.{◌≡◌, ◌<◌, ◌≤◌, Ok, IfOk};
+ghost use Rattle.std.specs.Prelude.{◌≡◌, ◌+◌, ◌≤◌};
 ghost use Rattle.c_model.specs.Asked.{count_asked, sections_asked};
 ghost use Rattle.omp_world.specs.declared.event.Arrival.TheVariants.{Steps};
 ghost use Rattle.omp_world.specs.Gates.{arrival};
