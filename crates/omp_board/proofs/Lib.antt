@@ -1,2 +1,5 @@
+pub mod Blanks
+pub mod Members
 pub mod NoCode
+pub mod Reserving
 pub mod Seen
