@@ -433,13 +433,13 @@ fn reserve_code(code: &Code, list: &mut [Task], task: u32) -> Result<(), AllocEr
     ensures room { OnOk result (IfSome (control_at list.new task) (HasRoomIn (turn_room task))) }
     ensures memory { OnErr result (list.new ≡ list.old) }
 {
-    let Some(kept) = list.get_mut(task as usize) else {
+    if task as usize >= list.len() {
         return Ok(());
-    };
-    let Some(control) = &mut kept.control else {
-        return Ok(());
-    };
-    control.reserve(code)
+    }
+    match &mut list[task as usize].control {
+        Some(control) => control.reserve(code),
+        None => Ok(()),
+    }
 }
 
 /// The code of a member of the region that this task has forked begins, with a control that was kept for it. Where the task hasn't forked one,
