@@ -122,11 +122,15 @@ impl Tasks {
         })
     }
 
-    /// Makes room for a turn of which this is the current task: for the silent steps of its code, an event, and one more task.
+    /// Makes room for a turn of which this is the current task: for the silent steps of its code, an event, and one more task. That there are more
+    /// tasks than a `u32` counts is want of memory too.
     pub fn reserve(&mut self, task: u32) -> Result<(), AllocError>
         ensures kept { self.new ≡ record self.old { room = self.new.room } }
         ensures room { OnOk result (self.new.room ≡ turn_room task) }
     {
+        if self.list.len() >= u32::MAX as usize {
+            return Err(AllocError);
+        }
         self.list.reserve(1)?;
         if self.blanks.is_empty() {
             let blank = Control::blank(self.alloc, &self.code)?;
