@@ -1,4 +1,5 @@
 pub mod Blanks
+pub mod Kept
 pub mod Members
 pub mod NoCode
 pub mod Reserving
