@@ -1,7 +1,11 @@
 pub mod Blanks
+pub mod Creations
+pub mod Kept
 pub mod Members
 pub mod NoCode
+pub mod Replies
 pub mod Reserving
 pub mod Seen
 pub mod Seeing
+pub mod Settling
 pub mod Summoning

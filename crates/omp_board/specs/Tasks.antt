@@ -5,7 +5,6 @@ use Rattle.c_syntax.specs.Codes.{tree_view_code}
 use Rattle.c_syntax.specs.Numbered.{TreeView}
 use Rattle.c_model.specs.Begin.{blank_task, first_store, main_task}
 use Rattle.c_model.specs.Task.{Item, Moment, Store, Task as Code}
-use Rattle.c_model.specs.declared.point.Point.{Point}
 use Rattle.c_model.specs.Occurring.{IsAskOfNext}
 use Rattle.c_syntax.specs.Numbered.{tree_at}
 use Rattle.c_steps.specs.Held.{Held, task_at}

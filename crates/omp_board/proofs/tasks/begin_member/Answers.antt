@@ -1,4 +1,4 @@
-use Rattle.std.proofs.Common.{refl, sym, ap, ◌∙◌}
+use Rattle.std.proofs.Common.{refl, ap, ◌∙◌}
 use Rattle.c_steps.specs.Held.{task_at}
 use Rattle.omp_world.specs.Going.{member_code}
 use Rattle.omp_board.specs.Tasks.{code_of}
