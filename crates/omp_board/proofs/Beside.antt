@@ -1,9 +1,8 @@
 -- What is so where a thread has come to an event beside all code that meets no limit.
-use Rattle.std.proofs.Common.{◌≡◌, ℕ, ◌<◌, ◌≤◌, ◌==◌, nat_le, if◌then◌else◌, Bool, true, false, List, [], ◌∷◌, length, refl, sym, subst, arith}
+use Rattle.std.proofs.Common.{◌≡◌, ℕ, ◌<◌, ◌≤◌, nat_le, if◌then◌else◌, Bool, true, false, List, [], ◌∷◌, length, refl, sym, subst, arith}
 use Rattle.std.specs.Prelude.{Option, Some, None, Result, Ok, Err, IsOk}
 use Rattle.std.proofs.lemmas.Bool.{leb-false}
 use Rattle.task_pool.specs.declared.task.Full.{Full}
-use Rattle.task_pool.specs.declared.task.TheConstants.{TASK_LIMIT}
 use Rattle.task_pool.specs.declared.task.Task.{Task as PoolTask}
 use Rattle.task_pool.specs.Tasks.{MayBeParent}
 use Rattle.task_pool.specs.View.{answer_to_add}
@@ -14,7 +13,7 @@ use Rattle.omp_world.specs.declared.event.Halt.TheVariants.{Limit}
 use Rattle.omp_world.specs.declared.limits.TheConstants.{STACK, STACK_LIMIT}
 use Rattle.omp_world.specs.Gates.{arrival}
 use Rattle.omp_world.specs.Going.{fault_of, first_fault, full_fault, stack_fault, task_fault}
-use Rattle.omp_world.specs.Made.{IsIdentity, IsMadeWorld}
+use Rattle.omp_world.specs.Made.{IsMadeWorld}
 use Rattle.omp_world.specs.State.{World, region_at, thread_at}
 use Rattle.omp_world.proofs.Arriving.{Arrives, AtMember, arrives}
 

@@ -1,8 +1,3 @@
-use Rattle.std.proofs.Common.{◌≡◌, ap, ◌∙◌}
-use Rattle.std.specs.Prelude.{None}
-use Rattle.omp_world.specs.declared.event.Event.{Event}
-use Rattle.omp_world.specs.declared.event.Arrival.TheVariants.{Meets}
-use Rattle.omp_world.specs.Going.{fault_of}
 use Rattle.omp_board.proofs.Beside.{initial_fits, member_counted, member_fits, parent_there, region_there, task_fits}
 use Rattle.omp_board.proofs.board.Board.occur.Goals as goal
 
