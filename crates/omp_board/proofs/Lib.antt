@@ -1,3 +1,4 @@
 pub mod NoCode
 pub mod Seen
 pub mod Seeing
+pub mod Holding
