@@ -1,4 +1,8 @@
+pub mod Blanks
+pub mod Members
 pub mod NoCode
+pub mod Reserving
 pub mod Seen
 pub mod Seeing
 pub mod Holding
+pub mod Summoning

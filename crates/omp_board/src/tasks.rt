@@ -122,11 +122,15 @@ impl Tasks {
         })
     }
 
-    /// Makes room for a turn of which this is the current task: for the silent steps of its code, an event, and one more task.
+    /// Makes room for a turn of which this is the current task: for the silent steps of its code, an event, and one more task. That there are more
+    /// tasks than a `u32` counts is want of memory too.
     pub fn reserve(&mut self, task: u32) -> Result<(), AllocError>
         ensures kept { self.new ≡ record self.old { room = self.new.room } }
         ensures room { OnOk result (self.new.room ≡ turn_room task) }
     {
+        if self.list.len() >= u32::MAX as usize {
+            return Err(AllocError);
+        }
         self.list.reserve(1)?;
         if self.blanks.is_empty() {
             let blank = Control::blank(self.alloc, &self.code)?;
@@ -433,13 +437,13 @@ fn reserve_code(code: &Code, list: &mut [Task], task: u32) -> Result<(), AllocEr
     ensures room { OnOk result (IfSome (control_at list.new task) (HasRoomIn (turn_room task))) }
     ensures memory { OnErr result (list.new ≡ list.old) }
 {
-    let Some(kept) = list.get_mut(task as usize) else {
+    if task as usize >= list.len() {
         return Ok(());
-    };
-    let Some(control) = &mut kept.control else {
-        return Ok(());
-    };
-    control.reserve(code)
+    }
+    match &mut list[task as usize].control {
+        Some(control) => control.reserve(code),
+        None => Ok(()),
+    }
 }
 
 /// The code of a member of the region that this task has forked begins, with a control that was kept for it. Where the task hasn't forked one,
