@@ -6,3 +6,4 @@ pub mod Seen
 pub mod Seeing
 pub mod Holding
 pub mod Summoning
+pub mod Replies
