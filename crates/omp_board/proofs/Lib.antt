@@ -7,3 +7,4 @@ pub mod Seeing
 pub mod Holding
 pub mod Summoning
 pub mod Replies
+pub mod Silence
