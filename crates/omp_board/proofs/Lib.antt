@@ -1,3 +1,7 @@
+pub mod Blanks
+pub mod Kept
+pub mod Members
 pub mod NoCode
+pub mod Reserving
 pub mod Seen
 pub mod Seeing

@@ -122,16 +122,14 @@ impl Tasks {
         })
     }
 
-    /// Makes room for a turn of which this is the current task: for the silent steps of its code, an event, and one more task.
+    /// Makes room for a turn of which this is the current task: for the silent steps of its code, an event, and one more task. That there is no such
+    /// task is want of memory too.
     pub fn reserve(&mut self, task: u32) -> Result<(), AllocError>
         ensures kept { self.new ≡ record self.old { room = self.new.room } }
         ensures room { OnOk result (self.new.room ≡ turn_room task) }
     {
         self.list.reserve(1)?;
-        if self.blanks.is_empty() {
-            let blank = Control::blank(self.alloc, &self.code)?;
-            self.blanks.push(blank)?;
-        }
+        reserve_blank(self.alloc, &self.code, &mut self.blanks)?;
         reserve_code(&self.code, &mut self.list, task)?;
         self.room = Room {
             task,
@@ -425,21 +423,37 @@ fn control_of(list: &[Task], task: u32) -> Option<&Control>
     list.get(task as usize)?.control.as_ref()
 }
 
-/// Makes room for a turn in the task's code, if it has some.
+/// Makes a control for a task to come, where none is kept.
+fn reserve_blank(alloc: Global, code: &Code, blanks: &mut Vec<Control>) -> Result<(), AllocError>
+    requires { All (IsMadeFor code.now) blanks.old.items }
+    ensures made { All (IsMadeFor code.now) blanks.new.items }
+    ensures more { length blanks.old.items ≤ length blanks.new.items }
+    ensures some { OnOk result (0 < length blanks.new.items) }
+{
+    if !blanks.is_empty() {
+        return Ok(());
+    }
+    let blank = Control::blank(alloc, code)?;
+    blanks.push(blank)?;
+    Ok(())
+}
+
+/// Makes room for a turn in the task's code, if it has some. That there is no such task is want of memory too.
 fn reserve_code(code: &Code, list: &mut [Task], task: u32) -> Result<(), AllocError>
     requires controls { All (IsOfProgram code.now) list.old }
     ensures seen { seen_tasks code.now list.new ≡ seen_tasks code.now list.old }
     ensures controls { All (IsOfProgram code.now) list.new }
+    ensures there { OnOk result (task < length list.old) }
     ensures room { OnOk result (IfSome (control_at list.new task) (HasRoomIn (turn_room task))) }
     ensures memory { OnErr result (list.new ≡ list.old) }
 {
-    let Some(kept) = list.get_mut(task as usize) else {
-        return Ok(());
-    };
-    let Some(control) = &mut kept.control else {
-        return Ok(());
-    };
-    control.reserve(code)
+    if task as usize >= list.len() {
+        return Err(AllocError);
+    }
+    match &mut list[task as usize].control {
+        Some(control) => control.reserve(code),
+        None => Ok(()),
+    }
 }
 
 /// The code of a member of the region that this task has forked begins, with a control that was kept for it. Where the task hasn't forked one,
