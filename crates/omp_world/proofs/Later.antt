@@ -82,6 +82,7 @@ module _ (W after : World) (made : IsMadeWorld W) (later : Later W after) where
       record {
         stacked = All-weaker (IsTaskOf W t) (IsTaskOf after t) (task-of-later t) thread.stack one.stacked;
         joins = λ some. region-of-later t thread.invited (one.joins some);
+        forks = one.forks;
         starts = λ some. task-of-later t thread.undeferred (one.starts some);
       }
 

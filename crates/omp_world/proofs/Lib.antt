@@ -3,17 +3,17 @@ mod Rows
 mod Facts
 pub mod GonePast
 pub mod Coming
-mod Turns
+pub mod Turns
 mod Recording
 mod SerialLaws
-mod Later
-mod MadeWords
-mod Arriving
-mod MadeEvents
-mod Turning
-mod MadeRuns
+pub mod Later
+pub mod MadeWords
+pub mod Arriving
+pub mod MadeEvents
+pub mod Turning
+pub mod MadeRuns
 mod Named
-mod Guards
+pub mod Guards
 mod Conditions
 mod Moves
 mod OrderlyEvents

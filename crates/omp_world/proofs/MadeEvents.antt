@@ -180,7 +180,7 @@ step-made run W t made = silence-made W t (silent run.program (view_of W t) (mom
 
 -- it was made in later worlds too
 pub event-later : (W after : World) (t : ℕ) (e : Event) → IsMadeWorld W → Later W after → MadeEvent W t e → MadeEvent after t e
-event-later W after t (event.ParallelBegin r requested codeptr) made later one = region-later W after made later r one
+event-later W after t (event.ParallelBegin r requested codeptr) made later one = record { made = region-later W after made later r one.made; forked = one.forked }
 event-later W after t (event.ParallelEnd r codeptr) made later one = omega (arith, later.regions)
 event-later W after t (event.MemberBegin r k) made later one = record { region = region-later W after made later r one.region; task = task-later W after made later k one.task }
 event-later W after t (event.MemberEnd r k) made later one = record { region = region-later W after made later r one.region; task = task-later W after made later k one.task }
@@ -321,7 +321,7 @@ go-fork W t requested codeptr made there one some =
     let opened = after-region_made W region made fresh one.some in
     let forked : MadeAfter W1 (after_fork W t requested) = after-task W1 (current W t) (record (task_at W (current W t)) { forked = length W.regions }) opened.world (omega (arith, grows)) in
     let whole = after-then W W1 (after_fork W t requested) made opened forked in
-    record { whole = whole; occurred = record { thread = whole.later.stages t there; named = record { some = omega (arith, made.implicit.below); below = omega (arith, grows) } } }
+    record { whole = whole; occurred = record { thread = whole.later.stages t there; named = record { made = record { some = omega (arith, made.implicit.below); below = omega (arith, grows) }; forked = omega (arith, made.implicit.below) } } }
 
 go-creation : (run : Run) (W : World) (t codeptr : ℕ) (now : Moment) (undeferred : Bool) → IsMadeWorld W → IsThread W t → IsTaskOf W t (current W t) → MadeGo W (after_creation run W t now undeferred) t (event.TaskCreate (length W.tasks) undeferred codeptr)
 go-creation run W t codeptr now undeferred made there one =

@@ -39,6 +39,9 @@ pub past-then : (W between : World) (t : ℕ) → IsMadeWorld W → MadeAfter W 
 past-then W between t made first =
     after-then W between (gone_past between t) made first (after-code between (current between t) (settled_task (view_of between t) (code_of between t)) first.world)
 
+pub past-made : (W : World) (t : ℕ) → IsMadeWorld W → IsMadeWorld (gone_past W t)
+past-made W t made = (past-then W W t made (after-same W made)).world
+
 -- the Go of an event
 go-made : (run : Run) (W after : World) (t : ℕ) (e : Event) → IsMadeWorld W → GoOf run W t e after → MadeGo W after t e
 go-made run W after t e made (OfCode comes happens) =
@@ -101,12 +104,12 @@ module _ (run : Run) (S : State) (all : IsMadeState run S) where
   pub state-turn : (t : ℕ) → IsMadeState run (turn run S t).state
   state-turn t = state-turned t (turn run S t).state (turn run S t).outcome (turn-made run S t all.world) (leaves-turn run S t)
 
-  state-back : (t : ℕ) (callback : Option Callback) → MadePending S.world t callback → IsMadeState run (back_from S t callback)
+  pub state-back : (t : ℕ) (callback : Option Callback) → MadePending S.world t callback → IsMadeState run (back_from S t callback)
   state-back t None one = all
   state-back t (Some callback) one =
       let W = at_back S.world t callback.event in state-made W t None (back_from S t (Some callback)) (back-made S.world t callback.event all.world one.named) tt refl refl
 
-  state-put : (t : ℕ) (place : Target) (word : ℕ) (callback : Option Callback) → MadePending S.world t callback → IsMadeState run (put_from S t place word callback)
+  pub state-put : (t : ℕ) (place : Target) (word : ℕ) (callback : Option Callback) → MadePending S.world t callback → IsMadeState run (put_from S t place word callback)
   state-put t place word None one = all
   state-put t place word (Some callback) one =
       let W = stored S.world place word in
@@ -126,10 +129,10 @@ at-replicate P (suc n) zero x one = one
 at-replicate P (suc n) (suc k) x one = at-replicate P n k x one
 
 unmade-thread : (W : World) (t : ℕ) → MadeThread W t unmade
-unmade-thread W t = record { stacked = All-nil _; joins = λ some. absurd (omega arith); starts = λ some. absurd (omega arith) }
+unmade-thread W t = record { stacked = All-nil _; joins = λ some. absurd (omega arith); forks = λ some. absurd (omega arith); starts = λ some. absurd (omega arith) }
 
 first-thread : (run : Run) (t : ℕ) → MadeThread (first_world run) t (thread_at (first_world run) t)
-first-thread run zero = record { stacked = All-nil _; joins = λ some. absurd (omega arith); starts = λ some. absurd (omega arith) }
+first-thread run zero = record { stacked = All-nil _; joins = λ some. absurd (omega arith); forks = λ some. absurd (omega arith); starts = λ some. absurd (omega arith) }
 first-thread run (suc t) = at-replicate (MadeThread (first_world run) (suc t)) (run.threads - 1) t unmade (unmade-thread (first_world run) (suc t))
 
 first-forked : (run : Run) (k : ℕ) → (task_at (first_world run) k).forked < 2

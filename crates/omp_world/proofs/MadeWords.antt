@@ -21,7 +21,7 @@ use Rattle.omp_world.specs.State.{Region, Task, Thread, World, is_under_way, no_
 use Rattle.omp_world.specs.Members.{is_outermost, region_of}
 use Rattle.omp_world.specs.Words.{is_made_thread}
 use Rattle.omp_world.specs.Changes.{all_summoned, detained, finished, is_fresh, made, opened, popped, readied, region_made, started, summoned, taken_up, task_made, pushed, with_code, with_head, with_team}
-use Rattle.omp_world.specs.Made.{IsTask, IsRegion, IsThread, IsRegionOf, IsTaskOf, MadeThread, MadeRegion, IsMadeWorld}
+use Rattle.omp_world.specs.Made.{IsTask, IsRegion, IsForkedRegion, IsThread, IsRegionOf, IsTaskOf, MadeThread, MadeRegion, IsMadeWorld}
 use Rattle.omp_world.proofs.Later.{at-set, SameTeam, same-team, Later, later-same, later-then, task-later, region-later, thread-later, made-region-later}
 
 -- a later world in which all that is named was made
@@ -272,11 +272,11 @@ made-stage stage.Made = refl
 made-stage stage.Begun = refl
 made-stage stage.Ended = refl
 
-thread-summoned : (W : World) (u r : ℕ) (thread : Thread) → MadeThread W u thread → IsRegionOf W u r → MadeThread W u (summoned r thread)
-thread-summoned W u r thread one joins = record { stacked = one.stacked; joins = λ some. joins; starts = one.starts }
+thread-summoned : (W : World) (u r : ℕ) (thread : Thread) → MadeThread W u thread → IsRegionOf W u r → 2 ≤ r → MadeThread W u (summoned r thread)
+thread-summoned W u r thread one joins two = record { stacked = one.stacked; joins = λ some. joins; forks = λ some. two; starts = one.starts }
 
-after-all_summoned : (W : World) (r : ℕ) → IsMadeWorld W → ((u : ℕ) → u < (region_at W r).head.size → IsRegionOf W u r) → MadeAfter W (record W { threads = all_summoned r (region_at W r).head.size W.threads })
-after-all_summoned W r made joins =
+after-all_summoned : (W : World) (r : ℕ) → IsMadeWorld W → 2 ≤ r → ((u : ℕ) → u < (region_at W r).head.size → IsRegionOf W u r) → MadeAfter W (record W { threads = all_summoned r (region_at W r).head.size W.threads })
+after-all_summoned W r made two joins =
     let size = (region_at W r).head.size in
     let after : World = record W { threads = all_summoned r size W.threads } in
     let later : Later W after = record {
@@ -288,14 +288,14 @@ after-all_summoned W r made joins =
       teams = λ q within. same-team (region_at W q);
     } in
     after-kept W after made later (record { tasks = refl; pool = refl; regions = refl })
-    (λ u. at-summoned (MadeThread W u) r size W.threads u (made.threads u) (λ within. thread-summoned W u r (thread_at W u) (made.threads u) (joins u within))) made.forked made.ready
+    (λ u. at-summoned (MadeThread W u) r size W.threads u (made.threads u) (λ within. thread-summoned W u r (thread_at W u) (made.threads u) (joins u within) two)) made.forked made.ready
 
-pub after-opened : (W : World) (t r : ℕ) → IsMadeWorld W → IsRegion W r → MadeAfter W (opened W t r)
+pub after-opened : (W : World) (t r : ℕ) → IsMadeWorld W → IsForkedRegion W r → MadeAfter W (opened W t r)
 after-opened W t r made one =
-    let region = made.regions r one in
+    let region = made.regions r one.made in
     elim (is_outermost W r) as (λ b. is_outermost W r ≡ b → MadeAfter W (if b then record W { threads = all_summoned r (region_at W r).head.size W.threads } else with_thread W t (summoned r (thread_at W t)))) [
-      | true ↦ λ is. after-all_summoned W r made (λ u within. record { made = one; member = rw (is, region.team) within })
-      | false ↦ λ is. after-thread W t (summoned r (thread_at W t)) made (thread-summoned W t r (thread_at W t) (made.threads t) (record { made = one; member = rw (is, region.team) region.some })) (λ there. made-stage (thread_at W t).stage)
+      | true ↦ λ is. after-all_summoned W r made one.forked (λ u within. record { made = one.made; member = rw (is, region.team) within })
+      | false ↦ λ is. after-thread W t (summoned r (thread_at W t)) made (thread-summoned W t r (thread_at W t) (made.threads t) (record { made = one.made; member = rw (is, region.team) region.some }) one.forked) (λ there. made-stage (thread_at W t).stage)
     ] refl
 
 -- a thread takes a task up
@@ -303,24 +303,24 @@ pub after-taken_up : (W : World) (t k : ℕ) → IsMadeWorld W → IsTaskOf W t 
 after-taken_up W t k made one =
     let thread = made.threads t in
     let up : MadeAfter W (pushed W t k) =
-    after-thread W t _ made (record { stacked = All-cons (IsTaskOf W t) k (thread_at W t).stack one thread.stacked; joins = λ some. absurd (omega arith); starts = λ some. absurd (omega arith) }) (λ there. there) in
+    after-thread W t _ made (record { stacked = All-cons (IsTaskOf W t) k (thread_at W t).stack one thread.stacked; joins = λ some. absurd (omega arith); forks = λ some. absurd (omega arith); starts = λ some. absurd (omega arith) }) (λ there. there) in
     after-then W (pushed W t k) (taken_up W t k) made up (after-task (pushed W t k) k _ up.world (made.forked k))
 
 pub after-popped : (W : World) (t : ℕ) → IsMadeWorld W → MadeAfter W (popped W t)
 after-popped W t made =
     let thread = made.threads t in
-    after-thread W t _ made (record { stacked = All-drop (IsTaskOf W t) 1 (thread_at W t).stack thread.stacked; joins = thread.joins; starts = thread.starts }) (λ there. there)
+    after-thread W t _ made (record { stacked = All-drop (IsTaskOf W t) 1 (thread_at W t).stack thread.stacked; joins = thread.joins; forks = thread.forks; starts = thread.starts }) (λ there. there)
 
 pub after-detained : (W : World) (t k : ℕ) → IsMadeWorld W → IsTaskOf W t k → MadeAfter W (detained W t k)
 after-detained W t k made one =
-    let thread = made.threads t in after-thread W t _ made (record { stacked = thread.stacked; joins = thread.joins; starts = λ some. one }) (λ there. there)
+    let thread = made.threads t in after-thread W t _ made (record { stacked = thread.stacked; joins = thread.joins; forks = thread.forks; starts = λ some. one }) (λ there. there)
 
 -- a thread's own parts are changed, and nothing that it names
 pub after-own : (W : World) (t : ℕ) (thread : Thread) → IsMadeWorld W → thread.stack ≡ (thread_at W t).stack → thread.invited ≡ (thread_at W t).invited → thread.undeferred ≡ (thread_at W t).undeferred → (IsThread W t → is_made_thread thread.stage ≡ true) → MadeAfter W (with_thread W t thread)
 after-own W t thread made stack invited undeferred stages =
     let before = made.threads t in
     after-thread W t thread made
-    (record { stacked = rw stack before.stacked; joins = rw invited before.joins; starts = rw undeferred before.starts }) stages
+    (record { stacked = rw stack before.stacked; joins = rw invited before.joins; forks = rw invited before.forks; starts = rw undeferred before.starts }) stages
 
 pub after-code : (W : World) (k : ℕ) (code : Code) → IsMadeWorld W → MadeAfter W (with_code W k code)
 after-code W k code made = after-task W k _ made (made.forked k)

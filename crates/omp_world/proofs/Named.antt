@@ -87,7 +87,7 @@ module _ (W : World) (made : IsMadeWorld W) where
     call-made event.ThreadEnd so = thread-word W t so.thread
     call-made event.InitialTaskBegin so = record { region = region-below IMPLICIT_REGION made.implicit.below; task = task-below INITIAL_TASK made.initial.below }
     call-made event.InitialTaskEnd so = record { region = null-region W; task = task-below INITIAL_TASK made.initial.below }
-    call-made (event.ParallelBegin r requested codeptr) so = record { region = region-below r so.named.below; task = own-task }
+    call-made (event.ParallelBegin r requested codeptr) so = record { region = region-below r so.named.made.below; task = own-task }
     call-made (event.ParallelEnd r codeptr) so = record { region = region-below r so.named; task = own-task }
     call-made (event.MemberBegin r k) so = record { region = region-below r so.named.region.below; task = task-below k so.named.task.below }
     call-made (event.MemberEnd r k) so = record { region = null-region W; task = task-below k so.named.task.below }
@@ -145,7 +145,7 @@ module _ (W : World) (made : IsMadeWorld W) where
       ]
 
   fresh-made : (t : ℕ) (e : Event) → MadeEvent W t e → IsMadeFresh W (fresh_of e)
-  fresh-made t (event.ParallelBegin r requested codeptr) named = identity-made r (length W.regions) named
+  fresh-made t (event.ParallelBegin r requested codeptr) named = identity-made r (length W.regions) named.made
   fresh-made t (event.TaskCreate task undeferred codeptr) named = identity-made task (length W.tasks) named.made
   fresh-made t other named = tt
 

@@ -24,6 +24,11 @@ IsRegion W r = IsIdentity r (length W.regions)
 abbrev pub IsThread : World → ℕ → Type 0
 IsThread W t = is_made_thread (thread_at W t).stage ≡ true
 
+-- a region that was made and that a task has forked: any but the implicit one
+pub record IsForkedRegion (W : World) (r : ℕ) : Type 0 where
+  pub made : IsRegion W r
+  pub forked : 2 ≤ r
+
 -- a region that was made, and the thread has its number in the region's team
 pub record IsRegionOf (W : World) (t r : ℕ) : Type 0 where
   pub made : IsRegion W r
@@ -34,10 +39,12 @@ pub record IsTaskOf (W : World) (t k : ℕ) : Type 0 where
   pub made : IsTask W k
   pub within : IsRegionOf W t (region_of W k)
 
--- what a thread names: the tasks that it has taken up, the region that it is to join and the undeferred task that it is to start, where there is one
+-- what a thread names: the tasks that it has taken up, the region that it is to join, which was forked, and the undeferred task that it is to start,
+-- where there is one
 pub record MadeThread (W : World) (t : ℕ) (thread : Thread) : Type 0 where
   pub stacked : All (IsTaskOf W t) thread.stack
   pub joins : 1 ≤ thread.invited → IsRegionOf W t thread.invited
+  pub forks : 1 ≤ thread.invited → 2 ≤ thread.invited
   pub starts : 1 ≤ thread.undeferred → IsTaskOf W t thread.undeferred
 
 -- a region among so many tasks and threads: its encountering task is 0 or one of them, and its team has members, no more than there are threads
@@ -79,7 +86,7 @@ pub record MadeSwitch (W : World) (prior k : ℕ) : Type 0 where
 
 -- what an event names; the region that is over may be 0
 abbrev pub MadeEvent : World → ℕ → Event → Type 0
-MadeEvent W t (ParallelBegin r requested codeptr) = IsRegion W r
+MadeEvent W t (ParallelBegin r requested codeptr) = IsForkedRegion W r
 MadeEvent W t (ParallelEnd r codeptr) = r < length W.regions
 MadeEvent W t (MemberBegin r k) = MadeMember W r k
 MadeEvent W t (MemberEnd r k) = MadeMember W r k

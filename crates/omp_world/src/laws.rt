@@ -41,8 +41,8 @@ pub fn serial_history_is_one()
 {}
 
 /// After each legal history of a run that has a thread these were made, where they aren't 0 for none: the tasks on stacks, in the ready order and those
-/// that threads are to start; the regions that tasks are in or have forked and those that threads are to join; the tasks that have encountered a
-/// region; and what the events of pending callbacks name. There are as many threads as the run has, and the pool has each task.
+/// that threads are to start; the regions that tasks are in or have forked and those that threads are to join, each of which was forked; the tasks that
+/// have encountered a region; and what the events of pending callbacks name. There are as many threads as the run has, and the pool has each task.
 pub fn what_a_run_names_was_made()
     ensures { (run : Run) (history : List Entry) → 1 ≤ run.threads → Legal run history → IsMadeState run (after run history) }
 {}
