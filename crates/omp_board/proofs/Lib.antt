@@ -5,4 +5,5 @@ pub mod NoCode
 pub mod Reserving
 pub mod Seen
 pub mod Seeing
+pub mod Holding
 pub mod Summoning
