@@ -24,7 +24,7 @@ ghost use Rattle.c_steps.specs.Ready.{FitsProgram};
 ghost use Rattle.c_steps.specs.Scopes.{HasNumbers};
 ghost use Rattle.omp_world.specs.Going.{member_code};
 ghost use Rattle.omp_board.specs.Keeping.{HasRoomIn, IsOfProgram, control_at, seen_tasks};
-ghost use Rattle.omp_board.specs.Tasks.{HasPass, HasSteps, IsNamedIn, IsStill, code_in, code_of, first_tasks, gone_in, moment_in, one_pass_less, one_step_less, room_after, task_in, turn_room, with_code_in, with_one_more, with_task_in};
+ghost use Rattle.omp_board.specs.Tasks.{HasCells, HasPass, HasSteps, IsNamedIn, IsStill, code_in, code_of, created_by, first_tasks, gone_in, moment_in, moment_of, one_pass_less, one_step_less, room_after, task_in, turn_room, with_code_in, with_one_more, with_task_in};
 
 use crate::task::{Task, task_with};
 use c_check::Program;
@@ -494,8 +494,8 @@ fn begin_explicit(
     requires blanks { All (IsMadeFor code.now) blanks.old.items }
     requires some { 0 < length blanks.old.items }
     requires created { IsCreation (slice_get (code_of code.now (control_at list.now creator)).todo 0) }
-    requires room { length (with_task_cells code.now (record { env = (code_of code.now (control_at list.now creator)).env; cells = cells.old.cells }) (created_construct (code_of code.now (control_at list.now creator)).todo)).cells ≤ CELL_LIMIT }
-    ensures went { record { task = code_of code.now result; store = cells.new } ≡ explicit_task_of code.now (created_construct (code_of code.now (control_at list.now creator)).todo) (record { task = code_of code.now (control_at list.now creator); store = cells.old }) }
+    requires room { HasCells code.now (moment_of code.now (control_at list.now creator) cells.old) }
+    ensures went { moment_of code.now result cells.new ≡ created_by code.now (moment_of code.now (control_at list.now creator) cells.old) }
     ensures made { IfSome result (IsMadeFor code.now) }
     ensures blanks { All (IsMadeFor code.now) blanks.new.items }
 {
