@@ -1,6 +1,7 @@
 //! What the machine's turns change: threads, tasks with their code, regions with their teams, cells and locks.
 #![tactic(auto)]
 
+mod controls;
 mod region;
 mod regions;
 mod task;
