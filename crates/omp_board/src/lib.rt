@@ -13,7 +13,7 @@
 //! Only [`Board::new`] and [`Board::reserve`] take memory; where they find none, nothing has changed but room. Room is for the 64 silent steps of a
 //! turn and its event: of the code of the thread's current task, for a task more, a region more, a meeting of the thread's team, and a lock.
 //!
-//! The modules: `thread`, `task` with `tasks`, and `region` with `regions` keep the parts; `board` puts them together, with a file for each kind of
+//! The modules: `thread`, `task` with `tasks` and `controls`, and `region` with `regions` and `head` keep the parts; `board` puts them together, with a file for each kind of
 //! change (`threads`, `tasks`, `regions`, `locks`, `words`) and for each step of a turn (`arrival`, `silent`, `coming` with `meeting`, `going`,
 //! `returning`). In `specs/` `Board` says what a board is seen as and what a turn's calls answer, `Tasks` and `Regions` the same of its parts;
 //! `Threads`, `Keeping` and `KeepingRegions` how the parts are kept, and `Codes` has codes of values, which serve proofs.
@@ -22,6 +22,7 @@
 #![tactic(auto)]
 
 mod board;
+mod controls;
 mod head;
 mod region;
 mod regions;
