@@ -10,3 +10,4 @@ pub mod Seeing
 pub mod Seen
 pub mod Settling
 pub mod Summoning
+pub mod Replies
