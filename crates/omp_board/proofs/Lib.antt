@@ -1,5 +1,6 @@
 pub mod Blanks
 pub mod Creations
+pub mod Filling
 pub mod Holding
 pub mod Kept
 pub mod Members
