@@ -31,11 +31,12 @@ pub record HasRoomIn (room : TaskRoom) (held : Held) : Type 0 where
   pub steps : room.steps ≤ held.spare
   pub passes : room.passes ≤ held.passes
 
--- each control is of the program, and there is as much room as is said
+-- each control is of the program, and there is as much room as is said, for a task that there is
 pub record IsKept (program : TreeView) (tasks : List Task) (capacity : ℕ) (blanks : List Held) (room : TaskRoom) : Type 0 where
   pub controls : All (IsOfProgram program) tasks
   pub blanks_made : All (IsMadeFor program) blanks
   pub spare : room.tasks ≤ length blanks
   pub slots : length tasks + room.tasks ≤ capacity
   pub few : length tasks + room.tasks < 2 ^ 32
+  pub there : room.task < length tasks
   pub steps : IfSome (control_at tasks room.task) (HasRoomIn room)
