@@ -10,6 +10,5 @@ pub mod Reserving
 pub mod Seeing
 pub mod Seen
 pub mod Settling
-pub mod Summoning
-pub mod Replies
 pub mod Silence
+pub mod Summoning

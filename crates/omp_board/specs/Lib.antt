@@ -6,3 +6,4 @@ pub mod Regions
 pub mod KeepingRegions
 pub mod Board
 pub mod Levels
+pub mod Answering

@@ -18,7 +18,7 @@
 //! The modules: `thread`, `task` with `tasks` and `controls`, and `region` with `regions` and `head` keep the parts; `board` puts them together, with a file for each kind of
 //! change (`threads`, `tasks`, `regions`, `locks`, `words`) and for each step of a turn (`arrival`, `silent`, `coming` with `meeting`, `going`,
 //! `returning`); `call`, `snapshot`, `levels` and `frames` tell it. In `specs/` `Board` says what a board is seen as and what a turn's calls answer, `Tasks` and `Regions` the same of its parts;
-//! `Threads`, `Keeping` and `KeepingRegions` how the parts are kept, `Levels` parts of a snapshot's levels, and `Codes` has codes of values, which serve proofs.
+//! `Threads`, `Keeping` and `KeepingRegions` how the parts are kept, `Levels` parts of a snapshot's levels, `Answering` what is answered where a task's code asks, and `Codes` has codes of values, which serve proofs.
 //!
 //! A task that has ended keeps no code: its control serves a task to come, where few are kept, or is given back. What calls cost is no clause.
 #![tactic(auto)]

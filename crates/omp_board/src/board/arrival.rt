@@ -1,10 +1,9 @@
 //! What a thread comes to next, and whether it has to wait for it. No expression is evaluated for that.
 
-ghost use Rattle.std.specs.Prelude.{◌≡◌, ◌&&◌, ◌≤◌, length, reverse, take};
+ghost use Rattle.std.specs.Prelude.{◌≡◌, ◌≤◌, length, reverse, take};
 ghost use Rattle.omp_world.specs.State.{task_at};
-ghost use Rattle.omp_world.specs.Members.{current, current_index, current_region, current_team, is_member, view_of};
-ghost use Rattle.task_pool.specs.Tasks.{unfinished};
-ghost use Rattle.team_parts.specs.Team as team;
+ghost use Rattle.omp_world.specs.Members.{current, view_of};
+ghost use Rattle.c_model.specs.declared.point.SyncKind.TheVariants as sync;
 ghost use Rattle.omp_world.specs.declared.limits.TheConstants.{STACK_LIMIT};
 ghost use Rattle.omp_world.specs.Gates as gates;
 
@@ -166,7 +165,7 @@ impl Board {
 
     /// Whether the thread may pass the barrier that its team met last.
     fn may_pass(&self, thread: u8) -> bool
-        ensures { result ≡ (is_member self.now.world thread && team.may_pass (current_team self.now.world thread) (current_index self.now.world thread) (unfinished self.now.world.pool.tasks (current_region self.now.world thread))) }
+        ensures { result ≡ gates.may_end self.now.world thread sync.Barrier }
     {
         let region = self.current_region(thread);
         let member = self.member_index(thread, region);

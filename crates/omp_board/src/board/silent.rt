@@ -2,22 +2,19 @@
 
 ghost use Rattle.std.specs.Prelude.{◌≡◌, ◌+◌, ◌-◌, ◌<◌, ◌≤◌, ℕ, Some, length};
 ghost use Rattle.c_syntax.specs.Numbered.{tree_at};
-ghost use Rattle.c_model.specs.declared.question.Answer.TheVariants.{Section as SectionAnswer};
+ghost use Rattle.c_model.specs.declared.question.Answer.TheVariants as answers;
 ghost use Rattle.c_model.specs.declared.question.Ask.TheVariants as asks;
 ghost use Rattle.c_model.specs.Answers.{AnswersFirst};
-ghost use Rattle.c_model.specs.Asked.{count_asked, sections_asked};
-ghost use Rattle.c_model.specs.Going.{settled_after_answer};
 ghost use Rattle.c_model.specs.Occurring.{IsAskOfNext};
-ghost use Rattle.c_model.specs.Step.{settled_task, silent};
-ghost use Rattle.c_steps.specs.Held.{outcome_at};
 ghost use Rattle.c_steps.specs.Ready.{FitsProgram};
 ghost use Rattle.c_steps.specs.Scopes.{HasNumbers};
 ghost use Rattle.omp_world.specs.declared.event.Arrival.TheVariants.{Steps};
-ghost use Rattle.omp_world.specs.Changes.{gone_past, gone_to, with_team};
+ghost use Rattle.omp_world.specs.Changes.{gone_past};
 ghost use Rattle.omp_world.specs.Gates.{arrival};
-ghost use Rattle.omp_world.specs.Members.{code_of, current, current_region, moment_of, view_of};
+ghost use Rattle.omp_world.specs.Members.{code_of, current, view_of};
 ghost use Rattle.omp_world.specs.Silent as silence;
 ghost use Rattle.omp_world.specs.State.{task_at};
+ghost use Rattle.omp_board.specs.Answering.{ComesTo, IsSettled, chunk_given, dealt, gone_as, section_given, told_answer};
 ghost use Rattle.omp_board.specs.Board.{HasStep, HasTurn, IsSilence};
 ghost use Rattle.omp_board.specs.Tasks.{IsNamedIn, IsStill};
 
@@ -56,13 +53,14 @@ impl Board {
     pub(super) fn advance(&mut self, thread: u8, view: View) -> Next
         requires numbers { HasNumbers view }
         requires room { HasStep self.old.room self.old.world thread }
-        ensures outcome { outcome_at self.old.program result (moment_of self.new.world thread) ≡ silent self.old.program view (moment_of self.old.world thread) }
+        ensures outcome { ComesTo self.old.program view thread self.old.world result self.new.world }
         ensures rest { self.new ≡ record self.old {
-          world = gone_to self.old.world (current self.old.world thread) (moment_of self.new.world thread);
+          world = gone_as self.old.world thread self.new.world;
           room = record self.old.room { steps = self.new.room.steps };
         } }
         ensures steps { self.old.room.steps ≤ self.new.room.steps + 1 }
-        ensures still { IsStill result → view ≡ view_of self.old.world thread → self.new ≡ record self.old { world = gone_past self.old.world thread } }
+        ensures still { IsStill result → view ≡ view_of self.old.world thread →
+            self.new ≡ record self.old { world = gone_past self.old.world thread } }
         ensures fits { FitsProgram self.old.program result }
         ensures named { IsNamedIn self.old.program result (code_of self.new.world thread).todo }
     {
@@ -72,7 +70,7 @@ impl Board {
 
     /// What the code of the thread's current task asks is answered, in this construct or call.
     fn answer(&mut self, thread: u8, ask: Ask, node: u32)
-        requires settled { settled_task (view_of self.old.world thread) (code_of self.old.world thread) ≡ code_of self.old.world thread }
+        requires settled { IsSettled self.old.world thread }
         requires asked { IsAskOfNext ask (tree_at self.old.program.trees node) (code_of self.old.world thread).todo }
         requires room { HasStep self.old.room self.old.world thread }
         ensures { self.new ≡ record self.old {
@@ -90,9 +88,9 @@ impl Board {
     /// What the team and the locks answer to what the code of the thread's current task asks. What the team deals counts as taken.
     fn reply(&mut self, thread: u8, task: u32, ask: Ask) -> Answer
         requires task { task ≡ current self.old.world thread }
-        requires settled { settled_task (view_of self.old.world thread) (code_of self.old.world thread) ≡ code_of self.old.world thread }
+        requires settled { IsSettled self.old.world thread }
         ensures answer { result ≡ silence.answer_to self.old.world thread ask }
-        ensures taken { self.new ≡ record self.old { world = with_team self.old.world (current_region self.old.world thread) (silence.team_after self.old.world thread ask) } }
+        ensures taken { self.new ≡ record self.old { world = dealt self.old.world thread ask } }
     {
         match ask {
             Ask::Chunk => Answer::Chunk(self.take_chunk(thread, task)),
@@ -104,8 +102,8 @@ impl Board {
     /// The thread takes the next chunk of the loop that its current task shares out.
     fn take_chunk(&mut self, thread: u8, task: u32) -> Option<(u64, u64)>
         requires { task ≡ current self.old.world thread }
-        ensures chunk { result ≡ silence.fitting_chunk (count_asked (code_of self.old.world thread).todo) (silence.chunk_dealt self.old.world thread) }
-        ensures taken { self.new ≡ record self.old { world = with_team self.old.world (current_region self.old.world thread) (silence.team_after self.old.world thread asks.Chunk) } }
+        ensures chunk { result ≡ chunk_given self.old.world thread }
+        ensures taken { self.new ≡ record self.old { world = dealt self.old.world thread asks.Chunk } }
     {
         let region = self.current_region(thread);
         let member = self.member_index(thread, region);
@@ -116,8 +114,8 @@ impl Board {
     /// The thread takes the next section of the construct that its current task is in.
     fn take_section(&mut self, thread: u8, task: u32) -> Option<u32>
         requires { task ≡ current self.old.world thread }
-        ensures section { result ≡ silence.fitting_section (sections_asked (code_of self.old.world thread).todo) (silence.section_dealt self.old.world thread) }
-        ensures taken { self.new ≡ record self.old { world = with_team self.old.world (current_region self.old.world thread) (silence.team_after self.old.world thread asks.Section) } }
+        ensures section { result ≡ section_given self.old.world thread }
+        ensures taken { self.new ≡ record self.old { world = dealt self.old.world thread asks.Section } }
     {
         let region = self.current_region(thread);
         let member = self.member_index(thread, region);
@@ -127,7 +125,7 @@ impl Board {
 
     /// The share of the construct's work that the answer gives, if it gives one.
     fn share_in(&self, construct: u32, answer: Answer) -> Option<Share>
-        requires { (section : ℕ) → answer ≡ SectionAnswer (Some section) → construct < length self.now.program.trees }
+        requires { (section : ℕ) → answer ≡ answers.Section (Some section) → construct < length self.now.program.trees }
         ensures { result ≡ silence.share_taken (tree_at self.now.program.trees construct) answer }
     {
         match answer {
@@ -146,7 +144,7 @@ impl Board {
         requires steps { 0 < self.old.room.steps }
         requires asked { AnswersFirst (task_at self.old.world task).code.todo answer }
         ensures { self.new ≡ record self.old {
-          world = gone_to self.old.world task (settled_after_answer answer (record { task = (task_at self.old.world task).code; store = self.old.world.store }));
+          world = told_answer self.old.world task answer;
           room = record self.old.room { steps = self.old.room.steps - 1 };
         } }
     {

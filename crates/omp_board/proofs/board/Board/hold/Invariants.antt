@@ -1,4 +1,3 @@
-use Rattle.std.proofs.Common.{◌≤◌}
 use Rattle.omp_board.proofs.Holding.{HasHeld}
 use Rattle.omp_board.proofs.board.Board.hold.Given as goal
 

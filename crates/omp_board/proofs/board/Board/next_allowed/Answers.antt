@@ -1,4 +1,4 @@
-use Rattle.std.proofs.Common.{ap, sym, ◌∙◌}
+use Rattle.std.proofs.Common.{ap, ◌∙◌}
 use Rattle.omp_board.specs.Board.{BoardView}
 use Rattle.omp_board.proofs.Holding.{next_is, none_is}
 use Rattle.omp_board.proofs.board.Board.next_allowed.Goals as goal
