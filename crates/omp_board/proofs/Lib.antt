@@ -1,12 +1,15 @@
 pub mod Beside
 pub mod Blanks
 pub mod Creations
+pub mod Filling
+pub mod Holding
 pub mod Kept
 pub mod Members
 pub mod NoCode
 pub mod Replies
 pub mod Reserving
-pub mod Seen
 pub mod Seeing
+pub mod Seen
 pub mod Settling
+pub mod Silence
 pub mod Summoning

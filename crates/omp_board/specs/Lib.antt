@@ -5,3 +5,5 @@ pub mod Threads
 pub mod Regions
 pub mod KeepingRegions
 pub mod Board
+pub mod Levels
+pub mod Answering

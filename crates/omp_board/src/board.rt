@@ -4,6 +4,7 @@ ghost use Rattle.std.specs.Prelude.{◌≡◌, ◌≤◌, ◌-◌, ◌∷◌, If
 ghost use Rattle.c_model.specs.Upcoming.{upcoming_among};
 ghost use Rattle.omp_world.specs.declared.limits.TheConstants.{STACK_LIMIT};
 ghost use Rattle.omp_world.specs.State.{first_world, initial_thread, region_at, task_at, thread_at, unmade};
+ghost use Rattle.omp_world.specs.Snapshots.{lowest_of};
 ghost use Rattle.omp_world.specs.Members.{current, current_index, current_region, is_outermost, member_index, region_of, view_of};
 ghost use Rattle.omp_board.specs.Board.{HasEvent, run_in};
 ghost use Rattle.c_steps.specs.Scopes.{HasNumbers};
@@ -163,6 +164,16 @@ impl Board {
         match self.threads.get(thread as usize) {
             Some(thread) => thread.stack(),
             None => &[],
+        }
+    }
+
+    /// The lowest task of the thread's stack, or 0.
+    pub fn lowest(&self, thread: u8) -> u32
+        ensures { result ≡ lowest_of (thread_at self.now.world thread).stack }
+    {
+        match self.threads.get(thread as usize) {
+            Some(thread) => thread.lowest(),
+            None => 0,
         }
     }
 

@@ -1,9 +1,10 @@
 //! What a thread comes to next, and whether it has to wait for it. No expression is evaluated for that.
 
-ghost use Rattle.std.specs.Prelude.{◌≡◌};
-ghost use Rattle.c_model.specs.Upcoming.{upcoming_of};
-ghost use Rattle.omp_world.specs.State.{pooled_at, task_at, thread_at};
-ghost use Rattle.omp_world.specs.Members.{code_of, current, view_of};
+ghost use Rattle.std.specs.Prelude.{◌≡◌, ◌≤◌, length, reverse, take};
+ghost use Rattle.omp_world.specs.State.{task_at};
+ghost use Rattle.omp_world.specs.Members.{current, view_of};
+ghost use Rattle.c_model.specs.declared.point.SyncKind.TheVariants as sync;
+ghost use Rattle.omp_world.specs.declared.limits.TheConstants.{STACK_LIMIT};
 ghost use Rattle.omp_world.specs.Gates as gates;
 
 use crate::board::Board;
@@ -157,12 +158,19 @@ impl Board {
         match kind {
             SyncKind::Taskwait => self.pool.open_children(self.current(thread)) == 0,
             SyncKind::Barrier | SyncKind::Worksharing | SyncKind::Parallel => {
-                let region = self.current_region(thread);
-                let member = self.member_index(thread, region);
-                self.regions
-                    .may_pass(region, member, self.pool.unfinished(region))
+                self.may_pass(thread)
             }
         }
+    }
+
+    /// Whether the thread may pass the barrier that its team met last.
+    fn may_pass(&self, thread: u8) -> bool
+        ensures { result ≡ gates.may_end self.now.world thread sync.Barrier }
+    {
+        let region = self.current_region(thread);
+        let member = self.member_index(thread, region);
+        self.regions
+            .may_pass(region, member, self.pool.unfinished(region))
     }
 
     /// The newest task of the thread's region that descends from all tasks that the thread holds, if there is one.
@@ -170,17 +178,28 @@ impl Board {
         ensures { result ≡ gates.next_task self.now.world thread }
     {
         let region = self.current_region(thread);
-        self.pool.newest_allowed(region, &[])?;
-        let found = self.threads.get(thread as usize)?;
+        if self.pool.newest_allowed(region, &[]).is_none() {
+            return None;
+        }
         let mut held = [0; STACK_LIMIT];
+        let count = self.hold(thread, &mut held);
+        self.pool.newest_allowed(region, &held[..count])
+    }
+
+    /// The tasks that the thread holds, from the front of the list on, the current one last. The answer is how many there are.
+    fn hold(&self, thread: u8, held: &mut [u32]) -> usize
+        requires { STACK_LIMIT ≤ length held.old }
+        ensures tasks { take result held.new ≡ reverse (gates.held_tasks self.now.world thread) }
+        ensures few { result ≤ length held.new }
+    {
         let mut count = 0;
-        for task in found.stack() {
+        for task in self.stack(thread) {
             if !self.is_in_barrier(*task) {
                 held[count] = *task;
                 count += 1;
             }
         }
-        self.pool.newest_allowed(region, &held[..count])
+        count
     }
 
     /// Whether the task is suspended in a barrier.

@@ -1,12 +1,22 @@
 //! Silent steps: what a thread does between events.
 
-ghost use Rattle.std.specs.Prelude.{◌≡◌, ◌+◌, ◌≤◌};
-ghost use Rattle.c_model.specs.Asked.{count_asked, sections_asked};
+ghost use Rattle.std.specs.Prelude.{◌≡◌, ◌+◌, ◌-◌, ◌<◌, ◌≤◌, ℕ, Some, length};
+ghost use Rattle.c_syntax.specs.Numbered.{tree_at};
+ghost use Rattle.c_model.specs.declared.question.Answer.TheVariants as answers;
+ghost use Rattle.c_model.specs.declared.question.Ask.TheVariants as asks;
+ghost use Rattle.c_model.specs.Answers.{AnswersFirst};
+ghost use Rattle.c_model.specs.Occurring.{IsAskOfNext};
+ghost use Rattle.c_steps.specs.Ready.{FitsProgram};
+ghost use Rattle.c_steps.specs.Scopes.{HasNumbers};
 ghost use Rattle.omp_world.specs.declared.event.Arrival.TheVariants.{Steps};
+ghost use Rattle.omp_world.specs.Changes.{gone_past};
 ghost use Rattle.omp_world.specs.Gates.{arrival};
-ghost use Rattle.omp_world.specs.Members.{current, view_of};
+ghost use Rattle.omp_world.specs.Members.{code_of, current, view_of};
 ghost use Rattle.omp_world.specs.Silent as silence;
+ghost use Rattle.omp_world.specs.State.{task_at};
+ghost use Rattle.omp_board.specs.Answering.{ComesTo, IsSettled, chunk_given, dealt, gone_as, section_given, told_answer};
 ghost use Rattle.omp_board.specs.Board.{HasStep, HasTurn, IsSilence};
+ghost use Rattle.omp_board.specs.Tasks.{IsNamedIn, IsStill};
 
 use crate::board::Board;
 use c_model::{Answer, Ask, View};
@@ -18,6 +28,7 @@ impl Board {
     pub fn step(&mut self, thread: u8, view: View) -> Result<(), Halt>
         requires steps { arrival self.old.world thread ≡ Steps }
         requires view { view ≡ view_of self.old.world thread }
+        requires numbers { HasNumbers view }
         requires room { HasStep self.old.room self.old.world thread }
         ensures silence { IsSilence self.old.program self.old.world thread result self.new.world }
         ensures program { self.new.program ≡ self.old.program }
@@ -26,10 +37,9 @@ impl Board {
         ensures turn { HasTurn self.new.room self.new.world thread }
         ensures view { view ≡ view_of self.new.world thread }
     {
-        let task = self.current(thread);
-        match self.tasks.step(task, view) {
+        match self.advance(thread, view) {
             Next::Ask(ask, node) => {
-                self.answer(thread, task, ask, node);
+                self.answer(thread, ask, node);
                 Ok(())
             }
             Next::Trap(number) => Err(Halt::Trap(number)),
@@ -39,44 +49,106 @@ impl Board {
         }
     }
 
+    /// Makes a silent step of the code of the thread's current task, or says what stands next.
+    pub(super) fn advance(&mut self, thread: u8, view: View) -> Next
+        requires numbers { HasNumbers view }
+        requires room { HasStep self.old.room self.old.world thread }
+        ensures outcome { ComesTo self.old.program view thread self.old.world result self.new.world }
+        ensures rest { self.new ≡ record self.old {
+          world = gone_as self.old.world thread self.new.world;
+          room = record self.old.room { steps = self.new.room.steps };
+        } }
+        ensures steps { self.old.room.steps ≤ self.new.room.steps + 1 }
+        ensures still { IsStill result → view ≡ view_of self.old.world thread →
+            self.new ≡ record self.old { world = gone_past self.old.world thread } }
+        ensures fits { FitsProgram self.old.program result }
+        ensures named { IsNamedIn self.old.program result (code_of self.new.world thread).todo }
+    {
+        let task = self.current(thread);
+        self.tasks.step(task, view)
+    }
+
     /// What the code of the thread's current task asks is answered, in this construct or call.
-    fn answer(&mut self, thread: u8, task: u32, ask: Ask, node: u32) {
+    fn answer(&mut self, thread: u8, ask: Ask, node: u32)
+        requires settled { IsSettled self.old.world thread }
+        requires asked { IsAskOfNext ask (tree_at self.old.program.trees node) (code_of self.old.world thread).todo }
+        requires room { HasStep self.old.room self.old.world thread }
+        ensures { self.new ≡ record self.old {
+          world = silence.answered self.old.world thread ask (tree_at self.old.program.trees node);
+          room = record self.old.room { steps = self.old.room.steps - 1 };
+        } }
+    {
+        let task = self.current(thread);
+        let answer = self.reply(thread, task, ask);
+        let share = self.share_in(node, answer);
+        self.give(task, answer);
+        self.share(thread, share);
+    }
+
+    /// What the team and the locks answer to what the code of the thread's current task asks. What the team deals counts as taken.
+    fn reply(&mut self, thread: u8, task: u32, ask: Ask) -> Answer
+        requires task { task ≡ current self.old.world thread }
+        requires settled { IsSettled self.old.world thread }
+        ensures answer { result ≡ silence.answer_to self.old.world thread ask }
+        ensures taken { self.new ≡ record self.old { world = dealt self.old.world thread ask } }
+    {
         match ask {
-            Ask::Chunk => self.answer_chunk(thread, task),
-            Ask::Section => self.answer_section(thread, task, node),
-            Ask::LockFree(wait_id) => {
-                let free = !self.is_owned(wait_id);
-                self.tasks.give(task, Answer::Free(free));
-            }
+            Ask::Chunk => Answer::Chunk(self.take_chunk(thread, task)),
+            Ask::Section => Answer::Section(self.take_section(thread, task)),
+            Ask::LockFree(wait_id) => Answer::Free(!self.is_owned(wait_id)),
         }
     }
 
-    /// The thread takes the next chunk of the loop.
-    fn answer_chunk(&mut self, thread: u8, task: u32) {
+    /// The thread takes the next chunk of the loop that its current task shares out.
+    fn take_chunk(&mut self, thread: u8, task: u32) -> Option<(u64, u64)>
+        requires { task ≡ current self.old.world thread }
+        ensures chunk { result ≡ chunk_given self.old.world thread }
+        ensures taken { self.new ≡ record self.old { world = dealt self.old.world thread asks.Chunk } }
+    {
         let region = self.current_region(thread);
         let member = self.member_index(thread, region);
         let chunk = self.regions.next_chunk(region, member);
-        let chunk = fitting_chunk(self.tasks.asked_count(task), chunk);
-        self.tasks.give(task, Answer::Chunk(chunk));
-        let share = match chunk {
-            Some((start, count)) => Some(Share::Chunk { start, count }),
-            None => None,
-        };
-        self.share(thread, share);
+        fitting_chunk(self.tasks.asked_count(task), chunk)
     }
 
-    /// The thread takes the next section of the construct.
-    fn answer_section(&mut self, thread: u8, task: u32, construct: u32) {
+    /// The thread takes the next section of the construct that its current task is in.
+    fn take_section(&mut self, thread: u8, task: u32) -> Option<u32>
+        requires { task ≡ current self.old.world thread }
+        ensures section { result ≡ section_given self.old.world thread }
+        ensures taken { self.new ≡ record self.old { world = dealt self.old.world thread asks.Section } }
+    {
         let region = self.current_region(thread);
         let member = self.member_index(thread, region);
         let section = self.regions.next_section(region, member);
-        let section = fitting_section(self.tasks.asked_sections(task), section);
-        self.tasks.give(task, Answer::Section(section));
-        let share = match section {
-            Some(section) => Some(Share::Section(self.tasks.section_place(construct, section))),
-            None => None,
-        };
-        self.share(thread, share);
+        fitting_section(self.tasks.asked_sections(task), section)
+    }
+
+    /// The share of the construct's work that the answer gives, if it gives one.
+    fn share_in(&self, construct: u32, answer: Answer) -> Option<Share>
+        requires { (section : ℕ) → answer ≡ answers.Section (Some section) → construct < length self.now.program.trees }
+        ensures { result ≡ silence.share_taken (tree_at self.now.program.trees construct) answer }
+    {
+        match answer {
+            Answer::Chunk(Some((start, count))) => Some(Share::Chunk { start, count }),
+            Answer::Section(Some(section)) => {
+                let place = self.tasks.section_place(construct, section);
+                Some(Share::Section(place))
+            }
+            Answer::Chunk(None) | Answer::Section(None) | Answer::Free(_) => None,
+        }
+    }
+
+    /// The code of the task goes on with the answer to what it has asked.
+    pub(super) fn give(&mut self, task: u32, answer: Answer)
+        requires task { self.old.room.task ≡ task }
+        requires steps { 0 < self.old.room.steps }
+        requires asked { AnswersFirst (task_at self.old.world task).code.todo answer }
+        ensures { self.new ≡ record self.old {
+          world = told_answer self.old.world task answer;
+          room = record self.old.room { steps = self.old.room.steps - 1 };
+        } }
+    {
+        self.tasks.give(task, answer);
     }
 }
 

@@ -1,6 +1,6 @@
 //! What changes of threads.
 
-ghost use Rattle.std.specs.Prelude.{◌≡◌, ◌<◌, length};
+ghost use Rattle.std.specs.Prelude.{◌≡◌, ◌<◌, ◌≤◌, length};
 ghost use Rattle.omp_world.specs.declared.limits.TheConstants.{STACK_LIMIT};
 ghost use Rattle.omp_world.specs.State.{thread_at};
 ghost use Rattle.omp_world.specs.Changes as changes;
@@ -23,7 +23,8 @@ impl Board {
 
     /// How many tasks are on the thread's stack.
     pub fn depth(&self, thread: u8) -> usize
-        ensures { result ≡ length (thread_at self.now.world thread).stack }
+        ensures counted { result ≡ length (thread_at self.now.world thread).stack }
+        ensures few { result ≤ STACK_LIMIT }
     {
         match self.threads.get(thread as usize) {
             Some(thread) => thread.depth(),
