@@ -1,3 +1,4 @@
+pub mod Beside
 pub mod Blanks
 pub mod Creations
 pub mod Filling

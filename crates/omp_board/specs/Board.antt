@@ -17,8 +17,8 @@ use Rattle.omp_world.specs.declared.parts.RegionHead.{RegionHead}
 use Rattle.omp_world.specs.declared.event.Event.{Event}
 use Rattle.omp_world.specs.declared.event.Halt.{Halt}
 use Rattle.omp_world.specs.State.{Region, Run, Task, Thread, World}
-use Rattle.omp_world.specs.Members.{current, current_region, view_of}
-use Rattle.omp_world.specs.Silent.{Silence, Goes, Stops, silent_step}
+use Rattle.omp_world.specs.Members.{current, current_region}
+use Rattle.omp_world.specs.Silent.{Goes, Stops, silent_step}
 use Rattle.omp_world.specs.Going.{Going, Happens, Halts, going_beside, going_in_code, going_to_point}
 use Rattle.omp_world.specs.Changes.{gone_past}
 use Rattle.omp_board.specs.contracts.thread.Thread as thread
@@ -98,10 +98,11 @@ room_with tasks regions locks =
       locks = locks.room;
     }
 
--- the pool has room for the tasks that there is room for, and a place for each region
+-- there is room for one more task at most; the pool has room for it, and a place for each region
 pub record IsJoined (threads : List Thread) (tasks : TasksView) (pool : PoolView) (regions : RegionsView) : Type 0 where
   pub some : 1 ≤ length threads
   pub few : length threads ≤ TEAM_LIMIT
+  pub one : tasks.room.tasks ≤ 1
   pub room : tasks.room.tasks ≤ pool.room
   pub places : length regions.regions + regions.room.regions ≤ pool.regions
 

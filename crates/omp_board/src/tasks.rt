@@ -120,6 +120,7 @@ impl Tasks {
     pub fn reserve(&mut self, task: u32) -> Result<(), AllocError>
         ensures kept { self.new ≡ record self.old { room = self.new.room } }
         ensures room { OnOk result (self.new.room ≡ turn_room task) }
+        ensures memory { OnErr result (self.new ≡ self.old) }
     {
         if self.list.len() >= u32::MAX as usize {
             return Err(AllocError);
