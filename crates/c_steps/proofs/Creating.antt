@@ -152,7 +152,7 @@ module _ (here : Here) (items : List Item) where
   by-item (Release tree id) = tt
   by-item other = by-quiet here.program (bound_of here) (other ∷ items) (step_of other here) (fits-item other here)
 
-abbrev around : Moment → Bound
+abbrev pub around : Moment → Bound
 around now = record { env = now.task.env; cells = now.store.cells }
 
 module _ (program : TreeView) (view : View) where
@@ -163,16 +163,16 @@ module _ (program : TreeView) (view : View) where
       by-item (record { program = program; view = view; task = record now.task { todo = items }; store = now.store }) items item
 
   -- what stands next then
-  creating-next : (now : Moment) (codeptr : ℕ) (undeferred : Bool) (tree : Tree) → silent program view now ≡ Occurs (TaskCreate codeptr undeferred) tree → IsCreating program (around now) (items_from_next view now.task.todo)
+  pub creating_next : (now : Moment) (codeptr : ℕ) (undeferred : Bool) (tree : Tree) → silent program view now ≡ Occurs (TaskCreate codeptr undeferred) tree → IsCreating program (around now) (items_from_next view now.task.todo)
   unfolding silent IsCreatedBy
-  creating-next now codeptr undeferred tree is =
+  creating_next now codeptr undeferred tree is =
       subst (IsCreatedBy program (around now) (items_from_next view now.task.todo)) is (by-next (items_from_next view now.task.todo) now)
 
   module _ (old new : Held) (before after : Store) (codeptr : ℕ) (undeferred : Bool) (at : ℕ) (left : IsLeft program view old before new after) (event : Occurs (TaskCreate codeptr undeferred) (tree_at program.trees at) ≡ silent program view (moment_at program old before)) where
     -- when an advance has answered that a task is created, the task can begin
     creating-stands : IsCreating program (bound_in program new after) (todo_at program new.frames)
     creating-stands =
-        let creating = creating-next (moment_at program old before) codeptr undeferred (tree_at program.trees at) (sym event) in
+        let creating = creating_next (moment_at program old before) codeptr undeferred (tree_at program.trees at) (sym event) in
         let settled = subst (λ (task : Task). IsCreating program (record { env = task.env; cells = before.cells }) task.todo) (sym left.task) creating in
         subst (λ (store : Store). IsCreating program (bound_in program new store) (todo_at program new.frames)) (sym left.store) settled
 

@@ -4,3 +4,4 @@ pub mod NoCode
 pub mod Reserving
 pub mod Seen
 pub mod Seeing
+pub mod AtEvents

@@ -5,3 +5,4 @@ pub mod Threads
 pub mod Regions
 pub mod KeepingRegions
 pub mod Board
+pub mod Events

@@ -10,6 +10,7 @@ ghost use Rattle.c_steps.specs.Scopes.{HasNumbers};
 
 mod arrival;
 mod coming;
+mod effects;
 mod going;
 mod locks;
 mod meeting;
@@ -20,13 +21,12 @@ mod tasks;
 mod threads;
 mod words;
 
-pub use meeting::sync_number;
-
 use crate::regions::Regions;
 use crate::tasks::Tasks;
 use crate::thread::Thread;
 use c_check::Program;
 use c_model::{Upcoming, View};
+pub use meeting::sync_number;
 use omp_world::{IMPLICIT_REGION, ThreadStage};
 use std::alloc::{AllocError, Global};
 use std::marker::Model;
