@@ -85,7 +85,7 @@ module _ (W : World) (t : ℕ) (made : IsMadeWorld W) (some : 1 ≤ current W t)
   code-sync codeptr which other = same
 
   -- the code stays as it is
-  pub code_after : (run : Run) (what : Point) → SameCode W (effect_of_point run W t (moment_of W t) what) t
+  code_after : (run : Run) (what : Point) → SameCode W (effect_of_point run W t (moment_of W t) what) t
   unfolding effect_of_point
   code_after run (point.ParallelBegin codeptr requested) =
       record {
@@ -97,6 +97,9 @@ module _ (W : World) (t : ℕ) (made : IsMadeWorld W) (some : 1 ≤ current W t)
   code_after run (point.WorkBegin codeptr what) = code-meeting (work_met codeptr what)
   code_after run (point.Sync codeptr which at) = code-sync codeptr which at
   code_after run other = record { current = refl; code = refl }
+
+  pub code_behind : (run : Run) (what : Point) (V : World) → V ≡ effect_of_point run W t (moment_of W t) what → SameCode W V t
+  code_behind run what V is = subst (λ (V : World). SameCode W V t) (sym is) (code_after run what)
 
 -- what happens where an event of settled code meets no trap or limit
 pub happens : (program : TreeView) (W V after : World) (t : ℕ) (what : Point) (which : Event) (executes : Bool) → IsSettled W t → fault_of_point W t (code_of W t) what ≡ None → which ≡ event_of_point W t what → executes ≡ executes_point W t what →

@@ -5,3 +5,5 @@ pub mod Reserving
 pub mod Seen
 pub mod Seeing
 pub mod AtEvents
+pub mod ToldFree
+pub mod Tested

@@ -1,15 +1,17 @@
 //! Events of a task's code: what happens at their Go.
 
-ghost use Rattle.std.specs.Prelude.{◌≡◌, ◌<◌};
+ghost use Rattle.std.specs.Prelude.{◌≡◌, ◌≤◌, ◌-◌, true};
 ghost use Rattle.c_syntax.specs.Numbered.{tree_at};
+ghost use Rattle.c_model.specs.declared.question.Answer.TheVariants as answer;
 ghost use Rattle.c_model.specs.declared.question.Ask.TheVariants as ask;
-ghost use Rattle.c_model.specs.Going.{settled_after_event};
+ghost use Rattle.c_model.specs.Answers.{AnswersFirst};
+ghost use Rattle.c_model.specs.Going.{settled_after_answer, settled_after_event};
 ghost use Rattle.c_model.specs.Occurring.{IsAskOfNext};
 ghost use Rattle.c_model.specs.Step.{silent};
 ghost use Rattle.c_steps.specs.Held.{outcome_at};
 ghost use Rattle.c_steps.specs.Passing.{IsEventOfNext};
 ghost use Rattle.omp_world.specs.declared.event.Arrival.TheVariants.{Comes};
-ghost use Rattle.omp_world.specs.Changes.{gone_past, with_code};
+ghost use Rattle.omp_world.specs.Changes.{gone_past, gone_to, with_code};
 ghost use Rattle.omp_world.specs.Gates.{arrival};
 ghost use Rattle.omp_world.specs.Going as going;
 ghost use Rattle.omp_world.specs.Made.{IsMadeWorld};
@@ -39,7 +41,10 @@ impl Board {
             Next::Ask(Ask::LockFree(wait_id), node) => self.come_to_test(thread, wait_id, node),
             Next::Trap(number) => Err(Halt::Trap(number)),
             Next::Limit(number) => Err(Halt::Limit(number)),
-            Next::Quiet | Next::Ask(..) | Next::Ended(_) => unreachable!(),
+            Next::Ask(Ask::Chunk, _) => unreachable!(),
+            Next::Ask(Ask::Section, _) => unreachable!(),
+            Next::Quiet => unreachable!(),
+            Next::Ended(_) => unreachable!(),
         }
     }
 
@@ -59,6 +64,7 @@ impl Board {
     fn come_to_test(&mut self, thread: u8, wait_id: u32, node: u32) -> Result<Event, Halt>
         requires asks { IsAskOfNext (ask.LockFree wait_id) (tree_at self.old.program.trees node) (code_of self.old.world thread).todo }
         requires settled { IsSettled self.old.world thread }
+        requires some { 1 ≤ current self.old.world thread }
         requires made { IsMadeWorld self.old.world }
         requires room { HasEvent self.old.room self.old.world thread }
         ensures going { IsGoing self.old.program self.old.world thread result self.new.world }
@@ -67,11 +73,24 @@ impl Board {
         if let Err(halt) = self.may_acquire(wait_id) {
             return Err(halt);
         }
-        self.tasks.give(self.current(thread), Answer::Free(true));
+        self.tell_free(thread);
         match self.look(thread) {
             Next::Event(point, node) => self.come_to(thread, point, node),
             _ => unreachable!(),
         }
+    }
+
+    /// The code of the thread's task is told that the lock isn't owned for which it asks.
+    fn tell_free(&mut self, thread: u8)
+        requires asks { AnswersFirst (code_of self.old.world thread).todo (answer.Free true) }
+        requires room { HasStep self.old.room self.old.world thread }
+        ensures { self.new ≡ record self.old {
+          world = gone_to self.old.world (current self.old.world thread) (settled_after_answer (answer.Free true) (moment_of self.old.world thread));
+          room = record self.old.room { steps = self.old.room.steps - 1 };
+        } }
+    {
+        let task = self.current(thread);
+        self.tasks.give(task, Answer::Free(true));
     }
 
     /// The Go of the event at this point, which stands at this node.
