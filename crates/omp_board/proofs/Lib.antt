@@ -1,9 +1,13 @@
 pub mod Blanks
+pub mod Creations
+pub mod Kept
 pub mod Members
 pub mod NoCode
+pub mod Replies
 pub mod Reserving
 pub mod Seen
 pub mod Seeing
 pub mod AtEvents
 pub mod ToldFree
 pub mod Tested
+pub mod Settling

@@ -1,5 +1,5 @@
 -- Room changes nothing of a task's code.
-use Rattle.std.proofs.Common.{◌≡◌, ℕ, List, slice_set, slice_index_or, Option, Some, Result, Ok, Err, OnOk, OnErr, sym, ap, ◌∙◌}
+use Rattle.std.proofs.Common.{◌≡◌, ℕ, List, slice_set, slice_index_or, Some, Result, Ok, Err, OnOk, OnErr, sym, ap, ◌∙◌}
 use Rattle.std.proofs.Math.Seq.{map-set_same}
 use Rattle.c_syntax.specs.Numbered.{TreeView}
 use Rattle.c_steps.specs.Held.{Held, task_at}

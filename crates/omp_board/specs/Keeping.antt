@@ -1,5 +1,5 @@
 -- How the tasks are kept: the control of each one that has code, controls without code, and room.
-use Rattle.std.specs.Prelude.{ℕ, ◌+◌, ◌≤◌, List, Option, Some, None, IfSome, length, map, slice_index_or}
+use Rattle.std.specs.Prelude.{ℕ, ◌+◌, ◌<◌, ◌≤◌, List, Option, None, IfSome, length, map, slice_index_or}
 use Rattle.std.specs.List.{All}
 use Rattle.c_syntax.specs.Numbered.{TreeView}
 use Rattle.c_steps.specs.Held.{Held}
@@ -31,10 +31,11 @@ pub record HasRoomIn (room : TaskRoom) (held : Held) : Type 0 where
   pub steps : room.steps ≤ held.spare
   pub passes : room.passes ≤ held.passes
 
--- each control is of the program, and there is as much room as is said
+-- each control is of the program, and there is as much room as is said, for a task that there is
 pub record IsKept (program : TreeView) (tasks : List Task) (capacity : ℕ) (blanks : List Held) (room : TaskRoom) : Type 0 where
   pub controls : All (IsOfProgram program) tasks
   pub blanks_made : All (IsMadeFor program) blanks
   pub spare : room.tasks ≤ length blanks
   pub slots : length tasks + room.tasks ≤ capacity
+  pub there : room.task < length tasks
   pub steps : IfSome (control_at tasks room.task) (HasRoomIn room)

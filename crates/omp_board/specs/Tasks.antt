@@ -1,11 +1,13 @@
 -- What the tasks of a run are seen as, with the program and the store that their code shares.
-use Rattle.std.specs.Prelude.{ℕ, ◌-◌, ◌≡◌, ◌<◌, ◌++◌, List, [], ◌∷◌, Option, Some, None, slice_index_or, slice_set, refl}
+use Rattle.std.specs.Prelude.{ℕ, ◌-◌, ◌≡◌, ◌<◌, ◌≤◌, ◌++◌, List, [], ◌∷◌, Option, Some, None, length, slice_index_or, slice_set, refl}
 use Rattle.std.specs.Coded.{Coded, code_by, coded×, coded_ℕ, coded_list}
 use Rattle.c_syntax.specs.Codes.{tree_view_code}
 use Rattle.c_syntax.specs.Numbered.{TreeView}
-use Rattle.c_model.specs.Begin.{blank_task, first_store, main_task}
+use Rattle.c_model.specs.Begin.{blank_task, created_construct, explicit_task_of, first_store, main_task}
+use Rattle.c_model.specs.Cells.{Bound}
+use Rattle.c_model.specs.Copies.{with_task_cells}
+use Rattle.c_model.specs.declared.limits.TheConstants.{CELL_LIMIT}
 use Rattle.c_model.specs.Task.{Item, Moment, Store, Task as Code}
-use Rattle.c_model.specs.declared.point.Point.{Point}
 use Rattle.c_model.specs.Occurring.{IsAskOfNext}
 use Rattle.c_syntax.specs.Numbered.{tree_at}
 use Rattle.c_steps.specs.Held.{Held, task_at}
@@ -119,3 +121,17 @@ IsNamedIn program other todo = Unit {0}
 abbrev pub code_of : TreeView → Option Held → Code
 code_of program None = blank_task
 code_of program (Some held) = task_at program held
+
+-- .. with the store
+abbrev pub moment_of : TreeView → Option Held → Store → Moment
+moment_of program control store = record { task = code_of program control; store = store }
+
+-- the explicit task that the construct creates that stands next, with the store behind it; and that there is room for its cells
+abbrev pub created_by : TreeView → Moment → Moment
+created_by program now = explicit_task_of program (created_construct now.task.todo) now
+
+abbrev pub cells_around : Moment → Bound
+cells_around now = record { env = now.task.env; cells = now.store.cells }
+
+abbrev pub HasCells : TreeView → Moment → Type 0
+HasCells program now = length (with_task_cells program (cells_around now) (created_construct now.task.todo)).cells ≤ CELL_LIMIT

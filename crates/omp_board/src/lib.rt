@@ -22,6 +22,7 @@
 #![tactic(auto)]
 
 mod board;
+mod controls;
 mod head;
 mod region;
 mod regions;

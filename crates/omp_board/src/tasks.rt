@@ -1,8 +1,6 @@
 //! The tasks of a run with their code, and what all code shares.
 
-ghost use Rattle.std.specs.Prelude.{◌≡◌, ◌<◌, ◌≤◌, IfNone, IfOk, IfSome, OnErr, OnOk, length, slice_get, slice_index_or};
-ghost use Rattle.std.specs.List.{All};
-ghost use Rattle.std.specs.Option.{option_copied};
+ghost use Rattle.std.specs.Prelude.{◌≡◌, ◌<◌, ◌≤◌, IfNone, IfOk, IfSome, OnOk, length, slice_get, slice_index_or};
 ghost use Rattle.c_syntax.specs.Derivation.{nothing};
 ghost use Rattle.c_syntax.specs.Numbered.{tree_at};
 ghost use Rattle.c_model.specs.declared.limits.TheConstants.{CELL_LIMIT};
@@ -23,22 +21,17 @@ ghost use Rattle.c_steps.specs.Passing.{IsEventOfNext};
 ghost use Rattle.c_steps.specs.Ready.{FitsProgram};
 ghost use Rattle.c_steps.specs.Scopes.{HasNumbers};
 ghost use Rattle.omp_world.specs.Going.{member_code};
-ghost use Rattle.omp_board.specs.Keeping.{HasRoomIn, IsOfProgram, control_at, seen_tasks};
-ghost use Rattle.omp_board.specs.Tasks.{HasPass, HasSteps, IsNamedIn, IsStill, code_in, code_of, first_tasks, gone_in, moment_in, one_pass_less, one_step_less, room_after, task_in, turn_room, with_code_in, with_one_more, with_task_in};
+ghost use Rattle.omp_board.specs.Tasks.{HasPass, HasSteps, IsNamedIn, IsStill, code_in, first_tasks, gone_in, moment_in, one_pass_less, one_step_less, room_after, task_in, turn_room, with_code_in, with_one_more, with_task_in};
 
+use crate::controls::{
+    MEMBER_0, begin_explicit, begin_member, control_of, reserve_blank, reserve_code,
+};
 use crate::task::{Task, task_with};
 use c_check::Program;
 use c_model::{Answer, Point, Upcoming, View};
 use c_steps::{Cells, Code, Control, Next};
 use std::alloc::{AllocError, Global};
 use std::marker::Model;
-
-/// What member 0 of a team sees. It goes past nothing, so that what stands first in its code comes next.
-const MEMBER_0: View = View {
-    index: 0,
-    team: 1,
-    max: 1,
-};
 
 /// How many silent steps, answers and looks there is room for in a turn.
 const STEPS_AHEAD: u32 = 66;
@@ -122,16 +115,14 @@ impl Tasks {
         })
     }
 
-    /// Makes room for a turn of which this is the current task: for the silent steps of its code, an event, and one more task.
+    /// Makes room for a turn of which this is the current task: for the silent steps of its code, an event, and one more task. That there is no such
+    /// task is want of memory too.
     pub fn reserve(&mut self, task: u32) -> Result<(), AllocError>
         ensures kept { self.new ≡ record self.old { room = self.new.room } }
         ensures room { OnOk result (self.new.room ≡ turn_room task) }
     {
         self.list.reserve(1)?;
-        if self.blanks.is_empty() {
-            let blank = Control::blank(self.alloc, &self.code)?;
-            self.blanks.push(blank)?;
-        }
+        reserve_blank(self.alloc, &self.code, &mut self.blanks)?;
         reserve_code(&self.code, &mut self.list, task)?;
         self.room = Room {
             task,
@@ -416,77 +407,4 @@ impl Tasks {
     {
         self.cells.into_text()
     }
-}
-
-/// What is left of the task's code, if it has some.
-fn control_of(list: &[Task], task: u32) -> Option<&Control>
-    ensures { option_copied result ≡ control_at list.now task }
-{
-    list.get(task as usize)?.control.as_ref()
-}
-
-/// Makes room for a turn in the task's code, if it has some.
-fn reserve_code(code: &Code, list: &mut [Task], task: u32) -> Result<(), AllocError>
-    requires controls { All (IsOfProgram code.now) list.old }
-    ensures seen { seen_tasks code.now list.new ≡ seen_tasks code.now list.old }
-    ensures controls { All (IsOfProgram code.now) list.new }
-    ensures room { OnOk result (IfSome (control_at list.new task) (HasRoomIn (turn_room task))) }
-    ensures memory { OnErr result (list.new ≡ list.old) }
-{
-    if task as usize >= list.len() {
-        return Ok(());
-    }
-    match &mut list[task as usize].control {
-        Some(control) => control.reserve(code),
-        None => Ok(()),
-    }
-}
-
-/// The code of a member of the region that this task has forked begins, with a control that was kept for it. Where the task hasn't forked one,
-/// there is none.
-fn begin_member(
-    code: &Code,
-    list: &[Task],
-    blanks: &mut Vec<Control>,
-    parent: u32,
-) -> Option<Control>
-    requires controls { All (IsOfProgram code.now) list.now }
-    requires blanks { All (IsMadeFor code.now) blanks.old.items }
-    requires some { 0 < length blanks.old.items }
-    ensures code { code_of code.now result ≡ member_code (code_of code.now (control_at list.now parent)) }
-    ensures made { IfSome result (IsMadeFor code.now) }
-    ensures blanks { All (IsMadeFor code.now) blanks.new.items }
-{
-    let parent = control_of(list, parent)?;
-    match parent.upcoming(code, MEMBER_0) {
-        Upcoming::RegionEnd => {
-            let mut member = blanks.pop()?;
-            parent.member(code, &mut member);
-            Some(member)
-        }
-        _ => None,
-    }
-}
-
-/// The code of the explicit task whose construct stands next in this task's code begins, with a control that was kept for it.
-fn begin_explicit(
-    code: &Code,
-    cells: &mut Cells,
-    list: &[Task],
-    blanks: &mut Vec<Control>,
-    creator: u32,
-) -> Option<Control>
-    requires controls { All (IsOfProgram code.now) list.now }
-    requires blanks { All (IsMadeFor code.now) blanks.old.items }
-    requires some { 0 < length blanks.old.items }
-    requires created { IsCreation (slice_get (code_of code.now (control_at list.now creator)).todo 0) }
-    requires room { length (with_task_cells code.now (record { env = (code_of code.now (control_at list.now creator)).env; cells = cells.old.cells }) (created_construct (code_of code.now (control_at list.now creator)).todo)).cells ≤ CELL_LIMIT }
-    ensures went { record { task = code_of code.now result; store = cells.new } ≡ explicit_task_of code.now (created_construct (code_of code.now (control_at list.now creator)).todo) (record { task = code_of code.now (control_at list.now creator); store = cells.old }) }
-    ensures made { IfSome result (IsMadeFor code.now) }
-    ensures blanks { All (IsMadeFor code.now) blanks.new.items }
-{
-    let creator = control_of(list, creator)?;
-    let mut task = blanks.pop()?;
-    creator.task(code, cells, &mut task);
-    Some(task)
 }

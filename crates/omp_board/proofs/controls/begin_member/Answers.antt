@@ -1,10 +1,10 @@
-use Rattle.std.proofs.Common.{refl, sym, ap, ◌∙◌}
+use Rattle.std.proofs.Common.{refl, ap, ◌∙◌}
 use Rattle.c_steps.specs.Held.{task_at}
 use Rattle.omp_world.specs.Going.{member_code}
 use Rattle.omp_board.specs.Tasks.{code_of}
 use Rattle.omp_board.proofs.Blanks.{last_is_made, others_are_made}
 use Rattle.omp_board.proofs.Members.{can_begin, forked_stands, member_blank, member_coded, none_stands}
-use Rattle.omp_board.proofs.tasks.begin_member.Goals as goal
+use Rattle.omp_board.proofs.controls.begin_member.Goals as goal
 
 pub member-requires-clause-forked : goal.member-requires-clause-forked
 member-requires-clause-forked c =

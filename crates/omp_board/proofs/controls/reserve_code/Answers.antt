@@ -1,5 +1,5 @@
 use Rattle.omp_board.proofs.Reserving.{same_tasks}
-use Rattle.omp_board.proofs.tasks.reserve_code.Goals as goal
+use Rattle.omp_board.proofs.controls.reserve_code.Goals as goal
 
 pub returns-in-Some-clause-seen : goal.returns-in-Some-clause-seen
 returns-in-Some-clause-seen c =
