@@ -152,7 +152,7 @@ module _ (here : Here) (items : List Item) where
   by-item (Release tree id) = tt
   by-item other = by-quiet here.program (bound_of here) (other ∷ items) (step_of other here) (fits-item other here)
 
-abbrev pub around : Moment → Bound
+abbrev around : Moment → Bound
 around now = record { env = now.task.env; cells = now.store.cells }
 
 module _ (program : TreeView) (view : View) where

@@ -14,7 +14,6 @@ use Rattle.c_model.specs.Begin.{created_construct, explicit_task, explicit_task_
 use Rattle.c_model.specs.Going.{settled_after_event}
 use Rattle.c_model.specs.Step.{items_from_next}
 use Rattle.c_model.specs.Task.{Item, Task as Code}
-use Rattle.c_steps.proofs.Creating.{IsCreating, around, creating_next}
 use Rattle.task_pool.specs.Tasks.{MayBeParent}
 use Rattle.task_pool.specs.declared.task.Task.{Task as PoolTask}
 use Rattle.team_parts.specs.declared.meeting.Meeting.{Meeting}
@@ -29,30 +28,26 @@ use Rattle.omp_world.specs.Made.{IsMadeWorld, IsTask}
 use Rattle.omp_world.proofs.Later.{at-set}
 use Rattle.omp_world.proofs.MadeEvents.{current-made}
 use Rattle.omp_board.specs.Board.{run_of}
-use Rattle.omp_board.specs.Events.{HasComeTo, IsCreator, IsSettled, MayCreate, work_event}
+use Rattle.omp_board.specs.Events.{HasComeTo, IsSettled, MayCreate}
+use Rattle.omp_board.proofs.Creations.{creation_fits, creation_stands}
 
 -- an explicit task is made of what the code has come to, with room for its cells
 pub may_create : (program : TreeView) (W : World) (t : ℕ) (what : Point) (node : ℕ) → HasComeTo program W t what node → MayCreate program W t what
 may_create program W t (point.TaskCreate codeptr undeferred) node come =
-    let creating = creating_next program (view_of W t) (moment_of W t) codeptr undeferred (tree_at program.trees node) come.occurs in
-    let here : IsCreating program (around (moment_of W t)) (code_of W t).todo = subst (λ (items : List Item). IsCreating program (around (moment_of W t)) items) (ap (λ (code : Code). code.todo) come.settled) creating in
-    record { some = come.some; settled = come.settled; creation = here.creation; cells = here.room }
+    let now = moment_of W t in
+    let still : now ≡ settled_moment (view_of W t) now = ap (λ (code : Code). record now { task = code }) (sym come.settled) in
+    record {
+      some = come.some;
+      settled = come.settled;
+      creation = creation_stands program (view_of W t) now now still codeptr undeferred node (sym come.occurs);
+      cells = creation_fits program (view_of W t) now now still codeptr undeferred node (sym come.occurs);
+    }
 may_create program W t other node come = tt
-
--- its code
-pub created_of_settled : (program : TreeView) (W : World) (t : ℕ) → IsSettled W t → explicit_task program (view_of W t) (moment_of W t) ≡ explicit_task_of program (created_construct (code_of W t).todo) (moment_of W t)
-created_of_settled program W t settled = ap (λ (code : Code). explicit_task_of program (created_construct code.todo) (moment_of W t)) settled
 
 -- a task that was made may be a parent
 parent-of : (tasks : List PoolTask) (k : ℕ) → 1 ≤ k → k ≤ length tasks → MayBeParent tasks k
 parent-of [] k some few = absurd (omega arith)
 parent-of (first ∷ others) k some few = (some, few)
-
--- the event of a worksharing construct's begin
-pub work_event_is : (W : World) (t codeptr : ℕ) (what : Work) → work_event codeptr what (executes_work W t codeptr what) ≡ work_begin W t codeptr what
-work_event_is W t codeptr (work.Loop start count step how) = refl
-work_event_is W t codeptr (work.Sections count) = refl
-work_event_is W t codeptr work.Single = refl
 
 -- a thread's current task and its code
 pub record SameCode (W V : World) (t : ℕ) : Type 0 where
@@ -60,14 +55,11 @@ pub record SameCode (W V : World) (t : ℕ) : Type 0 where
   pub code : code_of V t ≡ code_of W t
 
 module _ (W : World) (t : ℕ) (made : IsMadeWorld W) (some : 1 ≤ current W t) where
-  pub task_made : IsTask W (current W t)
-  task_made = (current-made W t made some).made
+  made-task : IsTask W (current W t)
+  made-task = (current-made W t made some).made
 
   pub parent_made : MayBeParent W.pool.tasks (current W t)
-  parent_made = parent-of W.pool.tasks (current W t) some (omega (arith, task_made.below, made.pooled))
-
-  pub region_is_made : current_region W t < length W.regions
-  region_is_made = (made.placed (current W t) task_made).below
+  parent_made = parent-of W.pool.tasks (current W t) some (omega (arith, made-task.below, made.pooled))
 
   same : SameCode W W t
   same = record { current = refl; code = refl }
@@ -93,7 +85,7 @@ module _ (W : World) (t : ℕ) (made : IsMadeWorld W) (some : 1 ≤ current W t)
         code = at-set (λ (task : Task). task.code ≡ code_of W t) no_task W.tasks (current W t) (current W t) (record (task_at W (current W t)) { forked = length W.regions }) refl (λ is. refl);
       }
   code_after run (point.TaskCreate codeptr undeferred) =
-      record { current = refl; code = ap (λ (task : Task). task.code) (get_or_append_left W.tasks _ no_task (current W t) task_made.below) }
+      record { current = refl; code = ap (λ (task : Task). task.code) (get_or_append_left W.tasks _ no_task (current W t) made-task.below) }
   code_after run (point.WorkBegin codeptr what) = code-meeting (work_met codeptr what)
   code_after run (point.Sync codeptr which at) = code-sync codeptr which at
   code_after run other = record { current = refl; code = refl }
@@ -116,8 +108,3 @@ happens program W V after t what which executes settled none event is_executes e
     ∙ ap (λ (event : Event). Happens event (past_point W (effect_of_point run W t now what) t now what)) (sym event)
     ∙ ap (λ (V : World). Happens which (past_point W V t now what)) (sym effect)
     ∙ ap (Happens which) (sym past)
-
--- .. and where it meets one
-pub halts : (program : TreeView) (W : World) (t : ℕ) (what : Point) (halt : Halt) → fault_of_point W t (code_of W t) what ≡ Some halt → going_to_point (run_of program) W t (moment_of W t) what ≡ Halts halt
-halts program W t what halt fault =
-    ap (λ (fault : Option Halt). unless fault (event_of_point W t what) (past_point W (effect_of_point (run_of program) W t (moment_of W t) what) t (moment_of W t) what)) fault

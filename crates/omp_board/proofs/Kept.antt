@@ -26,6 +26,7 @@ module _ (program : TreeView) (tasks : List Task) (capacity : ℕ) (blanks : Lis
       let there = kept.there in
       let longer : length now ≡ length tasks + 1 = ap length is ∙ length-append tasks (task ∷ []) in
       let slots = kept.slots in
+      let few = kept.few in
       let same : control_at now room.task ≡ control_at tasks room.task =
       ap (λ (tasks : List Task). control_at tasks room.task) is ∙ ap (λ (task : Task). task.control) (get_or_append_left tasks (task ∷ []) kept_nothing room.task there) in
       record {
@@ -33,6 +34,7 @@ module _ (program : TreeView) (tasks : List Task) (capacity : ℕ) (blanks : Lis
         blanks_made = blanks_made;
         spare = omega arith;
         slots = omega arith;
+        few = omega arith;
         there = omega arith;
         steps = subst (λ (control : Option Held). IfSome control (HasRoomIn (record room { tasks = 0 }))) (sym same) (IfSome_then (control_at tasks room.task) kept.steps (λ held has. record { steps = has.steps; passes = has.passes }));
       }
@@ -44,12 +46,14 @@ module _ (program : TreeView) (tasks : List Task) (capacity : ℕ) (blanks : Lis
       let longer : length blanks_now ≡ length blanks + 1 = ap length is ∙ length-append blanks (control ∷ []) in
       let many : length (slice_set tasks k task) ≡ length tasks = length-set tasks k task in
       let slots = kept.slots in
+      let few = kept.few in
       let spare = kept.spare in
       record {
         controls = All-set (IsOfProgram program) tasks k task (subst (λ (control : Option Held). IfSome control (IsMadeFor program)) (sym none) tt) kept.controls;
         blanks_made = subst (All (IsMadeFor program)) (sym is) (All-push (IsMadeFor program) blanks control kept.blanks_made made);
         spare = omega arith;
         slots = omega arith;
+        few = omega arith;
         there = omega arith;
         steps = without tasks k room.task task (HasRoomIn room) none kept.steps;
       }
@@ -66,6 +70,7 @@ kept_first program first second now capacity blanks none made is room blanks_mad
       blanks_made = blanks_made;
       spare = omega arith;
       slots = omega arith;
+      few = omega arith;
       there = omega arith;
       steps = subst (λ (control : Option Held). IfSome control (HasRoomIn no_task_room)) (sym same) tt;
     }

@@ -1,3 +1,4 @@
+pub mod AtEvents
 pub mod Blanks
 pub mod Creations
 pub mod Kept
@@ -5,9 +6,9 @@ pub mod Members
 pub mod NoCode
 pub mod Replies
 pub mod Reserving
-pub mod Seen
 pub mod Seeing
-pub mod AtEvents
-pub mod ToldFree
-pub mod Tested
+pub mod Seen
 pub mod Settling
+pub mod Summoning
+pub mod Tested
+pub mod ToldFree

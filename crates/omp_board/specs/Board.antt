@@ -98,10 +98,11 @@ room_with tasks regions locks =
       locks = locks.room;
     }
 
--- the pool has room for the tasks that there is room for, and a place for each region
+-- there is room for one more task at most; the pool has room for it, and a place for each region
 pub record IsJoined (threads : List Thread) (tasks : TasksView) (pool : PoolView) (regions : RegionsView) : Type 0 where
   pub some : 1 ≤ length threads
   pub few : length threads ≤ TEAM_LIMIT
+  pub one : tasks.room.tasks ≤ 1
   pub room : tasks.room.tasks ≤ pool.room
   pub places : length regions.regions + regions.room.regions ≤ pool.regions
 

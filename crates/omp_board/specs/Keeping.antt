@@ -1,5 +1,5 @@
 -- How the tasks are kept: the control of each one that has code, controls without code, and room.
-use Rattle.std.specs.Prelude.{ℕ, ◌+◌, ◌<◌, ◌≤◌, List, Option, None, IfSome, length, map, slice_index_or}
+use Rattle.std.specs.Prelude.{ℕ, ◌+◌, ◌<◌, ◌≤◌, ◌^◌, List, Option, None, IfSome, length, map, slice_index_or}
 use Rattle.std.specs.List.{All}
 use Rattle.c_syntax.specs.Numbered.{TreeView}
 use Rattle.c_steps.specs.Held.{Held}
@@ -37,5 +37,6 @@ pub record IsKept (program : TreeView) (tasks : List Task) (capacity : ℕ) (bla
   pub blanks_made : All (IsMadeFor program) blanks
   pub spare : room.tasks ≤ length blanks
   pub slots : length tasks + room.tasks ≤ capacity
+  pub few : length tasks + room.tasks < 2 ^ 32
   pub there : room.task < length tasks
   pub steps : IfSome (control_at tasks room.task) (HasRoomIn room)

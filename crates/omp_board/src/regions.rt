@@ -83,6 +83,7 @@ impl Regions {
     pub fn reserve(&mut self, region: u32) -> Result<(), AllocError>
         ensures kept { self.new ≡ record self.old { room = self.new.room } }
         ensures room { OnOk result (self.new.room ≡ turn_room region) }
+        ensures memory { OnErr result (self.new ≡ self.old) }
     {
         if self.list.len() >= u32::MAX as usize {
             return Err(AllocError);

@@ -116,11 +116,15 @@ impl Tasks {
     }
 
     /// Makes room for a turn of which this is the current task: for the silent steps of its code, an event, and one more task. That there is no such
-    /// task is want of memory too.
+    /// task, or that there are more than a `u32` counts, is want of memory too.
     pub fn reserve(&mut self, task: u32) -> Result<(), AllocError>
         ensures kept { self.new ≡ record self.old { room = self.new.room } }
         ensures room { OnOk result (self.new.room ≡ turn_room task) }
+        ensures memory { OnErr result (self.new ≡ self.old) }
     {
+        if self.list.len() >= u32::MAX as usize {
+            return Err(AllocError);
+        }
         self.list.reserve(1)?;
         reserve_blank(self.alloc, &self.code, &mut self.blanks)?;
         reserve_code(&self.code, &mut self.list, task)?;

@@ -95,7 +95,8 @@ impl Board {
 fn summon(threads: &mut [Thread], region: u32, size: usize)
     ensures { threads.new ≡ all_summoned region size threads.old }
 {
-    for thread in threads.iter_mut().take(size) {
+    let size = size.min(threads.len());
+    for thread in &mut threads[..size] {
         thread.summon(region);
     }
 }
