@@ -1,29 +1,26 @@
 -- What the event that a task's code has come to changes beside the code, and the Go that comes of it.
-use Rattle.std.proofs.Common.{◌≡◌, ℕ, ◌<◌, ◌≤◌, Bool, true, false, if◌then◌else◌, List, [], ◌∷◌, length, slice_get, slice_index_or, slice_set, refl, sym, ap, ◌∙◌, subst, arith}
-use Rattle.std.specs.Prelude.{Option, Some, None}
+use Rattle.std.proofs.Common.{◌≡◌, ℕ, ◌≤◌, Bool, true, false, if◌then◌else◌, List, [], ◌∷◌, length, refl, sym, ap, ◌∙◌, subst, arith}
+use Rattle.std.specs.Prelude.{Option, None}
 use Rattle.std.proofs.lemmas.List.{get_or_append_left}
-use Rattle.c_syntax.specs.Numbered.{TreeView, tree_at}
+use Rattle.c_syntax.specs.Numbered.{TreeView}
 use Rattle.c_model.specs.declared.point.Point.{Point}
 use Rattle.c_model.specs.declared.point.Point.TheVariants as point
 use Rattle.c_model.specs.declared.point.SyncKind.{SyncKind}
 use Rattle.c_model.specs.declared.point.SyncStage.{SyncStage}
 use Rattle.c_model.specs.declared.point.SyncStage.TheVariants as stage
-use Rattle.c_model.specs.declared.point.Work.{Work}
-use Rattle.c_model.specs.declared.point.Work.TheVariants as work
-use Rattle.c_model.specs.Begin.{created_construct, explicit_task, explicit_task_of}
 use Rattle.c_model.specs.Going.{settled_after_event}
-use Rattle.c_model.specs.Step.{items_from_next}
-use Rattle.c_model.specs.Task.{Item, Task as Code}
+use Rattle.c_model.specs.Step.{settled_moment}
+use Rattle.c_model.specs.Task.{Task as Code}
 use Rattle.task_pool.specs.Tasks.{MayBeParent}
 use Rattle.task_pool.specs.declared.task.Task.{Task as PoolTask}
 use Rattle.team_parts.specs.declared.meeting.Meeting.{Meeting}
 use Rattle.omp_world.specs.declared.event.Event.{Event}
 use Rattle.omp_world.specs.declared.event.Halt.{Halt}
-use Rattle.omp_world.specs.State.{Run, Task, World, no_task, task_at, with_task}
+use Rattle.omp_world.specs.State.{Run, Task, World, no_task, task_at}
 use Rattle.omp_world.specs.Members.{code_of, current, current_index, current_region, is_member, moment_of, view_of}
-use Rattle.omp_world.specs.Changes.{forked, met, passed, with_code}
+use Rattle.omp_world.specs.Changes.{met, passed, with_code}
 use Rattle.omp_world.specs.Gates.{is_barrier}
-use Rattle.omp_world.specs.Going.{Halts, Happens, after_meeting_at, after_sync, barrier_met, effect_of_point, event_of_point, executes_point, executes_work, fault_of_point, going_to_point, past_point, unless, work_begin, work_met}
+use Rattle.omp_world.specs.Going.{Happens, after_meeting_at, after_sync, barrier_met, effect_of_point, event_of_point, executes_point, fault_of_point, going_to_point, past_point, unless, work_met}
 use Rattle.omp_world.specs.Made.{IsMadeWorld, IsTask}
 use Rattle.omp_world.proofs.Later.{at-set}
 use Rattle.omp_world.proofs.MadeEvents.{current-made}

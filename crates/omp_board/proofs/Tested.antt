@@ -1,5 +1,5 @@
 -- A thread's task whose code asks whether a lock is owned, which isn't: it comes to own the lock.
-use Rattle.std.proofs.Common.{◌≡◌, ℕ, zero, suc, ◌<◌, ◌≤◌, true, false, List, [], ◌∷◌, length, slice_index_or, slice_set, refl, sym, ap, ◌∙◌, subst}
+use Rattle.std.proofs.Common.{◌≡◌, ℕ, true, false, List, [], ◌∷◌, refl, sym, ap, ◌∙◌, subst}
 use Rattle.std.specs.Prelude.{Option, Some, None, Result, Ok, Err}
 use Rattle.std.proofs.lemmas.List.{get_or-set_same}
 use Rattle.c_syntax.specs.Tree.{Tree}
@@ -10,14 +10,13 @@ use Rattle.c_model.specs.declared.point.Point.TheVariants as point
 use Rattle.c_model.specs.declared.question.Answer.TheVariants as answer
 use Rattle.c_model.specs.declared.question.Ask.TheVariants as ask
 use Rattle.c_model.specs.declared.view.View.{View}
-use Rattle.c_model.specs.Answers.{AnswersFirst, AnswersItem, IsLockAnswer}
 use Rattle.c_model.specs.Going.{after_event, answered_at, settled_after_answer}
 use Rattle.c_model.specs.Occurring.{IsAskOf, IsAskOfNext}
 use Rattle.c_model.specs.Program.{place_of}
 use Rattle.c_model.specs.Step.{items_from_next, settled_task, silent}
-use Rattle.c_model.specs.Task.{Item, Moment, Outcome, Store, Task as Code}
+use Rattle.c_model.specs.Task.{Item, Moment, Store, Task as Code}
 use Rattle.c_model.specs.Task.Item.{TestLock}
-use Rattle.c_model.specs.Task.Outcome.{Asks, Ends, Limits, Occurs, StepsTo, Traps}
+use Rattle.c_model.specs.Task.Outcome.{Occurs}
 use Rattle.c_steps.specs.declared.next.Next.{Next}
 use Rattle.c_steps.specs.declared.next.Next.TheVariants as next
 use Rattle.c_steps.specs.Held.{outcome_at}
@@ -26,9 +25,10 @@ use Rattle.omp_world.specs.declared.event.Event.{Event}
 use Rattle.omp_world.specs.declared.event.Halt.{Halt}
 use Rattle.omp_world.specs.State.{Task, World, no_task, task_at, with_task}
 use Rattle.omp_world.specs.Members.{code_of, current, moment_of, view_of}
-use Rattle.omp_world.specs.Changes.{gone_past, gone_to, owned_by, with_code}
+use Rattle.omp_world.specs.Changes.{gone_to, owned_by, with_code}
 use Rattle.omp_world.specs.Going.{Going, Happens, Halts, effect_of_point, event_of_point, fault_of_point, going_by, going_in_code, going_to_point, lock_fault, past_point, unless}
 use Rattle.omp_world.specs.Made.{IsMadeWorld}
+use Rattle.omp_world.proofs.GonePast.{last-written}
 use Rattle.omp_world.proofs.MadeEvents.{current-below}
 use Rattle.omp_world.proofs.MadeWords.{after-code, after-store}
 use Rattle.omp_board.specs.Board.{IsGoing, IsGoingBy, IsGoingTo, run_of}
@@ -51,19 +51,6 @@ module _ (program : TreeView) (view : View) (tree : Tree) (id : ℕ) where
   told-first (TestLock call wait to ∷ rest) now asks =
       record { store = refl; settled = refl; occurs = λ i. Occurs (acquired (sym asks.0 i) (sym asks.1 i)) (sym asks.0 i) }
   told-first (other ∷ rest) now asks = absurd asks
-
--- it may be told so
-pub may_be_told : (tree : Tree) (id : ℕ) (items : List Item) → IsAskOfNext (ask.LockFree id) tree items → AnswersFirst items (answer.Free true)
-unfolding IsAskOfNext IsAskOf AnswersFirst AnswersItem IsLockAnswer
-may_be_told tree id [] asks = absurd asks
-may_be_told tree id (TestLock call wait to ∷ rest) asks = tt
-may_be_told tree id (other ∷ rest) asks = absurd asks
-
--- what is written last stays
-set-twice : (tasks : List Task) (k : ℕ) (first last : Task) → slice_set (slice_set tasks k first) k last ≡ slice_set tasks k last
-set-twice [] k first last = refl
-set-twice (task ∷ tasks) zero first last = refl
-set-twice (task ∷ tasks) (suc k) first last = ap (λ (others : List Task). task ∷ others) (set-twice tasks k first last)
 
 -- what stands next is the event that the code comes to
 pub some_event : (program : TreeView) (of : Next) (now : Moment) (what : Point) (tree : Tree) → outcome_at program of now ≡ Occurs what tree → ((at : Point) (node : ℕ) → of ≡ next.Event at node → ⊥) → ⊥
@@ -139,7 +126,7 @@ module _ (program : TreeView) (W : World) (t : ℕ) (settled : IsSettled W t) (m
     same-behind =
         ap (λ (now : Moment). with_code (owned_by world_told id (Some (current W t))) (current W t) (after_event (view_of W t) (acquired tree id) false now.task)) moment-told
         ∙ ap (λ (task : Task). with_task (owned_by world_told id (Some (current W t))) (current W t) (record task { code = code })) task-told
-        ∙ ap (λ (tasks : List Task). record (owned_by world_told id (Some (current W t))) { tasks = tasks }) (set-twice W.tasks (current W t) _ _)
+        ∙ ap (λ (tasks : List Task). record (owned_by world_told id (Some (current W t))) { tasks = tasks }) (last-written W.tasks (current W t) _ _)
         ∙ ap (λ (store : Store). record behind { store = store }) is-told.store
 
     happens-told : going_in_code (run_of program) W t ≡ Happens which behind

@@ -1,22 +1,16 @@
 -- What the code of a thread's task comes to, when it has been told that the lock isn't owned for which it may ask.
-use Rattle.std.proofs.Common.{◌≡◌, ℕ, ◌<◌, ◌≤◌, Bool, true, false, List, [], ◌∷◌, ◌++◌, length, slice_index_or, slice_set, ℤ, refl, sym, ap, ◌∙◌, subst, arith}
-use Rattle.std.specs.Prelude.{Option, Some, None, Result, Ok, Err}
-use Rattle.std.proofs.lemmas.List.{get_or-set_same, set-get_or}
-use Rattle.c_syntax.specs.Tree.{Tree}
+use Rattle.std.proofs.Common.{◌≡◌, ℕ, ◌≤◌, true, List, [], ◌∷◌, refl, sym, ap, ◌∙◌, subst}
+use Rattle.std.specs.Prelude.{Result}
+use Rattle.std.proofs.lemmas.List.{set-get_or}
 use Rattle.c_syntax.specs.Numbered.{TreeView, tree_at}
-use Rattle.c_model.specs.declared.point.MutexKind.TheVariants as mutex
 use Rattle.c_model.specs.declared.point.Point.{Point}
-use Rattle.c_model.specs.declared.point.Point.TheVariants as point
 use Rattle.c_model.specs.declared.question.Answer.TheVariants as answer
 use Rattle.c_model.specs.declared.question.Ask.TheVariants as ask
 use Rattle.c_model.specs.declared.view.View.{View}
-use Rattle.c_model.specs.Answers.{AnswersFirst, AnswersItem, IsLockAnswer}
-use Rattle.c_model.specs.Going.{answered_at, settled_after_answer, settled_after_event}
-use Rattle.c_model.specs.Occurring.{IsAskOf, IsAskOfNext}
-use Rattle.c_model.specs.Program.{place_of}
+use Rattle.c_model.specs.Going.{answered_at, settled_after_answer}
 use Rattle.c_model.specs.Standing.{Fits}
-use Rattle.c_model.specs.Step.{items_from_next, settled_task, silent, step_at}
-use Rattle.c_model.specs.Task.{Item, Moment, Outcome, Store, Task as Code}
+use Rattle.c_model.specs.Step.{settled_task, silent, step_at}
+use Rattle.c_model.specs.Task.{Item, Moment, Outcome, Task as Code}
 use Rattle.c_model.specs.Task.Item.{TestLock}
 use Rattle.c_model.specs.Task.Outcome.{Asks, Ends, Limits, Occurs, StepsTo, Traps}
 use Rattle.c_steps.specs.Passing.{IsEventOfNext}
@@ -24,11 +18,11 @@ use Rattle.omp_world.specs.declared.event.Arrival.{Arrival}
 use Rattle.omp_world.specs.declared.event.Arrival.TheVariants.{Comes}
 use Rattle.omp_world.specs.declared.event.Event.{Event}
 use Rattle.omp_world.specs.declared.event.Halt.{Halt}
-use Rattle.omp_world.specs.State.{Task, World, no_task, task_at, with_task}
+use Rattle.omp_world.specs.State.{Task, World, no_task}
 use Rattle.omp_world.specs.Members.{code_of, current, moment_of, view_of}
-use Rattle.omp_world.specs.Changes.{gone_past, gone_to, with_code}
+use Rattle.omp_world.specs.Changes.{gone_past, with_code}
 use Rattle.omp_world.specs.Gates.{arrival}
-use Rattle.omp_world.specs.Going.{Going, Happens, Halts, effect_of_point, event_of_point, executes_point, fault_of_point, going_by, going_in_code, going_to_point, past_point, told, unless}
+use Rattle.omp_world.specs.Going.{Going, going_by, going_in_code, told}
 use Rattle.omp_world.proofs.Arriving.{Arrives, arrives}
 use Rattle.omp_world.proofs.Coming.{comes-told-past}
 use Rattle.omp_world.proofs.GonePast.{code-past, settled-once, silent-past}

@@ -17,8 +17,8 @@ use Rattle.omp_world.specs.declared.parts.RegionHead.{RegionHead}
 use Rattle.omp_world.specs.declared.event.Event.{Event}
 use Rattle.omp_world.specs.declared.event.Halt.{Halt}
 use Rattle.omp_world.specs.State.{Region, Run, Task, Thread, World}
-use Rattle.omp_world.specs.Members.{current, current_region, view_of}
-use Rattle.omp_world.specs.Silent.{Silence, Goes, Stops, silent_step}
+use Rattle.omp_world.specs.Members.{current, current_region}
+use Rattle.omp_world.specs.Silent.{Goes, Stops, silent_step}
 use Rattle.omp_world.specs.Going.{Going, Happens, Halts, going_beside, going_in_code, going_to_point}
 use Rattle.omp_world.specs.Changes.{gone_past}
 use Rattle.omp_board.specs.contracts.thread.Thread as thread

@@ -14,9 +14,10 @@
 //! turn and its event: of the code of the thread's current task, for a task more, a region more, a meeting of the thread's team, and a lock.
 //!
 //! The modules: `thread`, `task` with `tasks`, and `region` with `regions` keep the parts; `board` puts them together, with a file for each kind of
-//! change (`threads`, `tasks`, `regions`, `locks`, `words`) and for each step of a turn (`arrival`, `silent`, `coming` with `meeting`, `going`,
-//! `returning`). In `specs/` `Board` says what a board is seen as and what a turn's calls answer, `Tasks` and `Regions` the same of its parts;
-//! `Threads`, `Keeping` and `KeepingRegions` how the parts are kept, and `Codes` has codes of values, which serve proofs.
+//! change (`threads`, `tasks`, `regions`, `locks`, `words`) and for each step of a turn (`arrival`, `silent`, `coming` with `effects` and `meeting`,
+//! `going`, `returning`). In `specs/` `Board` says what a board is seen as and what a turn's calls answer, `Events` what the Go of an event of a task's
+//! code requires and changes, `Tasks` and `Regions` what the parts are seen as; `Threads`, `Keeping` and `KeepingRegions` how the parts are kept, and
+//! `Codes` has codes of values, which serve proofs.
 //!
 //! A task that has ended keeps no code: its control serves a task to come, where few are kept, or is given back. What calls cost is no clause.
 #![tactic(auto)]

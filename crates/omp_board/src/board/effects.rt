@@ -1,19 +1,18 @@
 //! What events of a task's code change beside the code, and the traps and limits that they meet.
 
-ghost use Rattle.std.specs.Prelude.{◌≡◌, ◌≤◌, int_lt, nat_abs, pos};
+ghost use Rattle.std.specs.Prelude.{◌≡◌, ◌<◌, ◌≤◌, Some, None, int_lt, nat_abs, pos};
 ghost use Rattle.team_parts.specs.Meetings.{HasChunk};
 ghost use Rattle.sync_objects.specs.Answers as answers;
 ghost use Rattle.sync_objects.specs.Faults.{fault_number};
 ghost use Rattle.omp_world.specs.declared.event.Halt.TheVariants as halt;
 ghost use Rattle.omp_world.specs.declared.limits.TheConstants as limits;
-ghost use Rattle.omp_world.specs.State.{pooled_at, task_at};
+ghost use Rattle.omp_world.specs.State.{task_at};
 ghost use Rattle.omp_world.specs.Changes as changes;
 ghost use Rattle.omp_world.specs.Going as going;
 ghost use Rattle.omp_world.specs.Made.{IsMadeWorld};
 ghost use Rattle.omp_world.specs.Members.{code_of, current, is_explicit_task, moment_of};
 ghost use Rattle.omp_board.specs.Board.{run_of};
 ghost use Rattle.omp_board.specs.Events.{HasGo, IsCreator, IsEffect, KeepsPassing, MayCreate};
-ghost use Rattle.std.specs.Prelude.{Some, None};
 
 use crate::board::Board;
 use crate::board::arrival::is_barrier;
@@ -36,7 +35,10 @@ impl Board {
     {
         match point {
             Point::ParallelBegin { requested, .. } => self.fork(thread, requested),
-            Point::ParallelEnd { .. } => self.end_fork(thread),
+            Point::ParallelEnd { .. } => {
+                self.end_fork(thread);
+                Ok(())
+            }
             Point::TaskCreate { undeferred, .. } => self.create(thread, undeferred),
             Point::WorkBegin { codeptr, work } => self.meet_next(thread, work_met(codeptr, work)),
             Point::MaskedBegin { .. } => self.begin_masked(thread),
@@ -48,7 +50,7 @@ impl Board {
             Point::MutexAcquire { wait_id, kind, .. } => self.ask_for(thread, wait_id, kind),
             Point::MutexAcquired { wait_id, .. } => self.acquire(thread, wait_id),
             Point::MutexReleased { wait_id, .. } => self.release(thread, wait_id),
-            Point::LockInit { wait_id, .. } => self.init_lock(thread, wait_id),
+            Point::LockInit { wait_id, .. } => self.init_lock(wait_id),
             Point::LockDestroy { wait_id, .. } => self.destroy_lock(wait_id),
             Point::WorkEnd { .. } | Point::MaskedEnd { .. } => Ok(()),
         }
@@ -86,13 +88,11 @@ impl Board {
     }
 
     /// The region is over that the thread's task has forked.
-    fn end_fork(&mut self, thread: u8) -> Result<(), Halt>
-        ensures effect { IsEffect None (changes.region_over self.old.world (task_at self.old.world (current self.old.world thread)).forked) result self.old.world self.new.world }
-        ensures kept { KeepsPassing self.old self.new }
+    fn end_fork(&mut self, thread: u8)
+        ensures { self.new ≡ record self.old { world = changes.region_over self.old.world (task_at self.old.world (current self.old.world thread)).forked } }
     {
         let region = self.forked(self.current(thread));
         self.end_region(region);
-        Ok(())
     }
 
     /// An explicit task is made.
@@ -233,8 +233,8 @@ impl Board {
     }
 
     /// A lock is initialised.
-    fn init_lock(&mut self, thread: u8, wait_id: u32) -> Result<(), Halt>
-        requires room { HasGo self.old.room self.old.world thread }
+    fn init_lock(&mut self, wait_id: u32) -> Result<(), Halt>
+        requires { 0 < self.old.room.locks }
         ensures effect { IsEffect (going.lock_fault (answers.answer_to_init self.old.world.locks.locks wait_id)) (changes.initialised self.old.world wait_id) result self.old.world self.new.world }
         ensures kept { KeepsPassing self.old self.new }
     {

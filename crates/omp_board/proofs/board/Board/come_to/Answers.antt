@@ -1,4 +1,4 @@
-use Rattle.std.proofs.Common.{◌≡◌, ◌<◌, ◌∙◌, sym, ap, subst}
+use Rattle.std.proofs.Common.{◌<◌, ◌∙◌, sym, subst}
 use Rattle.c_model.specs.Task.{Task as Code}
 use Rattle.c_syntax.specs.Numbered.{TreeView}
 use Rattle.c_steps.specs.Passing.{IsEventOfNext}

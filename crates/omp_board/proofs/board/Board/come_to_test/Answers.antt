@@ -1,4 +1,4 @@
-use Rattle.std.proofs.Common.{◌≡◌, ◌≤◌, ◌∙◌, refl, sym, ap, subst}
+use Rattle.std.proofs.Common.{◌≡◌, ◌≤◌, ◌∙◌, true, refl, sym, subst}
 use Rattle.c_model.specs.declared.point.Point.{Point}
 use Rattle.c_model.specs.Step.{silent}
 use Rattle.c_model.specs.Task.Outcome.{Occurs}
@@ -9,7 +9,8 @@ use Rattle.omp_world.specs.Made.{IsMadeWorld}
 use Rattle.omp_world.specs.Members.{code_of, current, moment_of, view_of}
 use Rattle.omp_world.proofs.MadeRuns.{past-made}
 use Rattle.omp_board.specs.Board.{BoardView, IsGoingTo}
-use Rattle.omp_board.proofs.Tested.{acquired, come_told, halts_told, made_told, may_be_told, occurs_told, settled_told, some_event, went_told, world_told}
+use Rattle.omp_board.proofs.Replies.{lock_replies}
+use Rattle.omp_board.proofs.Tested.{acquired, come_told, halts_told, made_told, occurs_told, settled_told, some_event, went_told, world_told}
 use Rattle.omp_board.proofs.ToldFree.{come_past, past_same}
 use Rattle.omp_board.proofs.board.Board.come_to_test.Goals as goal
 
@@ -18,7 +19,7 @@ returns-in-Err-clause-going c =
     (halts_told c.args.self.now.program c.args.self.now.world c.args.thread c.requires.settled c.requires.made (tree_at c.args.self.now.program.trees c.args.node) c.args.wait_id c.requires.asks c.in-Err.halt c.in-Err.ensures.0, refl)
 
 pub tell_free-requires-clause-asks : goal.tell_free-requires-clause-asks
-tell_free-requires-clause-asks c = may_be_told (tree_at c.args.self.now.program.trees c.args.node) c.args.wait_id (code_of c.args.self.now.world c.args.thread).todo c.requires.asks
+tell_free-requires-clause-asks c = lock_replies (code_of c.args.self.now.world c.args.thread).todo (tree_at c.args.self.now.program.trees c.args.node) c.args.wait_id true c.requires.asks
 
 pub come_to-requires-clause-comes : goal.come_to-requires-clause-comes
 come_to-requires-clause-comes c =

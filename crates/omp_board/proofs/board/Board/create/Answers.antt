@@ -1,6 +1,6 @@
-use Rattle.std.proofs.Common.{◌≡◌, ◌<◌, ap, sym, subst}
+use Rattle.std.proofs.Common.{sym, subst}
 use Rattle.task_pool.specs.Tasks.{MayBeParent}
-use Rattle.omp_board.proofs.AtEvents.{created_of_settled, parent_made, region_is_made}
+use Rattle.omp_board.proofs.AtEvents.{parent_made}
 use Rattle.omp_board.proofs.board.Board.create.Goals as goal
 
 pub add_explicit-requires-clause-parent : goal.add_explicit-requires-clause-parent
