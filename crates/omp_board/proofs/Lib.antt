@@ -1,3 +1,4 @@
+pub mod AtEvents
 pub mod Beside
 pub mod Blanks
 pub mod Creations
@@ -13,3 +14,5 @@ pub mod Seen
 pub mod Settling
 pub mod Silence
 pub mod Summoning
+pub mod Tested
+pub mod ToldFree

@@ -7,3 +7,4 @@ pub mod KeepingRegions
 pub mod Board
 pub mod Levels
 pub mod Answering
+pub mod Events

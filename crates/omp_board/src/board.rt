@@ -11,6 +11,7 @@ ghost use Rattle.c_steps.specs.Scopes.{HasNumbers};
 
 mod arrival;
 mod coming;
+mod effects;
 mod going;
 mod locks;
 mod meeting;

@@ -12,13 +12,16 @@
 //! - [`call_of`] and [`snapshot_of`] tell the call of an event that has just occurred, and what can be inquired during it, with the room of
 //!   [`Levels`]. [`callback_of`] is the number of the event's callback.
 //!
-//! Only [`Board::new`], [`Board::reserve`] and [`Levels::new`] take memory; where they find none, nothing has changed but room. Room is for the 64 silent steps of a
-//! turn and its event: of the code of the thread's current task, for a task more, a region more, a meeting of the thread's team, and a lock.
+//! Only [`Board::new`], [`Board::reserve`] and [`Levels::new`] take memory; where they find none, nothing has changed but room. Room is for the 64
+//! silent steps of a turn and its event: of the code of the thread's current task, for a task more, a region more, a meeting of the thread's team,
+//! and a lock.
 //!
-//! The modules: `thread`, `task` with `tasks` and `controls`, and `region` with `regions` and `head` keep the parts; `board` puts them together, with a file for each kind of
-//! change (`threads`, `tasks`, `regions`, `locks`, `words`) and for each step of a turn (`arrival`, `silent`, `coming` with `meeting`, `going`,
-//! `returning`); `call`, `snapshot`, `levels` and `frames` tell it. In `specs/` `Board` says what a board is seen as and what a turn's calls answer, `Tasks` and `Regions` the same of its parts;
-//! `Threads`, `Keeping` and `KeepingRegions` how the parts are kept, `Levels` parts of a snapshot's levels, `Answering` what is answered where a task's code asks, and `Codes` has codes of values, which serve proofs.
+//! The modules: `thread`, `task` with `tasks` and `controls`, and `region` with `regions` and `head` keep the parts; `board` puts them together,
+//! with a file for each kind of change (`threads`, `tasks`, `regions`, `locks`, `words`) and for each step of a turn (`arrival`, `silent`, `coming`
+//! with `effects` and `meeting`, `going`, `returning`); `call`, `snapshot`, `levels` and `frames` tell it. In `specs/` `Board` says what a board is
+//! seen as and what a turn's calls answer, `Answering` what is answered where a task's code asks, `Events` what the Go of an event of a task's code
+//! requires and changes, `Tasks` and `Regions` what the parts are seen as; `Threads`, `Keeping` and `KeepingRegions` how the parts are kept, `Levels`
+//! parts of a snapshot's levels, and `Codes` has codes of values, which serve proofs.
 //!
 //! A task that has ended keeps no code: its control serves a task to come, where few are kept, or is given back. What calls cost is no clause.
 #![tactic(auto)]

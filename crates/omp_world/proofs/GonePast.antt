@@ -48,7 +48,7 @@ task-settled view (task ∷ tasks) zero = refl
 task-settled view (task ∷ tasks) (suc k) = task-settled view tasks k
 
 -- what is written last stays
-last-written : (tasks : List Task) (k : ℕ) (first last : Task) → slice_set (slice_set tasks k first) k last ≡ slice_set tasks k last
+pub last-written : (tasks : List Task) (k : ℕ) (first last : Task) → slice_set (slice_set tasks k first) k last ≡ slice_set tasks k last
 last-written [] k first last = refl
 last-written (task ∷ tasks) zero first last = refl
 last-written (task ∷ tasks) (suc k) first last = ap (λ (others : List Task). task ∷ others) (last-written tasks k first last)

@@ -1,0 +1,76 @@
+-- What an event of a task's code requires at its Go, and what it answers and changes beside the code.
+use Rattle.std.specs.Prelude.{◌≡◌, ℕ, ◌<◌, ◌≤◌, Bool, length, slice_get, Option, Some, None, Result, Ok, Err}
+use Rattle.c_syntax.specs.Numbered.{TreeView, tree_at}
+use Rattle.c_model.specs.declared.limits.TheConstants.{CELL_LIMIT}
+use Rattle.c_model.specs.declared.point.Point.{Point}
+use Rattle.c_model.specs.declared.point.Point.TheVariants.{TaskCreate}
+use Rattle.c_model.specs.declared.point.Work.{Work}
+use Rattle.c_model.specs.declared.point.Work.TheVariants as work
+use Rattle.c_model.specs.declared.point.WorkKind.TheVariants as work_kind
+use Rattle.c_model.specs.Begin.{created_construct}
+use Rattle.c_model.specs.Copies.{with_task_cells}
+use Rattle.c_model.specs.Step.{settled_task, silent}
+use Rattle.c_model.specs.Task.Outcome.{Occurs}
+use Rattle.c_steps.specs.Beginning.{IsCreation}
+use Rattle.c_steps.specs.Passing.{IsEventOfNext}
+use Rattle.omp_world.specs.declared.event.Endpoint.TheVariants.{Begin}
+use Rattle.omp_world.specs.declared.event.Event.{Event}
+use Rattle.omp_world.specs.declared.event.Event.TheVariants as event
+use Rattle.omp_world.specs.declared.event.Halt.{Halt}
+use Rattle.omp_world.specs.State.{World}
+use Rattle.omp_world.specs.Members.{code_of, current, current_region, moment_of, view_of}
+use Rattle.omp_world.specs.Going.{single_kind}
+use Rattle.omp_board.specs.Board.{BoardRoom, BoardView}
+
+-- the code of the thread's task has left out what it goes past
+abbrev pub IsSettled : World → ℕ → Type 0
+IsSettled W t = settled_task (view_of W t) (code_of W t) ≡ code_of W t
+
+-- .. and has come to this event, which stands at this node
+pub record HasComeTo (program : TreeView) (W : World) (t : ℕ) (what : Point) (node : ℕ) : Type 0 where
+  pub some : 1 ≤ current W t
+  pub settled : IsSettled W t
+  pub occurs : silent program (view_of W t) (moment_of W t) ≡ Occurs what (tree_at program.trees node)
+  pub event : IsEventOfNext program what node (code_of W t).todo
+
+-- an explicit task is made of what stands first in the code of the thread's task, for whose cells there is room
+pub record IsCreator (program : TreeView) (W : World) (t : ℕ) : Type 0 where
+  pub some : 1 ≤ current W t
+  pub settled : IsSettled W t
+  pub creation : IsCreation (slice_get (code_of W t).todo 0)
+  pub cells : length (with_task_cells program (record { env = (code_of W t).env; cells = W.store.cells }) (created_construct (code_of W t).todo)).cells ≤ CELL_LIMIT
+
+abbrev pub MayCreate : TreeView → World → ℕ → Point → Type 0
+MayCreate program W t (TaskCreate codeptr undeferred) = IsCreator program W t
+MayCreate program W t other = Unit {0}
+
+-- there is room for the code of the thread's task to go past an event
+pub record HasPassing (room : BoardRoom) (W : World) (t : ℕ) : Type 0 where
+  pub of_task : room.task ≡ current W t
+  pub passes : 0 < room.passes
+
+-- .. and for what the event makes
+pub record HasGo (room : BoardRoom) (W : World) (t : ℕ) : Type 0 where
+  pub passing : HasPassing room W t
+  pub of_region : room.region ≡ current_region W t
+  pub tasks : 0 < room.tasks
+  pub meetings : 0 < room.meetings
+  pub regions : 0 < room.regions
+  pub locks : 0 < room.locks
+
+-- the program stays, and so does room for the code to go past the event
+pub record KeepsPassing (before after : BoardView) : Type 0 where
+  pub program : after.program ≡ before.program
+  pub task : after.room.task ≡ before.room.task
+  pub passes : after.room.passes ≡ before.room.passes
+
+-- what an event with this fault and this effect answers, and the world after it
+abbrev pub IsEffect : Option Halt → World → Result (Unit {0}) Halt → World → World → Type 0
+IsEffect fault effect (Ok it) before after = (fault ≡ None) × (after ≡ effect)
+IsEffect fault effect (Err halt) before after = (fault ≡ Some halt) × (after ≡ before)
+
+-- the begin of a worksharing construct, where the member executes the statement of a `single` or another member does
+abbrev pub work_event : ℕ → Work → Bool → Event
+work_event codeptr (work.Loop start count step how) executes = event.Work Begin work_kind.Loop count codeptr
+work_event codeptr (work.Sections count) executes = event.Work Begin work_kind.Sections count codeptr
+work_event codeptr work.Single executes = event.Work Begin (single_kind executes) 1 codeptr

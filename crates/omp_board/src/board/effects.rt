@@ -1,0 +1,282 @@
+//! What events of a task's code change beside the code, and the traps and limits that they meet.
+
+ghost use Rattle.std.specs.Prelude.{◌≡◌, ◌<◌, ◌≤◌, Some, None, int_lt, nat_abs, pos};
+ghost use Rattle.team_parts.specs.Meetings.{HasChunk};
+ghost use Rattle.sync_objects.specs.Answers as answers;
+ghost use Rattle.sync_objects.specs.Faults.{fault_number};
+ghost use Rattle.omp_world.specs.declared.event.Halt.TheVariants as halt;
+ghost use Rattle.omp_world.specs.declared.limits.TheConstants as limits;
+ghost use Rattle.omp_world.specs.State.{task_at};
+ghost use Rattle.omp_world.specs.Changes as changes;
+ghost use Rattle.omp_world.specs.Going as going;
+ghost use Rattle.omp_world.specs.Made.{IsMadeWorld};
+ghost use Rattle.omp_world.specs.Members.{code_of, current, is_explicit_task, moment_of};
+ghost use Rattle.omp_board.specs.Board.{run_of};
+ghost use Rattle.omp_board.specs.Events.{HasGo, IsCreator, IsEffect, KeepsPassing, MayCreate};
+
+use crate::board::Board;
+use crate::board::arrival::is_barrier;
+use crate::board::meeting::{barrier_met, work_met};
+use c_model::{MutexKind, Point, SyncKind, SyncStage};
+use omp_world::{Halt, IMPLICIT_REGION, MISMATCH, NESTING, TASKS, TEAM_SIZE};
+use sync_objects::LockFault;
+use task_pool::TaskKind;
+use team_parts::Meeting;
+
+impl Board {
+    /// The event at this point changes what it does beside the code: one line for each. Where it meets a trap or a limit, nothing has changed.
+    #[tactic(auto, unfolding(omp_world::specs::Going::fault_of_point, omp_world::specs::Going::effect_of_point))]
+    pub(super) fn take_effect(&mut self, thread: u8, point: Point) -> Result<(), Halt>
+        requires made { IsMadeWorld self.old.world }
+        requires creates { MayCreate self.old.program self.old.world thread point }
+        requires room { HasGo self.old.room self.old.world thread }
+        ensures effect { IsEffect (going.fault_of_point self.old.world thread (code_of self.old.world thread) point) (going.effect_of_point (run_of self.old.program) self.old.world thread (moment_of self.old.world thread) point) result self.old.world self.new.world }
+        ensures kept { KeepsPassing self.old self.new }
+    {
+        match point {
+            Point::ParallelBegin { requested, .. } => self.fork(thread, requested),
+            Point::ParallelEnd { .. } => {
+                self.end_fork(thread);
+                Ok(())
+            }
+            Point::TaskCreate { undeferred, .. } => self.create(thread, undeferred),
+            Point::WorkBegin { codeptr, work } => self.meet_next(thread, work_met(codeptr, work)),
+            Point::MaskedBegin { .. } => self.begin_masked(thread),
+            Point::Sync {
+                codeptr,
+                kind,
+                stage,
+            } => self.synchronise(thread, codeptr, kind, stage),
+            Point::MutexAcquire { wait_id, kind, .. } => self.ask_for(thread, wait_id, kind),
+            Point::MutexAcquired { wait_id, .. } => self.acquire(thread, wait_id),
+            Point::MutexReleased { wait_id, .. } => self.release(thread, wait_id),
+            Point::LockInit { wait_id, .. } => self.init_lock(wait_id),
+            Point::LockDestroy { wait_id, .. } => self.destroy_lock(wait_id),
+            Point::WorkEnd { .. } | Point::MaskedEnd { .. } => Ok(()),
+        }
+    }
+
+    /// A region is forked.
+    fn fork(&mut self, thread: u8, requested: i32) -> Result<(), Halt>
+        requires room { HasGo self.old.room self.old.world thread }
+        ensures effect { IsEffect (going.trap_if (int_lt requested (pos 1)) limits.TEAM_SIZE) (going.after_fork self.old.world thread (nat_abs requested)) result self.old.world self.new.world }
+        ensures kept { KeepsPassing self.old self.new }
+    {
+        if requested < 1 {
+            return Err(Halt::Trap(TEAM_SIZE));
+        }
+        let task = self.current(thread);
+        let region = self.next_region();
+        let size = self.team_size(thread, requested.unsigned_abs());
+        self.set_forked(task, region);
+        self.add_region(task, size);
+        Ok(())
+    }
+
+    /// How many members a region has for which so many were asked.
+    fn team_size(&self, thread: u8, requested: u32) -> u8
+        requires { 1 ≤ requested }
+        ensures size { result ≡ going.team_size self.now.world thread requested }
+        ensures some { 1 ≤ result }
+        ensures few { result ≤ 16 }
+    {
+        if self.current_region(thread) == IMPLICIT_REGION {
+            requested.min(self.threads.len() as u32) as u8
+        } else {
+            1
+        }
+    }
+
+    /// The region is over that the thread's task has forked.
+    fn end_fork(&mut self, thread: u8)
+        ensures { self.new ≡ record self.old { world = changes.region_over self.old.world (task_at self.old.world (current self.old.world thread)).forked } }
+    {
+        let region = self.forked(self.current(thread));
+        self.end_region(region);
+    }
+
+    /// An explicit task is made.
+    fn create(&mut self, thread: u8, undeferred: bool) -> Result<(), Halt>
+        requires made { IsMadeWorld self.old.world }
+        requires creator { IsCreator self.old.program self.old.world thread }
+        requires room { HasGo self.old.room self.old.world thread }
+        ensures effect { IsEffect (going.task_fault self.old.world) (going.after_creation (run_of self.old.program) self.old.world thread (moment_of self.old.world thread) undeferred) result self.old.world self.new.world }
+        ensures kept { KeepsPassing self.old self.new }
+    {
+        if self.is_full() {
+            return Err(Halt::Limit(TASKS));
+        }
+        let creator = self.current(thread);
+        let region = self.region_of(creator);
+        self.add_explicit(creator, region, undeferred);
+        Ok(())
+    }
+
+    /// The thread meets this next, a worksharing construct or a barrier.
+    fn meet_next(&mut self, thread: u8, what: Meeting) -> Result<(), Halt>
+        requires chunk { HasChunk what }
+        requires room { HasGo self.old.room self.old.world thread }
+        ensures effect { IsEffect (going.meeting_fault self.old.world thread (code_of self.old.world thread) what) (going.after_meeting_at self.old.world thread what) result self.old.world self.new.world }
+        ensures kept { KeepsPassing self.old self.new }
+    {
+        match self.meeting_fault(thread, what) {
+            Some(halt) => Err(halt),
+            None => {
+                self.meet(thread, what);
+                Ok(())
+            }
+        }
+    }
+
+    /// The trap that the thread has where it meets this next.
+    fn meeting_fault(&self, thread: u8, what: Meeting) -> Option<Halt>
+        ensures { result ≡ going.meeting_fault self.now.world thread (code_of self.now.world thread) what }
+    {
+        let task = self.current(thread);
+        if self.is_explicit(task) {
+            return Some(Halt::Trap(NESTING));
+        }
+        match self.meeting_answer(thread, what) {
+            Err(_) => Some(Halt::Trap(MISMATCH)),
+            Ok(_) => trap_if(self.tasks.is_in_exclusive(task), NESTING),
+        }
+    }
+
+    /// The statement of a `masked` begins.
+    fn begin_masked(&self, thread: u8) -> Result<(), Halt>
+        ensures { IsEffect (going.masked_fault self.now.world thread (code_of self.now.world thread)) self.now.world result self.now.world self.now.world }
+    {
+        let task = self.current(thread);
+        if self.is_explicit(task) || self.tasks.is_in_work(task) {
+            Err(Halt::Trap(NESTING))
+        } else {
+            Ok(())
+        }
+    }
+
+    /// One of the four events of a barrier or taskwait.
+    fn synchronise(
+        &mut self,
+        thread: u8,
+        codeptr: u64,
+        kind: SyncKind,
+        stage: SyncStage,
+    ) -> Result<(), Halt>
+        requires room { HasGo self.old.room self.old.world thread }
+        ensures effect { IsEffect (going.sync_fault self.old.world thread (code_of self.old.world thread) codeptr kind stage) (going.after_sync self.old.world thread codeptr kind stage) result self.old.world self.new.world }
+        ensures kept { KeepsPassing self.old self.new }
+    {
+        if !is_barrier(kind) {
+            return Ok(());
+        }
+        match stage {
+            SyncStage::RegionBegin => self.meet_next(thread, barrier_met(codeptr, kind)),
+            SyncStage::WaitEnd => {
+                self.pass_barrier(thread);
+                Ok(())
+            }
+            SyncStage::WaitBegin | SyncStage::RegionEnd => Ok(()),
+        }
+    }
+
+    /// A lock or critical is asked for.
+    fn ask_for(&self, thread: u8, wait_id: u32, kind: MutexKind) -> Result<(), Halt>
+        ensures { IsEffect (going.acquire_fault self.now.world (code_of self.now.world thread) kind wait_id) self.now.world result self.now.world self.now.world }
+    {
+        match kind {
+            MutexKind::Critical => {
+                if self.tasks.is_in_critical(self.current(thread), wait_id) {
+                    Err(Halt::Trap(NESTING))
+                } else {
+                    Ok(())
+                }
+            }
+            MutexKind::Lock | MutexKind::TestLock => self.may_acquire(wait_id),
+        }
+    }
+
+    /// A lock or critical that is to be acquired is initialised.
+    pub(super) fn may_acquire(&self, wait_id: u32) -> Result<(), Halt>
+        ensures { IsEffect (going.lock_fault (answers.answer_to_may_take self.now.world.locks.locks wait_id)) self.now.world result self.now.world self.now.world }
+    {
+        match self.may_take(wait_id) {
+            Ok(_) => Ok(()),
+            Err(fault) => Err(trap(fault)),
+        }
+    }
+
+    /// It comes to be owned.
+    fn acquire(&mut self, thread: u8, wait_id: u32) -> Result<(), Halt>
+        ensures effect { IsEffect (going.lock_fault (answers.answer_to_may_take self.old.world.locks.locks wait_id)) (changes.owned_by self.old.world wait_id (Some (current self.old.world thread))) result self.old.world self.new.world }
+        ensures kept { KeepsPassing self.old self.new }
+    {
+        match self.may_acquire(wait_id) {
+            Ok(()) => {
+                let task = self.current(thread);
+                self.take(wait_id, task);
+                Ok(())
+            }
+            Err(halt) => Err(halt),
+        }
+    }
+
+    /// It is given back.
+    fn release(&mut self, thread: u8, wait_id: u32) -> Result<(), Halt>
+        ensures effect { IsEffect (going.lock_fault (answers.answer_to_give self.old.world.locks.locks wait_id (current self.old.world thread))) (changes.owned_by self.old.world wait_id None) result self.old.world self.new.world }
+        ensures kept { KeepsPassing self.old self.new }
+    {
+        let task = self.current(thread);
+        match self.give_back(wait_id, task) {
+            Ok(()) => Ok(()),
+            Err(fault) => Err(trap(fault)),
+        }
+    }
+
+    /// A lock is initialised.
+    fn init_lock(&mut self, wait_id: u32) -> Result<(), Halt>
+        requires { 0 < self.old.room.locks }
+        ensures effect { IsEffect (going.lock_fault (answers.answer_to_init self.old.world.locks.locks wait_id)) (changes.initialised self.old.world wait_id) result self.old.world self.new.world }
+        ensures kept { KeepsPassing self.old self.new }
+    {
+        match self.init(wait_id) {
+            Ok(()) => Ok(()),
+            Err(fault) => Err(trap(fault)),
+        }
+    }
+
+    /// A lock is destroyed.
+    fn destroy_lock(&mut self, wait_id: u32) -> Result<(), Halt>
+        ensures effect { IsEffect (going.lock_fault (answers.answer_to_destroy self.old.world.locks.locks wait_id)) (changes.destroyed self.old.world wait_id) result self.old.world self.new.world }
+        ensures kept { KeepsPassing self.old self.new }
+    {
+        match self.destroy(wait_id) {
+            Ok(()) => Ok(()),
+            Err(fault) => Err(trap(fault)),
+        }
+    }
+
+    /// Whether a task construct made the task.
+    fn is_explicit(&self, task: u32) -> bool
+        ensures { result ≡ is_explicit_task self.now.world task }
+    {
+        matches!(self.kind(task), TaskKind::Explicit | TaskKind::Undeferred)
+    }
+}
+
+/// The trap with this number, where the rule is broken.
+fn trap_if(is_broken: bool, number: u8) -> Option<Halt>
+    ensures { result ≡ going.trap_if is_broken number }
+{
+    if is_broken {
+        Some(Halt::Trap(number))
+    } else {
+        None
+    }
+}
+
+/// A wrong use of a lock halts the run.
+fn trap(fault: LockFault) -> Halt
+    ensures { result ≡ halt.Trap (fault_number fault) }
+{
+    Halt::Trap(fault.number())
+}
