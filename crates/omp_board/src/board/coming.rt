@@ -51,7 +51,8 @@ impl Board {
     /// What stands next in the code of the thread's task, which leaves out what it goes past. It may be a silent step, and then that is made.
     fn look(&mut self, thread: u8) -> Next
         requires room { HasStep self.old.room self.old.world thread }
-        ensures outcome { outcome_at self.old.program result (moment_of self.new.world thread) ≡ silent self.old.program (view_of self.old.world thread) (moment_of self.old.world thread) }
+        ensures outcome { outcome_at self.old.program result (moment_of self.new.world thread) ≡
+            silent self.old.program (view_of self.old.world thread) (moment_of self.old.world thread) }
         ensures still { IsStill result → self.new ≡ record self.old { world = gone_past self.old.world thread } }
         ensures named { IsNamedIn self.old.program result (code_of self.new.world thread).todo }
     {
@@ -62,7 +63,8 @@ impl Board {
 
     /// The Go of the event with which an `omp_test_lock` comes to own the lock, which no task owns.
     fn come_to_test(&mut self, thread: u8, wait_id: u32, node: u32) -> Result<Event, Halt>
-        requires asks { IsAskOfNext (ask.LockFree wait_id) (tree_at self.old.program.trees node) (code_of self.old.world thread).todo }
+        requires asks { let tree = tree_at self.old.program.trees node in
+            IsAskOfNext (ask.LockFree wait_id) tree (code_of self.old.world thread).todo }
         requires settled { IsSettled self.old.world thread }
         requires some { 1 ≤ current self.old.world thread }
         requires made { IsMadeWorld self.old.world }
@@ -216,7 +218,8 @@ impl Board {
     fn go_past(&mut self, thread: u8, point: Point, node: u32, executes: bool)
         requires event { IsEventOfNext self.old.program point node (code_of self.old.world thread).todo }
         requires room { HasPassing self.old.room self.old.world thread }
-        ensures world { self.new.world ≡ with_code self.old.world (current self.old.world thread) (settled_after_event point executes (code_of self.old.world thread)) }
+        ensures world { let W = self.old.world in
+            self.new.world ≡ with_code W (current W thread) (settled_after_event point executes (code_of W thread)) }
         ensures program { self.new.program ≡ self.old.program }
     {
         let task = self.current(thread);

@@ -30,7 +30,10 @@ impl Board {
         requires made { IsMadeWorld self.old.world }
         requires creates { MayCreate self.old.program self.old.world thread point }
         requires room { HasGo self.old.room self.old.world thread }
-        ensures effect { IsEffect (going.fault_of_point self.old.world thread (code_of self.old.world thread) point) (going.effect_of_point (run_of self.old.program) self.old.world thread (moment_of self.old.world thread) point) result self.old.world self.new.world }
+        ensures effect { let W = self.old.world in IsEffect
+            (going.fault_of_point W thread (code_of W thread) point)
+            (going.effect_of_point (run_of self.old.program) W thread (moment_of W thread) point)
+            result W self.new.world }
         ensures kept { KeepsPassing self.old self.new }
     {
         match point {
@@ -59,7 +62,10 @@ impl Board {
     /// A region is forked.
     fn fork(&mut self, thread: u8, requested: i32) -> Result<(), Halt>
         requires room { HasGo self.old.room self.old.world thread }
-        ensures effect { IsEffect (going.trap_if (int_lt requested (pos 1)) limits.TEAM_SIZE) (going.after_fork self.old.world thread (nat_abs requested)) result self.old.world self.new.world }
+        ensures effect { let W = self.old.world in IsEffect
+            (going.trap_if (int_lt requested (pos 1)) limits.TEAM_SIZE)
+            (going.after_fork W thread (nat_abs requested))
+            result W self.new.world }
         ensures kept { KeepsPassing self.old self.new }
     {
         if requested < 1 {
@@ -89,7 +95,8 @@ impl Board {
 
     /// The region is over that the thread's task has forked.
     fn end_fork(&mut self, thread: u8)
-        ensures { self.new ≡ record self.old { world = changes.region_over self.old.world (task_at self.old.world (current self.old.world thread)).forked } }
+        ensures { let W = self.old.world in
+            self.new ≡ record self.old { world = changes.region_over W (task_at W (current W thread)).forked } }
     {
         let region = self.forked(self.current(thread));
         self.end_region(region);
@@ -100,7 +107,10 @@ impl Board {
         requires made { IsMadeWorld self.old.world }
         requires creator { IsCreator self.old.program self.old.world thread }
         requires room { HasGo self.old.room self.old.world thread }
-        ensures effect { IsEffect (going.task_fault self.old.world) (going.after_creation (run_of self.old.program) self.old.world thread (moment_of self.old.world thread) undeferred) result self.old.world self.new.world }
+        ensures effect { let W = self.old.world in IsEffect
+            (going.task_fault W)
+            (going.after_creation (run_of self.old.program) W thread (moment_of W thread) undeferred)
+            result W self.new.world }
         ensures kept { KeepsPassing self.old self.new }
     {
         if self.is_full() {
@@ -116,7 +126,10 @@ impl Board {
     fn meet_next(&mut self, thread: u8, what: Meeting) -> Result<(), Halt>
         requires chunk { HasChunk what }
         requires room { HasGo self.old.room self.old.world thread }
-        ensures effect { IsEffect (going.meeting_fault self.old.world thread (code_of self.old.world thread) what) (going.after_meeting_at self.old.world thread what) result self.old.world self.new.world }
+        ensures effect { let W = self.old.world in IsEffect
+            (going.meeting_fault W thread (code_of W thread) what)
+            (going.after_meeting_at W thread what)
+            result W self.new.world }
         ensures kept { KeepsPassing self.old self.new }
     {
         match self.meeting_fault(thread, what) {
@@ -144,7 +157,10 @@ impl Board {
 
     /// The statement of a `masked` begins.
     fn begin_masked(&self, thread: u8) -> Result<(), Halt>
-        ensures { IsEffect (going.masked_fault self.now.world thread (code_of self.now.world thread)) self.now.world result self.now.world self.now.world }
+        ensures { let W = self.now.world in IsEffect
+            (going.masked_fault W thread (code_of W thread))
+            W
+            result W W }
     {
         let task = self.current(thread);
         if self.is_explicit(task) || self.tasks.is_in_work(task) {
@@ -163,7 +179,10 @@ impl Board {
         stage: SyncStage,
     ) -> Result<(), Halt>
         requires room { HasGo self.old.room self.old.world thread }
-        ensures effect { IsEffect (going.sync_fault self.old.world thread (code_of self.old.world thread) codeptr kind stage) (going.after_sync self.old.world thread codeptr kind stage) result self.old.world self.new.world }
+        ensures effect { let W = self.old.world in IsEffect
+            (going.sync_fault W thread (code_of W thread) codeptr kind stage)
+            (going.after_sync W thread codeptr kind stage)
+            result W self.new.world }
         ensures kept { KeepsPassing self.old self.new }
     {
         if !is_barrier(kind) {
@@ -181,7 +200,10 @@ impl Board {
 
     /// A lock or critical is asked for.
     fn ask_for(&self, thread: u8, wait_id: u32, kind: MutexKind) -> Result<(), Halt>
-        ensures { IsEffect (going.acquire_fault self.now.world (code_of self.now.world thread) kind wait_id) self.now.world result self.now.world self.now.world }
+        ensures { let W = self.now.world in IsEffect
+            (going.acquire_fault W (code_of W thread) kind wait_id)
+            W
+            result W W }
     {
         match kind {
             MutexKind::Critical => {
@@ -197,7 +219,10 @@ impl Board {
 
     /// A lock or critical that is to be acquired is initialised.
     pub(super) fn may_acquire(&self, wait_id: u32) -> Result<(), Halt>
-        ensures { IsEffect (going.lock_fault (answers.answer_to_may_take self.now.world.locks.locks wait_id)) self.now.world result self.now.world self.now.world }
+        ensures { let W = self.now.world in IsEffect
+            (going.lock_fault (answers.answer_to_may_take W.locks.locks wait_id))
+            W
+            result W W }
     {
         match self.may_take(wait_id) {
             Ok(_) => Ok(()),
@@ -207,7 +232,10 @@ impl Board {
 
     /// It comes to be owned.
     fn acquire(&mut self, thread: u8, wait_id: u32) -> Result<(), Halt>
-        ensures effect { IsEffect (going.lock_fault (answers.answer_to_may_take self.old.world.locks.locks wait_id)) (changes.owned_by self.old.world wait_id (Some (current self.old.world thread))) result self.old.world self.new.world }
+        ensures effect { let W = self.old.world in IsEffect
+            (going.lock_fault (answers.answer_to_may_take W.locks.locks wait_id))
+            (changes.owned_by W wait_id (Some (current W thread)))
+            result W self.new.world }
         ensures kept { KeepsPassing self.old self.new }
     {
         match self.may_acquire(wait_id) {
@@ -222,7 +250,10 @@ impl Board {
 
     /// It is given back.
     fn release(&mut self, thread: u8, wait_id: u32) -> Result<(), Halt>
-        ensures effect { IsEffect (going.lock_fault (answers.answer_to_give self.old.world.locks.locks wait_id (current self.old.world thread))) (changes.owned_by self.old.world wait_id None) result self.old.world self.new.world }
+        ensures effect { let W = self.old.world in IsEffect
+            (going.lock_fault (answers.answer_to_give W.locks.locks wait_id (current W thread)))
+            (changes.owned_by W wait_id None)
+            result W self.new.world }
         ensures kept { KeepsPassing self.old self.new }
     {
         let task = self.current(thread);
@@ -235,7 +266,10 @@ impl Board {
     /// A lock is initialised.
     fn init_lock(&mut self, wait_id: u32) -> Result<(), Halt>
         requires { 0 < self.old.room.locks }
-        ensures effect { IsEffect (going.lock_fault (answers.answer_to_init self.old.world.locks.locks wait_id)) (changes.initialised self.old.world wait_id) result self.old.world self.new.world }
+        ensures effect { let W = self.old.world in IsEffect
+            (going.lock_fault (answers.answer_to_init W.locks.locks wait_id))
+            (changes.initialised W wait_id)
+            result W self.new.world }
         ensures kept { KeepsPassing self.old self.new }
     {
         match self.init(wait_id) {
@@ -246,7 +280,10 @@ impl Board {
 
     /// A lock is destroyed.
     fn destroy_lock(&mut self, wait_id: u32) -> Result<(), Halt>
-        ensures effect { IsEffect (going.lock_fault (answers.answer_to_destroy self.old.world.locks.locks wait_id)) (changes.destroyed self.old.world wait_id) result self.old.world self.new.world }
+        ensures effect { let W = self.old.world in IsEffect
+            (going.lock_fault (answers.answer_to_destroy W.locks.locks wait_id))
+            (changes.destroyed W wait_id)
+            result W self.new.world }
         ensures kept { KeepsPassing self.old self.new }
     {
         match self.destroy(wait_id) {
