@@ -1,0 +1,110 @@
+use c_check::{Program, check};
+use c_syntax::read_program;
+use c_tokens::tokens;
+use omp_codes::PROFILE_MASK;
+use omp_model::Cause;
+use omp_turns::{Machine, Memory, Went};
+use std::alloc::{AllocError, Global};
+use std::process::Abort;
+
+/// The most turns of a run.
+const MOST: u32 = 2_000;
+
+/// A program, how many threads it runs on, and what it is to come to: the cause, what it prints, and how many events are told.
+struct Run {
+    text: &'static [u8],
+    threads: u8,
+    cause: Cause,
+    printed: &'static [u8],
+    told: u32,
+}
+
+/// Counted by hand: the four events of the initial thread and task, and what stands between them.
+const RUNS: &[Run] = &[
+    Run {
+        text: b"int main(void) { return 0; }\n",
+        threads: 1,
+        cause: Cause::Done,
+        printed: b"",
+        told: 4,
+    },
+    Run {
+        text: b"#include <stdio.h>\nint main(void) { printf(\"%d\\n\", 6 * 7); return 3; }\n",
+        threads: 1,
+        cause: Cause::Returned(3),
+        printed: b"42\n",
+        told: 4,
+    },
+    // The region's begin and end, the worker's two, and six of each member.
+    Run {
+        text: b"int main(void) {\n#pragma omp parallel num_threads(2)\n;\nreturn 0;\n}\n",
+        threads: 2,
+        cause: Cause::Done,
+        printed: b"",
+        told: 20,
+    },
+    // A lock is initialised, asked for, acquired, and asked for again.
+    Run {
+        text: b"#include <omp.h>\nomp_lock_t l;\nint main(void) {\nomp_init_lock(&l);\nomp_set_lock(&l);\nomp_set_lock(&l);\nreturn 0;\n}\n",
+        threads: 1,
+        cause: Cause::Deadlock,
+        printed: b"",
+        told: 6,
+    },
+    // A task is created, begins and ends.
+    Run {
+        text: b"int main(void) {\n#pragma omp task\n;\nreturn 0;\n}\n",
+        threads: 1,
+        cause: Cause::Done,
+        printed: b"",
+        told: 7,
+    },
+];
+
+/// Each run comes to its end, and finds memory on the way.
+#[test]
+fn runs_come_to_their_ends(rt: HostRuntime) -> Result<(), Memory> {
+    for run in RUNS {
+        comes_to_its_end(&rt, rt.alloc(), run)?;
+    }
+    Ok(())
+}
+
+fn comes_to_its_end(rt: &impl Abort, alloc: Global, run: &Run) -> Result<(), Memory> {
+    assert!(rt; 1 <= run.threads && run.threads <= 16);
+    let program = program_of(alloc, run.text)?;
+    let mut machine = Machine::new(alloc, program, PROFILE_MASK, run.threads, 1_000)?;
+    let mut told = 0u32;
+    for _turn in 0..MOST {
+        let Some(thread) = machine.first_enabled(0) else {
+            break;
+        };
+        assert!(rt; machine.enabled(thread));
+        if let Went::Told(_, _) = machine.go(thread)? {
+            told = told.saturating_add(1);
+        }
+        if machine.pending(thread) {
+            machine.back(thread);
+        }
+    }
+    assert!(rt; machine.cause() == Some(run.cause));
+    assert!(rt; machine.text() == run.printed);
+    assert_eq!(rt; told, run.told);
+    Ok(())
+}
+
+/// The program of a text that has no fault. A fault is told as want of memory.
+fn program_of(alloc: Global, text: &[u8]) -> Result<Program, Memory> {
+    let found = match tokens(alloc, text) {
+        Ok(found) => found,
+        Err(_) => return Err(AllocError),
+    };
+    let tree = match read_program(alloc, text, &found) {
+        Ok(tree) => tree,
+        Err(_) => return Err(AllocError),
+    };
+    match check(alloc, tree) {
+        Ok(program) => Ok(program),
+        Err(_) => Err(AllocError),
+    }
+}
