@@ -1,6 +1,6 @@
 -- The stores of a tool during a callback: where one may stand, and what the next one may do.
-use Rattle.std.proofs.Common.{◌≡◌, ℕ, ◌+◌, ◌<◌, ◌≤◌, ◌∙◌, true, List, Option, Some, None, IsTrue, IfSome, IsSome, ◌&&◌, nat_lt, length, slice_index_or, slice_set, get_or-set_same, lt-ltb, refl, sym, ap, subst, inl, inr, arith}
-use Rattle.std.proofs.lemmas.Bool.{and_parts, cases_eq, cases_lt, ltb-true, true≢false}
+use Rattle.std.proofs.Common.{◌≡◌, ℕ, ◌+◌, ◌<◌, ◌≤◌, ◌∙◌, true, List, Option, Some, None, IsTrue, IsSome, length, slice_index_or, slice_set, get_or-set_same, lt-ltb, refl, sym, ap, subst, inl, inr, arith}
+use Rattle.std.proofs.lemmas.Bool.{cases_eq, cases_lt, true≢false}
 use Rattle.std.proofs.lemmas.List.{get_or-set_other, get_or_past, length-set}
 use Rattle.ompt_calls.specs.declared.call.Call.{Call}
 use Rattle.ompt_calls.specs.declared.snapshot.Snapshot.{Snapshot}
@@ -15,7 +15,7 @@ use Rattle.omp_world.specs.State.{World, Run, State, Thread, pending_at, thread_
 use Rattle.omp_world.specs.Words.{is_made, is_made_identity, is_made_thread, stored}
 use Rattle.omp_world.specs.Calls.{callback_of}
 use Rattle.omp_world.specs.Turn.{turn, called}
-use Rattle.omp_world.specs.Legal.{is_told, may, may_put, put, put_from}
+use Rattle.omp_world.specs.Legal.{may, put, put_from}
 use Rattle.omp_world.proofs.Turns.{turn-pending}
 use Rattle.omp_turns.specs.declared.went.Went.TheVariants.{Told}
 use Rattle.omp_turns.specs.Standing.{Standing, went_of}
@@ -58,17 +58,6 @@ told-inside run S t call snapshot is waits =
 pub inside-may : (run : Run) (S : State) (t : ℕ) (event : Event) (stores : ℕ) (place : Target) (word : ℕ) → Inside run S t event stores → stores < STORE_LIMIT → is_made S.world place ≡ true → IsTrue (may run S t (Put place word))
 inside-may run S t event stores place word inside few made =
     rw (inside.pending, inside.registered, lt-ltb stores STORE_LIMIT few, made) refl
-
--- a store that may stand next comes after fewer than three
-few-of : (run : Run) (S : State) (place : Target) (callback : Option Callback) → IsTrue (may_put run S place callback) → IfSome callback (λ (callback : Callback). callback.stores < STORE_LIMIT)
-few-of run S place None may = absurd (true≢false (sym may))
-few-of run S place (Some callback) may =
-    let told = and_parts (is_told run callback && nat_lt callback.stores STORE_LIMIT) (is_made S.world place) may in
-    let few = and_parts (is_told run callback) (nat_lt callback.stores STORE_LIMIT) told.0 in
-    ltb-true callback.stores STORE_LIMIT few.1
-
-pub may-few : (run : Run) (S : State) (t : ℕ) (place : Target) (word : ℕ) → IsTrue (may run S t (Put place word)) → IfSome (pending_at S t) (λ (callback : Callback). callback.stores < STORE_LIMIT)
-may-few run S t place word allowed = few-of run S place (pending_at S t) allowed
 
 -- a place with something in it is one
 some-below : (pending : List (Option Callback)) (t : ℕ) (callback : Callback) → slice_index_or pending t None ≡ Some callback → t < length pending

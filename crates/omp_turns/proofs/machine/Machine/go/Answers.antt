@@ -1,4 +1,4 @@
-use Rattle.std.proofs.Common.{◌≡◌, ◌∙◌, ◌<◌, true, ap, sym, subst, refl, IsTrue, IsSome}
+use Rattle.std.proofs.Common.{◌≡◌, ◌∙◌, ◌<◌, ℕ, true, ap, sym, subst, refl, IsTrue, IsSome}
 use Rattle.c_syntax.specs.Numbered.{TreeView}
 use Rattle.omp_world.specs.declared.limits.TheConstants.{TURN_LIMIT}
 use Rattle.omp_world.specs.Made.{IsMadeWorld}
@@ -11,32 +11,46 @@ use Rattle.omp_turns.specs.Standing.{Standing, IsSound, went_after, is_call}
 use Rattle.omp_turns.proofs.Sound.{sound-turn, waits-turn}
 use Rattle.omp_turns.proofs.machine.Machine.go.Goals as goal
 
+-- room that was made changes nothing of the run and its state
+record Reserved (before after : StateView) : Type 0 where
+  program : before.program ≡ after.program
+  state : before.state ≡ after.state
+
+reserved : (before after : StateView) → after ≡ record before { room = after.room } → Reserved before after
+reserved before after kept =
+    record { program = sym (ap (λ (view : StateView). view.program) kept); state = sym (ap (λ (view : StateView). view.state) kept) }
+
+-- the turn from the state before it
+turned : (before after : StateView) (run : Run) (t : ℕ) (T : Turn) → Reserved before after → turn run after.state t ≡ T → turn run before.state t ≡ T
+turned before after run t T same is = subst (λ (state : State). turn run state t ≡ T) (sym same.state) is
+
 pub turn-outcome-requires : goal.turn-outcome-requires
 turn-outcome-requires c =
     let on : enabled c.self.inside.state.state c.args.thread ≡ true = subst (λ (m : Standing). enabled m.state c.args.thread ≡ true) (sym c.self.view_is) c.requires in
     let left : c.self.inside.state.state.turns < TURN_LIMIT = c.self.invariant.turns_left (turn-goes c.self.inside.state.state c.args.thread on).halt in
-    let same : c.self.inside.state.state ≡ c.reserve.new.self.state = sym (ap (λ (view : StateView). view.state) c.in_ok-reserve.ensures.kept) in
+    let same = reserved c.self.inside.state c.reserve.new.self c.in_ok-reserve.ensures.kept in
     record {
-      turns = subst (λ (state : State). state.turns < TURN_LIMIT) same left;
+      turns = subst (λ (state : State). state.turns < TURN_LIMIT) same.state left;
       room = c.in_ok-reserve.ensures.room;
       steps = c.in_ok-reserve.ensures.steps;
-      world = subst (λ (state : State). IsMadeWorld state.world) same c.self.invariant.made.world;
+      world = subst (λ (state : State). IsMadeWorld state.world) same.state c.self.invariant.made.world;
     }
 
 pub invariant_of-self-2 : goal.invariant_of-self-2
 invariant_of-self-2 c =
     let run : Run = run_in c.self.inside.state.program c.self.inside.settings in
+    let T : Turn = record { outcome = c.turn-outcome.result; state = c.turn-outcome.new.self.state } in
     let on : enabled c.self.inside.state.state c.args.thread ≡ true = subst (λ (m : Standing). enabled m.state c.args.thread ≡ true) (sym c.self.view_is) c.requires in
-    let program : c.reserve.new.self.program ≡ c.self.inside.state.program = ap (λ (view : StateView). view.program) c.in_ok-reserve.ensures.kept in
-    let same : c.reserve.new.self.state ≡ c.self.inside.state.state = ap (λ (view : StateView). view.state) c.in_ok-reserve.ensures.kept in
-    let turned : turn run c.self.inside.state.state c.args.thread ≡ record { outcome = c.turn-outcome.result; state = c.turn-outcome.new.self.state } = subst (λ (state : State). turn run state c.args.thread ≡ record { outcome = c.turn-outcome.result; state = c.turn-outcome.new.self.state }) same (c.turn-outcome.ensures.turn run (sym program) refl) in
-    subst (λ (tree : TreeView). IsSound (run_in tree c.self.inside.settings) c.turn-outcome.new.self.state) (sym (c.turn-outcome.ensures.program ∙ program))
-    (subst (λ (after : Turn). IsSound run after.state) turned (sound-turn run c.self.inside.state.state c.args.thread on c.self.invariant))
+    let same = reserved c.self.inside.state c.reserve.new.self c.in_ok-reserve.ensures.kept in
+    let is = turned c.self.inside.state c.reserve.new.self run c.args.thread T same (c.turn-outcome.ensures.turn run same.program refl) in
+    let sound : IsSound run T.state = subst (λ (T : Turn). IsSound run T.state) is (sound-turn run c.self.inside.state.state c.args.thread on c.self.invariant) in
+    subst (λ (tree : TreeView). IsSound (run_in tree c.self.inside.settings) T.state) (same.program ∙ sym c.turn-outcome.ensures.program) sound
 
 pub returns-clause-waits : goal.returns-clause-waits
 returns-clause-waits c = λ call.
     let run : Run = run_in c.self.inside.state.program c.self.inside.settings in
-    let program : c.reserve.new.self.program ≡ c.self.inside.state.program = ap (λ (view : StateView). view.program) c.in_ok-reserve.ensures.kept in
-    let same : c.reserve.new.self.state ≡ c.self.inside.state.state = ap (λ (view : StateView). view.state) c.in_ok-reserve.ensures.kept in
-    let turned : turn run c.self.inside.state.state c.args.thread ≡ record { outcome = c.turn-outcome.result; state = c.turn-outcome.new.self.state } = subst (λ (state : State). turn run state c.args.thread ≡ record { outcome = c.turn-outcome.result; state = c.turn-outcome.new.self.state }) same (c.turn-outcome.ensures.turn run (sym program) refl) in
-    subst (λ (after : Turn). IsTrue (is_call (went_after run after.state c.args.thread after.outcome)) → IsSome (pending_at after.state c.args.thread)) turned (waits-turn run c.self.inside.state.state c.args.thread c.self.invariant.made) (subst (λ (went : Went). IsTrue (is_call went)) (c.went.ensures run refl) call)
+    let T : Turn = record { outcome = c.turn-outcome.result; state = c.turn-outcome.new.self.state } in
+    let same = reserved c.self.inside.state c.reserve.new.self c.in_ok-reserve.ensures.kept in
+    let is = turned c.self.inside.state c.reserve.new.self run c.args.thread T same (c.turn-outcome.ensures.turn run same.program refl) in
+    subst (λ (T : Turn). IsTrue (is_call (went_after run T.state c.args.thread T.outcome)) → IsSome (pending_at T.state c.args.thread)) is (waits-turn run c.self.inside.state.state c.args.thread c.self.invariant.made)
+    (subst (λ (went : Went). IsTrue (is_call went)) (c.went.ensures run refl) call)
