@@ -4,8 +4,8 @@ mod Facts
 pub mod GonePast
 pub mod Coming
 pub mod Turns
-mod Recording
-mod SerialLaws
+pub mod Recording
+pub mod SerialLaws
 pub mod Later
 pub mod MadeWords
 pub mod Arriving
@@ -19,4 +19,4 @@ mod Moves
 mod OrderlyEvents
 mod OrderlyRuns
 mod Acts
-mod Replies
+pub mod Replies

@@ -1,0 +1,163 @@
+-- What parts stand for after what their threads hear.
+use Rattle.std.proofs.Common.{◌≡◌, ◌≢◌, ℕ, ◌<◌, ◌==◌, Bool, true, false, if◌then◌else◌, cond, List, [], ◌∷◌, ◌++◌, filter, length, take, drop, slice_index_or, Option, None, refl, sym, ap, subst, ◌∙◌, append_assoc, append-nil, eq-eqb, arith, inl, inr}
+use Rattle.std.proofs.lemmas.List.{take_all, drop_all}
+use Rattle.std.proofs.lemmas.List.Elements.{filter-append}
+use Rattle.std.proofs.lemmas.Bool.Decides.{eqb_tells}
+use Rattle.ompt_calls.specs.Item.{Item}
+use Rattle.tool_api.specs.Record.{Record, initialized, told}
+use Rattle.omp_model.specs.declared.cause.Cause.{Cause}
+use Rattle.omp_model.specs.declared.cause.Cause.TheVariants as causes
+use Rattle.omp_model.specs.declared.history.Entry.{Entry}
+use Rattle.omp_world.specs.State.{Run}
+use Rattle.omp_world.specs.Heard.{heard, heard_of}
+use Rattle.turn_run.specs.Serving.{Becomes, served, Serves, ServesTo, OnlyUnheard, told_on, mask_of, finished_by, RunsFor, SameKinds}
+use Rattle.turn_run.specs.Unheard.{unheard_on}
+use Rattle.turn_run.specs.Standing.{AreSilent, HearsSilent, HearsOwn}
+
+-- the items of one thread
+abbrev pub on_thread : ℕ → List Item → List Item
+on_thread k items = filter (λ (item : Item). item.thread == k) items
+
+-- a record with no more calls
+pub served-nil : (h : Record) → served h [] ≡ h
+served-nil h = ap (λ calls. record h { calls = calls }) (append-nil h.calls)
+
+-- a record with one more call
+told-served : (h : Record) (items : List Item) (item : Item) → told (served h items) item ≡ served h (items ++ item ∷ [])
+told-served h items item = ap (λ calls. record h { calls = calls }) (append_assoc h.calls items (item ∷ []))
+
+-- what a thread has heard where more was heard
+pub heard_of-more : (run : Run) (H K : List Entry) (items : List Item) (k : ℕ) → heard run K ≡ heard run H ++ items → heard_of run K k ≡ heard_of run H k ++ on_thread k items
+heard_of-more run H K items k more =
+    ap (on_thread k) more ∙ filter-append (λ (item : Item). item.thread == k) (heard run H) items
+
+-- and where nothing more was
+pub heard_of-same : (run : Run) (H K : List Entry) (k : ℕ) → heard run K ≡ heard run H → heard_of run K k ≡ heard_of run H k
+heard_of-same run H K k same = ap (on_thread k) same
+
+-- a call, or none
+told-by : (b : Bool) (h : Record) (items : List Item) (item : Item) → (if b then told (served h items) item else served h items) ≡ served h (items ++ cond b (item ∷ []) [])
+told-by true h items item = told-served h items item
+told-by false h items item = ap (λ more. served h more) (sym (append-nil items))
+
+-- the part of the thread is told of one item more, and the others are told of nothing
+told_on-served : (t k : ℕ) (h : Record) (items : List Item) (item : Item) → item.thread ≡ t → told_on t k item (served h items) ≡ served h (items ++ on_thread k (item ∷ []))
+told_on-served t k h items item is =
+    subst (λ u. told_on t k item (served h items) ≡ served h (items ++ cond (u == k) (item ∷ []) [])) (sym is) (told-by (t == k) h items item)
+
+module _ {P : Type 0} (stands_for : P → Record → Type 0) (run : Run) where
+  -- where nothing changes
+  pub serves-same : (parts : List P) (H : List Entry) → Serves stands_for run parts H None parts H
+  serves-same parts H = record { as_many = refl; each = λ k d h below stands. stands }
+
+  -- one step after another
+  pub serves-then : (parts between after : List P) (H K L : List Entry) (unheard : Option ℕ) → Serves stands_for run parts H None between K → Serves stands_for run between K unheard after L → Serves stands_for run parts H unheard after L
+  serves-then parts between after H K L unheard first second =
+      record {
+        as_many = second.as_many ∙ first.as_many;
+        each = λ k d h below stands. second.each k d h (subst (λ n. k < n) (sym first.as_many) below) (first.each k d h below stands);
+      }
+
+  -- where nothing more is heard, and the parts stand for what they stood for, but for a call that found no memory
+  pub serves-unheard : (parts others : List P) (H K : List Entry) (unheard : Option ℕ) → heard run K ≡ heard run H → OnlyUnheard stands_for unheard parts others → Serves stands_for run parts H unheard others K
+  serves-unheard parts others H K unheard same kept =
+      record {
+        as_many = kept.as_many;
+        each = λ k d h below stands. subst (λ items. stands_for (slice_index_or others k d) (unheard_on unheard k (served h items))) (sym (heard_of-same run H K k same)) (kept.each k below d (served h (heard_of run H k)) stands);
+      }
+
+  -- where one item more is heard, and the part of its thread was told of it
+  pub serves-told :
+      (parts others : List P) (H K : List Entry) (t : ℕ) (item : Item) → item.thread ≡ t → heard run K ≡ heard run H ++ item ∷ [] → length others ≡ length parts
+      → ((k : ℕ) → k < length parts → Becomes stands_for parts others k (told_on t k item)) → Serves stands_for run parts H None others K
+  serves-told parts others H K t item is more as_many each =
+      record {
+        as_many = as_many;
+        each = λ k d h below stands.
+            subst (λ (h : Record). stands_for (slice_index_or others k d) h) (told_on-served t k h (heard_of run H k) item is ∙ ap (λ items. served h items) (sym (heard_of-more run H K (item ∷ []) k more)))
+            (each k below d (served h (heard_of run H k)) stands);
+      }
+
+-- calls that are silent are so in both parts
+pub silent-front : (xs ys : List Item) → AreSilent (xs ++ ys) → AreSilent xs
+silent-front [] ys silent = tt
+silent-front (x ∷ xs) ys silent = (silent.0, silent-front xs ys silent.1)
+
+pub silent-back : (xs ys : List Item) → AreSilent (xs ++ ys) → AreSilent ys
+silent-back [] ys silent = silent
+silent-back (x ∷ xs) ys silent = silent-back xs ys silent.1
+
+module _ (run : Run) (H K : List Entry) (items : List Item) (more : heard run K ≡ heard run H ++ items) where
+  -- what was silent before
+  pub hears-front : HearsSilent run K → HearsSilent run H
+  hears-front silent = λ k below. silent-front (heard_of run H k) (on_thread k items) (subst AreSilent (heard_of-more run H K items k more) (silent k below))
+
+  -- and what is heard now
+  pub hears-back : (t : ℕ) → t < run.threads → HearsSilent run K → AreSilent (on_thread t items)
+  hears-back t below silent = silent-back (heard_of run H t) (on_thread t items) (subst AreSilent (heard_of-more run H K items t more) (silent t below))
+
+-- an item of its own thread
+own-item : (t : ℕ) (item : Item) → item.thread ≡ t → on_thread t (item ∷ []) ≡ item ∷ []
+own-item t item is = rw (is, eq-eqb t t refl) refl
+
+pub item-silent : (run : Run) (H K : List Entry) (t : ℕ) (item : Item) → item.thread ≡ t → heard run K ≡ heard run H ++ item ∷ [] → t < run.threads → HearsSilent run K → item.stores ≡ []
+item-silent run H K t item is more below silent =
+    (subst AreSilent (own-item t item is) (hears-back run H K (item ∷ []) more t below silent)).0
+
+-- two numbers of which one is less
+apart : (t k : ℕ) → t < k → (t == k) ≡ false
+apart t k below = elim (eqb_tells t k) [ inl same ↦ absurd (omega (arith, same.1, below)) | inr different ↦ different.0 ]
+
+-- nothing is heard on a thread that the run doesn't have, where one item more is heard on another
+other-item : (t k : ℕ) (item : Item) → item.thread ≡ t → t < k → on_thread k (item ∷ []) ≡ []
+other-item t k item is below = rw (is, apart t k below) refl
+
+pub own-told : (run : Run) (H K : List Entry) (t : ℕ) (item : Item) → item.thread ≡ t → t < run.threads → heard run K ≡ heard run H ++ item ∷ [] → HearsOwn run H → HearsOwn run K
+own-told run H K t item is below more own = λ k past.
+    heard_of-more run H K (item ∷ []) k more ∙ ap (λ items. items ++ on_thread k (item ∷ [])) (own k past) ∙ other-item t k item is (omega arith)
+
+pub own-unheard : (run : Run) (H K : List Entry) → heard run K ≡ heard run H → HearsOwn run H → HearsOwn run K
+own-unheard run H K same own = λ k past. heard_of-same run H K k same ∙ own k past
+
+-- a slice of a whole vector, written back
+pub written-back : {P : Type 0} (new items : List P) (len : ℕ) → length new ≡ length items → length items ≡ len → take len (new ++ drop (length new) items) ≡ new
+written-back new items len same all =
+    ap (λ more. take len (new ++ more)) (drop_all (length new) items (omega (arith, same))) ∙ ap (take len) (append-nil new) ∙ take_all len new (omega (arith, same, all))
+
+-- the first part was started, all were called, and the first was finished
+pub runs-whole :
+    {P : Type 0} (stands_for : P → Record → Type 0) (run : Run) (cause : Cause) (H : List Entry) (parts started between after : List P) (answer registered : ℕ) → run.mask ≡ mask_of answer registered → 0 < length parts
+    → length started ≡ length parts → ((d : P) (h : Record) → stands_for (slice_index_or parts 0 d) h → stands_for (slice_index_or started 0 d) (initialized h answer registered))
+    → ((k : ℕ) (d : P) → 0 < k → slice_index_or started k d ≡ slice_index_or parts k d) → (served_to : ServesTo stands_for run started [] between H) → (cause ≢ causes.Memory → served_to.unheard ≡ None)
+    → length after ≡ length between → ((d : P) (h : Record) → stands_for (slice_index_or between 0 d) h → stands_for (slice_index_or after 0 d) (finished_by answer h))
+    → ((k : ℕ) (d : P) → 0 < k → slice_index_or after k d ≡ slice_index_or between k d) → RunsFor stands_for run cause H parts after
+runs-whole {P} stands_for run cause H parts started between after answer registered mask_is some as_many first others served_to all_heard as_many_too last others_too =
+    record {
+      as_many = as_many_too ∙ serves.as_many ∙ as_many;
+      answer = answer;
+      registered = registered;
+      mask_is = mask_is;
+      unheard = served_to.unheard;
+      is_unheard = served_to.is_unheard;
+      all_heard = all_heard;
+      first = λ d h stands.
+          last d (unheard_on served_to.unheard 0 (served (initialized h answer registered) (heard_of run H 0)))
+          (serves.each 0 d (initialized h answer registered) (omega (arith, some, as_many)) (from-nothing 0 d (initialized h answer registered) (first d h stands)));
+      others = λ k past below d h stands.
+          subst (λ (part : P). stands_for part (unheard_on served_to.unheard k (served h (heard_of run H k)))) (sym (others_too k d past))
+          (serves.each k d h (omega (arith, below, as_many)) (from-nothing k d h (subst (λ (part : P). stands_for part h) (sym (others k d past)) stands)));
+    }
+  where
+    serves : Serves stands_for run started [] served_to.unheard between H
+    serves = served_to.serves
+
+    from-nothing : (k : ℕ) (d : P) (h : Record) → stands_for (slice_index_or started k d) h → stands_for (slice_index_or started k d) (served h (heard_of run [] k))
+    from-nothing k d h stands = subst (λ (h : Record). stands_for (slice_index_or started k d) h) (sym (served-nil h)) stands
+
+-- the kinds of parts, where nothing changes, and where one step follows another
+pub kinds-same : {P : Type 0} (kind : P → ℕ) (parts : List P) → SameKinds kind parts parts
+kinds-same kind parts = record { each = λ k d below. refl }
+
+pub kinds-then : {P : Type 0} (kind : P → ℕ) (parts between after : List P) → length between ≡ length parts → SameKinds kind parts between → SameKinds kind between after → SameKinds kind parts after
+kinds-then kind parts between after as_many first second =
+    record { each = λ k d below. second.each k d (omega (arith, below, as_many)) ∙ first.each k d below }

@@ -1,0 +1,80 @@
+use Rattle.std.proofs.Common.{◌≡◌, ◌≢◌, ◌∙◌, Some, sym, ap, subst, [], length, arith}
+use Rattle.omp_model.specs.declared.cause.Cause.TheVariants as causes
+use Rattle.omp_world.specs.State.{Run}
+use Rattle.omp_world.specs.Cause.{cause_in, cause_of}
+use Rattle.omp_world.specs.Serial.{serial}
+use Rattle.turn_run.specs.Program.{run_of_program}
+use Rattle.omp_world.proofs.Recording.{HasRun-after, HasRun-whole}
+use Rattle.omp_world.proofs.SerialLaws.{serial-whole}
+use Rattle.turn_run.specs.Standing.{HearsOwn, HearsSilent, StandsAt}
+use Rattle.turn_run.specs.Serving.{RunsFor, SameKinds, ServesTo}
+use Rattle.turn_run.proofs.Serving.{kinds-then, runs-whole, written-back}
+use Rattle.turn_run.proofs.Visiting.{unheard-none}
+use Rattle.turn_run.proofs.serial.run_serial.Goals as goal
+
+pub returns-clause-parts : goal.returns-clause-parts
+returns-clause-parts g c =
+    let stands_for = g.P.ToolPart.stands_for in
+    let first = c.initialize_first-start.result in
+    let parts = c.deref_mut.result.now in
+    let started = c.initialize_first-start.new.parts in
+    let begun = c.in_ok-run.run' in
+    let ended = c.finish-cause.new.self in
+    let cause = c.finish-cause.result in
+    let between = c.deref_mut-2.result.now in
+    let after = c.finalize_first.new.parts in
+    let started_is : begun.parts.items ≡ started =
+    ap (λ parts. parts.items) c.in_ok-run.ensures.parts ∙ written-back started c.args.parts.items c.args.parts.len (c.initialize_first-start.ensures.as_many ∙ ap length c.deref_mut.ensures.value) (sym c.args.parts.ok.0) in
+    let from_nothing : ServesTo stands_for begun.machine.run begun.parts.items [] ended.parts.items ended.history.entries =
+    subst (λ history. ServesTo stands_for begun.machine.run begun.parts.items history ended.parts.items ended.history.entries) c.in_ok-run.ensures.fresh c.finish-cause.ensures.serves in
+    let from_start : ServesTo stands_for begun.machine.run started [] ended.parts.items ended.history.entries =
+    subst (λ started. ServesTo stands_for begun.machine.run started [] ended.parts.items ended.history.entries) started_is from_nothing in
+    let serves : ServesTo stands_for begun.machine.run started [] between ended.history.entries =
+    subst (λ between. ServesTo stands_for begun.machine.run started [] between ended.history.entries) (sym c.deref_mut-2.ensures.value) from_start in
+    let stands : cause ≢ causes.Memory → StandsAt begun.machine.run ended.machine.state ended.next ended.history.entries =
+    λ found. subst (λ (run : Run). StandsAt run ended.machine.state ended.next ended.history.entries) c.finish-cause.ensures.run (c.finish-cause.ensures.stands found) in
+    let whole : RunsFor stands_for begun.machine.run cause ended.history.entries parts after =
+    runs-whole stands_for begun.machine.run cause ended.history.entries parts started between after first.answer first.registered (ap (λ (run : Run). run.mask) c.in_ok-run.ensures.run ∙ c.mask_of-mask.ensures) (omega (arith, c.requires.some, c.requires.parts, ap length c.deref_mut.ensures.value)) c.initialize_first-start.ensures.as_many c.initialize_first-start.ensures.first c.initialize_first-start.ensures.others serves (λ found. unheard-none begun.machine.run _ _ _ serves.unheard (stands found) serves.is_unheard) c.finalize_first.ensures.as_many c.finalize_first.ensures.first c.finalize_first.ensures.others in
+    let of_items : RunsFor stands_for begun.machine.run cause ended.history.entries c.args.parts.items after =
+    subst (λ parts. RunsFor stands_for begun.machine.run cause ended.history.entries parts after) c.deref_mut.ensures.value whole in
+    let of_run : RunsFor stands_for (run_of_program c.args.program c.mask_of-mask.result c.args.threads c.args.steps) cause ended.history.entries c.args.parts.items after =
+    subst (λ (run : Run). RunsFor stands_for run cause ended.history.entries c.args.parts.items after) c.in_ok-run.ensures.run of_items in
+    let of_history : RunsFor stands_for (run_of_program c.args.program c.mask_of-mask.result c.args.threads c.args.steps) cause c.into_history.result c.args.parts.items after =
+    subst (λ history. RunsFor stands_for (run_of_program c.args.program c.mask_of-mask.result c.args.threads c.args.steps) cause history c.args.parts.items after) (sym c.into_history.ensures) of_run in
+    subst (λ after. RunsFor stands_for (run_of_program c.args.program c.mask_of-mask.result c.args.threads c.args.steps) cause c.into_history.result c.args.parts.items after) (sym (written-back after ended.parts.items ended.parts.len (c.finalize_first.ensures.as_many ∙ ap length c.deref_mut-2.ensures.value) (sym ended.parts.ok.0))) of_history
+
+pub returns-clause-cause : goal.returns-clause-cause
+returns-clause-cause g c = λ found.
+    let same : c.finish-cause.new.self.machine.run ≡ run_of_program c.args.program c.mask_of-mask.result c.args.threads c.args.steps = c.finish-cause.ensures.run ∙ c.in_ok-run.ensures.run in
+    let stands = c.finish-cause.ensures.stands found in
+    subst (λ history. cause_of (run_of_program c.args.program c.mask_of-mask.result c.args.threads c.args.steps) history ≡ Some c.finish-cause.result) (sym c.into_history.ensures) (subst (λ (run : Run). cause_of run c.finish-cause.new.self.history.entries ≡ Some c.finish-cause.result) same (ap (cause_in c.finish-cause.new.self.machine.run) (HasRun-after stands.has_run) ∙ c.finish-cause.ensures.cause found))
+
+pub returns-clause-whole : goal.returns-clause-whole
+returns-clause-whole g c = λ found silent.
+    let same : c.finish-cause.new.self.machine.run ≡ run_of_program c.args.program c.mask_of-mask.result c.args.threads c.args.steps = c.finish-cause.ensures.run ∙ c.in_ok-run.ensures.run in
+    let stands = c.finish-cause.ensures.stands found in
+    let quiet : HearsSilent (run_of_program c.args.program c.mask_of-mask.result c.args.threads c.args.steps) c.finish-cause.new.self.history.entries = rw (← c.into_history.ensures) silent in
+    rw c.into_history.ensures (subst (λ (run : Run). c.finish-cause.new.self.history.entries ≡ serial run) same (sym (serial-whole c.finish-cause.new.self.machine.run c.finish-cause.new.self.history.entries (HasRun-whole stands.has_run (c.finish-cause.ensures.over found)) (stands.silent (subst (λ (run : Run). HearsSilent run c.finish-cause.new.self.history.entries) (sym same) quiet)))))
+
+pub returns-clause-kinds : goal.returns-clause-kinds
+returns-clause-kinds g c =
+    let kind = g.P.ToolPart.kind in
+    let items = c.args.parts.items in
+    let started = c.initialize_first-start.new.parts in
+    let ended = c.finish-cause.new.self.parts in
+    let after = c.finalize_first.new.parts in
+    let started_is : c.in_ok-run.run'.parts.items ≡ started =
+    ap (λ parts. parts.items) c.in_ok-run.ensures.parts ∙ written-back started items c.args.parts.len (c.initialize_first-start.ensures.as_many ∙ ap length c.deref_mut.ensures.value) (sym c.args.parts.ok.0) in
+    let first : SameKinds kind items started = subst (λ parts. SameKinds kind parts started) c.deref_mut.ensures.value c.initialize_first-start.ensures.kinds in
+    let second : SameKinds kind started ended.items = subst (λ started. SameKinds kind started ended.items) started_is c.finish-cause.ensures.kinds in
+    let third : SameKinds kind ended.items after = subst (λ between. SameKinds kind between after) c.deref_mut-2.ensures.value c.finalize_first.ensures.kinds in
+    let as_many : length started ≡ length items = c.initialize_first-start.ensures.as_many ∙ ap length c.deref_mut.ensures.value in
+    let whole : SameKinds kind items after =
+    kinds-then kind items ended.items after (c.finish-cause.ensures.serves.serves.as_many ∙ ap length started_is ∙ as_many) (kinds-then kind items started ended.items as_many first second) third in
+    subst (λ after. SameKinds kind items after) (sym (written-back after ended.items ended.len (c.finalize_first.ensures.as_many ∙ ap length c.deref_mut-2.ensures.value) (sym ended.ok.0))) whole
+
+pub returns-clause-own : goal.returns-clause-own
+returns-clause-own g c =
+    let run : Run = run_of_program c.args.program c.mask_of-mask.result c.args.threads c.args.steps in
+    let own : HearsOwn run c.finish-cause.new.self.history.entries = subst (λ (run : Run). HearsOwn run c.finish-cause.new.self.history.entries) c.in_ok-run.ensures.run c.finish-cause.ensures.stops.own in
+    subst (λ history. HearsOwn run history) (sym c.into_history.ensures) own

@@ -1,0 +1,45 @@
+use Rattle.std.proofs.Common.{◌<◌, ◌∙◌, None, sym, subst, arith}
+use Rattle.omp_world.specs.declared.limits.TheConstants.{TURN_LIMIT}
+use Rattle.omp_world.specs.State.{Run}
+use Rattle.omp_world.proofs.Turns.{turn-goes}
+use Rattle.omp_world.proofs.Recording.{first_enabled-enabled}
+use Rattle.turn_run.specs.Standing.{StandsAt, StopsAt}
+use Rattle.turn_run.specs.Serving.{Serves}
+use Rattle.turn_run.proofs.Serving.{serves-then, kinds-then}
+use Rattle.turn_run.proofs.Visiting.{caused, stops-here, serves-to, serves-all}
+use Rattle.turn_run.proofs.serial_run.SerialRun.finish.Goals as goal
+
+pub loop-thread-smaller : goal.loop-thread-smaller
+loop-thread-smaller g c =
+    let on = first_enabled-enabled c.loop-thread.self.machine.run c.loop-thread.self.machine.state _ _ (sym c.first_enabled.ensures ∙ c.in-Some.is) in
+    let turns : c.loop-thread.self.machine.state.turns < TURN_LIMIT = c.loop-thread.invariant.stands.has_run.running (turn-goes _ _ on).halt in
+    omega (arith, c.in-Ok.ensures.turns)
+
+pub loop-thread-preserved : goal.loop-thread-preserved
+loop-thread-preserved g c =
+    let stands_for = g.P.ToolPart.stands_for in
+    let before = c.loop-thread.self in
+    let after = c.visit.new.self in
+    let kept = c.loop-thread.invariant in
+    let served : Serves stands_for before.machine.run before.parts.items before.history.entries None after.parts.items after.history.entries =
+    serves-all _ _ _ _ _ (subst (λ (run : Run). StandsAt run after.machine.state after.next after.history.entries) c.in-Ok.ensures.run c.in-Ok.ensures.stands) stands_for _ _ c.in-Ok.ensures.serves in
+    let of_run = subst (λ (run : Run). Serves stands_for run before.parts.items before.history.entries None after.parts.items after.history.entries) kept.run served in
+    record {
+      run = c.in-Ok.ensures.run ∙ kept.run;
+      stands = c.in-Ok.ensures.stands;
+      serves = serves-then stands_for c.args.self.now.machine.run _ _ _ _ _ _ None kept.serves of_run;
+      kinds = kinds-then g.P.ToolPart.kind _ _ _ kept.serves.as_many kept.kinds c.in-Ok.ensures.kinds;
+    }
+
+pub returns-clause-serves : goal.returns-clause-serves
+returns-clause-serves g c =
+    let kept = c.loop-thread.invariant in
+    serves-to _ _ _ _ _ (subst (λ (run : Run). StandsAt run c.loop-thread.self.machine.state c.loop-thread.self.next c.loop-thread.self.history.entries) kept.run kept.stands) g.P.ToolPart.stands_for _ _ kept.serves
+
+pub unreachable-requires : goal.unreachable-requires
+unreachable-requires g c =
+    caused _ _ _ _ c.loop-thread.invariant.stands (sym c.first_enabled.ensures ∙ c.in_default.is) (sym c.cause.ensures ∙ c.in-None.is)
+
+pub returns-clause-stops : goal.returns-clause-stops
+returns-clause-stops g c =
+    subst (λ (run : Run). StopsAt run c.loop-thread.self.machine.state c.loop-thread.self.history.entries) c.loop-thread.invariant.run (stops-here _ _ _ _ c.loop-thread.invariant.stands)

@@ -1,0 +1,19 @@
+use Rattle.std.proofs.Common.{◌≡◌, ◌-◌, None}
+use Rattle.omp_world.specs.declared.limits.TheConstants.{TURN_LIMIT}
+use Rattle.turn_run.specs.Serving.{Serves, SameKinds}
+use Rattle.turn_run.specs.Standing.{StandsAt}
+use Rattle.turn_run.proofs.serial_run.SerialRun.finish.Given as goal
+
+-- the run stands where its history leads to, and its parts were called for what was heard
+abbrev pub invariant-loop-thread : goal.invariant-loop-thread
+invariant-loop-thread g l =
+    record {
+      run : l.self.machine.run ≡ l.initial.self.machine.run;
+      stands : StandsAt l.self.machine.run l.self.machine.state l.self.next l.self.history.entries;
+      serves : Serves g.P.ToolPart.stands_for l.initial.self.machine.run l.initial.self.parts.items l.initial.self.history.entries None l.self.parts.items l.self.history.entries;
+      kinds : SameKinds g.P.ToolPart.kind l.initial.self.parts.items l.self.parts.items;
+    }
+
+-- the turns that are left
+abbrev pub decreases-loop-thread : goal.decreases-loop-thread
+decreases-loop-thread g l = TURN_LIMIT - l.self.machine.state.turns

@@ -1,0 +1,90 @@
+-- What the parts of a run are called for: each registered event of its thread, and the first of them also for the start and the
+-- end of the run.
+use Rattle.std.specs.Prelude.{ℕ, ◌≡◌, ◌≢◌, ◌<◌, ◌==◌, if◌then◌else◌, List, ◌++◌, length, slice_index_or, Option, None}
+use Rattle.ompt_calls.specs.declared.call.Call.{Call}
+use Rattle.ompt_calls.specs.declared.snapshot.Snapshot.{Snapshot}
+use Rattle.ompt_calls.specs.declared.reply.Reply.{Reply}
+use Rattle.ompt_calls.specs.Item.{Item, item_of}
+use Rattle.ompt_calls.specs.Snapshot.{stores_of}
+use Rattle.tool_api.specs.Record.{Record, initialized, told, finalized}
+use Rattle.omp_model.specs.declared.cause.Cause.{Cause}
+use Rattle.omp_model.specs.declared.cause.Cause.TheVariants as causes
+use Rattle.omp_model.specs.declared.history.Entry.{Entry}
+use Rattle.omp_world.specs.State.{Run, State}
+use Rattle.omp_world.specs.Legal.{back}
+use Rattle.omp_world.specs.Heard.{heard_of}
+use Rattle.turn_run.specs.Unheard.{IsUnheard, unheard_on}
+use Rattle.omp_world.specs.Storing.{put_all, event_reply}
+
+-- part k, whatever it stood for before, stands afterwards for what this makes of it
+abbrev pub Becomes : {P : Type 0} → (P → Record → Type 0) → List P → List P → ℕ → (Record → Record) → Type 0
+Becomes {P} stands_for parts after k more =
+    (d : P) (h : Record) → stands_for (slice_index_or parts k d) h → stands_for (slice_index_or after k d) (more h)
+
+-- the record after the calls of these items
+abbrev pub served : Record → List Item → Record
+served h items = record h { calls = h.calls ++ items }
+
+-- the record of part k after the calls of these items, and one more that found no memory if it is the part of this thread
+abbrev pub later_record : ℕ → List Item → Option ℕ → Record → Record
+later_record k items unheard h = unheard_on unheard k (served h items)
+
+-- each part that stood for what its thread had heard of one history stands for what it has heard of the other, and this
+-- thread's, if any, found no memory in one call
+pub record Serves {P : Type 0} (stands_for : P → Record → Type 0) (run : Run) (parts : List P) (history : List Entry) (unheard : Option ℕ) (after : List P) (longer : List Entry) : Type 0 where
+  pub as_many : length after ≡ length parts
+  pub each : (k : ℕ) (d : P) (h : Record) → k < length parts → stands_for (slice_index_or parts k d) (served h (heard_of run history k)) → stands_for (slice_index_or after k d) (later_record k (heard_of run longer k) unheard h)
+
+-- the same, where the longer history says which thread's part found no memory
+pub record ServesTo {P : Type 0} (stands_for : P → Record → Type 0) (run : Run) (parts : List P) (history : List Entry) (after : List P) (longer : List Entry) : Type 0 where
+  pub unheard : Option ℕ
+  pub is_unheard : IsUnheard run longer unheard
+  pub serves : Serves stands_for run parts history unheard after longer
+
+-- the record of part k where the part of thread t was called for this item
+abbrev pub told_on : ℕ → ℕ → Item → Record → Record
+told_on t k item h = if t == k then told h item else h
+
+-- the callback of thread t's event was answered with this reply: its stores, the return, and the call of the thread's part
+pub record Answers {P : Type 0} (stands_for : P → Record → Type 0) (seq t : ℕ) (call : Call) (snapshot : Snapshot) (state : State) (parts : List P) (history : List Entry) (after : State) (others : List P) (longer : List Entry) : Type 0 where
+  pub reply : Reply
+  pub state_is : after ≡ back (put_all state t (stores_of reply snapshot)) t
+  pub history_is : longer ≡ history ++ event_reply t (stores_of reply snapshot)
+  pub as_many : length others ≡ length parts
+  pub each : (k : ℕ) → k < length parts → Becomes stands_for parts others k (told_on t k (item_of seq t call snapshot reply))
+
+-- each part stands for what it stood for, but that this thread's, if any, found no memory in one call
+pub record OnlyUnheard {P : Type 0} (stands_for : P → Record → Type 0) (unheard : Option ℕ) (parts others : List P) : Type 0 where
+  pub as_many : length others ≡ length parts
+  pub each : (k : ℕ) → k < length parts → Becomes stands_for parts others k (unheard_on unheard k)
+
+-- each part is of the kind of which it was
+pub record SameKinds {P : Type 0} (kind : P → ℕ) (parts others : List P) : Type 0 where
+  pub each : (k : ℕ) (d : P) → k < length parts → kind (slice_index_or others k d) ≡ kind (slice_index_or parts k d)
+
+-- the mask of a run whose first part answered this and registered these
+abbrev pub mask_of : ℕ → ℕ → ℕ
+mask_of answer registered = if answer == 0 then 0 else registered
+
+-- an active part is finished at the end
+abbrev pub finished_by : ℕ → Record → Record
+finished_by answer h = if answer == 0 then h else finalized h
+
+-- the first part's record after a run: it was started with this answer and this registered, then called as the others are, and
+-- at the end finished where it is active
+abbrev pub first_record : ℕ → ℕ → List Item → Option ℕ → Record → Record
+first_record answer registered items unheard h =
+    finished_by answer (later_record 0 items unheard (initialized h answer registered))
+
+-- the parts of a run that ended in this cause with this history: the first was started, and at the end finished, and each was
+-- called for what its thread heard, in order. Beside that only one call more was made, where one found no memory
+pub record RunsFor {P : Type 0} (stands_for : P → Record → Type 0) (run : Run) (cause : Cause) (history : List Entry) (parts after : List P) : Type 0 where
+  pub as_many : length after ≡ length parts
+  pub answer : ℕ
+  pub registered : ℕ
+  pub mask_is : run.mask ≡ mask_of answer registered
+  pub unheard : Option ℕ
+  pub is_unheard : IsUnheard run history unheard
+  pub all_heard : cause ≢ causes.Memory → unheard ≡ None
+  pub first : Becomes stands_for parts after 0 (first_record answer registered (heard_of run history 0) unheard)
+  pub others : (k : ℕ) → 0 < k → k < length parts → Becomes stands_for parts after k (later_record k (heard_of run history k) unheard)

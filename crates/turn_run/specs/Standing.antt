@@ -1,0 +1,39 @@
+-- What a serial run under way has come to.
+use Rattle.std.specs.Prelude.{ℕ, ◌≡◌, ◌<◌, ◌≤◌, true, List, [], ◌∷◌, None}
+use Rattle.ompt_calls.specs.Item.{Item}
+use Rattle.omp_model.specs.declared.history.Entry.{Entry}
+use Rattle.omp_world.specs.State.{Run, State}
+use Rattle.omp_world.specs.Cause.{none_pending}
+use Rattle.omp_world.specs.Heard.{heard_of}
+use Rattle.omp_world.specs.Legal.{after}
+use Rattle.omp_world.specs.Serial.{Serial, StoresNothing}
+use Rattle.omp_world.specs.Running.{HasRun}
+
+-- nothing was stored during these calls
+abbrev pub AreSilent : List Item → Type 0
+AreSilent [] = Unit {0}
+AreSilent (item ∷ rest) = (item.stores ≡ []) × AreSilent rest
+
+-- nothing was stored during what the run's threads heard
+abbrev pub HearsSilent : Run → List Entry → Type 0
+HearsSilent run history = (k : ℕ) → k < run.threads → AreSilent (heard_of run history k)
+
+-- nothing is heard on threads that the run doesn't have
+abbrev pub HearsOwn : Run → List Entry → Type 0
+HearsOwn run history = (k : ℕ) → run.threads ≤ k → heard_of run history k ≡ []
+
+-- the history leads to this state, where nobody is inside a callback
+pub record StandsAt (run : Run) (state : State) (from : ℕ) (history : List Entry) : Type 0 where
+  pub some : 1 ≤ run.threads
+  pub few : run.threads ≤ 16
+  pub within : from ≤ run.threads
+  pub nobody : none_pending state ≡ true
+  pub has_run : HasRun run history (record { state = state; next = from; inside = None })
+  pub own : HearsOwn run history
+  pub silent : HearsSilent run history → StoresNothing history
+
+-- a history at which a run may stop, and the state to which it leads
+pub record StopsAt (run : Run) (state : State) (history : List Entry) : Type 0 where
+  pub serial : Serial run history
+  pub own : HearsOwn run history
+  pub reached : after run history ≡ state

@@ -1,0 +1,127 @@
+//! The serial run: threads take turns round and round, each a whole turn with its callback.
+
+ghost use Rattle.std.specs.Prelude.{◌≡◌, ◌≢◌, ◌<◌, ◌≤◌, [], Some, IfOk, length, slice_index_or, ℕ};
+ghost use Rattle.omp_world.specs.Serial.{Serial, serial};
+ghost use Rattle.omp_world.specs.Cause.{cause_of};
+ghost use Rattle.omp_world.specs.Legal.{after};
+ghost use Rattle.tool_api.specs.Record.{Record, initialized};
+ghost use Rattle.turn_run.specs.Program.{run_of_program};
+ghost use Rattle.turn_run.specs.Serving.{Becomes, RunsFor, SameKinds, finished_by, mask_of};
+ghost use Rattle.turn_run.specs.Standing.{HearsOwn, HearsSilent};
+
+use crate::ran::{Memory, Ran};
+use crate::serial_run::SerialRun;
+use c_check::Program;
+use omp_model::Cause;
+use std::alloc::{AllocError, Global};
+use tool_api::{Registrar, ToolPart};
+
+/// Runs the program serially, with so many threads, and so many silent steps at most. Part t is called for the events of
+/// thread t.
+///
+/// Part 0 is started before the first entry. What it registers is heard, where it answers another number than 0, and else
+/// nothing. Where it answers another number than 0 it is finished after the last entry.
+///
+/// No clause says when memory is wanting, nor when part 0 is started. That an error comes only before the first entry is to be
+/// read. Where the cause is `Memory` the history has an entry, and stops between two turns, or after the Go of an event whose
+/// thread's part found none.
+pub fn run_serial<P: ToolPart>(
+    alloc: Global,
+    program: Program,
+    threads: u8,
+    steps: u32,
+    parts: Vec<P>,
+) -> Result<Ran<P>, Memory>
+    requires some { 1 ≤ threads }
+    requires few { threads ≤ 16 }
+    requires steps { 1 ≤ steps }
+    requires bounded { steps ≤ 30000000 }
+    requires parts { length parts.items ≡ threads }
+    ensures serial { IfOk result (λ ran. Serial (run_of_program program ran.mask threads steps) ran.history) }
+    ensures parts { IfOk result (λ ran. RunsFor P.stands_for (run_of_program program ran.mask threads steps)
+        ran.cause ran.history parts.items ran.parts.items) }
+    ensures kinds { IfOk result (λ ran. SameKinds P.kind parts.items ran.parts.items) }
+    ensures own { IfOk result (λ ran. HearsOwn (run_of_program program ran.mask threads steps) ran.history) }
+    ensures cause { IfOk result (λ ran. ran.cause ≢ Cause.Memory →
+        cause_of (run_of_program program ran.mask threads steps) ran.history ≡ Some ran.cause) }
+    ensures whole { IfOk result (λ ran. ran.cause ≢ Cause.Memory →
+        HearsSilent (run_of_program program ran.mask threads steps) ran.history →
+        ran.history ≡ serial (run_of_program program ran.mask threads steps)) }
+    ensures text { IfOk result (λ ran. ran.text.items ≡
+        (after (run_of_program program ran.mask threads steps) ran.history).world.store.text) }
+    ensures begun { IfOk result (λ ran. ran.cause ≡ Cause.Memory → ran.history ≢ []) }
+{
+    let mut parts = parts;
+    let start = initialize_first(&mut parts);
+    let mask = mask_of(start);
+    let mut run = SerialRun::new(alloc, program, mask, threads, steps, parts)?;
+    let cause = run.finish();
+    if cause == Cause::Memory && run.history.len() == 0 {
+        return Err(AllocError);
+    }
+    let SerialRun {
+        machine,
+        history,
+        mut parts,
+        ..
+    } = run;
+    finalize_first(start, &mut parts);
+    Ok(Ran {
+        cause,
+        mask,
+        history: history.into_history(),
+        text: machine.into_text(),
+        parts,
+    })
+}
+
+/// What came of the start of the first part.
+#[derive(Clone, Copy)]
+struct Start {
+    /// What it answered: 0 is inactive.
+    answer: u32,
+    /// The callbacks that it registered: bit n for number n.
+    registered: u64,
+}
+
+/// Starts the first part.
+fn initialize_first<P: ToolPart>(parts: &mut [P]) -> Start
+    requires { 0 < length parts.old }
+    ensures as_many { length parts.new ≡ length parts.old }
+    ensures kinds { SameKinds P.kind parts.old parts.new }
+    ensures first { Becomes P.stands_for parts.old parts.new 0
+        (λ (h : Record). initialized h result.answer result.registered) }
+    ensures others { (k : ℕ) (d : P) → 0 < k → slice_index_or parts.new k d ≡ slice_index_or parts.old k d }
+{
+    let mut registrar = Registrar::new();
+    let answer = parts[0].initialize(&mut registrar);
+    Start {
+        answer,
+        registered: registrar.mask(),
+    }
+}
+
+/// What is heard of a run: what the first part registered, where it is active.
+fn mask_of(start: Start) -> u64
+    ensures { result ≡ mask_of start.answer start.registered }
+{
+    if start.answer == 0 {
+        0
+    } else {
+        start.registered
+    }
+}
+
+/// Finishes the first part, where it is active.
+fn finalize_first<P: ToolPart>(start: Start, parts: &mut [P])
+    requires { 0 < length parts.old }
+    ensures as_many { length parts.new ≡ length parts.old }
+    ensures kinds { SameKinds P.kind parts.old parts.new }
+    ensures first { Becomes P.stands_for parts.old parts.new 0 (finished_by start.answer) }
+    ensures others { (k : ℕ) (d : P) → 0 < k → slice_index_or parts.new k d ≡ slice_index_or parts.old k d }
+{
+    if start.answer == 0 {
+        return;
+    }
+    parts[0].finalize();
+}
