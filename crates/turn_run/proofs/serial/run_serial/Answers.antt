@@ -1,6 +1,7 @@
 use Rattle.std.proofs.Common.{◌≡◌, ◌≢◌, ◌∙◌, Some, sym, ap, subst, [], length, arith}
 use Rattle.omp_model.specs.declared.cause.Cause.TheVariants as causes
-use Rattle.omp_world.specs.State.{Run}
+use Rattle.omp_world.specs.State.{Run, State}
+use Rattle.omp_world.specs.Legal.{after}
 use Rattle.omp_world.specs.Cause.{cause_in, cause_of}
 use Rattle.omp_world.specs.Serial.{serial}
 use Rattle.turn_run.specs.Program.{run_of_program}
@@ -78,3 +79,13 @@ returns-clause-own g c =
     let run : Run = run_of_program c.args.program c.mask_of-mask.result c.args.threads c.args.steps in
     let own : HearsOwn run c.finish-cause.new.self.history.entries = subst (λ (run : Run). HearsOwn run c.finish-cause.new.self.history.entries) c.in_ok-run.ensures.run c.finish-cause.ensures.stops.own in
     subst (λ history. HearsOwn run history) (sym c.into_history.ensures) own
+
+pub returns-clause-text : goal.returns-clause-text
+returns-clause-text g c =
+    let ended = c.finish-cause.new.self in
+    let reached : after c.in_ok-run.run'.machine.run ended.history.entries ≡ ended.machine.state = c.finish-cause.ensures.stops.reached in
+    let of_run : after (run_of_program c.args.program c.mask_of-mask.result c.args.threads c.args.steps) ended.history.entries ≡ ended.machine.state =
+    subst (λ (run : Run). after run ended.history.entries ≡ ended.machine.state) c.in_ok-run.ensures.run reached in
+    let of_history : after (run_of_program c.args.program c.mask_of-mask.result c.args.threads c.args.steps) c.into_history.result ≡ ended.machine.state =
+    subst (λ history. after (run_of_program c.args.program c.mask_of-mask.result c.args.threads c.args.steps) history ≡ ended.machine.state) (sym c.into_history.ensures) of_run in
+    c.into_text.ensures ∙ ap (λ (S : State). S.world.store.text) (sym of_history)
