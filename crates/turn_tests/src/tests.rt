@@ -6,6 +6,8 @@ use omp_model::Cause;
 use omp_turns::{Machine, Memory, Went};
 use std::alloc::{AllocError, Global};
 use std::process::Abort;
+use tool_api::Quiet;
+use turn_run::run_serial;
 
 /// The most turns of a run.
 const MOST: u32 = 2_000;
@@ -90,6 +92,20 @@ fn comes_to_its_end(rt: &impl Abort, alloc: Global, run: &Run) -> Result<(), Mem
     assert!(rt; machine.cause() == Some(run.cause));
     assert!(rt; machine.text() == run.printed);
     assert_eq!(rt; told, run.told);
+    Ok(())
+}
+
+/// A run without a tool, of a program that prints: why it ends, what it printed, and its entries, a Go and a Back for each event.
+#[test]
+fn a_run_without_a_tool_prints(rt: HostRuntime) -> Result<(), Memory> {
+    let text = b"#include <stdio.h>\nint main(void) { printf(\"%d\\n\", 6 * 7); return 3; }\n";
+    let program = program_of(rt.alloc(), text)?;
+    let mut parts = Vec::new(rt.alloc());
+    parts.push(Quiet)?;
+    let ran = run_serial(rt.alloc(), program, 1, 1_000, parts)?;
+    assert!(rt; ran.cause == Cause::Returned(3));
+    assert!(rt; ran.text.as_slice() == b"42\n");
+    assert_eq!(rt; ran.history.entries().len(), 8);
     Ok(())
 }
 
