@@ -104,7 +104,7 @@ fn a_run_without_a_tool_prints(rt: HostRuntime) -> Result<(), Memory> {
     parts.push(Quiet)?;
     let ran = run_serial(rt.alloc(), program, 1, 1_000, parts)?;
     assert!(rt; ran.cause == Cause::Returned(3));
-    assert!(rt; ran.text.as_slice() == b"42\n");
+    assert!(rt; ran.text.as_slice() == b"42\n".as_slice());
     assert_eq!(rt; ran.history.entries().len(), 8);
     Ok(())
 }
