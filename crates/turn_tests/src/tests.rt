@@ -109,8 +109,14 @@ fn a_run_without_a_tool_prints(rt: HostRuntime) -> Result<(), Memory> {
     Ok(())
 }
 
+/// The most bytes of a text.
+const TEXT_LIMIT: usize = 65_536;
+
 /// The program of a text that has no fault. A fault is told as want of memory.
 fn program_of(alloc: Global, text: &[u8]) -> Result<Program, Memory> {
+    if text.len() > TEXT_LIMIT {
+        return Err(AllocError);
+    }
     let found = match tokens(alloc, text) {
         Ok(found) => found,
         Err(_) => return Err(AllocError),
