@@ -1,0 +1,6 @@
+pub mod Decimal
+pub mod Calls
+pub mod Handing
+pub mod Listing
+pub mod Ending
+pub mod Reading
