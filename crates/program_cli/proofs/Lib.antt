@@ -4,3 +4,4 @@ pub mod Handing
 pub mod Listing
 pub mod Ending
 pub mod Reading
+pub mod Walks
