@@ -5,3 +5,4 @@ pub mod Listing
 pub mod Ending
 pub mod Reading
 pub mod Walks
+pub mod Telling
