@@ -1,5 +1,5 @@
 -- A text spells a program, or is refused for one thing, and not both.
-use Rattle.std.proofs.Common.{◌≡◌, ◌≢◌, ℕ, ◌<◌, ◌≤◌, List, [], ◌∷◌, ◌++◌, length, Option, Some, None, Ok, Err, refl, sym, ap, subst, ◌∙◌, arith}
+use Rattle.std.proofs.Common.{◌≡◌, ◌≢◌, ℕ, ◌≤◌, List, [], ◌∷◌, ◌++◌, length, Option, Some, None, Ok, Err, refl, sym, ap, subst, ◌∙◌, arith}
 use Rattle.c_tokens.specs.declared.token.Spot.{Spot}
 use Rattle.c_tokens.specs.declared.token.Token.{Token}
 use Rattle.c_tokens.specs.declared.token.TokenFault.{TokenFault}
@@ -22,7 +22,7 @@ use Rattle.program_cli.specs.declared.end.End.{End}
 use Rattle.program_cli.specs.declared.end.End.TheVariants.{Refused, Memory}
 use Rattle.program_cli.specs.Commands.{MayRefuse, MayRun}
 use Rattle.program_cli.specs.Ends.{end_of_check_fault, end_of_fault, end_of_syntax_fault}
-use Rattle.program_cli.specs.Text.{HasCheckFault, HasFault, HasSyntaxFault, HasTree, IsProgram, IsReadAs, IsRefused, Spells, end_at, end_of, rule_broken}
+use Rattle.program_cli.specs.Text.{HasCheckFault, HasTree, IsProgram, IsReadAs, IsRefused, Spells, end_at, end_of, rule_broken}
 
 module _ (text : List ℕ) where
   -- a text has one list of tokens, with one tree

@@ -1,7 +1,5 @@
-use Rattle.std.proofs.Common.{◌≡◌, ap, ◌∙◌, IfSome}
-use Rattle.c_syntax.specs.Numbered.{TreeView}
+use Rattle.std.proofs.Common.{ap, ◌∙◌}
 use Rattle.program_cli.specs.Job.{JobView}
-use Rattle.program_cli.specs.Text.{Spells}
 use Rattle.program_cli.proofs.Telling.{in_form-by, spells-as, where_some}
 use Rattle.program_cli.proofs.top_call.top.Goals as goal
 
