@@ -1,0 +1,165 @@
+-- Guests are handed out to threads, and taken back.
+use Rattle.std.proofs.Common.{◌≡◌, ℕ, zero, suc, ◌<◌, ◌≤◌, List, [], ◌∷◌, ◌++◌, length, slice_index_or, refl, sym, ap, subst, ◌∙◌, arith}
+use Rattle.std.proofs.lemmas.List.{nil_from_length}
+use Rattle.tool_api.specs.Record.{Record, QuietFor, StartedWith, StoresNothing}
+use Rattle.tool_api.specs.declared.quiet.Quiet.{Quiet}
+use Rattle.tool_api.specs.Handed.{HandedFor, kind_of}
+use Rattle.tool_api.specs.declared.handed.Handed.{Handed}
+use Rattle.tool_api.specs.declared.handed.Handed.TheVariants as held
+use Rattle.omp_model.specs.declared.cause.Cause.{Cause}
+use Rattle.omp_model.specs.declared.history.Entry.{Entry}
+use Rattle.omp_world.specs.State.{Run}
+use Rattle.omp_world.specs.Heard.{heard_of}
+use Rattle.turn_run.specs.Serving.{served, first_record, RunsFor, SameKinds}
+use Rattle.turn_run.specs.Standing.{AreSilent}
+use Rattle.turn_run.specs.Unheard.{unheard_on}
+use Rattle.program_cli.specs.Guests.{GuestsServe, HandOut, guests_of}
+use Rattle.program_cli.proofs.Calls.{SameCalls, same-first, same-unheard}
+use Rattle.program_cli.proofs.Listing.{nothing_called, silent-each}
+
+module _ {G : Type 0} {B : Type 0} (box : G → B) where
+  -- one part more
+  pub handed-more : (queue : List B) (parts : List (Handed G)) (between : List B) (part : Handed G) (rest : List B) → HandOut box queue parts between → HandOut box between (part ∷ []) rest → HandOut box queue (parts ++ part ∷ []) rest
+  handed-more queue [] between part rest out more = subst (λ queue. HandOut box queue (part ∷ []) rest) (sym out) more
+  handed-more [] (held.Guest guest ∷ parts) between part rest out more = absurd out
+  handed-more (b ∷ queue) (held.Guest guest ∷ parts) between part rest out more = (out.0, handed-more queue parts between part rest out.1 more)
+  handed-more [] (held.Quiet quiet ∷ parts) between part rest out more = handed-more [] parts between part rest out more
+  handed-more (b ∷ queue) (held.Quiet quiet ∷ parts) between part rest out more = absurd out
+
+  -- the guests of one part more
+  pub guests-more : (parts : List (Handed G)) (part : Handed G) → guests_of box (parts ++ part ∷ []) ≡ guests_of box parts ++ guests_of box (part ∷ [])
+  guests-more [] part = refl
+  guests-more (held.Guest guest ∷ parts) part = ap (λ guests. box guest ∷ guests) (guests-more parts part)
+  guests-more (held.Quiet quiet ∷ parts) part = guests-more parts part
+
+-- two parts of one kind, and those after them
+kinds-head : {P : Type 0} (kind : P → ℕ) (x y : P) (xs ys : List P) → SameKinds kind (x ∷ xs) (y ∷ ys) → kind y ≡ kind x
+kinds-head kind x y xs ys same = same.each 0 x (omega arith)
+
+kinds-tail : {P : Type 0} (kind : P → ℕ) (x y : P) (xs ys : List P) → SameKinds kind (x ∷ xs) (y ∷ ys) → SameKinds kind xs ys
+kinds-tail kind x y xs ys same = record { each = λ k d below. same.each (suc k) d (omega (arith, below)) }
+
+module _ {G : Type 0} {B : Type 0} (box : G → B) (stands : B → Record → Type 0) where
+  -- what a part stands for: what its guest does
+  abbrev For : Handed G → Record → Type 0
+  For part h = HandedFor (λ guest h. stands (box guest) h) part h
+
+  -- the guests are as many as they were
+  as-many : (guests : List B) (parts after : List (Handed G)) (rest : List B) → HandOut box guests parts rest → length after ≡ length parts → SameKinds kind_of parts after → length (guests_of box after ++ rest) ≡ length guests
+  as-many guests [] [] rest out same kinds = ap length (sym out)
+  as-many guests [] (a ∷ after) rest out same kinds = absurd (omega (arith, same))
+  as-many guests (p ∷ parts) [] rest out same kinds = absurd (omega (arith, same))
+  as-many [] (held.Guest g ∷ parts) (a ∷ after) rest out same kinds = absurd out
+  as-many (b ∷ guests) (held.Guest g ∷ parts) (held.Guest a ∷ after) rest out same kinds = ap suc (as-many guests parts after rest out.1 (omega (arith, same)) (kinds-tail kind_of (held.Guest g) (held.Guest a) parts after kinds))
+  as-many (b ∷ guests) (held.Guest g ∷ parts) (held.Quiet a ∷ after) rest out same kinds = absurd (omega (arith, kinds-head kind_of (held.Guest g) (held.Quiet a) parts after kinds))
+  as-many [] (held.Quiet q ∷ parts) (held.Quiet a ∷ after) rest out same kinds = as-many [] parts after rest out (omega (arith, same)) (kinds-tail kind_of (held.Quiet q) (held.Quiet a) parts after kinds)
+  as-many [] (held.Quiet q ∷ parts) (held.Guest a ∷ after) rest out same kinds = absurd (omega (arith, kinds-head kind_of (held.Quiet q) (held.Guest a) parts after kinds))
+  as-many (b ∷ guests) (held.Quiet q ∷ parts) (a ∷ after) rest out same kinds = absurd out
+
+  -- the part of a guest stands for what the guest does
+  guest-in : (guests : List B) (parts : List (Handed G)) (rest : List B) → HandOut box guests parts rest → (k : ℕ) (d : B) (e : Handed G) (h : Record) → k < length parts → k < length guests → stands (slice_index_or guests k d) h → For (slice_index_or parts k e) h
+  guest-in guests [] rest out k d e h below some for = absurd (omega (arith, below))
+  guest-in [] (held.Guest g ∷ parts) rest out k d e h below some for = absurd out
+  guest-in (b ∷ guests) (held.Guest g ∷ parts) rest out zero d e h below some for = subst (λ (b : B). stands b h) (sym out.0) for
+  guest-in (b ∷ guests) (held.Guest g ∷ parts) rest out (suc k) d e h below some for = guest-in guests parts rest out.1 k d e h (omega (arith, below)) (omega (arith, some)) for
+  guest-in [] (held.Quiet q ∷ parts) rest out k d e h below some for = absurd (omega (arith, some))
+  guest-in (b ∷ guests) (held.Quiet q ∷ parts) rest out k d e h below some for = absurd out
+
+  -- and afterwards the guest for what the part does
+  guest-out : (guests : List B) (parts after : List (Handed G)) (rest : List B) → HandOut box guests parts rest → length after ≡ length parts → SameKinds kind_of parts after → (k : ℕ) (d : B) (e : Handed G) (h : Record) → k < length parts → k < length guests → For (slice_index_or after k e) h → stands (slice_index_or (guests_of box after ++ rest) k d) h
+  guest-out guests [] after rest out same kinds k d e h below some for = absurd (omega (arith, below))
+  guest-out guests (p ∷ parts) [] rest out same kinds k d e h below some for = absurd (omega (arith, same))
+  guest-out [] (p ∷ parts) (a ∷ after) rest out same kinds k d e h below some for = absurd (omega (arith, some))
+  guest-out (b ∷ guests) (held.Guest g ∷ parts) (held.Guest a ∷ after) rest out same kinds zero d e h below some for = for
+  guest-out (b ∷ guests) (held.Guest g ∷ parts) (held.Guest a ∷ after) rest out same kinds (suc k) d e h below some for =
+      guest-out guests parts after rest out.1 (omega (arith, same)) (kinds-tail kind_of (held.Guest g) (held.Guest a) parts after kinds) k d e h (omega (arith, below)) (omega (arith, some)) for
+  guest-out (b ∷ guests) (held.Guest g ∷ parts) (held.Quiet a ∷ after) rest out same kinds k d e h below some for = absurd (omega (arith, kinds-head kind_of (held.Guest g) (held.Quiet a) parts after kinds))
+  guest-out (b ∷ guests) (held.Quiet q ∷ parts) (a ∷ after) rest out same kinds k d e h below some for = absurd out
+
+  -- those past the parts are as they were
+  guest-past : (guests : List B) (parts after : List (Handed G)) (rest : List B) → HandOut box guests parts rest → length after ≡ length parts → SameKinds kind_of parts after → (k : ℕ) (d : B) → length parts ≤ k → slice_index_or (guests_of box after ++ rest) k d ≡ slice_index_or guests k d
+  guest-past guests [] [] rest out same kinds k d past = ap (λ guests. slice_index_or guests k d) (sym out)
+  guest-past guests [] (a ∷ after) rest out same kinds k d past = absurd (omega (arith, same))
+  guest-past guests (p ∷ parts) [] rest out same kinds k d past = absurd (omega (arith, same))
+  guest-past guests (p ∷ parts) (a ∷ after) rest out same kinds zero d past = absurd (omega (arith, past))
+  guest-past [] (held.Guest g ∷ parts) (a ∷ after) rest out same kinds (suc k) d past = absurd out
+  guest-past (b ∷ guests) (held.Guest g ∷ parts) (held.Guest a ∷ after) rest out same kinds (suc k) d past =
+      guest-past guests parts after rest out.1 (omega (arith, same)) (kinds-tail kind_of (held.Guest g) (held.Guest a) parts after kinds) k d (omega (arith, past))
+  guest-past (b ∷ guests) (held.Guest g ∷ parts) (held.Quiet a ∷ after) rest out same kinds (suc k) d past = absurd (omega (arith, kinds-head kind_of (held.Guest g) (held.Quiet a) parts after kinds))
+  guest-past [] (held.Quiet q ∷ parts) (held.Quiet a ∷ after) rest out same kinds (suc k) d past =
+      guest-past [] parts after rest out (omega (arith, same)) (kinds-tail kind_of (held.Quiet q) (held.Quiet a) parts after kinds) (suc k) d (omega (arith, past))
+  guest-past [] (held.Quiet q ∷ parts) (held.Guest a ∷ after) rest out same kinds (suc k) d past = absurd (omega (arith, kinds-head kind_of (held.Quiet q) (held.Guest a) parts after kinds))
+  guest-past (b ∷ guests) (held.Quiet q ∷ parts) (a ∷ after) rest out same kinds (suc k) d past = absurd out
+
+  -- a part without a guest answers 0
+  quiet-answer : (answer registered : ℕ) (g h : Record) (quiet : Quiet) → SameCalls g h → h.started ≡ record { answer = answer; mask = registered } ∷ [] → QuietFor quiet g → answer ≡ 0
+  quiet-answer answer registered g h quiet same started for =
+      let each : StartedWith 0 0 (record { answer = answer; mask = registered } ∷ []) = subst (λ starts. StartedWith 0 0 starts) (same.started ∙ started) for.started in
+      (each 0 (record { answer = 0; mask = 0 }) (omega arith)).0
+
+  fresh-quiet : (quiet : Quiet) → QuietFor quiet nothing_called
+  fresh-quiet quiet = record { started = λ k d below. absurd (omega (arith, below)); silent = λ k d below. absurd (omega (arith, below)); heard = refl; alone = refl }
+
+  first-answer : (run : Run) (cause : Cause) (H : List Entry) (parts after : List (Handed G)) (rest : List B) → 1 ≤ length parts → HandOut box [] parts rest → length after ≡ length parts → SameKinds kind_of parts after → (runs : RunsFor For run cause H parts after) → runs.answer ≡ 0
+  first-answer run cause H [] after rest some out same kinds runs = absurd (omega (arith, some))
+  first-answer run cause H (p ∷ parts) [] rest some out same kinds runs = absurd (omega (arith, same))
+  first-answer run cause H (held.Guest g ∷ parts) (a ∷ after) rest some out same kinds runs = absurd out
+  first-answer run cause H (held.Quiet q ∷ parts) (held.Guest a ∷ after) rest some out same kinds runs = absurd (omega (arith, kinds-head kind_of (held.Quiet q) (held.Guest a) parts after kinds))
+  first-answer run cause H (held.Quiet q ∷ parts) (held.Quiet a ∷ after) rest some out same kinds runs =
+      quiet-answer runs.answer runs.registered _ _ a (same-first runs.answer runs.registered (heard_of run H 0) runs.unheard nothing_called) refl (runs.first (held.Quiet q) nothing_called (fresh-quiet q))
+
+  -- the part of a thread past the guests is none
+  none-in : (guests : List B) (parts : List (Handed G)) (rest : List B) → HandOut box guests parts rest → (k : ℕ) (e : Handed G) → length guests ≤ k → k < length parts → For (slice_index_or parts k e) nothing_called
+  none-in guests [] rest out k e past below = absurd (omega (arith, below))
+  none-in [] (held.Guest g ∷ parts) rest out k e past below = absurd out
+  none-in [] (held.Quiet q ∷ parts) rest out zero e past below = fresh-quiet q
+  none-in [] (held.Quiet q ∷ parts) rest out (suc k) e past below = none-in [] parts rest out k e (omega arith) (omega (arith, below))
+  none-in (b ∷ guests) (held.Guest g ∷ parts) rest out zero e past below = absurd (omega (arith, past))
+  none-in (b ∷ guests) (held.Guest g ∷ parts) rest out (suc k) e past below = none-in guests parts rest out.1 k e (omega (arith, past)) (omega (arith, below))
+  none-in (b ∷ guests) (held.Quiet q ∷ parts) rest out k e past below = absurd out
+
+  -- and afterwards it stands for calls alone that stored nothing
+  none-out : (guests : List B) (parts after : List (Handed G)) (rest : List B) → HandOut box guests parts rest → length after ≡ length parts → SameKinds kind_of parts after → (k : ℕ) (e : Handed G) (h : Record) → length guests ≤ k → k < length parts → For (slice_index_or after k e) h → StoresNothing h.calls
+  none-out guests [] after rest out same kinds k e h past below for = absurd (omega (arith, below))
+  none-out guests (p ∷ parts) [] rest out same kinds k e h past below for = absurd (omega (arith, same))
+  none-out [] (held.Guest g ∷ parts) (a ∷ after) rest out same kinds k e h past below for = absurd out
+  none-out [] (held.Quiet q ∷ parts) (held.Guest a ∷ after) rest out same kinds k e h past below for = absurd (omega (arith, kinds-head kind_of (held.Quiet q) (held.Guest a) parts after kinds))
+  none-out [] (held.Quiet q ∷ parts) (held.Quiet a ∷ after) rest out same kinds zero e h past below for = for.silent
+  none-out [] (held.Quiet q ∷ parts) (held.Quiet a ∷ after) rest out same kinds (suc k) e h past below for =
+      none-out [] parts after rest out (omega (arith, same)) (kinds-tail kind_of (held.Quiet q) (held.Quiet a) parts after kinds) k e h (omega arith) (omega (arith, below)) for
+  none-out (b ∷ guests) (held.Guest g ∷ parts) (a ∷ after) rest out same kinds zero e h past below for = absurd (omega (arith, past))
+  none-out (b ∷ guests) (held.Guest g ∷ parts) (a ∷ after) rest out same kinds (suc k) e h past below for =
+      none-out guests parts after rest out.1 (omega (arith, same)) (kinds-tail kind_of (held.Guest g) a parts after kinds) k e h (omega (arith, past)) (omega (arith, below)) for
+  none-out (b ∷ guests) (held.Quiet q ∷ parts) (a ∷ after) rest out same kinds k e h past below for = absurd out
+
+  -- so nothing is stored on a thread without a guest
+  without-guest : (run : Run) (cause : Cause) (H : List Entry) (guests : List B) (parts after : List (Handed G)) (rest : List B) → HandOut box guests parts rest → SameKinds kind_of parts after → RunsFor For run cause H parts after → (k : ℕ) (e : Handed G) → length guests ≤ k → k < length parts → AreSilent (heard_of run H k)
+  without-guest run cause H guests parts after rest out kinds runs zero e past below =
+      silent-each (heard_of run H 0) (subst StoresNothing (same-first runs.answer runs.registered (heard_of run H 0) runs.unheard nothing_called).calls
+      (none-out guests parts after rest out runs.as_many kinds 0 e _ past below (runs.first e nothing_called (none-in guests parts rest out 0 e past below))))
+  without-guest run cause H guests parts after rest out kinds runs (suc k) e past below =
+      silent-each (heard_of run H (suc k)) (subst StoresNothing (same-unheard runs.unheard (suc k) (served nothing_called (heard_of run H (suc k)))).calls
+      (none-out guests parts after rest out runs.as_many kinds (suc k) e _ past below (runs.others (suc k) (omega arith) below e nothing_called (none-in guests parts rest out (suc k) e past below))))
+
+  -- so the guests stand for what their threads heard
+  pub guests-serve : (run : Run) (cause : Cause) (H : List Entry) (guests : List B) (parts after : List (Handed G)) (rest : List B) → 1 ≤ run.threads → length parts ≡ run.threads → HandOut box guests parts rest → SameKinds kind_of parts after → RunsFor For run cause H parts after → GuestsServe stands run cause H guests (guests_of box after ++ rest)
+  guests-serve run cause H guests [] after rest some each out kinds runs = absurd (omega (arith, some, each))
+  guests-serve run cause H guests (p ∷ parts) after rest some each out kinds runs =
+      record {
+        as_many = as-many guests (p ∷ parts) after rest out runs.as_many kinds;
+        answer = runs.answer;
+        registered = runs.registered;
+        mask_is = runs.mask_is;
+        nobody = λ none. first-answer run cause H (p ∷ parts) after rest (omega arith) (subst (λ guests. HandOut box guests (p ∷ parts) rest) (nil_from_length guests none) out) runs.as_many kinds runs;
+        first = λ more d h for.
+            guest-out guests (p ∷ parts) after rest out runs.as_many kinds 0 d p (first_record runs.answer runs.registered (heard_of run H 0) runs.unheard h) (omega arith) more
+            (runs.first p h (guest-in guests (p ∷ parts) rest out 0 d p h (omega arith) more for));
+        others = λ k past below more d h for.
+            guest-out guests (p ∷ parts) after rest out runs.as_many kinds k d p (unheard_on runs.unheard k (served h (heard_of run H k))) (omega (arith, below, each)) more
+            (runs.others k past (omega (arith, below, each)) p h (guest-in guests (p ∷ parts) rest out k d p h (omega (arith, below, each)) more for));
+        unheard = runs.unheard;
+        is_unheard = runs.is_unheard;
+        all_heard = runs.all_heard;
+        guestless = λ k past below. without-guest run cause H guests (p ∷ parts) after rest out kinds runs k p past (omega (arith, below, each));
+        rest = λ k d past. guest-past guests (p ∷ parts) after rest out runs.as_many kinds k d (omega (arith, past, each));
+      }

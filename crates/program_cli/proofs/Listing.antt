@@ -1,0 +1,150 @@
+-- The listers of a run: what they kept is what is recorded of the run.
+use Rattle.std.proofs.Common.{◌≡◌, ℕ, ◌+◌, ◌<◌, ◌≤◌, ◌&&◌, Bool, true, false, if◌then◌else◌, List, [], ◌∷◌, ◌++◌, map, length, replicate, slice_index_or, refl, sym, ap, subst, ◌∙◌, zero, suc, arith}
+use Rattle.std.proofs.lemmas.List.{get_or-replicate, length-replicate}
+use Rattle.ompt_calls.specs.Item.{Item}
+use Rattle.ompt_calls.specs.Number.{is_registered}
+use Rattle.tool_api.specs.Record.{Record, StartedWith, initialized, StoresNothing}
+use Rattle.omp_codes.specs.declared.callbacks.TheConstants.{PROFILE_MASK}
+use Rattle.tool_report.specs.Lister.{ListerFor}
+use Rattle.tool_report.specs.Order.{AreFrom, AreRising, AreShared}
+use Rattle.omp_model.specs.declared.cause.Cause.{Cause}
+use Rattle.omp_model.specs.declared.history.Entry.{Entry}
+use Rattle.omp_model.specs.declared.history.EventRecord.{EventRecord}
+use Rattle.omp_model.specs.declared.history.What.{What}
+use Rattle.omp_model.specs.declared.history.What.TheVariants.{Go, Put, Back}
+use Rattle.omp_world.specs.declared.event.Event.{Event}
+use Rattle.omp_world.specs.declared.event.Outcome.{Outcome}
+use Rattle.omp_world.specs.declared.event.Outcome.TheVariants.{Idle, Quiet, Happens, Halts}
+use Rattle.omp_world.specs.State.{Run, State, World, first}
+use Rattle.omp_world.specs.Turn.{turn}
+use Rattle.omp_world.specs.Calls.{call_of, callback_of}
+use Rattle.omp_world.specs.Snapshots.{snap_of}
+use Rattle.omp_world.specs.Legal.{entered}
+use Rattle.omp_world.specs.Heard.{has_back, stores_in, heard_event, heard_outcome, heard_at, heard_from, heard, heard_of}
+use Rattle.omp_world.specs.Records.{record_of, records_of}
+use Rattle.omp_world.proofs.Recording.{records-by_thread}
+use Rattle.turn_run.specs.Serving.{served, mask_of, RunsFor}
+use Rattle.turn_run.specs.Standing.{AreSilent, HearsOwn, HearsSilent}
+use Rattle.program_cli.proofs.Calls.{SameCalls, same-first, same-unheard}
+
+-- at most one item, of this position
+abbrev OneAt : ℕ → List Item → Type 0
+OneAt position [] = Unit {0}
+OneAt position (item ∷ []) = item.seq ≡ position
+OneAt position (item ∷ next ∷ rest) = ⊥
+
+one-call : (run : Run) (position t : ℕ) (W : World) (event : Event) (rest : List Entry) → OneAt position (heard_event run position t W event rest)
+one-call run position t W event rest = one (is_registered run.mask (callback_of event) && has_back t rest)
+  where
+    item : List Item
+    item = record { seq = position; thread = t; call = call_of W t event; snapshot = snap_of W t event; stores = stores_in t rest } ∷ []
+
+    one : (b : Bool) → OneAt position (if b then item else [])
+    one true = refl
+    one false = tt
+
+one-outcome : (run : Run) (position t : ℕ) (after : State) (outcome : Outcome) (rest : List Entry) → OneAt position (heard_outcome run position t after outcome rest)
+one-outcome run position t after Idle rest = tt
+one-outcome run position t after Quiet rest = tt
+one-outcome run position t after (Happens event) rest = one-call run position t after.world event rest
+one-outcome run position t after (Halts halt) rest = tt
+
+one-at : (run : Run) (S : State) (position t : ℕ) (what : What) (rest : List Entry) → OneAt position (heard_at run S position t what rest)
+one-at run S position t Go rest = one-outcome run position t (turn run S t).state (turn run S t).outcome rest
+one-at run S position t (Put target word) rest = tt
+one-at run S position t Back rest = tt
+
+-- positions from one on are from each smaller one on
+from-less : (least more : ℕ) (events : List EventRecord) → least ≤ more → AreFrom more events → AreFrom least events
+from-less least more [] less from = tt
+from-less least more (event ∷ rest) less from = (omega (arith, less, from.0), from-less least more rest less from.1)
+
+-- one item before those of greater positions
+record Rising (least : ℕ) (events : List EventRecord) : Type 0 where
+  from : AreFrom least events
+  rising : AreRising events
+
+rising-join : (position : ℕ) (items rest : List Item) → OneAt position items → Rising (position + 1) (map record_of rest) → Rising position (map record_of (items ++ rest))
+rising-join position [] rest one later = record { from = from-less position (position + 1) (map record_of rest) (omega arith) later.from; rising = later.rising }
+rising-join position (item ∷ []) rest one later =
+    record {
+      from = (omega (arith, one), from-less position (position + 1) (map record_of rest) (omega arith) later.from);
+      rising = (subst (λ seq. AreFrom (seq + 1) (map record_of rest)) (sym one) later.from, later.rising);
+    }
+rising-join position (item ∷ next ∷ more) rest one later = absurd one
+
+rising-from : (run : Run) (S : State) (position : ℕ) (history : List Entry) → Rising position (map record_of (heard_from run S position history))
+rising-from run S position [] = record { from = tt; rising = tt }
+rising-from run S position (entry ∷ rest) =
+    rising-join position (heard_at run S position entry.thread entry.what rest) (heard_from run (entered run S entry) (position + 1) rest) (one-at run S position entry.thread entry.what rest) (rising-from run (entered run S entry) (position + 1) rest)
+
+-- no calls so far
+abbrev pub nothing_called : Record
+nothing_called = record { started = []; calls = []; finished = []; unheard = 0; within = [] }
+
+fresh-lister : ListerFor [] nothing_called
+fresh-lister = record { started = λ k d below. absurd (omega (arith, below)); silent = λ k d below. absurd (omega (arith, below)); events = refl; alone = refl }
+
+-- a lister stands for its starts and calls alone
+same-lister : (kept : List EventRecord) (g h : Record) → SameCalls g h → ListerFor kept g → ListerFor kept h
+same-lister kept g h same for =
+    record {
+      started = subst (λ starts. StartedWith 1 PROFILE_MASK starts) same.started for.started;
+      silent = subst StoresNothing same.calls for.silent;
+      events = subst (λ calls. kept ≡ map record_of calls) same.calls for.events;
+      alone = subst (λ within. within ≡ []) same.within for.alone;
+    }
+
+-- calls of which none stored anything
+pub silent-each : (items : List Item) → StoresNothing items → AreSilent items
+silent-each [] all = tt
+silent-each (item ∷ rest) all = (all 0 item (omega arith), silent-each rest (λ k d below. all (suc k) d (omega (arith, below))))
+
+-- what a lister kept, of calls that stored nothing
+record KeepsOf (kept : List EventRecord) (items : List Item) : Type 0 where
+  events : kept ≡ map record_of items
+  silent : AreSilent items
+
+keeps-of : (kept : List EventRecord) (h : Record) → h.calls ≡ [] → (items : List Item) → ListerFor kept (served h items) → KeepsOf kept items
+keeps-of kept h none items for =
+    let calls : h.calls ++ items ≡ items = ap (λ calls. calls ++ items) none in
+    record { events = subst (λ calls. kept ≡ map record_of calls) calls for.events; silent = silent-each items (subst StoresNothing calls for.silent) }
+
+module _ (run : Run) (cause : Cause) (H : List Entry) (threads : ℕ) (parts : List (List EventRecord)) (some : 1 ≤ threads) (runs : RunsFor ListerFor run cause H (replicate threads []) parts) where
+  pub as_many : length parts ≡ threads
+  as_many = runs.as_many ∙ length-replicate threads []
+
+  -- a fresh lister for each thread
+  fresh-at : (k : ℕ) (d : List EventRecord) → k < threads → ListerFor (slice_index_or (replicate threads []) k d) nothing_called
+  fresh-at k d below = subst (λ kept. ListerFor kept nothing_called) (sym (get_or-replicate threads k [] d below)) fresh-lister
+
+  -- the first lister, after its start
+  first-lister : (d : List EventRecord) → ListerFor (slice_index_or parts 0 d) (served (initialized nothing_called runs.answer runs.registered) (heard_of run H 0))
+  first-lister d =
+      same-lister (slice_index_or parts 0 d) _ _ (same-first runs.answer runs.registered (heard_of run H 0) runs.unheard nothing_called)
+      (runs.first d nothing_called (fresh-at 0 d (omega (arith, some))))
+
+  -- each lister kept what its thread heard
+  keeps : (k : ℕ) (d : List EventRecord) → k < threads → KeepsOf (slice_index_or parts k d) (heard_of run H k)
+  keeps zero d below = keeps-of (slice_index_or parts 0 d) (initialized nothing_called runs.answer runs.registered) refl (heard_of run H 0) (first-lister d)
+  keeps (suc k) d below =
+      keeps-of (slice_index_or parts (suc k) d) nothing_called refl (heard_of run H (suc k)) (same-lister (slice_index_or parts (suc k) d) _ _ (same-unheard runs.unheard (suc k) (served nothing_called (heard_of run H (suc k)))) (runs.others (suc k) (omega arith) (subst (λ n. suc k < n) (sym (length-replicate threads [])) below) d nothing_called (fresh-at (suc k) d below)))
+
+  -- so nothing was stored
+  pub lists-silent : run.threads ≡ threads → HearsSilent run H
+  lists-silent same = λ k below. (keeps k [] (subst (λ n. k < n) same below)).silent
+
+  -- and all callbacks of the profile were registered
+  pub lists-all : run.mask ≡ PROFILE_MASK
+  lists-all =
+      let started = (first-lister []).started 0 (record { answer = 0; mask = 0 }) (omega arith) in
+      runs.mask_is ∙ ap (λ answer. mask_of answer runs.registered) started.0 ∙ started.1
+
+  -- the listers have the run's records between them
+  pub lists-shared : run.threads ≡ threads → HearsOwn run H → AreShared (records_of run H) parts
+  lists-shared same own =
+      record {
+        rising = (rising-from run (first run) 0 H).rising;
+        few = λ k past. records-by_thread (heard run H) k ∙ ap (λ items. map record_of items) (own k (omega (arith, past, as_many, same)));
+        each = λ k d below. (keeps k d (omega (arith, below, as_many))).events ∙ sym (records-by_thread (heard run H) k);
+      }

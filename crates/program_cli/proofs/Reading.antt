@@ -1,0 +1,152 @@
+-- A text spells a program, or is refused for one thing, and not both.
+use Rattle.std.proofs.Common.{◌≡◌, ◌≢◌, ℕ, ◌≤◌, List, [], ◌∷◌, ◌++◌, length, Option, Some, None, Ok, Err, refl, sym, ap, subst, ◌∙◌, arith}
+use Rattle.c_tokens.specs.declared.token.Spot.{Spot}
+use Rattle.c_tokens.specs.declared.token.Token.{Token}
+use Rattle.c_tokens.specs.declared.token.TokenFault.{TokenFault}
+use Rattle.c_tokens.specs.declared.token.TokenFault.TheVariants as fault
+use Rattle.c_tokens.specs.Tokens.{tokens_of}
+use Rattle.c_syntax.specs.declared.fault.SyntaxFault.{SyntaxFault}
+use Rattle.c_syntax.specs.declared.fault.SyntaxFault.TheVariants as syntax
+use Rattle.c_syntax.specs.Words.{main_of, words_of}
+use Rattle.c_syntax.specs.Tree.{Tree}
+use Rattle.c_syntax.specs.Faults.{IsFault}
+use Rattle.c_tokens.proofs.Spans.{tokens-end}
+use Rattle.c_syntax.specs.Numbered.{TreeView, root_tree}
+use Rattle.c_check.specs.Checked.{rule_fault, rule_fault_in}
+use Rattle.c_syntax.proofs.Unique.{fault-one, spells-no_fault, spells-one}
+use Rattle.c_check.specs.declared.fault.CheckFault.{CheckFault}
+use Rattle.c_check.specs.declared.fault.CheckFault.TheVariants as rule
+use Rattle.program_cli.specs.declared.end.Refusal.{Refusal}
+use Rattle.program_cli.specs.declared.end.Refusal.TheVariants.{Tokens, Syntax, Rule, TooLong}
+use Rattle.program_cli.specs.declared.end.End.{End}
+use Rattle.program_cli.specs.declared.end.End.TheVariants.{Refused, Memory}
+use Rattle.program_cli.specs.Commands.{MayRefuse, MayRun}
+use Rattle.program_cli.specs.Ends.{end_of_check_fault, end_of_fault, end_of_syntax_fault}
+use Rattle.program_cli.specs.Text.{HasCheckFault, HasTree, IsProgram, IsReadAs, IsRefused, Spells, end_at, end_of, rule_broken}
+
+module _ (text : List ℕ) where
+  -- a text has one list of tokens, with one tree
+  tokens-one : (first second : List Token) → tokens_of text ≡ Ok first → tokens_of text ≡ Ok second → first ≡ second
+  tokens-one first second one other = cc
+
+  tree-one : (tokens others : List Token) (first second : Tree) → HasTree text tokens first → HasTree text others second → rule_broken text tokens first ≡ rule_broken text others second
+  tree-one tokens others first second one other =
+      let same = tokens-one tokens others one.tokens_are other.tokens_are in
+      let tree = spells-one (words_of text others) first second (subst (λ list. HasTree text list first) same one).tree_is other.tree_is in
+      cc
+
+  no-tree : (tokens others : List Token) (tree : Tree) (found : SyntaxFault) → HasTree text tokens tree → tokens_of text ≡ Ok others → IsFault (words_of text others) found → ⊥
+  no-tree tokens others tree found spells are fault =
+      let same = tokens-one tokens others spells.tokens_are are in
+      spells-no_fault (words_of text others) tree found (subst (λ list. HasTree text list tree) same spells).tree_is fault
+
+  syntax-one : (tokens others : List Token) (first second : SyntaxFault) → tokens_of text ≡ Ok tokens → IsFault (words_of text tokens) first → tokens_of text ≡ Ok others → IsFault (words_of text others) second → first ≡ second
+  syntax-one tokens others first second are one are_too other =
+      let same = tokens-one tokens others are are_too in
+      fault-one (words_of text others) first second (subst (λ list. IsFault (words_of text list) first) same one) other
+
+  -- it is refused for one thing
+  pub refusal-one : (first second : Refusal) → IsRefused first text → IsRefused second text → first ≡ second
+  refusal-one (Tokens found) (Tokens other) has too = let one = has.1 in let two = too.1 in cc
+  refusal-one (Tokens found) (Syntax other) has too = let one = has.1 in let two = too.1.1 in cc
+  refusal-one (Tokens found) (Rule other) has too = let one = has.1 in let two = too.1.2.tokens_are in cc
+  refusal-one (Tokens found) TooLong has over = absurd (omega (arith, has.0, over))
+  refusal-one (Syntax found) (Tokens other) has too = let one = has.1.1 in let two = too.1 in cc
+  refusal-one (Syntax found) (Syntax other) has too = ap Syntax (syntax-one has.1.0 too.1.0 found other has.1.1 has.1.2 too.1.1 too.1.2)
+  refusal-one (Syntax found) (Rule other) has too = absurd (no-tree too.1.0 has.1.0 too.1.1 found too.1.2 has.1.1 has.1.2)
+  refusal-one (Syntax found) TooLong has over = absurd (omega (arith, has.0, over))
+  refusal-one (Rule found) (Tokens other) has too = let one = has.1.2.tokens_are in let two = too.1 in cc
+  refusal-one (Rule found) (Syntax other) has too = absurd (no-tree has.1.0 too.1.0 has.1.1 other has.1.2 too.1.1 too.1.2)
+  refusal-one (Rule found) (Rule other) has too =
+      let same = tree-one has.1.0 too.1.0 has.1.1 too.1.1 has.1.2 too.1.2 in
+      let one = has.1.3 in
+      let two = too.1.3 in
+      cc
+  refusal-one (Rule found) TooLong has over = absurd (omega (arith, has.0, over))
+  refusal-one TooLong (Tokens other) over too = absurd (omega (arith, too.0, over))
+  refusal-one TooLong (Syntax other) over too = absurd (omega (arith, too.0, over))
+  refusal-one TooLong (Rule other) over too = absurd (omega (arith, too.0, over))
+  refusal-one TooLong TooLong over too = refl
+
+  -- what is read of a text breaks the rule that the text does
+  rule-is : (program : TreeView) (is : IsReadAs text program) (known : Option CheckFault) → rule_fault program ≡ known → rule_broken text is.tokens (root_tree program) ≡ known
+  rule-is program is known same =
+      subst (λ (end : Spot). rule_fault_in (root_tree program) end (main_of text is.tokens) ≡ known) is.end_is
+      (subst (λ main. rule_fault_in (root_tree program) program.end main ≡ known) is.main_is same)
+
+  -- and for nothing where it spells a program
+  pub program-not_refused : (why : Refusal) → IsProgram text → IsRefused why text → ⊥
+  program-not_refused (Tokens found) program other = let one = program.1.read.has.tokens_are in let two = other.1 in cc
+  program-not_refused (Syntax found) program other = no-tree program.1.read.tokens other.1.0 (root_tree program.0) found program.1.read.has other.1.1 other.1.2
+  program-not_refused (Rule found) program other =
+      let same = tree-one program.1.read.tokens other.1.0 (root_tree program.0) other.1.1 program.1.read.has other.1.2 in
+      let one = rule-is program.0 program.1.read None program.1.keeps in
+      let two = other.1.3 in
+      cc
+  program-not_refused TooLong program over = absurd (omega (arith, program.1.short, over))
+
+  -- so a refusal that was found is the one, and there is none where the text runs
+  found-accepted : (found why : Refusal) → IsRefused found text → IsRefused why text → MayRefuse why (Refused found)
+  found-accepted found why has refused = refusal-one found why has refused
+
+  pub tokens-accepted : length text ≤ 65536 → (found : TokenFault) → (found ≢ fault.Memory → tokens_of text ≡ Err found) → (why : Refusal) → IsRefused why text → MayRefuse why (end_of_fault found)
+  tokens-accepted short fault.Memory known why refused = tt
+  tokens-accepted short (fault.BadByte spot) known why refused = found-accepted _ why (short, known (λ same. cc)) refused
+  tokens-accepted short (fault.OpenComment spot) known why refused = found-accepted _ why (short, known (λ same. cc)) refused
+  tokens-accepted short (fault.BadNumber spot) known why refused = found-accepted _ why (short, known (λ same. cc)) refused
+
+  -- what is refused for this fault of the grammar, if it is one
+  module _ (list : List Token) (short : length text ≤ 65536) (are : tokens_of text ≡ Ok list) where
+    syntax-ends : (P : End → Type 0) → P Memory → ((found : SyntaxFault) → IsRefused (Syntax found) text → P (Refused (Syntax found))) → (found : SyntaxFault) → (found ≢ syntax.Memory → IsFault (words_of text list) found) → P (end_of_syntax_fault found)
+    syntax-ends P memory other syntax.Memory known = memory
+    syntax-ends P memory other (syntax.Unexpected spot) known = other _ (short, (list, are, known (λ same. cc)))
+    syntax-ends P memory other (syntax.UnknownDirective spot) known = other _ (short, (list, are, known (λ same. cc)))
+    syntax-ends P memory other (syntax.OutOfProfile spot) known = other _ (short, (list, are, known (λ same. cc)))
+    syntax-ends P memory other (syntax.TooDeep spot) known = other _ (short, (list, are, known (λ same. cc)))
+
+    pub syntax-accepted : (found : SyntaxFault) → (found ≢ syntax.Memory → IsFault (words_of text list) found) → (why : Refusal) → IsRefused why text → MayRefuse why (end_of_syntax_fault found)
+    syntax-accepted found known why refused = syntax-ends (MayRefuse why) tt (λ one has. found-accepted (Syntax one) why has refused) found known
+
+    pub syntax-runs : (found : SyntaxFault) → (found ≢ syntax.Memory → IsFault (words_of text list) found) → IsProgram text → MayRun (end_of_syntax_fault found)
+    syntax-runs found known program = syntax-ends MayRun tt (λ one has. program-not_refused (Syntax one) program has) found known
+
+  -- what was read of a text
+  module _ (program : TreeView) (is : IsReadAs text program) where
+    module _ (short : length text ≤ 65536) where
+      pub spells-by : (now : TreeView) → now ≡ program → rule_fault program ≡ None → Spells text now
+      spells-by now same keeps = subst (λ (view : TreeView). Spells text view) (sym same) (record { short = short; read = is; keeps = keeps })
+
+      pub runs-by : rule_fault program ≡ None → IsProgram text
+      runs-by keeps = (program, record { short = short; read = is; keeps = keeps })
+
+      broken-by : (found : CheckFault) → rule_fault program ≡ Some found → HasCheckFault found text
+      broken-by found same = (short, (is.tokens, root_tree program, is.has, rule-is program is (Some found) same))
+
+      -- what is refused for this broken rule, if it is one
+      check-ends : (P : End → Type 0) → P Memory → ((found : CheckFault) → IsRefused (Rule found) text → P (Refused (Rule found))) → (found : CheckFault) → (found ≢ rule.Memory → rule_fault program ≡ Some found) → P (end_of_check_fault found)
+      check-ends P memory other rule.Memory known = memory
+      check-ends P memory other (rule.UnknownName spot) known = other _ (broken-by _ (known (λ same. cc)))
+      check-ends P memory other (rule.TwiceDeclared spot) known = other _ (broken-by _ (known (λ same. cc)))
+      check-ends P memory other (rule.WrongUse spot) known = other _ (broken-by _ (known (λ same. cc)))
+      check-ends P memory other (rule.BadNesting spot) known = other _ (broken-by _ (known (λ same. cc)))
+      check-ends P memory other (rule.BadLoop spot) known = other _ (broken-by _ (known (λ same. cc)))
+      check-ends P memory other (rule.NoMain spot) known = other _ (broken-by _ (known (λ same. cc)))
+      check-ends P memory other (rule.NotListed spot) known = other _ (broken-by _ (known (λ same. cc)))
+
+      pub check-accepted : (found : CheckFault) → (found ≢ rule.Memory → rule_fault program ≡ Some found) → (why : Refusal) → IsRefused why text → MayRefuse why (end_of_check_fault found)
+      check-accepted found known why refused = check-ends (MayRefuse why) tt (λ one has. found-accepted (Rule one) why has refused) found known
+
+      pub check-runs : (found : CheckFault) → (found ≢ rule.Memory → rule_fault program ≡ Some found) → IsProgram text → MayRun (end_of_check_fault found)
+      check-runs found known program = check-ends MayRun tt (λ one has. program-not_refused (Rule one) program has) found known
+
+-- the last token stands where the text ends
+end_at-last : (spot : Spot) (front : List Token) (last : Token) → end_at spot (front ++ last ∷ []) ≡ last.spot
+end_at-last spot [] last = refl
+end_at-last spot (first ∷ front) last = end_at-last first.spot front last
+
+-- so the place where a tree says that its text ends is that of the tokens
+pub end-is : (text : List ℕ) (tokens : List Token) (end : Spot) → tokens_of text ≡ Ok tokens → ((front : List Token) (last : Token) → tokens ≡ front ++ last ∷ [] → end ≡ last.spot) → end ≡ end_of tokens
+end-is text tokens end are at_last =
+    let ended = tokens-end text tokens are in
+    at_last ended.front ended.last ended.parts
+    ∙ sym (ap (λ list. end_of list) ended.parts ∙ end_at-last (record { line = 1; column = 1 }) ended.front ended.last)

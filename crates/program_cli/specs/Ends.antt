@@ -1,0 +1,107 @@
+-- The status and the line of each end of a command.
+use Rattle.std.specs.Prelude.{ℕ, if◌then◌else◌, ◌==◌, ◌≡◌, List, [], ◌∷◌, ◌++◌, codes, Option}
+use Rattle.std.specs.Io.KnownBytes.{Appends}
+use Rattle.run_edges.specs.Edges.{Rose, AppendsFront}
+use Rattle.program_cli.specs.declared.end.Refusal.{Refusal}
+use Rattle.program_cli.specs.declared.end.Refusal.TheVariants.{Tokens, Syntax, Rule, TooLong}
+use Rattle.c_tokens.specs.declared.token.Spot.{Spot}
+use Rattle.c_tokens.specs.declared.token.TokenFault.{TokenFault}
+use Rattle.c_tokens.specs.declared.token.TokenFault.TheVariants as token
+use Rattle.c_tokens.specs.Faults.{nowhere, fault_number as token_number, fault_spot as token_spot}
+use Rattle.c_syntax.specs.declared.fault.SyntaxFault.{SyntaxFault}
+use Rattle.c_syntax.specs.declared.fault.SyntaxFault.TheVariants as syntax
+use Rattle.c_syntax.specs.Faults.{fault_number as syntax_number, fault_spot as syntax_spot}
+use Rattle.c_check.specs.declared.fault.CheckFault.{CheckFault}
+use Rattle.c_check.specs.declared.fault.CheckFault.TheVariants as rule
+use Rattle.c_check.specs.Faults.{fault_number as rule_number, fault_spot as rule_spot}
+use Rattle.std.specs.Fmt.{decimal, signed_decimal}
+use Rattle.program_cli.specs.declared.end.End.{End}
+use Rattle.program_cli.specs.declared.end.End.TheVariants.{Done, Returned, Usage, Refused, Trapped, Deadlock, Limit, ReadFault, WriteFault, Memory}
+
+abbrev pub status_of : End → ℕ
+status_of Done = 0
+status_of (Returned value) = 1
+status_of Usage = 2
+status_of (Refused why) = 3
+status_of (Trapped number) = 4
+status_of Deadlock = 5
+status_of (Limit number) = 6
+status_of ReadFault = 8
+status_of WriteFault = 9
+status_of Memory = 10
+
+-- the number of a refusal, and its place, which is 0:0 where it is of the whole text
+abbrev pub refusal_number : Refusal → ℕ
+refusal_number (Tokens found) = token_number found
+refusal_number (Syntax found) = syntax_number found
+refusal_number (Rule found) = rule_number found
+refusal_number TooLong = 15
+
+abbrev pub refusal_spot : Refusal → Spot
+refusal_spot (Tokens found) = token_spot found
+refusal_spot (Syntax found) = syntax_spot found
+refusal_spot (Rule found) = rule_spot found
+refusal_spot TooLong = nowhere
+
+-- the end of a command whose text has this fault in its tokens, of one whose tokens are no program for this fault, and of one whose
+-- program breaks a rule so
+abbrev pub end_of_fault : TokenFault → End
+end_of_fault token.Memory = Memory
+end_of_fault found = Refused (Tokens found)
+
+abbrev pub end_of_syntax_fault : SyntaxFault → End
+end_of_syntax_fault syntax.Memory = Memory
+end_of_syntax_fault found = Refused (Syntax found)
+
+abbrev pub end_of_check_fault : CheckFault → End
+end_of_check_fault rule.Memory = Memory
+end_of_check_fault found = Refused (Rule found)
+
+-- the line on standard error that tells a refusal, without its newline
+abbrev pub refusal_at : ℕ → Spot → List ℕ
+refusal_at number spot = codes "refused " ++ decimal number ++ codes " at " ++ decimal spot.line ++ codes ":" ++ decimal spot.column
+
+abbrev pub refusal_text : Refusal → List ℕ
+refusal_text why = refusal_at (refusal_number why) (refusal_spot why)
+
+-- the names of the limits, which have the numbers 1 to 7
+abbrev pub limit_text : ℕ → List ℕ
+limit_text number =
+    if number == 1 then codes "limit steps" else if number == 2 then codes "limit turns" else if number == 3 then codes "limit cells" else if number == 4 then codes "limit tasks" else if number == 5 then codes "limit stack" else if number == 6 then codes "limit depth" else codes "limit text"
+
+-- the line on standard error, which is empty at status 0
+abbrev pub line_of_end : End → List ℕ
+line_of_end Done = []
+line_of_end (Returned value) = codes "returned " ++ signed_decimal value ++ 10 ∷ []
+line_of_end Usage = codes "usage: ompt run, list, record, profile, timeline, show, check or gen" ++ 10 ∷ []
+line_of_end (Refused why) = refusal_text why ++ 10 ∷ []
+line_of_end (Trapped number) = codes "trapped " ++ decimal number ++ 10 ∷ []
+line_of_end Deadlock = codes "deadlock" ++ 10 ∷ []
+line_of_end (Limit number) = limit_text number ++ 10 ∷ []
+line_of_end ReadFault = codes "read fault" ++ 10 ∷ []
+line_of_end WriteFault = codes "write fault" ++ 10 ∷ []
+line_of_end Memory = codes "memory" ++ 10 ∷ []
+
+-- the status where the line of an end was lost: a write fault, but want of memory stays
+abbrev pub status_of_lost : End → ℕ
+status_of_lost Done = 9
+status_of_lost (Returned value) = 9
+status_of_lost Usage = 9
+status_of_lost (Refused why) = 9
+status_of_lost (Trapped number) = 9
+status_of_lost Deadlock = 9
+status_of_lost (Limit number) = 9
+status_of_lost ReadFault = 9
+status_of_lost WriteFault = 9
+status_of_lost Memory = 10
+
+-- the line of an end was told whole, and the status is the end's
+pub record IsTold (status : ℕ) (end : End) (old new : Option (List ℕ)) : Type 0 where
+  pub status_is : status ≡ status_of end
+  pub line : Appends old new (line_of_end end)
+
+-- a write of the line failed: a part of it was told
+pub record IsLost (status : ℕ) (end : End) (old new : Option (List ℕ)) (before now : ℕ) : Type 0 where
+  pub status_is : status ≡ status_of_lost end
+  pub counted : Rose before now
+  pub part : AppendsFront old new (line_of_end end)

@@ -1,0 +1,52 @@
+-- What guests stand for after a run: guest t was the part of thread t.
+use Rattle.std.specs.Prelude.{ℕ, ◌≡◌, ◌≢◌, ◌<◌, ◌≤◌, List, [], ◌∷◌, length, slice_index_or, Option, None}
+use Rattle.tool_api.specs.Record.{Record}
+use Rattle.tool_api.specs.declared.handed.Handed.{Handed}
+use Rattle.tool_api.specs.declared.handed.Handed.TheVariants as held
+use Rattle.omp_model.specs.declared.cause.Cause.{Cause}
+use Rattle.omp_model.specs.declared.cause.Cause.TheVariants as causes
+use Rattle.omp_model.specs.declared.history.Entry.{Entry}
+use Rattle.omp_world.specs.State.{Run}
+use Rattle.omp_world.specs.Heard.{heard_of}
+use Rattle.turn_run.specs.Serving.{Becomes, mask_of, first_record, later_record}
+use Rattle.turn_run.specs.Standing.{AreSilent}
+use Rattle.turn_run.specs.Unheard.{IsUnheard}
+use Rattle.program_cli.specs.declared.words.Command.{Command}
+use Rattle.program_cli.specs.declared.words.Command.TheVariants.{List as Listing, Run as Running}
+
+-- guest 0 was started, with this answer and these callbacks registered, called for what thread 0 heard, and finished after all
+-- that where it is active; guest t was called for what thread t heard; those past the threads are as they were. Beside that only
+-- one call more was made, where one found no memory. Where there is no guest, nothing is registered, and nothing is stored on a
+-- thread without a guest
+pub record GuestsServe {B : Type 0} (stands_for : B → Record → Type 0) (run : Run) (cause : Cause) (history : List Entry) (guests after : List B) : Type 0 where
+  pub as_many : length after ≡ length guests
+  pub answer : ℕ
+  pub registered : ℕ
+  pub mask_is : run.mask ≡ mask_of answer registered
+  pub nobody : length guests ≡ 0 → answer ≡ 0
+  pub unheard : Option ℕ
+  pub is_unheard : IsUnheard run history unheard
+  pub all_heard : cause ≢ causes.Memory → unheard ≡ None
+  pub first : 0 < length guests → Becomes stands_for guests after 0 (first_record answer registered (heard_of run history 0) unheard)
+  pub others : (k : ℕ) → 0 < k → k < run.threads → k < length guests → Becomes stands_for guests after k (later_record k (heard_of run history k) unheard)
+  pub rest : (k : ℕ) (d : B) → run.threads ≤ k → slice_index_or after k d ≡ slice_index_or guests k d
+  pub guestless : (k : ℕ) → length guests ≤ k → k < run.threads → AreSilent (heard_of run history k)
+
+-- what guests stand for after a command: a listing leaves them as they were
+abbrev pub GuestsAfter : {B : Type 0} → (B → Record → Type 0) → Command → Run → Cause → List Entry → List B → List B → Type 0
+GuestsAfter stands_for Listing run cause history guests after = after ≡ guests
+GuestsAfter stands_for Running run cause history guests after = GuestsServe stands_for run cause history guests after
+
+-- the guests that these parts hold, in order
+abbrev pub guests_of : {G : Type 0} {B : Type 0} → (G → B) → List (Handed G) → List B
+guests_of box [] = []
+guests_of box (held.Guest guest ∷ parts) = box guest ∷ guests_of box parts
+guests_of box (held.Quiet quiet ∷ parts) = guests_of box parts
+
+-- the parts hold the first of these guests, in order, and where there are no more, none; and these are left
+abbrev pub HandOut : {G : Type 0} {B : Type 0} → (G → B) → List B → List (Handed G) → List B → Type 0
+HandOut box guests [] rest = guests ≡ rest
+HandOut box [] (held.Guest guest ∷ parts) rest = ⊥
+HandOut box (b ∷ guests) (held.Guest guest ∷ parts) rest = (box guest ≡ b) × HandOut box guests parts rest
+HandOut box [] (held.Quiet quiet ∷ parts) rest = HandOut box [] parts rest
+HandOut box (b ∷ guests) (held.Quiet quiet ∷ parts) rest = ⊥

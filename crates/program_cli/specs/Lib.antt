@@ -1,0 +1,6 @@
+pub mod Words
+pub mod Text
+pub mod Ends
+pub mod Guests
+pub mod Job
+pub mod Commands

@@ -1,0 +1,70 @@
+-- The texts that run, with their programs, and the refusals of all others.
+use Rattle.std.specs.Prelude.{ℕ, ◌≡◌, ◌<◌, ◌≤◌, List, [], ◌∷◌, length, Option, Some, None, Ok, Err}
+use Rattle.program_cli.specs.declared.end.Refusal.{Refusal}
+use Rattle.program_cli.specs.declared.end.Refusal.TheVariants.{Tokens, Syntax, Rule, TooLong}
+use Rattle.c_tokens.specs.declared.token.Spot.{Spot}
+use Rattle.c_tokens.specs.declared.token.Token.{Token}
+use Rattle.c_tokens.specs.declared.token.TokenFault.{TokenFault}
+use Rattle.c_tokens.specs.Tokens.{tokens_of}
+use Rattle.c_syntax.specs.declared.fault.SyntaxFault.{SyntaxFault}
+use Rattle.c_syntax.specs.Words.{main_of, words_of}
+use Rattle.c_syntax.specs.Tree.{Tree}
+use Rattle.c_syntax.specs.Numbered.{TreeView, root_tree}
+use Rattle.c_syntax.specs.Derivation.{Spells as IsTreeOf}
+use Rattle.c_syntax.specs.Faults.{IsFault}
+use Rattle.c_check.specs.declared.fault.CheckFault.{CheckFault}
+use Rattle.c_check.specs.Checked.{rule_fault_in}
+
+-- the text has these tokens, and they are a program with this tree
+pub record HasTree (text : List ℕ) (tokens : List Token) (tree : Tree) : Type 0 where
+  pub tokens_are : tokens_of text ≡ Ok tokens
+  pub tree_is : IsTreeOf (words_of text tokens) tree
+
+-- where a text with these tokens ends: at the last of them
+abbrev pub end_at : Spot → List Token → Spot
+end_at spot [] = spot
+end_at spot (first ∷ tokens) = end_at first.spot tokens
+
+abbrev pub end_of : List Token → Spot
+end_of tokens = end_at (record { line = 1; column = 1 }) tokens
+
+-- the rule that a text with these tokens and this tree breaks first, if it breaks one
+abbrev pub rule_broken : List ℕ → List Token → Tree → Option CheckFault
+rule_broken text tokens tree = rule_fault_in tree (end_of tokens) (main_of text tokens)
+
+-- a tree that was read is that of the text, with its end and the number of its name `main`
+pub record IsReadAs (text : List ℕ) (program : TreeView) : Type 0 where
+  pub tokens : List Token
+  pub has : HasTree text tokens (root_tree program)
+  pub end_is : program.end ≡ end_of tokens
+  pub main_is : program.main ≡ main_of text tokens
+
+-- the text spells this program: it isn't too long, this was read of it, and no rule is broken
+pub record Spells (text : List ℕ) (program : TreeView) : Type 0 where
+  pub short : length text ≤ 65536
+  pub read : IsReadAs text program
+  pub keeps : rule_fault_in (root_tree program) program.end program.main ≡ None
+
+-- the text isn't too long, and the first fault of its tokens is this one
+abbrev pub HasFault : TokenFault → List ℕ → Type 0
+HasFault fault text = (length text ≤ 65536) × (tokens_of text ≡ Err fault)
+
+-- the text isn't too long and has tokens, and the fault of these is this one
+abbrev pub HasSyntaxFault : SyntaxFault → List ℕ → Type 0
+HasSyntaxFault fault text = (length text ≤ 65536) × ((tokens : List Token) × (tokens_of text ≡ Ok tokens) × IsFault (words_of text tokens) fault)
+
+-- the text isn't too long and is a program by the grammar, and the first rule that it breaks is broken so
+abbrev pub HasCheckFault : CheckFault → List ℕ → Type 0
+HasCheckFault fault text =
+    (length text ≤ 65536) × ((tokens : List Token) × (tree : Tree) × HasTree text tokens tree × (rule_broken text tokens tree ≡ Some fault))
+
+-- the text is refused for this: it is too long, or else its tokens have a fault, or else it is no program, or else it breaks a rule
+abbrev pub IsRefused : Refusal → List ℕ → Type 0
+IsRefused (Tokens found) text = HasFault found text
+IsRefused (Syntax found) text = HasSyntaxFault found text
+IsRefused (Rule found) text = HasCheckFault found text
+IsRefused TooLong text = 65536 < length text
+
+-- the text runs
+abbrev pub IsProgram : List ℕ → Type 0
+IsProgram text = (program : TreeView) × Spells text program

@@ -1,0 +1,210 @@
+//! How a command ended: its status and its line on standard error.
+
+ghost use Rattle.std.specs.Prelude.{◌≡◌, ◌≤◌, ◌+◌, ◌∷◌, ◌++◌, [], codes, length};
+ghost use Rattle.std.specs.Fmt.{decimal, signed_decimal};
+ghost use Rattle.arrayvec.specs.ArrayString.{array_string_len};
+ghost use Rattle.program_cli.specs.Ends.{end_of_check_fault, end_of_fault, end_of_syntax_fault, line_of_end, refusal_number, refusal_spot, refusal_text, status_of};
+
+use arrayvec::ArrayString;
+use c_check::CheckFault;
+use c_syntax::SyntaxFault;
+use c_tokens::{NOWHERE, Spot, TokenFault};
+use itoa::Buffer;
+
+/// Why a text is refused.
+#[derive(Clone, Copy, PartialEq, Eq)]
+pub enum Refusal {
+    /// The first fault of its tokens: number 1, 2 or 3.
+    Tokens(TokenFault),
+    /// Its fault by the grammar: number 4, 5, 6 or 7.
+    Syntax(SyntaxFault),
+    /// The first rule that it breaks: a number from 8 to 14.
+    Rule(CheckFault),
+    /// Number 15: it is longer than 65,536 bytes.
+    TooLong,
+}
+
+/// How a command ended.
+#[derive(Clone, Copy, PartialEq, Eq)]
+pub enum End {
+    /// The run is whole, and main returned 0.
+    Done,
+    /// The run is whole, and main returned this other number.
+    Returned(i32),
+    /// The words aren't in the form.
+    Usage,
+    /// The text is refused.
+    Refused(Refusal),
+    /// The run met the trap with this number.
+    Trapped(u8),
+    /// No thread can go on, and the run isn't whole.
+    Deadlock,
+    /// The run met the limit with this number: 1 of silent steps, 2 of turns, 3 of cells, 4 of tasks, 5 of the tasks on a
+    /// thread's stack, 6 of the depth of calls, 7 of printed text.
+    Limit(u8),
+    /// A read failed.
+    ReadFault,
+    /// A write failed.
+    WriteFault,
+    /// There was no memory.
+    Memory,
+}
+
+impl End {
+    /// The exit status.
+    pub fn status(self) -> u8
+        ensures { result ≡ status_of self }
+    {
+        match self {
+            End::Done => 0,
+            End::Returned(_) => 1,
+            End::Usage => 2,
+            End::Refused(_) => 3,
+            End::Trapped(_) => 4,
+            End::Deadlock => 5,
+            End::Limit(_) => 6,
+            End::ReadFault => 8,
+            End::WriteFault => 9,
+            End::Memory => 10,
+        }
+    }
+
+    /// The line on standard error with its newline, which is empty where the run is whole.
+    pub fn line(self) -> ArrayString<160>
+        ensures { result.bytes ≡ line_of_end self }
+    {
+        match self {
+            End::Done => line_of(""),
+            End::Returned(value) => line_of_returned(value),
+            End::Usage => line_of(
+                "usage: ompt run, list, record, profile, timeline, show, check or gen\n",
+            ),
+            End::Refused(why) => why.line(),
+            End::Trapped(number) => line_of_trapped(number),
+            End::Deadlock => line_of("deadlock\n"),
+            End::Limit(1) => line_of("limit steps\n"),
+            End::Limit(2) => line_of("limit turns\n"),
+            End::Limit(3) => line_of("limit cells\n"),
+            End::Limit(4) => line_of("limit tasks\n"),
+            End::Limit(5) => line_of("limit stack\n"),
+            End::Limit(6) => line_of("limit depth\n"),
+            End::Limit(_) => line_of("limit text\n"),
+            End::ReadFault => line_of("read fault\n"),
+            End::WriteFault => line_of("write fault\n"),
+            End::Memory => line_of("memory\n"),
+        }
+    }
+}
+
+impl Refusal {
+    /// The number by which it is told.
+    fn number(self) -> u32
+        ensures { result ≡ refusal_number self }
+    {
+        match self {
+            Refusal::Tokens(fault) => fault.number(),
+            Refusal::Syntax(fault) => fault.number(),
+            Refusal::Rule(fault) => fault.number(),
+            Refusal::TooLong => 15,
+        }
+    }
+
+    /// The place at which it is told: 0:0 where it is of the whole text.
+    fn spot(self) -> Spot
+        ensures { result ≡ refusal_spot self }
+    {
+        match self {
+            Refusal::Tokens(fault) => fault.spot(),
+            Refusal::Syntax(fault) => fault.spot(),
+            Refusal::Rule(fault) => fault.spot(),
+            Refusal::TooLong => NOWHERE,
+        }
+    }
+
+    /// The line that tells it, with its newline.
+    fn line(self) -> ArrayString<160>
+        ensures { result.bytes ≡ refusal_text self ++ 10 ∷ [] }
+    {
+        let spot = self.spot();
+        let mut line = ArrayString::new();
+        line.push_str("refused ");
+        push_number(&mut line, self.number());
+        line.push_str(" at ");
+        push_number(&mut line, spot.line);
+        line.push_str(":");
+        push_number(&mut line, spot.column);
+        line.push_str("\n");
+        line
+    }
+}
+
+/// The end of a command whose text has this fault in its tokens.
+pub(crate) fn end_of_fault(fault: TokenFault) -> End
+    ensures { result ≡ end_of_fault fault }
+{
+    match fault {
+        TokenFault::Memory => End::Memory,
+        _ => End::Refused(Refusal::Tokens(fault)),
+    }
+}
+
+/// The end of a command whose tokens are no program for this fault.
+pub(crate) fn end_of_syntax_fault(fault: SyntaxFault) -> End
+    ensures { result ≡ end_of_syntax_fault fault }
+{
+    match fault {
+        SyntaxFault::Memory => End::Memory,
+        _ => End::Refused(Refusal::Syntax(fault)),
+    }
+}
+
+/// The end of a command whose program breaks a rule so.
+pub(crate) fn end_of_check_fault(fault: CheckFault) -> End
+    ensures { result ≡ end_of_check_fault fault }
+{
+    match fault {
+        CheckFault::Memory => End::Memory,
+        _ => End::Refused(Refusal::Rule(fault)),
+    }
+}
+
+/// The line that tells what main returned.
+fn line_of_returned(value: i32) -> ArrayString<160>
+    ensures { result.bytes ≡ codes "returned " ++ signed_decimal value ++ 10 ∷ [] }
+{
+    let mut digits = Buffer::new();
+    let mut line = line_of("returned ");
+    line.push_str(digits.format(value));
+    line.push_str("\n");
+    line
+}
+
+/// The line that tells a trap.
+fn line_of_trapped(number: u8) -> ArrayString<160>
+    ensures { result.bytes ≡ codes "trapped " ++ decimal number ++ 10 ∷ [] }
+{
+    let mut line = line_of("trapped ");
+    push_number(&mut line, u32::from(number));
+    line.push_str("\n");
+    line
+}
+
+/// A line of this text.
+fn line_of(text: &str) -> ArrayString<160>
+    requires { length text.now ≤ 160 }
+    ensures { result.bytes ≡ text.now }
+{
+    let mut line = ArrayString::new();
+    line.push_str(text);
+    line
+}
+
+/// Adds a number in decimal.
+fn push_number(line: &mut ArrayString<160>, number: u32)
+    requires { array_string_len line.old + 40 ≤ 160 }
+    ensures bytes { line.new.bytes ≡ line.old.bytes ++ decimal number }
+    ensures few { array_string_len line.new ≤ array_string_len line.old + 40 }
+{
+    let mut digits = Buffer::new();
+    line.push_str(digits.format(number));
+}

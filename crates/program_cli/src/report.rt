@@ -1,0 +1,42 @@
+//! What a command reports of its run.
+
+use crate::end::End;
+use crate::program_tree::ProgramTree;
+use crate::words::Command;
+use omp_model::{Cause, History};
+use tool_api::GuestTool;
+
+/// How many silent steps a run may have where the words don't say.
+pub const SILENT_STEPS: u32 = 1_000_000;
+
+/// What a command reports of its run.
+#[derive(Drop)]
+pub struct Report {
+    /// The command that ran.
+    pub command: Command,
+    /// Why the run ended.
+    pub cause: Cause,
+    /// The tree of the program that ran, for contracts.
+    pub program: ProgramTree,
+    /// The callbacks that were registered, bit n for number n: for a listing [`PROFILE_MASK`](omp_codes::PROFILE_MASK).
+    pub mask: u64,
+    /// How many threads there might be.
+    pub threads: u8,
+    /// The run's entries.
+    pub history: History,
+    /// The guests that were handed in, in their order.
+    pub guests: Vec<Box<dyn GuestTool>>,
+}
+
+/// What a command came to.
+#[derive(Drop)]
+pub struct Top {
+    /// The status that the program ends with.
+    pub status: u8,
+    /// How the command ended, before its line was told.
+    pub end: End,
+    /// The report of the run. It is there at the ends `Done`, `Returned`, `Trapped`, `Deadlock`, `Limit` and `WriteFault`, and
+    /// isn't at `Usage`, `Refused` and `ReadFault`. At `Memory` it may be there; where its cause is want of memory, its history
+    /// has an entry.
+    pub ran: Option<Report>,
+}

@@ -1,0 +1,90 @@
+//! The texts that run.
+
+ghost use Rattle.std.specs.Prelude.{ℕ, ◌≡◌, ◌≢◌, ◌≤◌, List, IfSome, IsSomeAnd, IfOk, IfErr, IsErrAnd, length};
+ghost use Rattle.run_edges.specs.Edges.{Rose};
+ghost use Rattle.program_cli.specs.Text.{IsProgram, IsReadAs, IsRefused, Spells};
+ghost use Rattle.program_cli.specs.Commands.{IsBeforeRun, MayRefuse, MayRun};
+
+use crate::end::{End, Refusal, end_of_check_fault, end_of_fault, end_of_syntax_fault};
+use c_check::{Program, check};
+use c_syntax::{Tree, read_program};
+use c_tokens::tokens;
+use run_edges::{ReadAllFault, Source, read_all};
+use std::alloc::Global;
+
+/// The length in bytes of the longest text that is read.
+const TEXT_LIMIT: u32 = 65_536;
+
+/// Reads the text to its end. It spells the program, or the command ends for want of a program that runs.
+pub(crate) fn read_program_of<S: Source>(alloc: Global, source: &mut S) -> Result<Program, End>
+    ensures program { IfOk result (λ program. IfSome (S.left source.old) (λ text. Spells text program)) }
+    ensures before { IfErr result IsBeforeRun }
+    ensures refused { (why : Refusal) → result ≡ Err (End.Refused why) →
+        IfSome (S.left source.old) (IsRefused why) }
+    ensures accepted { (why : Refusal) → IsSomeAnd (S.left source.old) (IsRefused why) →
+        IsErrAnd result (MayRefuse why) }
+    ensures runs { IsSomeAnd (S.left source.old) IsProgram → IfErr result MayRun }
+    ensures read { result ≡ Err End.ReadFault → Rose (S.faults source.old) (S.faults source.new) }
+    ensures steady { result ≢ Err End.ReadFault → S.faults source.new ≡ S.faults source.old }
+{
+    match read_all(alloc, source, TEXT_LIMIT) {
+        Ok(text) => program_of(alloc, &text),
+        Err(ReadAllFault::TooLong) => Err(End::Refused(Refusal::TooLong)),
+        Err(ReadAllFault::ReadFault) => Err(End::ReadFault),
+        Err(ReadAllFault::Memory) => Err(End::Memory),
+    }
+}
+
+/// The program that the text spells. All its tokens are tried before the grammar, and then the rules.
+fn program_of(alloc: Global, text: &[u8]) -> Result<Program, End>
+    requires { length text.now ≤ 65536 }
+    ensures program { IfOk result (Spells text.now) }
+    ensures before { IfErr result IsBeforeRun }
+    ensures refused { (why : Refusal) → result ≡ Err (End.Refused why) → IsRefused why text.now }
+    ensures accepted { (why : Refusal) → IsRefused why text.now → IsErrAnd result (MayRefuse why) }
+    ensures runs { IsProgram text.now → IfErr result MayRun }
+    ensures read { result ≢ Err End.ReadFault }
+{
+    match tree_of(alloc, text) {
+        Ok(tree) => checked_program(alloc, tree),
+        Err(end) => Err(end),
+    }
+}
+
+/// The tree of the text, by its tokens and then by the grammar.
+fn tree_of(alloc: Global, text: &[u8]) -> Result<Tree, End>
+    requires { length text.now ≤ 65536 }
+    ensures tree { IfOk result (IsReadAs text.now) }
+    ensures before { IfErr result IsBeforeRun }
+    ensures refused { (why : Refusal) → result ≡ Err (End.Refused why) → IsRefused why text.now }
+    ensures accepted { (why : Refusal) → IsRefused why text.now → IfErr result (MayRefuse why) }
+    ensures runs { IsProgram text.now → IfErr result MayRun }
+    ensures read { result ≢ Err End.ReadFault }
+{
+    let tokens = match tokens(alloc, text) {
+        Ok(tokens) => tokens,
+        Err(fault) => return Err(end_of_fault(fault)),
+    };
+    match read_program(alloc, text, &tokens) {
+        Ok(tree) => Ok(tree),
+        Err(fault) => Err(end_of_syntax_fault(fault)),
+    }
+}
+
+/// The program of a tree that was read, by the rules.
+fn checked_program(alloc: Global, tree: Tree) -> Result<Program, End>
+    ensures program { IfOk result (λ program.
+        (text : List ℕ) → length text ≤ 65536 → IsReadAs text tree → Spells text program) }
+    ensures before { IfErr result IsBeforeRun }
+    ensures refused { (why : Refusal) → result ≡ Err (End.Refused why) →
+        (text : List ℕ) → length text ≤ 65536 → IsReadAs text tree → IsRefused why text }
+    ensures accepted { (why : Refusal) (text : List ℕ) → length text ≤ 65536 → IsReadAs text tree →
+        IsRefused why text → IsErrAnd result (MayRefuse why) }
+    ensures runs { (text : List ℕ) → length text ≤ 65536 → IsReadAs text tree → IsProgram text → IfErr result MayRun }
+    ensures read { result ≢ Err End.ReadFault }
+{
+    match check(alloc, tree) {
+        Ok(program) => Ok(program),
+        Err(fault) => Err(end_of_check_fault(fault)),
+    }
+}
