@@ -66,11 +66,12 @@ pub fn run_serial<P: ToolPart>(
         ..
     } = run;
     finalize_first(start, &mut parts);
+    let text = machine.into_text();
     Ok(Ran {
         cause,
         mask,
         history: history.into_history(),
-        text: machine.into_text(),
+        text,
         parts,
     })
 }

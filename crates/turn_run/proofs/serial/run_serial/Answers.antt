@@ -88,4 +88,4 @@ returns-clause-text g c =
     subst (λ (run : Run). after run ended.history.entries ≡ ended.machine.state) c.in_ok-run.ensures.run reached in
     let of_history : after (run_of_program c.args.program c.mask_of-mask.result c.args.threads c.args.steps) c.into_history.result ≡ ended.machine.state =
     subst (λ history. after (run_of_program c.args.program c.mask_of-mask.result c.args.threads c.args.steps) history ≡ ended.machine.state) (sym c.into_history.ensures) of_run in
-    c.into_text.ensures ∙ ap (λ (S : State). S.world.store.text) (sym of_history)
+    c.into_text-text.ensures ∙ ap (λ (S : State). S.world.store.text) (sym of_history)
