@@ -14,16 +14,16 @@ use Rattle.c_model.specs.Task.{Task as Code}
 use Rattle.task_pool.specs.Tasks.{MayBeParent}
 use Rattle.task_pool.specs.declared.task.Task.{Task as PoolTask}
 use Rattle.team_parts.specs.declared.meeting.Meeting.{Meeting}
-use Rattle.omp_world.specs.declared.event.Event.{Event}
-use Rattle.omp_world.specs.declared.event.Halt.{Halt}
-use Rattle.omp_world.specs.State.{Run, Task, World, no_task, task_at}
-use Rattle.omp_world.specs.Members.{code_of, current, current_index, current_region, is_member, moment_of, view_of}
-use Rattle.omp_world.specs.Changes.{met, passed, with_code}
-use Rattle.omp_world.specs.Gates.{is_barrier}
-use Rattle.omp_world.specs.Going.{Happens, after_meeting_at, after_sync, barrier_met, effect_of_point, event_of_point, executes_point, fault_of_point, going_to_point, past_point, unless, work_met}
-use Rattle.omp_world.specs.Made.{IsMadeWorld, IsTask}
-use Rattle.omp_world.proofs.Later.{at-set}
-use Rattle.omp_world.proofs.MadeEvents.{current-made}
+use Rattle.omp_model.specs.declared.event.Event.{Event}
+use Rattle.omp_model.specs.declared.event.Halt.{Halt}
+use Rattle.omp_model.specs.State.{Run, Task, World, no_task, task_at}
+use Rattle.omp_model.specs.Members.{code_of, current, current_index, current_region, is_member, moment_of, view_of}
+use Rattle.omp_model.specs.Changes.{met, passed, with_code}
+use Rattle.omp_model.specs.Gates.{is_barrier}
+use Rattle.omp_model.specs.Going.{Happens, after_meeting_at, after_sync, barrier_met, effect_of_point, event_of_point, executes_point, fault_of_point, going_to_point, past_point, unless, work_met}
+use Rattle.omp_model.specs.Made.{IsMadeWorld, IsTask}
+use Rattle.omp_model.proofs.Later.{at-set}
+use Rattle.omp_model.proofs.MadeEvents.{current-made}
 use Rattle.omp_board.specs.Board.{run_of}
 use Rattle.omp_board.specs.Events.{HasComeTo, IsSettled, MayCreate}
 use Rattle.omp_board.proofs.Creations.{creation_fits, creation_stands}

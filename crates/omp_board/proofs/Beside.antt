@@ -6,16 +6,16 @@ use Rattle.task_pool.specs.declared.task.Full.{Full}
 use Rattle.task_pool.specs.declared.task.Task.{Task as PoolTask}
 use Rattle.task_pool.specs.Tasks.{MayBeParent}
 use Rattle.task_pool.specs.View.{answer_to_add}
-use Rattle.omp_world.specs.declared.event.Arrival.TheVariants.{Meets}
-use Rattle.omp_world.specs.declared.event.Event.TheVariants as event
-use Rattle.omp_world.specs.declared.event.Halt.{Halt}
-use Rattle.omp_world.specs.declared.event.Halt.TheVariants.{Limit}
-use Rattle.omp_world.specs.declared.limits.TheConstants.{STACK, STACK_LIMIT}
-use Rattle.omp_world.specs.Gates.{arrival}
-use Rattle.omp_world.specs.Going.{fault_of, first_fault, full_fault, stack_fault, task_fault}
-use Rattle.omp_world.specs.Made.{IsMadeWorld}
-use Rattle.omp_world.specs.State.{World, region_at, thread_at}
-use Rattle.omp_world.proofs.Arriving.{Arrives, AtMember, arrives}
+use Rattle.omp_model.specs.declared.event.Arrival.TheVariants.{Meets}
+use Rattle.omp_model.specs.declared.event.Event.TheVariants as event
+use Rattle.omp_model.specs.declared.event.Halt.{Halt}
+use Rattle.omp_model.specs.declared.event.Halt.TheVariants.{Limit}
+use Rattle.omp_model.specs.declared.limits.TheConstants.{STACK, STACK_LIMIT}
+use Rattle.omp_model.specs.Gates.{arrival}
+use Rattle.omp_model.specs.Going.{fault_of, first_fault, full_fault, stack_fault, task_fault}
+use Rattle.omp_model.specs.Made.{IsMadeWorld}
+use Rattle.omp_model.specs.State.{World, region_at, thread_at}
+use Rattle.omp_model.proofs.Arriving.{Arrives, AtMember, arrives}
 
 -- a limit that isn't met
 unmet : (over : Bool) (limit : Halt) → (if over then Some limit else None) ≡ None → over ≡ false

@@ -6,9 +6,9 @@ use Rattle.std.proofs.lemmas.List.{reverse-append, take_more, length-reverse, le
 use Rattle.std.proofs.Math.ListN.{drop_of_length-le}
 use Rattle.ompt_calls.specs.declared.snapshot.TaskLevel.{TaskLevel}
 use Rattle.ompt_calls.specs.declared.snapshot.RegionLevel.{RegionLevel}
-use Rattle.omp_world.specs.declared.event.Event.{Event}
-use Rattle.omp_world.specs.State.{World}
-use Rattle.omp_world.specs.Snapshots.{down_from, levels_from, regions_after, task_level}
+use Rattle.omp_model.specs.declared.event.Event.{Event}
+use Rattle.omp_model.specs.State.{World}
+use Rattle.omp_model.specs.Snapshots.{down_from, levels_from, regions_after, task_level}
 use Rattle.omp_board.specs.Levels.{unless_again}
 
 -- the lowest tasks of a stack, one more: that one stands above the others

@@ -9,9 +9,9 @@ use Rattle.task_pool.specs.declared.task.Task.{Task}
 use Rattle.task_pool.specs.Allowed.{descends, descends_from_all, is_allowed, last_where, later_of, newest_allowed}
 use Rattle.task_pool.specs.Tasks.{task_at as pool_task_at}
 use Rattle.task_pool.proofs.Ancestors.{list_all-reverse}
-use Rattle.omp_world.specs.State.{World, task_at, thread_at}
-use Rattle.omp_world.specs.Gates.{held_tasks, is_in_barrier, next_task}
-use Rattle.omp_world.specs.Members.{current_region}
+use Rattle.omp_model.specs.State.{World, task_at, thread_at}
+use Rattle.omp_model.specs.Gates.{held_tasks, is_in_barrier, next_task}
+use Rattle.omp_model.specs.Members.{current_region}
 
 pub reversed : (tasks : List Task) (ready : List ℕ) (region : ℕ) (held : List ℕ) → newest_allowed tasks ready region (reverse held) ≡ newest_allowed tasks ready region held
 reversed tasks ready region held =

@@ -13,7 +13,7 @@ use Rattle.c_model.specs.Upcoming.{upcoming_among, upcoming_of}
 use Rattle.c_steps.specs.Beginning.{HasForked}
 use Rattle.c_steps.specs.Passing.{IsEventOfNext}
 use Rattle.c_steps.proofs.Giving.{same_task}
-use Rattle.omp_world.specs.Going.{has_forked, member_code}
+use Rattle.omp_model.specs.Going.{has_forked, member_code}
 
 by-form : (event : Bool) → upcoming.RegionEnd ≡ (if event then upcoming.Event else upcoming.Step) → ⊥
 by-form true is = cc

@@ -11,7 +11,7 @@ use Rattle.c_model.specs.Step.{items_from_next, settled_moment, silent}
 use Rattle.c_model.specs.Task.{Store, Task as Code}
 use Rattle.c_model.specs.Task.Outcome.{Ends}
 use Rattle.c_steps.specs.Passing.{IsEventOfNext}
-use Rattle.omp_world.specs.State.{Task as Seen}
+use Rattle.omp_model.specs.State.{Task as Seen}
 use Rattle.omp_board.specs.declared.task.Task.{Task}
 use Rattle.omp_board.specs.Keeping.{kept_nothing}
 use Rattle.omp_board.specs.Tasks.{TaskRoom, TasksView, code_in, code_of, moment_in}

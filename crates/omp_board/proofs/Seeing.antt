@@ -4,7 +4,7 @@ use Rattle.std.specs.Prelude.{Some}
 use Rattle.std.proofs.lemmas.List.{get_or-map, map-set, map_push, set-get_or, take-replicate}
 use Rattle.team_parts.specs.declared.meeting.TheConstants.{TEAM_LIMIT}
 use Rattle.team_parts.specs.Team.{TeamView, new_member}
-use Rattle.omp_world.specs.State.{Region as Seen, fresh_team, no_region}
+use Rattle.omp_model.specs.State.{Region as Seen, fresh_team, no_region}
 use Rattle.omp_board.specs.declared.region.Region.{Region}
 use Rattle.omp_board.specs.Regions.{IsFreshTeam, RegionsView, region_in, seen_team, team_in, with_team_in}
 use Rattle.omp_board.specs.KeepingRegions.{seen_region, seen_regions}

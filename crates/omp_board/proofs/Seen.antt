@@ -10,7 +10,7 @@ use Rattle.c_steps.specs.declared.next.Next.{Next}
 use Rattle.c_steps.specs.declared.next.Next.TheVariants as next
 use Rattle.c_steps.specs.Advancing.{IsKept as IsAfterAdvance, IsLeft, IsNamed}
 use Rattle.c_steps.specs.Held.{Held, moment_at, outcome_at, task_at}
-use Rattle.omp_world.specs.State.{Task as Seen, no_task}
+use Rattle.omp_model.specs.State.{Task as Seen, no_task}
 use Rattle.omp_board.specs.declared.task.Task.{Task}
 use Rattle.omp_board.specs.Keeping.{kept_nothing, seen_task, seen_tasks}
 use Rattle.omp_board.specs.Tasks.{IsNamedIn, IsStill, TaskRoom, TasksView, code_in, code_of, gone_in, moment_in, room_after, task_in, with_code_in, with_task_in}

@@ -23,16 +23,16 @@ use Rattle.c_model.specs.Task.Item.{NextSection}
 use Rattle.c_steps.specs.declared.next.Next.{Next}
 use Rattle.c_steps.specs.declared.next.Next.TheVariants as next
 use Rattle.c_steps.specs.Held.{outcome_at}
-use Rattle.omp_world.specs.declared.event.Arrival.TheVariants.{Steps}
-use Rattle.omp_world.specs.declared.limits.TheConstants.{IMPLICIT_REGION}
-use Rattle.omp_world.specs.Gates.{arrival}
-use Rattle.omp_world.specs.State.{Region, Thread, World, no_region, region_at, thread_at, unmade}
-use Rattle.omp_world.specs.Members.{code_of, current, current_region, member_index, moment_of, region_of, view_of}
-use Rattle.omp_world.specs.Changes.{gone_past, gone_to, sharing, with_team}
-use Rattle.omp_world.specs.Silent.{answer_to, answered, answered_by, chunk_dealt, fits_loop, fitting_chunk, fitting_section, items_asking, section_dealt, share_taken, silence_of, silent_step, team_after}
-use Rattle.omp_world.proofs.Coming.{steps-silent}
-use Rattle.omp_world.proofs.GonePast.{answered-past, code-past, gone_to-past, settled-once}
-use Rattle.omp_world.proofs.Later.{at-set}
+use Rattle.omp_model.specs.declared.event.Arrival.TheVariants.{Steps}
+use Rattle.omp_model.specs.declared.limits.TheConstants.{IMPLICIT_REGION}
+use Rattle.omp_model.specs.Gates.{arrival}
+use Rattle.omp_model.specs.State.{Region, Thread, World, no_region, region_at, thread_at, unmade}
+use Rattle.omp_model.specs.Members.{code_of, current, current_region, member_index, moment_of, region_of, view_of}
+use Rattle.omp_model.specs.Changes.{gone_past, gone_to, sharing, with_team}
+use Rattle.omp_model.specs.Silent.{answer_to, answered, answered_by, chunk_dealt, fits_loop, fitting_chunk, fitting_section, items_asking, section_dealt, share_taken, silence_of, silent_step, team_after}
+use Rattle.omp_model.proofs.Coming.{steps-silent}
+use Rattle.omp_model.proofs.GonePast.{answered-past, code-past, gone_to-past, settled-once}
+use Rattle.omp_model.proofs.Later.{at-set}
 use Rattle.omp_board.specs.Board.{BoardRoom, BoardView, HasTurn, run_of}
 use Rattle.omp_board.proofs.Replies.{chunk_replies, lock_replies, section_replies}
 

@@ -1,7 +1,7 @@
 -- The first threads, so many, are to join a region, one after another.
 use Rattle.std.proofs.Common.{◌≡◌, ℕ, zero, suc, ◌<◌, min, List, [], ◌∷◌, ◌++◌, length, get_or, set, take, drop, refl, ap, ◌∙◌, arith}
-use Rattle.omp_world.specs.State.{Thread}
-use Rattle.omp_world.specs.Changes.{all_summoned, summoned}
+use Rattle.omp_model.specs.State.{Thread}
+use Rattle.omp_model.specs.Changes.{all_summoned, summoned}
 
 pub none_yet : (r : ℕ) (threads : List Thread) → threads ≡ all_summoned r 0 threads
 unfolding all_summoned

@@ -21,16 +21,16 @@ use Rattle.c_steps.specs.declared.next.Next.{Next}
 use Rattle.c_steps.specs.declared.next.Next.TheVariants as next
 use Rattle.c_steps.specs.Held.{outcome_at}
 use Rattle.sync_objects.specs.Answers.{answer_to_may_take}
-use Rattle.omp_world.specs.declared.event.Event.{Event}
-use Rattle.omp_world.specs.declared.event.Halt.{Halt}
-use Rattle.omp_world.specs.State.{Task, World, no_task, task_at, with_task}
-use Rattle.omp_world.specs.Members.{code_of, current, moment_of, view_of}
-use Rattle.omp_world.specs.Changes.{gone_to, owned_by, with_code}
-use Rattle.omp_world.specs.Going.{Going, Happens, Halts, effect_of_point, event_of_point, fault_of_point, going_by, going_in_code, going_to_point, lock_fault, past_point, unless}
-use Rattle.omp_world.specs.Made.{IsMadeWorld}
-use Rattle.omp_world.proofs.GonePast.{last-written}
-use Rattle.omp_world.proofs.MadeEvents.{current-below}
-use Rattle.omp_world.proofs.MadeWords.{after-code, after-store}
+use Rattle.omp_model.specs.declared.event.Event.{Event}
+use Rattle.omp_model.specs.declared.event.Halt.{Halt}
+use Rattle.omp_model.specs.State.{Task, World, no_task, task_at, with_task}
+use Rattle.omp_model.specs.Members.{code_of, current, moment_of, view_of}
+use Rattle.omp_model.specs.Changes.{gone_to, owned_by, with_code}
+use Rattle.omp_model.specs.Going.{Going, Happens, Halts, effect_of_point, event_of_point, fault_of_point, going_by, going_in_code, going_to_point, lock_fault, past_point, unless}
+use Rattle.omp_model.specs.Made.{IsMadeWorld}
+use Rattle.omp_model.proofs.GonePast.{last-written}
+use Rattle.omp_model.proofs.MadeEvents.{current-below}
+use Rattle.omp_model.proofs.MadeWords.{after-code, after-store}
 use Rattle.omp_board.specs.Board.{IsGoing, IsGoingBy, IsGoingTo, run_of}
 use Rattle.omp_board.specs.Events.{IsSettled}
 use Rattle.omp_board.proofs.ToldFree.{told-settled}

@@ -14,18 +14,18 @@ use Rattle.c_model.specs.Task.{Item, Moment, Outcome, Task as Code}
 use Rattle.c_model.specs.Task.Item.{TestLock}
 use Rattle.c_model.specs.Task.Outcome.{Asks, Ends, Limits, Occurs, StepsTo, Traps}
 use Rattle.c_steps.specs.Passing.{IsEventOfNext}
-use Rattle.omp_world.specs.declared.event.Arrival.{Arrival}
-use Rattle.omp_world.specs.declared.event.Arrival.TheVariants.{Comes}
-use Rattle.omp_world.specs.declared.event.Event.{Event}
-use Rattle.omp_world.specs.declared.event.Halt.{Halt}
-use Rattle.omp_world.specs.State.{Task, World, no_task}
-use Rattle.omp_world.specs.Members.{code_of, current, moment_of, view_of}
-use Rattle.omp_world.specs.Changes.{gone_past, with_code}
-use Rattle.omp_world.specs.Gates.{arrival}
-use Rattle.omp_world.specs.Going.{Going, going_by, going_in_code, told}
-use Rattle.omp_world.proofs.Arriving.{Arrives, arrives}
-use Rattle.omp_world.proofs.Coming.{comes-told-past}
-use Rattle.omp_world.proofs.GonePast.{code-past, settled-once, silent-past}
+use Rattle.omp_model.specs.declared.event.Arrival.{Arrival}
+use Rattle.omp_model.specs.declared.event.Arrival.TheVariants.{Comes}
+use Rattle.omp_model.specs.declared.event.Event.{Event}
+use Rattle.omp_model.specs.declared.event.Halt.{Halt}
+use Rattle.omp_model.specs.State.{Task, World, no_task}
+use Rattle.omp_model.specs.Members.{code_of, current, moment_of, view_of}
+use Rattle.omp_model.specs.Changes.{gone_past, with_code}
+use Rattle.omp_model.specs.Gates.{arrival}
+use Rattle.omp_model.specs.Going.{Going, going_by, going_in_code, told}
+use Rattle.omp_model.proofs.Arriving.{Arrives, arrives}
+use Rattle.omp_model.proofs.Coming.{comes-told-past}
+use Rattle.omp_model.proofs.GonePast.{code-past, settled-once, silent-past}
 use Rattle.omp_board.specs.Board.{BoardView, IsGoingBy, IsGoingTo, IsGoing, run_of}
 use Rattle.omp_board.specs.Events.{HasComeTo, IsSettled}
 

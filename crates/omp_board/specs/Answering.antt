@@ -9,10 +9,10 @@ use Rattle.c_model.specs.Going.{settled_after_answer}
 use Rattle.c_model.specs.Step.{settled_task, silent}
 use Rattle.c_steps.specs.declared.next.Next.{Next}
 use Rattle.c_steps.specs.Held.{outcome_at}
-use Rattle.omp_world.specs.State.{World, task_at}
-use Rattle.omp_world.specs.Members.{code_of, current, current_region, moment_of, view_of}
-use Rattle.omp_world.specs.Changes.{gone_to, with_team}
-use Rattle.omp_world.specs.Silent.{chunk_dealt, fitting_chunk, fitting_section, section_dealt, team_after}
+use Rattle.omp_model.specs.State.{World, task_at}
+use Rattle.omp_model.specs.Members.{code_of, current, current_region, moment_of, view_of}
+use Rattle.omp_model.specs.Changes.{gone_to, with_team}
+use Rattle.omp_model.specs.Silent.{chunk_dealt, fitting_chunk, fitting_section, section_dealt, team_after}
 
 -- the code of the thread's task has left out what it goes past
 abbrev pub IsSettled : World → ℕ → Type 0

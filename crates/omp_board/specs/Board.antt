@@ -12,15 +12,15 @@ use Rattle.sync_objects.specs.contracts.locks.Locks as locks
 use Rattle.team_parts.specs.declared.meeting.TheConstants.{TEAM_LIMIT}
 use Rattle.team_parts.specs.Team.{TeamView}
 use Rattle.team_parts.specs.contracts.team.Team as team
-use Rattle.omp_world.specs.contracts.parts.RegionHead as head
-use Rattle.omp_world.specs.declared.parts.RegionHead.{RegionHead}
-use Rattle.omp_world.specs.declared.event.Event.{Event}
-use Rattle.omp_world.specs.declared.event.Halt.{Halt}
-use Rattle.omp_world.specs.State.{Region, Run, Task, Thread, World}
-use Rattle.omp_world.specs.Members.{current, current_region}
-use Rattle.omp_world.specs.Silent.{Goes, Stops, silent_step}
-use Rattle.omp_world.specs.Going.{Going, Happens, Halts, going_beside, going_in_code, going_to_point}
-use Rattle.omp_world.specs.Changes.{gone_past}
+use Rattle.omp_model.specs.contracts.parts.RegionHead as head
+use Rattle.omp_model.specs.declared.parts.RegionHead.{RegionHead}
+use Rattle.omp_model.specs.declared.event.Event.{Event}
+use Rattle.omp_model.specs.declared.event.Halt.{Halt}
+use Rattle.omp_model.specs.State.{Region, Run, Task, Thread, World}
+use Rattle.omp_model.specs.Members.{current, current_region}
+use Rattle.omp_model.specs.Silent.{Goes, Stops, silent_step}
+use Rattle.omp_model.specs.Going.{Going, Happens, Halts, going_beside, going_in_code, going_to_point}
+use Rattle.omp_model.specs.Changes.{gone_past}
 use Rattle.omp_board.specs.contracts.thread.Thread as thread
 use Rattle.omp_board.specs.Codes.{store_code, task_code}
 use Rattle.omp_board.specs.Tasks.{TasksView}

@@ -21,7 +21,7 @@ use Rattle.c_model.specs.declared.point.WorkKind.{WorkKind}
 use Rattle.c_model.specs.contracts.point.WorkKind as work
 use Rattle.c_model.specs.Task.{Item, OpenCall, SharedLoop, Store, Task as Code}
 use Rattle.c_model.specs.Task.Item.{Start, Declare, Leave, Test, Third, Initialise, Return, FallOff, Forked, Inside, MakeCells, NextChunk, Iterations, NextSection, Combine, EndWork, EndMasked, Sync, Acquire, Release, TestLock, Tested}
-use Rattle.omp_world.specs.State.{Task}
+use Rattle.omp_model.specs.State.{Task}
 
 abbrev loop_code : Coded SharedLoop
 loop_code =

@@ -13,13 +13,13 @@ use Rattle.c_model.specs.Step.{settled_task, silent}
 use Rattle.c_model.specs.Task.Outcome.{Occurs}
 use Rattle.c_steps.specs.Beginning.{IsCreation}
 use Rattle.c_steps.specs.Passing.{IsEventOfNext}
-use Rattle.omp_world.specs.declared.event.Endpoint.TheVariants.{Begin}
-use Rattle.omp_world.specs.declared.event.Event.{Event}
-use Rattle.omp_world.specs.declared.event.Event.TheVariants as event
-use Rattle.omp_world.specs.declared.event.Halt.{Halt}
-use Rattle.omp_world.specs.State.{World}
-use Rattle.omp_world.specs.Members.{code_of, current, current_region, moment_of, view_of}
-use Rattle.omp_world.specs.Going.{single_kind}
+use Rattle.omp_model.specs.declared.event.Endpoint.TheVariants.{Begin}
+use Rattle.omp_model.specs.declared.event.Event.{Event}
+use Rattle.omp_model.specs.declared.event.Event.TheVariants as event
+use Rattle.omp_model.specs.declared.event.Halt.{Halt}
+use Rattle.omp_model.specs.State.{World}
+use Rattle.omp_model.specs.Members.{code_of, current, current_region, moment_of, view_of}
+use Rattle.omp_model.specs.Going.{single_kind}
 use Rattle.omp_board.specs.Board.{BoardRoom, BoardView}
 
 -- the code of the thread's task has left out what it goes past

@@ -4,7 +4,7 @@ use Rattle.std.specs.List.{All}
 use Rattle.c_syntax.specs.Numbered.{TreeView}
 use Rattle.c_steps.specs.Held.{Held}
 use Rattle.c_steps.specs.Made.{IsMadeFor}
-use Rattle.omp_world.specs.State.{Task as Seen}
+use Rattle.omp_model.specs.State.{Task as Seen}
 use Rattle.omp_board.specs.declared.task.Task.{Task}
 use Rattle.omp_board.specs.Tasks.{TaskRoom, code_of}
 

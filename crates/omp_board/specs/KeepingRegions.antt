@@ -1,7 +1,7 @@
 -- How the regions are kept.
 use Rattle.std.specs.Prelude.{ℕ, ◌+◌, ◌<◌, ◌≤◌, ◌^◌, nat_lt, Bool, List, Option, None, IfSome, IsSome, length, map, option_map, slice_index_or}
 use Rattle.team_parts.specs.Team.{TeamView}
-use Rattle.omp_world.specs.State.{Region as Seen, fresh_head}
+use Rattle.omp_model.specs.State.{Region as Seen, fresh_head}
 use Rattle.omp_board.specs.declared.region.Region.{Region}
 use Rattle.omp_board.specs.Regions.{IsFreshTeam, RegionRoom, seen_team}
 

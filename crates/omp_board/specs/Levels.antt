@@ -2,7 +2,7 @@
 use Rattle.std.specs.Prelude.{ℕ, ◌==◌, if◌then◌else◌, List, [], ◌∷◌}
 use Rattle.ompt_calls.specs.declared.call.Word.{Word}
 use Rattle.ompt_calls.specs.declared.snapshot.RegionLevel.{RegionLevel}
-use Rattle.omp_world.specs.State.{World, region_at}
+use Rattle.omp_model.specs.State.{World, region_at}
 
 -- the level of the region with this word
 abbrev pub region_level : World → Word → RegionLevel

@@ -14,7 +14,7 @@ use Rattle.c_steps.specs.Held.{Held, task_at}
 use Rattle.c_steps.specs.Passing.{IsEventOfNext}
 use Rattle.c_steps.specs.declared.next.Next.{Next}
 use Rattle.c_steps.specs.declared.next.Next.TheVariants as next
-use Rattle.omp_world.specs.State.{Task, no_task, task_with}
+use Rattle.omp_model.specs.State.{Task, no_task, task_with}
 use Rattle.omp_board.specs.Codes.{store_code, task_code}
 
 -- Room for a turn: of the code of this task for so many silent steps, answers and looks at what stands next, and for so many events; and for so

@@ -2,10 +2,10 @@
 
 ghost use Rattle.std.specs.Prelude.{◌≡◌, ◌≤◌, ◌-◌, ◌∷◌, IfOk, OnOk, length, replicate, reverse};
 ghost use Rattle.c_model.specs.Upcoming.{upcoming_among};
-ghost use Rattle.omp_world.specs.declared.limits.TheConstants.{STACK_LIMIT};
-ghost use Rattle.omp_world.specs.State.{first_world, initial_thread, region_at, task_at, thread_at, unmade};
-ghost use Rattle.omp_world.specs.Snapshots.{lowest_of};
-ghost use Rattle.omp_world.specs.Members.{current, current_index, current_region, is_outermost, member_index, region_of, view_of};
+ghost use Rattle.omp_model.specs.declared.limits.TheConstants.{STACK_LIMIT};
+ghost use Rattle.omp_model.specs.State.{first_world, initial_thread, region_at, task_at, thread_at, unmade};
+ghost use Rattle.omp_model.specs.Snapshots.{lowest_of};
+ghost use Rattle.omp_model.specs.Members.{current, current_index, current_region, is_outermost, member_index, region_of, view_of};
 ghost use Rattle.omp_board.specs.Board.{HasEvent, run_in};
 ghost use Rattle.c_steps.specs.Scopes.{HasNumbers};
 
@@ -28,7 +28,7 @@ use crate::thread::Thread;
 use c_check::Program;
 use c_model::{Upcoming, View};
 pub use meeting::sync_number;
-use omp_world::{IMPLICIT_REGION, ThreadStage};
+use omp_model::{IMPLICIT_REGION, ThreadStage};
 use std::alloc::{AllocError, Global};
 use std::marker::Model;
 use sync_objects::Locks;

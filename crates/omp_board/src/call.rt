@@ -1,15 +1,15 @@
 //! The call of an event.
 
 ghost use Rattle.std.specs.Prelude.{◌≡◌};
-ghost use Rattle.omp_world.specs.Calls as calls;
-ghost use Rattle.omp_world.specs.Words as words;
+ghost use Rattle.omp_model.specs.Calls as calls;
+ghost use Rattle.omp_model.specs.Words as words;
 
 use crate::board::{Board, sync_number};
 use crate::frames::current_frame;
 use crate::levels::task_flags;
 use c_model::{MutexKind, SyncKind, SyncStage, WorkKind};
 use omp_codes::callbacks;
-use omp_world::{Endpoint, Event, IMPLICIT_REGION, INITIAL_TASK, Share};
+use omp_model::{Endpoint, Event, IMPLICIT_REGION, INITIAL_TASK, Share};
 use ompt_calls::{Call, Word};
 
 /// `ompt_thread_initial` of `ompt_thread_t` (OpenMP 5.2, 19.4.4.10).
@@ -43,7 +43,7 @@ const DISPATCH_SECTION: u32 = 2;
 const DISPATCH_CHUNK: u32 = 3;
 
 /// The callback of the event that has just occurred on the thread, with its arguments (OpenMP 5.2, 19.5.2).
-#[tactic(auto, unfolding(omp_world::specs::Calls::call_of))]
+#[tactic(auto, unfolding(omp_model::specs::Calls::call_of))]
 pub fn call_of(board: &Board, thread: u8, event: Event) -> Call
     ensures { result ≡ calls.call_of board.now.world thread event }
 {

@@ -5,7 +5,7 @@ ghost use Rattle.std.specs.List.{All};
 ghost use Rattle.std.specs.Option.{option_copied};
 ghost use Rattle.c_steps.specs.Beginning.{IsCreation};
 ghost use Rattle.c_steps.specs.Made.{IsMadeFor};
-ghost use Rattle.omp_world.specs.Going.{member_code};
+ghost use Rattle.omp_model.specs.Going.{member_code};
 ghost use Rattle.omp_board.specs.Keeping.{HasRoomIn, IsOfProgram, control_at, seen_tasks};
 ghost use Rattle.omp_board.specs.Tasks.{HasCells, code_of, created_by, moment_of, turn_room};
 

@@ -1,10 +1,10 @@
 //! The frames of tasks, right after the Go of an event.
 
 ghost use Rattle.std.specs.Prelude.{◌≡◌, ◌<◌, ◌≤◌, ◌+◌, ◌*◌};
-ghost use Rattle.omp_world.specs.Frames as frames;
+ghost use Rattle.omp_model.specs.Frames as frames;
 
 use crate::board::Board;
-use omp_world::{Event, INITIAL_TASK, STACK_LIMIT};
+use omp_model::{Event, INITIAL_TASK, STACK_LIMIT};
 use ompt_calls::Frame;
 use task_pool::Condition;
 

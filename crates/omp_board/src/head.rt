@@ -2,9 +2,9 @@
 
 ghost use Rattle.std.specs.Prelude.{◌≡◌, Bool, true, slice_set, take};
 ghost use Rattle.std.specs.List.{list_all};
-ghost use Rattle.omp_world.specs.State.{fresh_head};
+ghost use Rattle.omp_model.specs.State.{fresh_head};
 
-use omp_world::RegionHead;
+use omp_model::RegionHead;
 use team_parts::TEAM_LIMIT;
 
 /// A region of a task, which so many members are to join.

@@ -1,13 +1,13 @@
 //! The levels of tasks and regions that a tool can inquire during a callback.
 
 ghost use Rattle.std.specs.Prelude.{◌≡◌, ◌≤◌, ◌<◌, ◌+◌, ◌++◌, length, reverse, vec_capacity, vec_len};
-ghost use Rattle.omp_world.specs.Snapshots as snapshots;
-ghost use Rattle.omp_world.specs.State.{thread_at};
+ghost use Rattle.omp_model.specs.Snapshots as snapshots;
+ghost use Rattle.omp_model.specs.State.{thread_at};
 ghost use Rattle.omp_board.specs.Levels.{region_level, unless_again};
 
 use crate::board::Board;
 use crate::frames::frame_of;
-use omp_world::{Event, INITIAL_TASK, STACK_LIMIT};
+use omp_model::{Event, INITIAL_TASK, STACK_LIMIT};
 use ompt_calls::{RegionLevel, RegionLevels, TaskLevel, TaskLevels, Word};
 use std::alloc::{AllocError, Global};
 use std::marker::Model;

@@ -1,6 +1,6 @@
 //! What the machine's turns change, and what a tool hears of it: threads, tasks with their code, regions with their teams, cells and locks.
 //!
-//! Contracts see a [`Board`] as the program, a world of `omp_world`'s definitions, and room for a turn. Its calls are those definitions':
+//! Contracts see a [`Board`] as the program, a world of `omp_model`'s definitions, and room for a turn. Its calls are those definitions':
 //!
 //! - [`Board::new`] gives the first world of a program's run, and [`Board::reserve`] makes room for a turn of a thread;
 //! - [`Board::arrival`] tells what a thread comes to next, or that it has to wait;

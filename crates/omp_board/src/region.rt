@@ -5,7 +5,7 @@ ghost use Rattle.team_parts.specs.Meetings.{HasChunk};
 ghost use Rattle.team_parts.specs.Team.{after_chunk, after_meeting, after_section, answer_to_meet, may_pass, next_chunk, next_section, with_begun, with_passed};
 ghost use Rattle.omp_board.specs.KeepingRegions.{HasRoom, has_member, room_of, seen_region, team_of};
 
-use omp_world::RegionHead;
+use omp_model::RegionHead;
 use std::alloc::AllocError;
 use team_parts::{Meeting, Mismatch, Team};
 

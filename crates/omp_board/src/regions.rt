@@ -4,7 +4,7 @@ ghost use Rattle.std.specs.Prelude.{◌≡◌, ◌<◌, ◌≤◌, ◌&&◌, ◌
 ghost use Rattle.std.specs.List.{list_all};
 ghost use Rattle.team_parts.specs.Meetings.{HasChunk};
 ghost use Rattle.team_parts.specs.Team.{may_pass, with_begun, with_passed};
-ghost use Rattle.omp_world.specs.State.{fresh_region};
+ghost use Rattle.omp_model.specs.State.{fresh_region};
 ghost use Rattle.omp_board.specs.Regions.{IsFreshTeam, after_chunk_in, after_meeting_in, after_section_in, first_regions, is_member_in, meeting_in, next_chunk_in, next_section_in, region_in, team_in, turn_room, with_head_in, with_team_in};
 
 use crate::head::{all_left, fresh_head, member_begun, member_left};

@@ -1,14 +1,14 @@
 //! What a tool can inquire during a callback: the state right after the Go of its event.
 
 ghost use Rattle.std.specs.Prelude.{◌≡◌};
-ghost use Rattle.omp_world.specs.Snapshots as snapshots;
-ghost use Rattle.omp_world.specs.State.{task_at};
-ghost use Rattle.omp_world.specs.Members.{current};
+ghost use Rattle.omp_model.specs.Snapshots as snapshots;
+ghost use Rattle.omp_model.specs.State.{task_at};
+ghost use Rattle.omp_model.specs.Members.{current};
 
 use crate::board::Board;
 use crate::levels::Levels;
 use c_model::{MutexKind, SyncKind, SyncStage, Upcoming};
-use omp_world::{Event, IMPLICIT_REGION, INITIAL_TASK};
+use omp_model::{Event, IMPLICIT_REGION, INITIAL_TASK};
 use ompt_calls::{Snapshot, Target};
 
 /// `ompt_state_work_serial` of `ompt_state_t` (OpenMP 5.2, 19.4.4).
@@ -102,7 +102,7 @@ fn resumed_state(board: &Board, thread: u8) -> u16
 }
 
 /// The state of a thread at its event.
-#[tactic(auto, unfolding(omp_world::specs::Snapshots::state_of))]
+#[tactic(auto, unfolding(omp_model::specs::Snapshots::state_of))]
 fn state_of(board: &Board, thread: u8, event: Event) -> u16
     ensures { result ≡ snapshots.state_of board.now.world thread event }
 {

@@ -20,7 +20,7 @@ ghost use Rattle.c_steps.specs.Made.{IsMadeFor};
 ghost use Rattle.c_steps.specs.Passing.{IsEventOfNext};
 ghost use Rattle.c_steps.specs.Ready.{FitsProgram};
 ghost use Rattle.c_steps.specs.Scopes.{HasNumbers};
-ghost use Rattle.omp_world.specs.Going.{member_code};
+ghost use Rattle.omp_model.specs.Going.{member_code};
 ghost use Rattle.omp_board.specs.Tasks.{HasPass, HasSteps, IsNamedIn, IsStill, code_in, first_tasks, gone_in, moment_in, one_pass_less, one_step_less, room_after, task_in, turn_room, with_code_in, with_one_more, with_task_in};
 
 use crate::controls::{

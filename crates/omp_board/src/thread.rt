@@ -1,10 +1,10 @@
 //! A thread: how far it has come, and the tasks that it has taken up.
 
 ghost use Rattle.std.specs.Prelude.{◌≡◌, ◌<◌, ◌≤◌, ◌-◌, ◌∷◌, [], ℕ, None, drop, length, reverse, slice_index_or, IfOk};
-ghost use Rattle.omp_world.specs.Changes.{summoned};
-ghost use Rattle.omp_world.specs.Snapshots.{lowest_of};
+ghost use Rattle.omp_model.specs.Changes.{summoned};
+ghost use Rattle.omp_model.specs.Snapshots.{lowest_of};
 
-use omp_world::{STACK_LIMIT, Share, ThreadStage};
+use omp_model::{STACK_LIMIT, Share, ThreadStage};
 use std::alloc::{AllocError, Global};
 use std::marker::Model;
 
@@ -27,7 +27,7 @@ pub struct Thread {
 
 impl Model for Thread {
     ghost use Rattle.std.specs.Prelude.{reverse, vec_capacity};
-    ghost use Rattle.omp_world.specs.State.{Thread as Seen};
+    ghost use Rattle.omp_model.specs.State.{Thread as Seen};
     ghost use Rattle.omp_board.specs.Threads.{IsStack};
 
     ghost Value = { Seen };

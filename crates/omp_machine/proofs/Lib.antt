@@ -1,7 +1,7 @@
-pub mod Filling
-pub mod Inviting
-pub mod Searching
-pub mod Sound
+mod Coming
+mod Programs
+mod Searching
+mod Sound
 pub mod Storing
 pub mod Telling
-pub mod Walking
+mod Walking

@@ -1,22 +1,21 @@
 -- The stores of a tool during a callback: where one may stand, and what the next one may do.
-use Rattle.std.proofs.Common.{◌≡◌, ℕ, ◌+◌, ◌<◌, ◌≤◌, ◌∙◌, true, List, Option, Some, None, IsTrue, IsSome, length, slice_index_or, slice_set, get_or-set_same, get_or-set_other, lt-ltb, refl, sym, ap, subst, inl, inr, arith}
+use Rattle.std.proofs.Common.{◌≡◌, ℕ, ◌+◌, ◌<◌, ◌≤◌, ◌∙◌, true, List, Option, Some, None, IsTrue, IsSome, length, slice_index_or, slice_set, get_or-set_same, lt-ltb, refl, sym, ap, subst, inl, inr, arith}
 use Rattle.std.proofs.lemmas.Bool.{cases_eq, cases_lt, true≢false}
-use Rattle.std.proofs.lemmas.List.{get_or_past, length-set}
+use Rattle.std.proofs.lemmas.List.{get_or-set_other, get_or_past, length-set}
 use Rattle.ompt_calls.specs.declared.call.Call.{Call}
 use Rattle.ompt_calls.specs.declared.snapshot.Snapshot.{Snapshot}
 use Rattle.ompt_calls.specs.declared.snapshot.Target.{Target}
 use Rattle.ompt_calls.specs.declared.snapshot.Target.TheVariants as target
-use Rattle.ompt_calls.specs.Number.{number_of, is_registered}
-use Rattle.omp_model.specs.declared.limits.TheConstants.{STORE_LIMIT}
+use Rattle.ompt_calls.specs.Number.{is_registered}
 use Rattle.omp_model.specs.declared.history.What.TheVariants.{Put}
-use Rattle.omp_model.specs.declared.machine.Callback.{Callback}
-use Rattle.omp_model.specs.declared.machine.Event.{Event}
-use Rattle.omp_model.specs.declared.machine.Event.TheVariants.{ThreadBegin, InitialTaskBegin, InitialTaskEnd, ThreadEnd, ParallelBegin, ParallelEnd, MemberBegin, BarrierBegin, WaitBegin, WaitEnd, BarrierEnd, MemberEnd}
-use Rattle.omp_model.specs.State.{Run, World, State, Thread, pending_at, thread_at, unmade}
+use Rattle.omp_model.specs.declared.limits.TheConstants.{STORE_LIMIT}
+use Rattle.omp_model.specs.declared.event.Callback.{Callback}
+use Rattle.omp_model.specs.declared.event.Event.{Event}
+use Rattle.omp_model.specs.State.{World, Run, State, Thread, pending_at, thread_at, unmade}
 use Rattle.omp_model.specs.Words.{is_made, is_made_identity, is_made_thread, stored}
-use Rattle.omp_model.specs.Calls.{call_of}
+use Rattle.omp_model.specs.Calls.{callback_of}
 use Rattle.omp_model.specs.Turn.{turn, called}
-use Rattle.omp_model.specs.Legal.{put, put_from, may}
+use Rattle.omp_model.specs.Legal.{may, put, put_from}
 use Rattle.omp_model.proofs.Turns.{turn-pending}
 use Rattle.omp_machine.specs.declared.went.Went.TheVariants.{Told}
 use Rattle.omp_machine.specs.Standing.{Standing, went_of}
@@ -25,7 +24,7 @@ use Rattle.omp_machine.proofs.Telling.{told-by}
 -- the thread is inside a callback of this event, which is registered and whose tool has stored so many words
 pub record Inside (run : Run) (S : State) (t : ℕ) (event : Event) (stores : ℕ) : Type 0 where
   pub pending : pending_at S t ≡ Some (record { event = event; stores = stores })
-  pub registered : is_registered run.mask (number_of (call_of S.world t event)) ≡ true
+  pub registered : is_registered run.mask (callback_of event) ≡ true
 
 -- a place that was set, and is one
 set-some : (pending : List (Option Callback)) (t : ℕ) (callback : Callback) → IsSome (slice_index_or (slice_set pending t (Some callback)) t None) → slice_index_or (slice_set pending t (Some callback)) t None ≡ Some callback
@@ -60,21 +59,6 @@ pub inside-may : (run : Run) (S : State) (t : ℕ) (event : Event) (stores : ℕ
 inside-may run S t event stores place word inside few made =
     rw (inside.pending, inside.registered, lt-ltb stores STORE_LIMIT few, made) refl
 
--- the number of an event's callback has no part in the words
-number-kept : (W after : World) (t : ℕ) (event : Event) → number_of (call_of after t event) ≡ number_of (call_of W t event)
-number-kept W after t ThreadBegin = refl
-number-kept W after t InitialTaskBegin = refl
-number-kept W after t InitialTaskEnd = refl
-number-kept W after t ThreadEnd = refl
-number-kept W after t (ParallelBegin r requested codeptr) = refl
-number-kept W after t (ParallelEnd r) = refl
-number-kept W after t (MemberBegin r k) = refl
-number-kept W after t (BarrierBegin r k) = refl
-number-kept W after t (WaitBegin r k) = refl
-number-kept W after t (WaitEnd r k) = refl
-number-kept W after t (BarrierEnd r k) = refl
-number-kept W after t (MemberEnd r k) = refl
-
 -- a place with something in it is one
 some-below : (pending : List (Option Callback)) (t : ℕ) (callback : Callback) → slice_index_or pending t None ≡ Some callback → t < length pending
 some-below pending t callback some = elim (cases_lt t (length pending)) [
@@ -90,7 +74,7 @@ inside-put run S t event stores place word inside =
     let stored_so : put S t place word ≡ put_from S t place word (Some callback) = ap (put_from S t place word) inside.pending in
     subst (λ (next : State). Inside run next t event (stores + 1)) (sym stored_so) (record {
       pending = get_or-set_same S.pending t (Some after) None (some-below S.pending t callback inside.pending);
-      registered = ap (is_registered run.mask) (number-kept S.world (stored S.world place word) t event) ∙ inside.registered;
+      registered = inside.registered;
     })
 
 -- a thread in whose place another stands, which has come as far

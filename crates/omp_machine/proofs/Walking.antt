@@ -1,43 +1,61 @@
 -- One more silent step of a walk, or its end.
-use Rattle.std.proofs.Common.{◌≡◌, ℕ, zero, suc, ◌+◌, ◌-◌, ◌<◌, ◌≤◌, true, false, nat_le, Some, None, refl, arith}
-use Rattle.omp_model.specs.declared.machine.Halt.TheVariants.{Limit}
+use Rattle.std.proofs.Common.{◌⊎◌, inl, inr, ◌≡◌, ℕ, zero, suc, ◌+◌, ◌-◌, ◌<◌, ◌≤◌, ◌∙◌, true, false, nat_le, Some, None, refl, ap, arith}
+use Rattle.omp_model.specs.declared.limits.TheConstants.{STEPS}
+use Rattle.omp_model.specs.declared.event.Arrival.{Arrival}
+use Rattle.omp_model.specs.declared.event.Arrival.TheVariants.{Waits, Steps, Comes, Meets}
+use Rattle.omp_model.specs.declared.event.Event.{Event}
+use Rattle.omp_model.specs.declared.event.Halt.{Halt}
+use Rattle.omp_model.specs.declared.event.Halt.TheVariants.{Limit}
 use Rattle.omp_model.specs.State.{Run, World, State}
-use Rattle.omp_model.specs.Silent.{Silence, NoStep, Steps, is_step, silent}
-use Rattle.omp_model.specs.Turn.{Walk, walk_on, walk, stepped}
-
--- what is no step is none
-no-step : (s : Silence) → false ≡ is_step s → s ≡ NoStep
-no-step NoStep none = refl
-no-step (Steps after) none = cc
+use Rattle.omp_model.specs.Gates.{arrival}
+use Rattle.omp_model.specs.Silent.{Goes, Stops, silent_step}
+use Rattle.omp_model.specs.Turn.{Walk, going_past, stepped, walk, walk_by, walk_on, walked}
 
 -- where no step stands next, the walk is over
-pub walk-at_rest : (run : Run) (left made : ℕ) (S : State) (t : ℕ) → false ≡ is_step (silent S.world t) → walk run left made S t ≡ record { state = S; made = made; stop = None }
-unfolding walk
-walk-at_rest run zero made S t none = refl
-walk-at_rest run (suc left) made S t none = rw (no-step (silent S.world t) none)
+on-rest : (run : Run) (S : State) (t made : ℕ) (next : Arrival) (more : World → Walk) → (next ≡ Steps → ⊥) → walk_on run S t made next more ≡ walked S made None
+on-rest run S t made Waits more rest = refl
+on-rest run S t made Steps more rest = absurd (rest refl)
+on-rest run S t made Comes more rest = refl
+on-rest run S t made (Meets event) more rest = refl
 
--- where all steps were made, a step that stands next meets the limit
-on-spent : (run : Run) (S : State) (made : ℕ) (s : Silence) (more : World → Walk) → true ≡ is_step s → true ≡ nat_le run.steps S.steps → walk_on run S made s more ≡ record { state = S; made = made; stop = Some (Limit 1) }
-on-spent run S made NoStep more next spent = cc
-on-spent run S made (Steps after) more next spent = rw (← spent)
-
-pub walk-spent : (run : Run) (left made : ℕ) (S : State) (t : ℕ) → true ≡ is_step (silent S.world t) → true ≡ nat_le run.steps S.steps → walk run (suc left) made S t ≡ record { state = S; made = made; stop = Some (Limit 1) }
+pub walk-at_rest : (run : Run) (left made : ℕ) (S : State) (t : ℕ) → (arrival S.world t ≡ Steps → ⊥) → walk run left made S t ≡ walked S made None
 unfolding walk
-walk-spent run left made S t next spent = on-spent run S made (silent S.world t) (λ after. walk run left (made + 1) (stepped S after) t) next spent
+walk-at_rest run zero made S t rest = refl
+walk-at_rest run (suc left) made S t rest = on-rest run S t made (arrival S.world t) (λ after. walk run left (made + 1) (stepped S after) t) rest
 
--- else it is made
-pub walk-goes : (run : Run) (left made : ℕ) (S : State) (t : ℕ) (after : World) → silent S.world t ≡ Steps after → false ≡ nat_le run.steps S.steps → walk run (suc left) made S t ≡ walk run left (made + 1) (stepped S after) t
+-- where all steps were made, a step that stands next meets the limit; else it is made, or stops the run
+by-steps : (run : Run) (left made : ℕ) (S : State) (t : ℕ) → arrival S.world t ≡ Steps → walk run (suc left) made S t ≡ walk_on run S t made Steps (λ after. walk run left (made + 1) (stepped S after) t)
 unfolding walk
-walk-goes run left made S t after made-it more = rw (made-it, ← more)
+by-steps run left made S t next = ap (λ a. walk_on run S t made a (λ after. walk run left (made + 1) (stepped S after) t)) next
+
+pub walk-spent : (run : Run) (left made : ℕ) (S : State) (t : ℕ) → arrival S.world t ≡ Steps → nat_le run.steps S.steps ≡ true → walk run (suc left) made S t ≡ walked S made (Some (Limit STEPS))
+walk-spent run left made S t next spent = by-steps run left made S t next ∙ rw spent refl
+
+by-silence : (run : Run) (left made : ℕ) (S : State) (t : ℕ) → arrival S.world t ≡ Steps → nat_le run.steps S.steps ≡ false → walk run (suc left) made S t ≡ walk_by (going_past S t) made (silent_step run S.world t) (λ after. walk run left (made + 1) (stepped S after) t)
+by-silence run left made S t next more = by-steps run left made S t next ∙ rw more refl
+
+pub walk-goes : (run : Run) (left made : ℕ) (S : State) (t : ℕ) (after : World) → arrival S.world t ≡ Steps → nat_le run.steps S.steps ≡ false → silent_step run S.world t ≡ Goes after → walk run (suc left) made S t ≡ walk run left (made + 1) (stepped S after) t
+walk-goes run left made S t after next more goes =
+    by-silence run left made S t next more ∙ ap (λ silence. walk_by (going_past S t) made silence (λ after. walk run left (made + 1) (stepped S after) t)) goes
+
+pub walk-stops : (run : Run) (left made : ℕ) (S : State) (t : ℕ) (halt : Halt) → arrival S.world t ≡ Steps → nat_le run.steps S.steps ≡ false → silent_step run S.world t ≡ Stops halt → walk run (suc left) made S t ≡ walked (going_past S t) made (Some halt)
+walk-stops run left made S t halt next more stops =
+    by-silence run left made S t next more ∙ ap (λ silence. walk_by (going_past S t) made silence (λ after. walk run left (made + 1) (stepped S after) t)) stops
 
 -- the steps that are left, counted by one
 pub left-suc : (most made : ℕ) → made < most → most - made ≡ suc (most - (made + 1))
 left-suc most made below = omega arith
 
 -- where as many steps as there may be were made, the walk is over
-pub walk-over : (run : Run) (most made : ℕ) (S : State) (t : ℕ) → most ≤ made → made ≤ most → walk run (most - made) made S t ≡ record { state = S; made = most; stop = None }
+pub walk-over : (run : Run) (most made : ℕ) (S : State) (t : ℕ) → most ≤ made → made ≤ most → walk run (most - made) made S t ≡ walked S most None
 unfolding walk
 walk-over run most made S t reached within =
     let none : most - made ≡ 0 = omega arith in
     let all : made ≡ most = omega arith in
     rw (none, all)
+
+-- what is waits, or an event, is no step
+pub no-step : (next : Arrival) → (next ≡ Waits) ⊎ ((next ≡ Comes) ⊎ ((event : Event) × next ≡ Meets event)) → next ≡ Steps → ⊥
+no-step next (inl waits) steps = cc
+no-step next (inr (inl comes)) steps = cc
+no-step next (inr (inr (event, meets))) steps = cc

@@ -1,28 +1,37 @@
 -- What a machine stands for: its run and a state of it; and what a turn tells its caller.
-use Rattle.std.specs.Prelude.{ℕ, ◌≡◌, ◌<◌, ◌≤◌, ◌+◌, Bool, true, false, if◌then◌else◌, length, None}
+use Rattle.std.specs.Prelude.{ℕ, ◌≡◌, ◌<◌, ◌≤◌, Bool, true, false, if◌then◌else◌, None, refl}
+use Rattle.std.specs.Coded.{Coded, code_by, coded×}
 use Rattle.ompt_calls.specs.declared.call.Call.{Call}
 use Rattle.ompt_calls.specs.declared.snapshot.Snapshot.{Snapshot}
-use Rattle.ompt_calls.specs.Number.{number_of, is_registered}
+use Rattle.ompt_calls.specs.Number.{is_registered}
+use Rattle.omp_model.specs.declared.event.Halt.{Halt}
+use Rattle.omp_model.specs.declared.event.Halt.TheVariants as halt
+use Rattle.omp_model.specs.declared.event.Outcome.{Outcome}
+use Rattle.omp_model.specs.declared.event.Outcome.TheVariants.{Idle, Quiet, Happens, Halts}
 use Rattle.omp_model.specs.declared.limits.TheConstants.{TURN_LIMIT}
-use Rattle.omp_model.specs.declared.machine.Halt.{Halt}
-use Rattle.omp_model.specs.declared.machine.Halt.TheVariants as halt
-use Rattle.omp_model.specs.State.{Run, State}
-use Rattle.omp_model.specs.Calls.{call_of}
+use Rattle.omp_model.specs.Calls.{call_of, callback_of}
+use Rattle.omp_model.specs.Made.{IsMadeState}
 use Rattle.omp_model.specs.Snapshots.{snap_of}
-use Rattle.omp_model.specs.declared.machine.Outcome.{Outcome}
-use Rattle.omp_model.specs.declared.machine.Outcome.TheVariants.{Idle, Quiet, Happens, Halts}
+use Rattle.omp_model.specs.State.{Run, State}
 use Rattle.omp_model.specs.Turn.{turn}
 use Rattle.omp_machine.specs.declared.went.Went.{Went}
 use Rattle.omp_machine.specs.declared.went.Went.TheVariants as went
+use Rattle.omp_machine.specs.State.{run_code, state_code}
 
 -- a run, and a state of it
 pub record Standing : Type 0 where
   pub run : Run
   pub state : State
 
--- a callback tells its tool where it is registered, with what can be inquired during it
-abbrev pub told : ℕ → Call → Snapshot → Went
-told mask call snapshot = if is_registered mask (number_of call) then went.Told call snapshot else went.Untold
+abbrev pub standing_code : Coded Standing
+standing_code =
+    code_by (Run × State) (coded× run_code state_code) (λ standing. (standing.run, standing.state))
+    (λ p. record { run = p.0; state = p.1 })
+    (λ _. refl)
+
+-- an event is told where its callback is registered, with what can be inquired during it
+abbrev pub told : ℕ → ℕ → Call → Snapshot → Went
+told mask number call snapshot = if is_registered mask number then went.Told call snapshot else went.Untold
 
 abbrev pub went_of_halt : Halt → Went
 went_of_halt (halt.Trap number) = went.Trapped number
@@ -32,7 +41,7 @@ went_of_halt (halt.Limit number) = went.Limit number
 abbrev pub went_after : Run → State → ℕ → Outcome → Went
 went_after run after t Idle = went.Quiet
 went_after run after t Quiet = went.Quiet
-went_after run after t (Happens event) = told run.mask (call_of after.world t event) (snap_of after.world t event)
+went_after run after t (Happens event) = told run.mask (callback_of event) (call_of after.world t event) (snap_of after.world t event)
 went_after run after t (Halts halt) = went_of_halt halt
 
 abbrev pub went_of : Run → State → ℕ → Went
@@ -46,13 +55,10 @@ is_call went.Untold = true
 is_call (went.Trapped number) = false
 is_call (went.Limit number) = false
 
--- what is true of every state that a machine stands for
-pub record IsSound (threads : ℕ) (state : State) : Type 0 where
-  pub pending_of_each : length state.pending ≡ threads
-  pub each_thread : length state.world.threads ≡ threads
+-- What is true of every state that a machine stands for: there is a place for each thread's callback, turns are left while nothing has halted the
+-- run, and all that the state names was made.
+pub record IsSound (run : Run) (state : State) : Type 0 where
+  pub some : 1 ≤ run.threads
   pub turns_left : state.halt ≡ None → state.turns < TURN_LIMIT
-  -- a turn makes at most one task and one region
-  pub few : threads ≤ 16
   pub turns : state.turns ≤ TURN_LIMIT
-  pub tasks : length state.world.tasks ≤ state.turns + 2
-  pub regions : length state.world.regions ≤ state.turns + 2
+  pub made : IsMadeState run state

@@ -1,21 +1,22 @@
 //! The machine that runs the program.
 
-ghost use Rattle.std.specs.Prelude.{◌≡◌, ◌<◌, ◌≤◌, IfOk, OnOk, OnErr, IsSome, IsTrue, is_some, ◌-◌};
-ghost use Rattle.omp_model.specs.State.{first, pending_at};
+ghost use Rattle.std.specs.Prelude.{◌≡◌, ◌≤◌, IfOk, OnOk, OnErr, IsSome, IsTrue, is_some, ◌-◌};
+ghost use Rattle.omp_model.specs.State.{Run, first, pending_at};
 ghost use Rattle.omp_model.specs.Turn.{turn, enabled};
 ghost use Rattle.omp_model.specs.Words.{is_made};
 ghost use Rattle.omp_model.specs.Legal.{back, may, put};
 ghost use Rattle.omp_model.specs.declared.history.What.TheVariants.{Put};
 ghost use Rattle.omp_model.specs.Serial.{enabled_among, first_enabled};
 ghost use Rattle.omp_model.specs.Cause.{whole_value, is_stuck, cause_of_value, cause_of_halt, cause_in};
-ghost use Rattle.omp_model.specs.Program.{run_of_blocks};
 ghost use Rattle.omp_machine.specs.Standing.{Standing, went_of, is_call};
 
-use crate::levels::Levels;
 use crate::settings::Settings;
 use crate::state::State;
 use crate::went::Went;
-use omp_model::{Blocks, Cause, Halt};
+use c_check::Program;
+use omp_board::Levels;
+use omp_model::Cause;
+use omp_model::Halt;
 use ompt_calls::Target;
 use std::alloc::Global;
 use std::marker::Model;
@@ -28,29 +29,31 @@ pub type Memory = std::alloc::AllocError;
 pub struct Machine {
     /// Where its memory comes from.
     alloc: Global,
-    /// What fixes its run.
+    /// What fixes its run, beside the program.
     settings: Settings,
     /// What the run has come to.
     state: State,
 }
 
 impl Model for Machine {
-    ghost use Rattle.omp_machine.specs.Settings.{run_of};
-    ghost use Rattle.omp_machine.specs.Standing.{Standing, IsSound};
+    ghost use Rattle.omp_machine.specs.State.{run_in};
+    ghost use Rattle.omp_machine.specs.Standing.{Standing, IsSound, standing_code};
 
     ghost Value = { Standing };
 
-    ghost view = { λ machine. record { run = run_of machine.settings; state = machine.state.state } };
+    ghost coded = { standing_code };
 
-    ghost invariant = { λ machine. IsSound machine.settings.threads machine.state.state };
+    ghost view = { λ machine. record { run = run_in machine.state.program machine.settings; state = machine.state.state } };
+
+    ghost invariant = { λ machine. IsSound (run_in machine.state.program machine.settings) machine.state.state };
 }
 
 impl Machine {
-    /// The machine of the program with these parallel blocks, in its first state, with the callbacks of the mask
-    /// registered (bit n for number n), so many threads and so many silent steps.
+    /// The machine of the program in its first state, with the callbacks of the mask registered (bit n for number n), so many threads and so many
+    /// silent steps.
     pub fn new(
         alloc: Global,
-        blocks: Blocks,
+        program: Program,
         mask: u64,
         threads: u8,
         steps: u32,
@@ -59,15 +62,14 @@ impl Machine {
         requires few { threads ≤ 16 }
         requires steps { 1 ≤ steps }
         requires bounded { steps ≤ 30000000 }
-        ensures { IfOk result (λ machine. machine ≡ record { run = run_of_blocks blocks mask threads steps; state = first (run_of_blocks blocks mask threads steps) }) }
+        ensures { IfOk result (λ machine. machine ≡ (let run : Run = record { program = program; mask = mask; threads = threads; steps = steps } in record { run = run; state = first run })) }
     {
         let settings = Settings {
-            blocks,
             mask,
             threads,
             steps,
         };
-        let state = State::new(alloc, &settings)?;
+        let state = State::new(alloc, program, settings)?;
         Ok(Machine {
             alloc,
             settings,
@@ -77,7 +79,7 @@ impl Machine {
 
     /// Whether the thread may begin a turn.
     pub fn enabled(&self, thread: u8) -> bool
-        ensures { result ≡ enabled self.now.run self.now.state thread }
+        ensures { result ≡ enabled self.now.state thread }
     {
         self.state.enabled(thread)
     }
@@ -126,7 +128,7 @@ impl Machine {
 
     /// The first enabled thread from `from` on, before `end`.
     fn enabled_among(&self, from: u8, end: u8) -> Option<u8>
-        ensures { result ≡ enabled_among self.now.run self.now.state from (end - from) }
+        ensures { result ≡ enabled_among self.now.state from (end - from) }
     {
         for thread in from..end {
             if self.enabled(thread) {
@@ -151,16 +153,16 @@ impl Machine {
     ///
     /// Where it finds no memory, nothing has changed.
     pub fn go(&mut self, thread: u8) -> Result<Went, Memory>
-        requires { IsTrue (enabled self.old.run self.old.state thread) }
+        requires { IsTrue (enabled self.old.state thread) }
         ensures turn { OnOk result (self.new ≡ record self.old { state = (turn self.old.run self.old.state thread).state }) }
         ensures went { IfOk result (λ went. went ≡ went_of self.old.run self.old.state thread) }
         ensures waits { IfOk result (λ went. IsTrue (is_call went) → IsSome (pending_at self.new.state thread)) }
         ensures err { OnErr result (self.new ≡ self.old) }
     {
         let levels = Levels::new(self.alloc)?;
-        self.state.reserve()?;
-        let outcome = self.state.turn(&self.settings, thread);
-        Ok(self.state.went(&self.settings, thread, outcome, levels))
+        self.state.reserve(thread)?;
+        let outcome = self.state.turn(self.settings.steps, thread);
+        Ok(self.state.went(self.settings.mask, thread, outcome, levels))
     }
 
     /// Whether the thread, region or task whose data word this is was made.
@@ -184,6 +186,20 @@ impl Machine {
         ensures { self.new ≡ record self.old { state = back self.old.state thread } }
     {
         self.state.back(thread);
+    }
+
+    /// The bytes that the program has printed so far.
+    pub fn text(&self) -> &[u8]
+        ensures { result.now ≡ self.now.state.world.store.text }
+    {
+        self.state.text()
+    }
+
+    /// The bytes that the program has printed.
+    pub fn into_text(self) -> Vec<u8>
+        ensures { result.items ≡ self.state.world.store.text }
+    {
+        self.state.into_text()
     }
 }
 

@@ -1,12 +1,8 @@
-//! What fixes a run.
+//! What fixes a run, beside its program.
 
-use omp_model::Blocks;
-
-/// What fixes a run.
-#[derive(Drop)]
+/// What fixes a run, beside its program.
+#[derive(Clone, Copy)]
 pub struct Settings {
-    /// The program.
-    pub blocks: Blocks,
     /// The callbacks that are registered: bit n for number n.
     pub mask: u64,
     /// How many threads there may be.

@@ -1,21 +1,29 @@
 //! A state of the machine, and the order of a turn.
 
-ghost use Rattle.std.specs.Prelude.{◌≡◌, ◌≤◌, ◌<◌, ◌+◌, ◌^◌, ◌||◌, None, IfOk, IfSome, OnOk, IsTrue, is_some, length, nat_le, replicate, Some, slice_set};
+ghost use Rattle.std.specs.Prelude.{◌≡◌, ◌≤◌, ◌<◌, ◌+◌, ◌^◌, None, IfErr, IfOk, IfSome, OnErr, OnOk, nat_le, replicate, slice_set};
+ghost use Rattle.c_steps.specs.Scopes.{HasNumbers};
 ghost use Rattle.omp_model.specs.State.{Run, first, pending_at};
-ghost use Rattle.omp_model.specs.Silent.{Steps, is_step, silent};
-ghost use Rattle.omp_model.specs.Events.{event, fault_at};
-ghost use Rattle.omp_model.specs.Words.{is_made};
-ghost use Rattle.omp_model.specs.Turn.{called, walk, stepped, halted, happening, after_steps, unlimited, turn, enabled};
-ghost use Rattle.omp_model.specs.Legal.{back, put};
 ghost use Rattle.omp_model.specs.Cause.{none_pending, whole_value};
-ghost use Rattle.omp_machine.specs.Settings.{run_of};
+ghost use Rattle.omp_model.specs.Gates.{arrival};
+ghost use Rattle.omp_model.specs.Legal.{back, put};
+ghost use Rattle.omp_model.specs.Made.{IsMadeWorld};
+ghost use Rattle.omp_model.specs.Members.{view_of};
+ghost use Rattle.omp_model.specs.Turn as turns;
+ghost use Rattle.omp_model.specs.declared.event.Arrival.TheVariants.{Steps};
+ghost use Rattle.omp_model.specs.Turn.{after_steps, called, enabled, going_past, halted, stepped, turn, unlimited, walk};
+ghost use Rattle.omp_model.specs.Words.{is_made};
+ghost use Rattle.omp_board.specs.Board.{HasEvent, HasStep, HasTurn, IsSilence};
+ghost use Rattle.omp_machine.specs.State.{SameCounts, happened, run_in};
 ghost use Rattle.omp_machine.specs.Standing.{went_after};
 
-use crate::board::Board;
-use crate::levels::Levels;
 use crate::settings::Settings;
 use crate::went::{Went, told};
-use omp_model::{Callback, Event, Halt, Outcome, STEPS_OF_A_TURN, STORE_LIMIT, TURN_LIMIT};
+use c_check::Program;
+use c_model::View;
+use omp_board::{Board, Levels};
+use omp_model::{
+    Arrival, Callback, Event, Halt, Outcome, STEPS, STEPS_OF_A_TURN, STORE_LIMIT, TURN_LIMIT, TURNS,
+};
 use ompt_calls::Target;
 use std::alloc::{AllocError, Global};
 use std::marker::Model;
@@ -29,10 +37,10 @@ struct Walk {
     stop: Option<Halt>,
 }
 
-/// A state of the machine. Contracts see beside it how many more tasks and regions there is room for.
+/// A state of the machine. Contracts see beside it the program, and room for a turn.
 #[derive(Drop)]
 pub struct State {
-    /// The threads, tasks and regions.
+    /// What turns change.
     board: Board,
     /// For each thread the callback that it is inside.
     pending: Vec<Option<Callback>>,
@@ -45,11 +53,14 @@ pub struct State {
 }
 
 impl Model for State {
-    ghost use Rattle.omp_machine.specs.State.{StateView};
+    ghost use Rattle.omp_machine.specs.State.{StateView, state_view_code};
 
     ghost Value = { StateView };
 
+    ghost coded = { state_view_code };
+
     ghost view = { λ state. record {
+      program = state.board.program;
       state = record {
         world = state.board.world;
         pending = state.pending.items;
@@ -62,12 +73,14 @@ impl Model for State {
 }
 
 impl State {
-    /// The first state.
-    pub fn new(alloc: Global, settings: &Settings) -> Result<State, AllocError>
-        requires { 1 ≤ settings.now.threads }
-        ensures { IfOk result (λ state. state.state ≡ first (run_of settings.now)) }
+    /// The first state of a program's run with these settings.
+    pub fn new(alloc: Global, program: Program, settings: Settings) -> Result<State, AllocError>
+        requires some { 1 ≤ settings.threads }
+        requires few { settings.threads ≤ 16 }
+        ensures program { IfOk result (λ state. state.program ≡ program) }
+        ensures first { IfOk result (λ state. state.state ≡ first (run_in program settings)) }
     {
-        let board = Board::new(alloc, &settings.blocks, settings.threads)?;
+        let board = Board::new(alloc, program, settings.threads)?;
         let pending = nobody(alloc, settings.threads)?;
         Ok(State {
             board,
@@ -109,67 +122,91 @@ impl State {
         self.pending.iter().all(|callback| callback.is_none())
     }
 
-    /// Whether a silent step or an event of the thread stands next.
-    fn goes_on(&self, thread: u8) -> bool
-        requires tasks { length self.now.state.world.tasks < 2 ^ 32 }
-        requires regions { length self.now.state.world.regions < 2 ^ 32 }
-        ensures { result ≡ (is_step (silent self.now.state.world thread) || is_some (event self.now.state.world thread)) }
-    {
-        self.board.has_step(thread) || self.board.event(thread).is_some()
-    }
-
-    /// Whether the thread may begin a turn. What fixes the run has no part in it.
+    /// Whether the thread may begin a turn.
+    #[tactic(auto, unfolding(omp_model::specs::Turn::enabled))]
     pub fn enabled(&self, thread: u8) -> bool
-        requires tasks { length self.now.state.world.tasks < 2 ^ 32 }
-        requires regions { length self.now.state.world.regions < 2 ^ 32 }
-        ensures { (run : Run) → result ≡ enabled run self.now.state thread }
+        ensures { result ≡ enabled self.now.state thread }
     {
-        self.pending(thread).is_none() && self.halt.is_none() && self.goes_on(thread)
+        self.pending(thread).is_none() && self.halt.is_none() && goes_on(self.board.arrival(thread))
     }
 
-    /// Whether all silent steps of the run were made.
-    fn is_spent(&self, settings: &Settings) -> bool
-        ensures { result ≡ nat_le settings.now.steps self.now.state.steps }
+    /// What the thread comes to next.
+    fn arrival(&self, thread: u8) -> Arrival
+        ensures { result ≡ arrival self.now.state.world thread }
     {
-        self.steps >= settings.steps
+        self.board.arrival(thread)
     }
 
-    /// Whether a silent step of the thread stands next.
-    fn has_step(&self, thread: u8) -> bool
-        ensures { result ≡ is_step (silent self.now.state.world thread) }
+    /// Whether so many silent steps were made.
+    fn is_spent(&self, limit: u32) -> bool
+        ensures { result ≡ nat_le limit self.now.state.steps }
     {
-        self.board.has_step(thread)
+        self.steps >= limit
     }
 
-    /// Makes the silent step of the thread that stands next.
-    fn step(&mut self, thread: u8)
-        requires next { IsTrue (is_step (silent self.old.state.world thread)) }
+    /// What the code of the thread's current task sees.
+    fn view(&self, thread: u8) -> View
+        ensures view { result ≡ view_of self.now.state.world thread }
+        ensures numbers { HasNumbers result }
+    {
+        self.board.view(thread)
+    }
+
+    /// Makes the silent step of the thread that stands next, or tells the trap or limit that it meets.
+    fn step(&mut self, thread: u8, view: View) -> Result<(), Halt>
+        requires next { arrival self.old.state.world thread ≡ Steps }
+        requires view { view ≡ view_of self.old.state.world thread }
+        requires numbers { HasNumbers view }
+        requires room { HasStep self.old.room self.old.state.world thread }
         requires countable { self.old.state.steps + 1 < 2 ^ 32 }
-        ensures made { silent self.old.state.world thread ≡ Steps self.new.state.world }
-        ensures counted { self.new.state ≡ stepped self.old.state self.new.state.world }
-        ensures room { self.new.room ≡ self.old.room }
+        ensures silence { IsSilence self.old.program self.old.state.world thread result self.new.state.world }
+        ensures counted { OnOk result (self.new.state ≡ stepped self.old.state self.new.state.world) }
+        ensures halted { OnErr result (self.new.state ≡ going_past self.old.state thread) }
+        ensures program { self.new.program ≡ self.old.program }
+        ensures room { self.new.room ≡ record self.old.room { steps = self.new.room.steps } }
+        ensures steps { self.old.room.steps ≤ self.new.room.steps + 1 }
+        ensures turn { HasTurn self.new.room self.new.state.world thread }
+        ensures view { view ≡ view_of self.new.state.world thread }
     {
-        self.board.step(thread);
-        self.steps += 1;
+        match self.board.step(thread, view) {
+            Ok(()) => {
+                self.steps += 1;
+                Ok(())
+            }
+            Err(halt) => Err(halt),
+        }
     }
 
     /// Makes silent steps, at most as many as a turn may have.
-    fn walk(&mut self, settings: &Settings, thread: u8) -> Walk
-        ensures walk { walk (run_of settings.now) STEPS_OF_A_TURN 0 self.old.state thread
-            ≡ record { state = self.new.state; made = result.made; stop = result.stop } }
-        ensures room { self.new.room ≡ self.old.room }
+    fn walk(&mut self, limit: u32, thread: u8) -> Walk
+        requires room { HasEvent self.old.room self.old.state.world thread }
+        requires steps { 66 ≤ self.old.room.steps }
+        ensures walk { (run : Run) → run.program ≡ self.old.program → run.steps ≡ limit →
+            walk run STEPS_OF_A_TURN 0 self.old.state thread ≡ record { state = self.new.state; made = result.made; stop = result.stop } }
+        ensures room { HasEvent self.new.room self.new.state.world thread }
+        ensures counts { SameCounts self.old.state self.new.state }
+        ensures program { self.new.program ≡ self.old.program }
     {
+        let view = self.view(thread);
         for made in 0..STEPS_OF_A_TURN {
-            if !self.has_step(thread) {
-                return Walk { made, stop: None };
+            match self.arrival(thread) {
+                Arrival::Steps => {}
+                Arrival::Waits | Arrival::Comes | Arrival::Meets(_) => {
+                    return Walk { made, stop: None };
+                }
             }
-            if self.is_spent(settings) {
+            if self.is_spent(limit) {
                 return Walk {
                     made,
-                    stop: Some(Halt::Limit(1)),
+                    stop: Some(Halt::Limit(STEPS)),
                 };
             }
-            self.step(thread);
+            if let Err(halt) = self.step(thread, view) {
+                return Walk {
+                    made,
+                    stop: Some(halt),
+                };
+            }
         }
         Walk {
             made: STEPS_OF_A_TURN,
@@ -180,122 +217,132 @@ impl State {
     /// The turn ends the run.
     fn halt_by(&mut self, halt: Halt) -> Outcome
         requires { self.old.state.turns < TURN_LIMIT }
-        ensures { halted self.old.state halt ≡ record { outcome = result; state = self.new.state } }
+        ensures halted { halted self.old.state halt ≡ record { outcome = result; state = self.new.state } }
+        ensures program { self.new.program ≡ self.old.program }
     {
         self.turns += 1;
         self.halt = Some(halt);
         Outcome::Halts(halt)
     }
 
-    /// The event occurs, unless its Go meets a trap or a limit.
-    fn happen(&mut self, thread: u8, event: Event) -> Outcome
-        requires turns { self.old.state.turns < TURN_LIMIT }
-        requires room { 0 < self.old.room }
-        requires threads { length self.old.state.world.threads ≤ 16 }
-        ensures { happening self.old.state thread event (fault_at self.old.state.world thread event)
-            ≡ record { outcome = result; state = self.new.state } }
+    /// The event has occurred, or met this trap or limit.
+    fn happen(&mut self, thread: u8, went: Result<Event, Halt>) -> Outcome
+        requires { self.old.state.turns < TURN_LIMIT }
+        ensures happens { IfOk went (λ event. happened self.old.state thread event ≡ record { outcome = result; state = self.new.state }) }
+        ensures halts { IfErr went (λ halt. halted self.old.state halt ≡ record { outcome = result; state = self.new.state }) }
+        ensures program { self.new.program ≡ self.old.program }
     {
-        match self.board.fault(thread, event) {
-            Some(halt) => self.halt_by(halt),
-            None => {
-                self.board.at_go(thread, event);
+        match went {
+            Ok(event) => {
                 self.set_pending(thread, Some(called(event)));
                 self.turns += 1;
                 Outcome::Happens(event)
             }
+            Err(halt) => self.halt_by(halt),
         }
     }
 
     /// The thread is inside this callback from now on, or inside none.
     fn set_pending(&mut self, thread: u8, callback: Option<Callback>)
-        ensures { self.new.state ≡ record self.old.state { pending = slice_set self.old.state.pending thread callback } }
+        ensures { self.new ≡ record self.old { state = record self.old.state { pending = slice_set self.old.state.pending thread callback } } }
     {
-        let index = thread as usize;
-        if index < self.pending.len() {
-            self.pending[index] = callback;
+        if let Some(place) = self.pending.get_mut(thread as usize) {
+            *place = callback;
         }
     }
 
-    /// What follows the silent steps of a turn.
+    /// What follows the silent steps of a turn, so many.
     fn after_steps(&mut self, thread: u8, made: u32) -> Outcome
         requires turns { self.old.state.turns < TURN_LIMIT }
-        requires room { 0 < self.old.room }
-        requires threads { length self.old.state.world.threads ≤ 16 }
-        requires tasks { length self.old.state.world.tasks < 2 ^ 32 }
-        requires regions { length self.old.state.world.regions < 2 ^ 32 }
-        ensures { after_steps self.old.state made thread (event self.old.state.world thread)
+        requires room { HasEvent self.old.room self.old.state.world thread }
+        requires world { IsMadeWorld self.old.state.world }
+        ensures turn { (run : Run) → run.program ≡ self.old.program → after_steps run self.old.state made thread (arrival self.old.state.world thread)
             ≡ record { outcome = result; state = self.new.state } }
+        ensures program { self.new.program ≡ self.old.program }
     {
-        match self.board.event(thread) {
-            Some(event) => self.happen(thread, event),
-            None if made > 0 => {
-                self.turns += 1;
-                Outcome::Quiet
+        match self.board.arrival(thread) {
+            Arrival::Waits | Arrival::Steps => {
+                if made > 0 {
+                    self.turns += 1;
+                    Outcome::Quiet
+                } else {
+                    Outcome::Idle
+                }
             }
-            None => Outcome::Idle,
+            Arrival::Comes => {
+                let went = self.board.come(thread);
+                self.happen(thread, went)
+            }
+            Arrival::Meets(event) => {
+                let went = self.board.meet_event(thread, event);
+                self.happen(thread, went)
+            }
         }
     }
 
     /// The turn, but for the limit of turns.
     #[tactic(auto, unfolding(omp_model::specs::Turn::unlimited))]
-    fn unlimited(&mut self, settings: &Settings, thread: u8) -> Outcome
+    fn unlimited(&mut self, limit: u32, thread: u8) -> Outcome
         requires turns { self.old.state.turns < TURN_LIMIT }
-        requires room { 0 < self.old.room }
-        requires threads { length self.old.state.world.threads ≤ 16 }
-        requires tasks { length self.old.state.world.tasks < 2 ^ 32 }
-        requires regions { length self.old.state.world.regions < 2 ^ 32 }
-        ensures { unlimited (run_of settings.now) self.old.state thread ≡ record { outcome = result; state = self.new.state } }
+        requires room { HasEvent self.old.room self.old.state.world thread }
+        requires steps { 66 ≤ self.old.room.steps }
+        requires world { IsMadeWorld self.old.state.world }
+        ensures turn { (run : Run) → run.program ≡ self.old.program → run.steps ≡ limit →
+            unlimited run self.old.state thread ≡ record { outcome = result; state = self.new.state } }
+        ensures program { self.new.program ≡ self.old.program }
     {
-        let walk = self.walk(settings, thread);
+        let walk = self.walk(limit, thread);
         match walk.stop {
             Some(halt) => self.halt_by(halt),
             None => self.after_steps(thread, walk.made),
         }
     }
 
+    /// Makes room for a turn of the thread.
+    pub fn reserve(&mut self, thread: u8) -> Result<(), AllocError>
+        ensures kept { self.new ≡ record self.old { room = self.new.room } }
+        ensures room { OnOk result (HasEvent self.new.room self.new.state.world thread) }
+        ensures steps { OnOk result (66 ≤ self.new.room.steps) }
+    {
+        self.board.reserve(thread)
+    }
+
+    /// Does one turn of the thread, where so many silent steps may be made in all.
+    #[tactic(auto, unfolding(omp_model::specs::Turn::turn))]
+    pub fn turn(&mut self, limit: u32, thread: u8) -> Outcome
+        requires turns { self.old.state.turns < TURN_LIMIT }
+        requires room { HasEvent self.old.room self.old.state.world thread }
+        requires steps { 66 ≤ self.old.room.steps }
+        requires world { IsMadeWorld self.old.state.world }
+        ensures turn { (run : Run) → run.program ≡ self.old.program → run.steps ≡ limit →
+            turn run self.old.state thread ≡ record { outcome = result; state = self.new.state } }
+        ensures program { self.new.program ≡ self.old.program }
+    {
+        if self.turns + 1 >= TURN_LIMIT {
+            self.halt_by(Halt::Limit(TURNS))
+        } else {
+            self.unlimited(limit, thread)
+        }
+    }
+
     /// What the turn of the thread that has just come to this tells its caller.
-    pub fn went(&self, settings: &Settings, thread: u8, outcome: Outcome, levels: Levels) -> Went
-        ensures { result ≡ went_after (run_of settings.now) self.now.state thread outcome }
+    pub fn went(&self, mask: u64, thread: u8, outcome: Outcome, levels: Levels) -> Went
+        ensures { (run : Run) → run.mask ≡ mask → result ≡ went_after run self.now.state thread outcome }
     {
         match outcome {
             Outcome::Idle | Outcome::Quiet => Went::Quiet,
-            Outcome::Happens(event) => told(settings.mask, &self.board, thread, event, levels),
+            Outcome::Happens(event) => told(mask, &self.board, thread, event, levels),
             Outcome::Halts(Halt::Trap(number)) => Went::Trapped(number),
             Outcome::Halts(Halt::Limit(number)) => Went::Limit(number),
         }
     }
 
-    /// Makes room for what one turn may make.
-    pub fn reserve(&mut self) -> Result<(), AllocError>
-        ensures state { self.new.state ≡ self.old.state }
-        ensures room { OnOk result (0 < self.new.room) }
-    {
-        self.board.reserve()
-    }
-
-    /// Does one turn of the thread.
-    #[tactic(auto, unfolding(omp_model::specs::Turn::turn))]
-    pub fn turn(&mut self, settings: &Settings, thread: u8) -> Outcome
-        requires turns { self.old.state.turns < TURN_LIMIT }
-        requires room { 0 < self.old.room }
-        requires threads { length self.old.state.world.threads ≤ 16 }
-        requires tasks { length self.old.state.world.tasks < 2 ^ 32 }
-        requires regions { length self.old.state.world.regions < 2 ^ 32 }
-        ensures { turn (run_of settings.now) self.old.state thread ≡ record { outcome = result; state = self.new.state } }
-    {
-        if self.turns + 1 >= TURN_LIMIT {
-            self.halt_by(Halt::Limit(2))
-        } else {
-            self.unlimited(settings, thread)
-        }
-    }
-
-    /// The callback of the thread's event has returned, and the event's result takes hold.
+    /// The callback of the thread's event has returned, and what comes of the event takes hold.
     pub fn back(&mut self, thread: u8)
-        ensures { self.new.state ≡ back self.old.state thread }
+        ensures { self.new ≡ record self.old { state = back self.old.state thread } }
     {
         if let Some(callback) = self.pending(thread) {
-            self.board.at_back(thread, callback.event);
+            self.board.back(thread, callback.event);
             self.set_pending(thread, None);
         }
     }
@@ -303,7 +350,7 @@ impl State {
     /// The tool of the thread's event stores this into the word.
     pub fn put(&mut self, thread: u8, target: Target, word: u64)
         requires { IfSome (pending_at self.old.state thread) (λ callback. callback.stores < STORE_LIMIT) }
-        ensures { self.new.state ≡ put self.old.state thread target word }
+        ensures { self.new ≡ record self.old { state = put self.old.state thread target word } }
     {
         if let Some(callback) = self.pending(thread) {
             self.board.store(target, word);
@@ -316,6 +363,30 @@ impl State {
         ensures { result ≡ is_made self.now.state.world target }
     {
         self.board.is_made(target)
+    }
+
+    /// The bytes that were printed so far.
+    pub fn text(&self) -> &[u8]
+        ensures { result.now ≡ self.now.state.world.store.text }
+    {
+        self.board.text()
+    }
+
+    /// The bytes that were printed, and nothing else is kept.
+    pub fn into_text(self) -> Vec<u8>
+        ensures { result.items ≡ self.state.world.store.text }
+    {
+        self.board.into_text()
+    }
+}
+
+/// Whether a thread that comes to this doesn't wait.
+fn goes_on(arrival: Arrival) -> bool
+    ensures { result ≡ turns.goes_on arrival }
+{
+    match arrival {
+        Arrival::Waits => false,
+        Arrival::Steps | Arrival::Comes | Arrival::Meets(_) => true,
     }
 }
 

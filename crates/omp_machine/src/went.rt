@@ -1,14 +1,11 @@
 //! What a turn tells its caller.
 
 ghost use Rattle.std.specs.Prelude.{◌≡◌};
-ghost use Rattle.omp_model.specs.Calls.{call_of};
+ghost use Rattle.omp_model.specs.Calls as calls;
 ghost use Rattle.omp_model.specs.Snapshots.{snap_of};
 ghost use Rattle.omp_machine.specs.Standing.{told};
 
-use crate::board::Board;
-use crate::call::call_of;
-use crate::levels::Levels;
-use crate::snapshot::snapshot_of;
+use omp_board::{Board, Levels, call_of, callback_of, snapshot_of};
 use omp_model::Event;
 use ompt_calls::{Call, Snapshot, is_registered};
 
@@ -28,13 +25,15 @@ pub enum Went {
     Limit(u8),
 }
 
-/// A callback tells its tool where it is registered, with what can be inquired during it.
+/// An event is told where its callback is registered, with what can be inquired during it.
 pub fn told(mask: u64, board: &Board, thread: u8, event: Event, levels: Levels) -> Went
-    ensures { result ≡ told mask (call_of board.now.world thread event) (snap_of board.now.world thread event) }
+    ensures { result ≡ told mask (calls.callback_of event) (calls.call_of board.now.world thread event) (snap_of board.now.world thread event) }
 {
-    let call = call_of(board, thread, event);
-    if is_registered(mask, call.number()) {
-        Went::Told(call, snapshot_of(board, thread, event, levels))
+    if is_registered(mask, callback_of(event)) {
+        Went::Told(
+            call_of(board, thread, event),
+            snapshot_of(board, thread, event, levels),
+        )
     } else {
         Went::Untold
     }

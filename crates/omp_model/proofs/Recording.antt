@@ -3,25 +3,23 @@ use Rattle.std.specs.Prelude.{◌≡◌, ℕ, zero, suc, ◌+◌, ◌-◌, ◌<�
 use Rattle.std.proofs.Common.{filter, cond, ◌==◌, sym, ap, ◌∙◌, subst, subst₂, ◌⊎◌, inl, inr, append_assoc, append-nil, length-append, eq-eqb, arith}
 use Rattle.std.proofs.lemmas.Bool.{cases_eq, cases_lt}
 use Rattle.std.proofs.lemmas.List.{length-map}
-use Rattle.ompt_calls.specs.declared.call.Call.{Call}
-use Rattle.ompt_calls.specs.declared.snapshot.Snapshot.{Snapshot}
 use Rattle.ompt_calls.specs.declared.snapshot.Target.{Target}
 use Rattle.ompt_calls.specs.Item.{Item}
-use Rattle.ompt_calls.specs.Number.{number_of, is_registered}
+use Rattle.ompt_calls.specs.Number.{is_registered}
 use Rattle.ompt_calls.specs.Snapshot.{Stored}
 use Rattle.omp_model.specs.declared.limits.TheConstants.{TURN_LIMIT}
 use Rattle.omp_model.specs.declared.history.Entry.{Entry}
 use Rattle.omp_model.specs.declared.history.EventRecord.{EventRecord}
-use Rattle.omp_model.specs.declared.machine.Callback.{Callback}
-use Rattle.omp_model.specs.declared.machine.Event.{Event}
-use Rattle.omp_model.specs.State.{Run, State, first, pending_at}
-use Rattle.omp_model.specs.Calls.{call_of}
+use Rattle.omp_model.specs.declared.event.Callback.{Callback}
+use Rattle.omp_model.specs.declared.event.Event.{Event}
+use Rattle.omp_model.specs.State.{Run, State, World, first, pending_at}
+use Rattle.omp_model.specs.Calls.{call_of, callback_of}
 use Rattle.omp_model.specs.Snapshots.{snap_of}
-use Rattle.omp_model.specs.declared.machine.Outcome.{Outcome}
-use Rattle.omp_model.specs.declared.machine.Outcome.TheVariants.{Idle, Quiet, Happens, Halts}
+use Rattle.omp_model.specs.declared.event.Outcome.{Outcome}
+use Rattle.omp_model.specs.declared.event.Outcome.TheVariants.{Idle, Quiet, Happens, Halts}
 use Rattle.omp_model.specs.Turn.{turn, enabled}
 use Rattle.omp_model.specs.Legal.{put_from, put, back, after_from, after, AllowsFrom}
-use Rattle.omp_model.specs.Heard.{has_back, stores_in, heard_call, heard_outcome, heard_from, heard}
+use Rattle.omp_model.specs.Heard.{has_back, stores_in, heard_event, heard_outcome, heard_from, heard}
 use Rattle.omp_model.specs.Serial.{enabled_among, or_else, first_enabled, Visit, start, go_of, onward_from, inside_after, Leads, StoresNothing, Serial, WholeSerial}
 use Rattle.omp_model.specs.Storing.{put_all, MayStore, put_at, puts_at, go_at, back_at, event_reply}
 use Rattle.omp_model.specs.Records.{record_of}
@@ -29,28 +27,28 @@ use Rattle.omp_model.specs.Running.{HasRun}
 use Rattle.omp_model.proofs.Turns.{turns-rise, turn-below, back-turns, back-halt}
 
 -- the thread that is found is enabled
-among-enabled : (run : Run) (S : State) (from count t : ℕ) → enabled_among run S from count ≡ Some t → enabled run S t ≡ true
+among-enabled : (run : Run) (S : State) (from count t : ℕ) → enabled_among S from count ≡ Some t → enabled S t ≡ true
 unfolding enabled_among
 among-enabled run S from zero t is = cc
 among-enabled run S from (suc count) t is =
-    elim (enabled run S from) as (λ b. enabled run S from ≡ b → (if b then Some from else enabled_among run S (from + 1) count) ≡ Some t → enabled run S t ≡ true) [ true ↦ λ here found. let same : from ≡ t = cc in subst (λ u. enabled run S u ≡ true) same here | false ↦ λ here found. among-enabled run S (from + 1) count t found ] refl is
+    elim (enabled S from) as (λ b. enabled S from ≡ b → (if b then Some from else enabled_among S (from + 1) count) ≡ Some t → enabled S t ≡ true) [ true ↦ λ here found. let same : from ≡ t = cc in subst (λ u. enabled S u ≡ true) same here | false ↦ λ here found. among-enabled run S (from + 1) count t found ] refl is
 
 -- the thread that is found is one of those
-among-below : (run : Run) (S : State) (from count t : ℕ) → enabled_among run S from count ≡ Some t → t < from + count
+among-below : (run : Run) (S : State) (from count t : ℕ) → enabled_among S from count ≡ Some t → t < from + count
 unfolding enabled_among
 among-below run S from zero t is = cc
 among-below run S from (suc count) t is =
-    elim (enabled run S from) as (λ b. (if b then Some from else enabled_among run S (from + 1) count) ≡ Some t → t < from + suc count) [ true ↦ λ found. let same : from ≡ t = cc in omega arith | false ↦ λ found. let below = among-below run S (from + 1) count t found in omega arith ] is
+    elim (enabled S from) as (λ b. (if b then Some from else enabled_among S (from + 1) count) ≡ Some t → t < from + suc count) [ true ↦ λ found. let same : from ≡ t = cc in omega arith | false ↦ λ found. let below = among-below run S (from + 1) count t found in omega arith ] is
 
 -- where none is found, each of those isn't enabled
-among-none : (run : Run) (S : State) (from count t : ℕ) → enabled_among run S from count ≡ None → from ≤ t → t < from + count → enabled run S t ≡ false
+among-none : (run : Run) (S : State) (from count t : ℕ) → enabled_among S from count ≡ None → from ≤ t → t < from + count → enabled S t ≡ false
 unfolding enabled_among
 among-none run S from zero t is low high = absurd (omega arith)
 among-none run S from (suc count) t is low high =
-    elim (enabled run S from) as (λ b. enabled run S from ≡ b → (if b then Some from else enabled_among run S (from + 1) count) ≡ None → enabled run S t ≡ false) [ true ↦ λ here found. cc | false ↦ λ here found. elim (cases_eq from t) [ inl same ↦ subst (λ u. enabled run S u ≡ false) same here | inr other ↦ among-none run S (from + 1) count t found (omega arith) (omega arith) ] ] refl is
+    elim (enabled S from) as (λ b. enabled S from ≡ b → (if b then Some from else enabled_among S (from + 1) count) ≡ None → enabled S t ≡ false) [ true ↦ λ here found. cc | false ↦ λ here found. elim (cases_eq from t) [ inl same ↦ subst (λ u. enabled S u ≡ false) same here | inr other ↦ among-none run S (from + 1) count t found (omega arith) (omega arith) ] ] refl is
 
 -- where each of those isn't enabled, none is found
-none-among : (run : Run) (S : State) (from count : ℕ) → ((t : ℕ) → from ≤ t → t < from + count → enabled run S t ≡ false) → enabled_among run S from count ≡ None
+none-among : (run : Run) (S : State) (from count : ℕ) → ((t : ℕ) → from ≤ t → t < from + count → enabled S t ≡ false) → enabled_among S from count ≡ None
 unfolding enabled_among
 none-among run S from zero none = refl
 none-among run S from (suc count) none =
@@ -67,17 +65,17 @@ or_else-none None other is = (refl, is)
 or_else-none (Some u) other is = cc
 
 -- the thread whose turn it is is enabled
-pub first_enabled-enabled : (run : Run) (S : State) (next t : ℕ) → first_enabled run S next ≡ Some t → enabled run S t ≡ true
-first_enabled-enabled run S next t is = elim (or_else-some (enabled_among run S next (run.threads - next)) (enabled_among run S 0 next) t is) [ inl found ↦ among-enabled run S next (run.threads - next) t found | inr found ↦ among-enabled run S 0 next t found ]
+pub first_enabled-enabled : (run : Run) (S : State) (next t : ℕ) → first_enabled run S next ≡ Some t → enabled S t ≡ true
+first_enabled-enabled run S next t is = elim (or_else-some (enabled_among S next (run.threads - next)) (enabled_among S 0 next) t is) [ inl found ↦ among-enabled run S next (run.threads - next) t found | inr found ↦ among-enabled run S 0 next t found ]
 
 -- the thread whose turn it is is one of the run's
 pub first_enabled-below : (run : Run) (S : State) (next t : ℕ) → next ≤ run.threads → first_enabled run S next ≡ Some t → t < run.threads
-first_enabled-below run S next t low is = elim (or_else-some (enabled_among run S next (run.threads - next)) (enabled_among run S 0 next) t is) [ inl found ↦ let below = among-below run S next (run.threads - next) t found in omega arith | inr found ↦ let below = among-below run S 0 next t found in omega arith ]
+first_enabled-below run S next t low is = elim (or_else-some (enabled_among S next (run.threads - next)) (enabled_among S 0 next) t is) [ inl found ↦ let below = among-below run S next (run.threads - next) t found in omega arith | inr found ↦ let below = among-below run S 0 next t found in omega arith ]
 
 -- where it is no thread's turn, none is enabled
-pub first_enabled-none : (run : Run) (S : State) (next : ℕ) → next ≤ run.threads → first_enabled run S next ≡ None → enabled_among run S 0 run.threads ≡ None
+pub first_enabled-none : (run : Run) (S : State) (next : ℕ) → next ≤ run.threads → first_enabled run S next ≡ None → enabled_among S 0 run.threads ≡ None
 first_enabled-none run S next low is =
-    let parts = or_else-none (enabled_among run S next (run.threads - next)) (enabled_among run S 0 next) is in
+    let parts = or_else-none (enabled_among S next (run.threads - next)) (enabled_among S 0 next) is in
     none-among run S 0 run.threads (λ t bottom high. elim (cases_lt t next) [ inl before ↦ among-none run S 0 next t parts.1 (omega arith) (omega arith) | inr from ↦ among-none run S next (run.threads - next) t parts.0 from (omega arith) ])
 
 -- before the first entry
@@ -164,18 +162,18 @@ reply-stores : (t : ℕ) (stores : List Stored) (rest : List Entry) → stores_i
 reply-stores t [] rest = rw (eq-eqb t t refl) refl
 reply-stores t (store ∷ stores) rest = rw (eq-eqb t t refl) (ap (λ more. store ∷ more) (reply-stores t stores rest))
 
--- what is heard of a call with these stores, whatever comes after its return
-abbrev pub said_of : Run → ℕ → ℕ → Call → Snapshot → List Stored → List Item
-said_of run position t call snapshot stores =
-    if is_registered run.mask (number_of call)
-    then record { seq = position; thread = t; call = call; snapshot = snapshot; stores = stores } ∷ []
+-- what is heard of an event with these stores, whatever comes after its return
+abbrev pub said_of : Run → ℕ → ℕ → World → Event → List Stored → List Item
+said_of run position t W event stores =
+    if is_registered run.mask (callback_of event)
+    then record { seq = position; thread = t; call = call_of W t event; snapshot = snap_of W t event; stores = stores } ∷ []
     else []
 
-heard-said : (run : Run) (position t : ℕ) (call : Call) (snapshot : Snapshot) (stores : List Stored) (rest : List Entry) → heard_call run position t call snapshot (reply_at t stores rest) ≡ said_of run position t call snapshot stores
-heard-said run position t call snapshot stores rest = rw (reply-back t stores rest, reply-stores t stores rest) (said (is_registered run.mask (number_of call)))
+heard-said : (run : Run) (position t : ℕ) (W : World) (event : Event) (stores : List Stored) (rest : List Entry) → heard_event run position t W event (reply_at t stores rest) ≡ said_of run position t W event stores
+heard-said run position t W event stores rest = rw (reply-back t stores rest, reply-stores t stores rest) (said (is_registered run.mask (callback_of event)))
   where
     one : List Item
-    one = record { seq = position; thread = t; call = call; snapshot = snapshot; stores = stores } ∷ []
+    one = record { seq = position; thread = t; call = call_of W t event; snapshot = snap_of W t event; stores = stores } ∷ []
 
     said : (b : Bool) → (if b && true then one else []) ≡ (if b then one else [])
     said true = refl
@@ -191,20 +189,20 @@ event-then t stores rest = ap (λ more. go_at t ∷ more) (append_assoc (puts_at
 
 -- what is heard of them, and after them
 event-heard : (run : Run) (S : State) (position t : ℕ) (e : Event) (stores : List Stored) (rest : List Entry) → (turn run S t).outcome ≡ Happens e
-    → heard_from run S position (go_at t ∷ reply_at t stores rest) ≡ said_of run position t (call_of (turn run S t).state.world t e) (snap_of (turn run S t).state.world t e) stores ++ heard_from run (back (put_all (turn run S t).state t stores) t) (position + 1 + length stores + 1) rest
+    → heard_from run S position (go_at t ∷ reply_at t stores rest) ≡ said_of run position t (turn run S t).state.world e stores ++ heard_from run (back (put_all (turn run S t).state t stores) t) (position + 1 + length stores + 1) rest
 event-heard run S position t e stores rest happens =
     let between : State = (turn run S t).state in
     ap (λ o. heard_outcome run position t between o (reply_at t stores rest) ++ heard_from run between (position + 1) (reply_at t stores rest)) happens
-    ∙ ap (λ said. said ++ heard_from run between (position + 1) (reply_at t stores rest)) (heard-said run position t (call_of between.world t e) (snap_of between.world t e) stores rest)
-    ∙ ap (λ more. said_of run position t (call_of between.world t e) (snap_of between.world t e) stores ++ more) (reply-heard run between (position + 1) t stores rest)
+    ∙ ap (λ said. said ++ heard_from run between (position + 1) (reply_at t stores rest)) (heard-said run position t between.world e stores rest)
+    ∙ ap (λ more. said_of run position t between.world e stores ++ more) (reply-heard run between (position + 1) t stores rest)
 
 -- what is heard grows by this
 pub heard-event :
     {run : Run} {H : List Entry} {v : Visit} (t : ℕ) (e : Event) (stores : List Stored) → HasRun run H v → (turn run v.state t).outcome ≡ Happens e
-    → heard run (H ++ event_at t stores) ≡ heard run H ++ said_of run (length H) t (call_of (turn run v.state t).state.world t e) (snap_of (turn run v.state t).state.world t e) stores
+    → heard run (H ++ event_at t stores) ≡ heard run H ++ said_of run (length H) t (turn run v.state t).state.world e stores
 heard-event {run} {H} {v} t e stores has happens =
     has.heard_on (event_at t stores)
-    ∙ ap (λ more. heard run H ++ more) (event-heard run v.state (length H) t e stores [] happens ∙ append-nil (said_of run (length H) t (call_of (turn run v.state t).state.world t e) (snap_of (turn run v.state t).state.world t e) stores))
+    ∙ ap (λ more. heard run H ++ more) (event-heard run v.state (length H) t e stores [] happens ∙ append-nil (said_of run (length H) t (turn run v.state t).state.world e stores))
 
 -- and not at all by a turn with no event
 pub heard-alone : {run : Run} {H : List Entry} {v : Visit} (t : ℕ) → HasRun run H v → inside_after (turn run v.state t).outcome t ≡ None → heard run (H ++ go_at t ∷ []) ≡ heard run H
@@ -248,7 +246,7 @@ HasRun-event {run} {H} {v} t e stores has is happens few may inside =
     let between : State = (turn run v.state t).state in
     let stored : State = put_all between t stores in
     let reach : Visit = record { state = back stored t; next = t + 1; inside = None } in
-    let said : List Item = said_of run (length H) t (call_of between.world t e) (snap_of between.world t e) stores in
+    let said : List Item = said_of run (length H) t between.world e stores in
     let along = λ (rest : List Entry). ap (λ more. H ++ more) (sym (event-then t stores rest)) ∙ sym (append_assoc H (event_at t stores) rest) in
     let long : length (H ++ event_at t stores) ≡ length H + 1 + length stores + 1 =
     omega (arith, length-append H (event_at t stores), length-append (puts_at t stores) (back_at t ∷ []), length-map stores (put_at t)) in
@@ -284,11 +282,11 @@ StoresNothing-append [] K none silent = silent
 StoresNothing-append (entry ∷ H) K none silent = (none.0, StoresNothing-append H K none.1 silent)
 
 -- nothing is heard of an event whose callback hasn't returned
-unreturned : (run : Run) (position t : ℕ) (call : Call) (snapshot : Snapshot) → heard_call run position t call snapshot [] ≡ []
-unreturned run position t call snapshot = none (is_registered run.mask (number_of call))
+unreturned : (run : Run) (position t : ℕ) (W : World) (event : Event) → heard_event run position t W event [] ≡ []
+unreturned run position t W event = none (is_registered run.mask (callback_of event))
   where
     one : List Item
-    one = record { seq = position; thread = t; call = call; snapshot = snapshot; stores = [] } ∷ []
+    one = record { seq = position; thread = t; call = call_of W t event; snapshot = snap_of W t event; stores = [] } ∷ []
 
     none : (b : Bool) → (if b && false then one else []) ≡ []
     none true = refl
@@ -299,7 +297,7 @@ heard-pending {run} {H} {v} t e has happens =
     let between : State = (turn run v.state t).state in
     has.heard_on (go_at t ∷ [])
     ∙ ap (λ o. heard run H ++ (heard_outcome run (length H) t between o [] ++ [])) happens
-    ∙ ap (λ items. heard run H ++ (items ++ [])) (unreturned run (length H) t (call_of between.world t e) (snap_of between.world t e)) ∙ append-nil (heard run H)
+    ∙ ap (λ items. heard run H ++ (items ++ [])) (unreturned run (length H) t between.world e) ∙ append-nil (heard run H)
 
 -- a history at whose end a thread is inside a callback is serial too
 pub HasRun-pending : {run : Run} {H : List Entry} {v : Visit} (t : ℕ) (e : Event) → HasRun run H v → first_enabled run v.state v.next ≡ Some t → (turn run v.state t).outcome ≡ Happens e → Serial run (H ++ go_at t ∷ [])

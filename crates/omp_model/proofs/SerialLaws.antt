@@ -6,10 +6,10 @@ use Rattle.omp_model.specs.declared.limits.TheConstants.{TURN_LIMIT}
 use Rattle.omp_model.specs.declared.history.What.{What}
 use Rattle.omp_model.specs.declared.history.What.TheVariants.{Go, Put, Back}
 use Rattle.omp_model.specs.declared.history.Entry.{Entry}
-use Rattle.omp_model.specs.declared.machine.Halt.{Halt}
+use Rattle.omp_model.specs.declared.event.Halt.{Halt}
 use Rattle.omp_model.specs.State.{Run, State}
-use Rattle.omp_model.specs.declared.machine.Outcome.{Outcome}
-use Rattle.omp_model.specs.declared.machine.Outcome.TheVariants.{Idle, Quiet, Happens, Halts}
+use Rattle.omp_model.specs.declared.event.Outcome.{Outcome}
+use Rattle.omp_model.specs.declared.event.Outcome.TheVariants.{Idle, Quiet, Happens, Halts}
 use Rattle.omp_model.specs.Turn.{turn, enabled}
 use Rattle.omp_model.specs.Legal.{back}
 use Rattle.omp_model.specs.Serial.{first_enabled, Visit, start, go_of, onward_from, onward, inside_after, moved, is_no_put, Follows, Leads, StoresNothing, WholeSerial, serial_on, serial_from, serial}
@@ -64,21 +64,21 @@ left-running : (S : State) → S.halt ≡ None → left S ≡ TURN_LIMIT - S.tur
 left-running S on = ap (λ h. left_by h S.turns) on
 
 -- a turn with this outcome spends what its entries need
-spends-at : (run : Run) (S : State) (t : ℕ) (o : Outcome) → Ready S → enabled run S t ≡ true → (turn run S t).outcome ≡ o → 2 * left (turn run S t).state + owed (inside_after o t) + 1 ≤ 2 * left S
+spends-at : (run : Run) (S : State) (t : ℕ) (o : Outcome) → Ready S → enabled S t ≡ true → (turn run S t).outcome ≡ o → 2 * left (turn run S t).state + owed (inside_after o t) + 1 ≤ 2 * left S
 spends-at run S t Idle ready goes is = absurd (turn-not_idle run S t goes is)
 spends-at run S t Quiet ready goes is =
     let went = turn-quiet run S t goes is in
-    let before = left-running S (turn-goes run S t goes).halt in
+    let before = left-running S (turn-goes S t goes).halt in
     let after = left-running (turn run S t).state went.halt in
     omega arith
 spends-at run S t (Happens e) ready goes is =
     let went = turn-happens run S t e goes is in
-    let before = left-running S (turn-goes run S t goes).halt in
+    let before = left-running S (turn-goes S t goes).halt in
     let after = left-running (turn run S t).state went.halt in
     omega arith
 spends-at run S t (Halts h) ready goes is =
     let ended = turn-halts run S t h is in
-    let on = (turn-goes run S t goes).halt in
+    let on = (turn-goes S t goes).halt in
     let before = left-running S on in
     let below = ready.below on in
     let after : left (turn run S t).state ≡ 0 = ap (λ halt. left_by halt (turn run S t).state.turns) ended.halt in

@@ -1,25 +1,29 @@
 -- Whole and stuck histories, and the cause in which a run ends.
-use Rattle.std.specs.Prelude.{ℤ, pos, negsuc, zero, suc, ◌&&◌, Bool, if◌then◌else◌, List, Option, Some, None, is_none}
+use Rattle.std.specs.Prelude.{ℤ, pos, negsuc, zero, suc, ◌&&◌, Bool, if◌then◌else◌, List, Option, Some, None, is_none, unwrap_or}
 use Rattle.std.specs.List.{list_all}
 use Rattle.omp_model.specs.declared.limits.TheConstants.{INITIAL_TASK}
 use Rattle.omp_model.specs.declared.cause.Cause.{Cause}
 use Rattle.omp_model.specs.declared.cause.Cause.TheVariants as cause
 use Rattle.omp_model.specs.declared.history.Entry.{Entry}
-use Rattle.omp_model.specs.declared.machine.Callback.{Callback}
-use Rattle.omp_model.specs.declared.machine.Halt.{Halt}
-use Rattle.omp_model.specs.declared.machine.Halt.TheVariants.{Trap, Limit}
+use Rattle.omp_model.specs.declared.event.Callback.{Callback}
+use Rattle.omp_model.specs.declared.event.Halt.{Halt}
+use Rattle.omp_model.specs.declared.event.Halt.TheVariants.{Trap, Limit}
 use Rattle.omp_model.specs.State.{Run, World, State, Thread, task_at}
-use Rattle.omp_model.specs.Events.{is_over}
+use Rattle.omp_model.specs.Gates.{is_out, main_returned}
 use Rattle.omp_model.specs.Legal.{after}
 use Rattle.omp_model.specs.Serial.{enabled_among}
 
 -- every thread that was made has ended
 abbrev pub threads_over : World → Bool
-threads_over W = list_all (λ (thread : Thread). is_over thread.stage) W.threads
+threads_over W = list_all (λ (thread : Thread). is_out thread.stage) W.threads
 
--- main's value, where every thread that was made has ended and main returned
+-- what main returned
+abbrev pub main_value : World → ℤ
+main_value W = unwrap_or (task_at W INITIAL_TASK).code.returned (pos 0)
+
+-- .. where every thread that was made has ended and main returned
 abbrev pub whole_value : World → Option ℤ
-whole_value W = if threads_over W then (task_at W INITIAL_TASK).value else None
+whole_value W = if threads_over W && main_returned W then Some (main_value W) else None
 
 -- no thread is inside a callback
 abbrev pub none_pending : State → Bool
@@ -27,7 +31,7 @@ none_pending S = list_all (λ (callback : Option Callback). is_none callback) S.
 
 -- no thread is enabled and none is inside a callback, the run isn't halted and isn't whole
 abbrev pub is_stuck : Run → State → Bool
-is_stuck run S = is_none (enabled_among run S 0 run.threads) && none_pending S && is_none S.halt && is_none (whole_value S.world)
+is_stuck run S = is_none (enabled_among S 0 run.threads) && none_pending S && is_none S.halt && is_none (whole_value S.world)
 
 -- main returned this
 abbrev pub cause_of_value : ℤ → Cause

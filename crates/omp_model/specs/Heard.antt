@@ -1,18 +1,17 @@
 -- What is heard of a history: each registered event whose Back stands there.
 use Rattle.std.specs.Prelude.{ℕ, ◌+◌, Bool, true, false, ◌&&◌, ◌||◌, ◌==◌, if◌then◌else◌, List, [], ◌∷◌, ◌++◌, filter}
-use Rattle.ompt_calls.specs.declared.call.Call.{Call}
-use Rattle.ompt_calls.specs.declared.snapshot.Snapshot.{Snapshot}
 use Rattle.ompt_calls.specs.Item.{Item}
-use Rattle.ompt_calls.specs.Number.{number_of, is_registered}
+use Rattle.ompt_calls.specs.Number.{is_registered}
 use Rattle.ompt_calls.specs.Snapshot.{Stored}
 use Rattle.omp_model.specs.declared.history.What.{What}
 use Rattle.omp_model.specs.declared.history.What.TheVariants.{Go, Put, Back}
 use Rattle.omp_model.specs.declared.history.Entry.{Entry}
-use Rattle.omp_model.specs.State.{Run, State, first}
-use Rattle.omp_model.specs.Calls.{call_of}
+use Rattle.omp_model.specs.State.{Run, State, World, first}
+use Rattle.omp_model.specs.Calls.{call_of, callback_of}
 use Rattle.omp_model.specs.Snapshots.{snap_of}
-use Rattle.omp_model.specs.declared.machine.Outcome.{Outcome}
-use Rattle.omp_model.specs.declared.machine.Outcome.TheVariants.{Idle, Quiet, Happens, Halts}
+use Rattle.omp_model.specs.declared.event.Event.{Event}
+use Rattle.omp_model.specs.declared.event.Outcome.{Outcome}
+use Rattle.omp_model.specs.declared.event.Outcome.TheVariants.{Happens}
 use Rattle.omp_model.specs.Turn.{turn}
 use Rattle.omp_model.specs.Legal.{entered}
 
@@ -37,19 +36,16 @@ abbrev pub stores_in : ℕ → List Entry → List Stored
 stores_in t [] = []
 stores_in t (entry ∷ rest) = if entry.thread == t then stores_at entry.what (stores_in t rest) else stores_in t rest
 
--- the call is heard where it is registered and its Back comes
-abbrev pub heard_call : Run → ℕ → ℕ → Call → Snapshot → List Entry → List Item
-heard_call run position t call snapshot rest =
-    if is_registered run.mask (number_of call) && has_back t rest
-    then record { seq = position; thread = t; call = call; snapshot = snapshot; stores = stores_in t rest } ∷ []
+-- the event is heard where its callback is registered and its Back comes
+abbrev pub heard_event : Run → ℕ → ℕ → World → Event → List Entry → List Item
+heard_event run position t W event rest =
+    if is_registered run.mask (callback_of event) && has_back t rest
+    then record { seq = position; thread = t; call = call_of W t event; snapshot = snap_of W t event; stores = stores_in t rest } ∷ []
     else []
 
 abbrev pub heard_outcome : Run → ℕ → ℕ → State → Outcome → List Entry → List Item
-heard_outcome run position t after Idle rest = []
-heard_outcome run position t after Quiet rest = []
-heard_outcome run position t after (Happens event) rest =
-    heard_call run position t (call_of after.world t event) (snap_of after.world t event) rest
-heard_outcome run position t after (Halts halt) rest = []
+heard_outcome run position t after (Happens event) rest = heard_event run position t after.world event rest
+heard_outcome run position t after other rest = []
 
 -- what is heard of one entry, which these follow
 abbrev pub heard_at : Run → State → ℕ → ℕ → What → List Entry → List Item

@@ -1,16 +1,16 @@
 -- A legal history: each entry is allowed in turn, from the first state on.
 use Rattle.std.specs.Prelude.{ℕ, Bool, false, IsTrue, ◌+◌, ◌&&◌, nat_lt, List, [], ◌∷◌, Option, Some, None, is_some, slice_set}
-use Rattle.ompt_calls.specs.Number.{number_of, is_registered}
+use Rattle.ompt_calls.specs.Number.{is_registered}
 use Rattle.ompt_calls.specs.declared.snapshot.Target.{Target}
 use Rattle.omp_model.specs.declared.limits.TheConstants.{STORE_LIMIT}
 use Rattle.omp_model.specs.declared.history.What.{What}
 use Rattle.omp_model.specs.declared.history.What.TheVariants.{Go, Put, Back}
 use Rattle.omp_model.specs.declared.history.Entry.{Entry}
-use Rattle.omp_model.specs.declared.machine.Callback.{Callback}
+use Rattle.omp_model.specs.declared.event.Callback.{Callback}
 use Rattle.omp_model.specs.State.{Run, State, first, pending_at}
 use Rattle.omp_model.specs.Words.{is_made, stored}
-use Rattle.omp_model.specs.Calls.{call_of}
-use Rattle.omp_model.specs.Events.{at_back}
+use Rattle.omp_model.specs.Calls.{callback_of}
+use Rattle.omp_model.specs.Returning.{at_back}
 use Rattle.omp_model.specs.Turn.{turn, enabled}
 
 -- the callback of the thread's event has returned
@@ -35,19 +35,19 @@ abbrev pub put : State → ℕ → Target → ℕ → State
 put S t target word = put_from S t target word (pending_at S t)
 
 -- the thread is inside a callback that is registered
-abbrev pub is_told : Run → State → ℕ → Callback → Bool
-is_told run S t callback = is_registered run.mask (number_of (call_of S.world t callback.event))
+abbrev pub is_told : Run → Callback → Bool
+is_told run callback = is_registered run.mask (callback_of callback.event)
 
 -- a tool stores at most three words during one callback, each of a thread, region or task that was made
-abbrev pub may_put : Run → State → ℕ → Target → Option Callback → Bool
-may_put run S t target None = false
-may_put run S t target (Some callback) =
-    is_told run S t callback && nat_lt callback.stores STORE_LIMIT && is_made S.world target
+abbrev pub may_put : Run → State → Target → Option Callback → Bool
+may_put run S target None = false
+may_put run S target (Some callback) =
+    is_told run callback && nat_lt callback.stores STORE_LIMIT && is_made S.world target
 
 -- the entry may stand next
 abbrev pub may : Run → State → ℕ → What → Bool
-may run S t Go = enabled run S t
-may run S t (Put target word) = may_put run S t target (pending_at S t)
+may run S t Go = enabled S t
+may run S t (Put target word) = may_put run S target (pending_at S t)
 may run S t Back = is_some (pending_at S t)
 
 -- the state after an entry

@@ -1,6 +1,10 @@
 pub mod State
+pub mod Members
+pub mod Gates
+pub mod Changes
 pub mod Silent
-pub mod Events
+pub mod Going
+pub mod Returning
 pub mod Words
 pub mod Frames
 pub mod Snapshots
@@ -12,7 +16,7 @@ pub mod Heard
 pub mod Serial
 pub mod Storing
 pub mod Records
-pub mod Program
 pub mod Running
-pub mod Tame
 pub mod Made
+pub mod Named
+pub mod Conditions

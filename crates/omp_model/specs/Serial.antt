@@ -5,15 +5,15 @@ use Rattle.omp_model.specs.declared.history.What.{What}
 use Rattle.omp_model.specs.declared.history.What.TheVariants.{Go, Put, Back}
 use Rattle.omp_model.specs.declared.history.Entry.{Entry}
 use Rattle.omp_model.specs.State.{Run, State, first}
-use Rattle.omp_model.specs.declared.machine.Outcome.{Outcome}
-use Rattle.omp_model.specs.declared.machine.Outcome.TheVariants.{Idle, Quiet, Happens, Halts}
+use Rattle.omp_model.specs.declared.event.Outcome.{Outcome}
+use Rattle.omp_model.specs.declared.event.Outcome.TheVariants.{Happens}
 use Rattle.omp_model.specs.Turn.{turn, enabled}
 use Rattle.omp_model.specs.Legal.{Legal, put, back}
 
 -- the first enabled one of `count` threads from `from` on
-unfoldable pub enabled_among : Run → State → ℕ → ℕ → Option ℕ
-enabled_among run S from zero = None
-enabled_among run S from (suc count) = if enabled run S from then Some from else enabled_among run S (from + 1) count
+unfoldable pub enabled_among : State → ℕ → ℕ → Option ℕ
+enabled_among S from zero = None
+enabled_among S from (suc count) = if enabled S from then Some from else enabled_among S (from + 1) count
 
 abbrev pub or_else : Option ℕ → Option ℕ → Option ℕ
 or_else (Some t) other = Some t
@@ -21,7 +21,7 @@ or_else None other = other
 
 -- the first enabled thread from `next` on, round and round
 abbrev pub first_enabled : Run → State → ℕ → Option ℕ
-first_enabled run S next = or_else (enabled_among run S next (run.threads - next)) (enabled_among run S 0 next)
+first_enabled run S next = or_else (enabled_among S next (run.threads - next)) (enabled_among S 0 next)
 
 -- where a serial run stands: the thread at which the search for an enabled one begins, and the thread inside a callback
 pub record Visit : Type 0 where
@@ -46,10 +46,8 @@ onward run v = onward_from run v v.inside
 
 -- an event's callback comes directly after its Go
 abbrev pub inside_after : Outcome → ℕ → Option ℕ
-inside_after Idle t = None
-inside_after Quiet t = None
 inside_after (Happens event) t = Some t
-inside_after (Halts halt) t = None
+inside_after other t = None
 
 abbrev pub moved_by : Run → Visit → ℕ → What → Visit
 moved_by run v t Go =

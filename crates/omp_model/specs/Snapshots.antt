@@ -1,98 +1,139 @@
--- What a tool can inquire during the callback of an event: the state right after the event's Go. OpenMP 5.2 has the inquiries
--- in 19.6.1, and the states of threads in 19.4.4. The levels of a worker are this machine's.
-use Rattle.std.specs.Prelude.{ℕ, zero, suc, ◌+◌, ◌==◌, if◌then◌else◌, Bool, List, [], ◌∷◌, ◌++◌, Option, Some, None, length}
-use Rattle.std.specs.List.{position}
+-- What a tool can inquire during the callback of an event: the state right after the event's Go. OpenMP 5.2 has the inquiries in 19.6.1, and the
+-- states of threads in 19.4.4. The levels of a worker are this machine's.
+use Rattle.std.specs.Prelude.{ℕ, ◌==◌, ◌-◌, if◌then◌else◌, List, [], ◌∷◌, ◌++◌, Option, Some, None, length, slice_index_or}
+use Rattle.c_model.specs.declared.point.MutexKind.{MutexKind}
+use Rattle.c_model.specs.declared.point.MutexKind.TheVariants as mutex
+use Rattle.c_model.specs.declared.point.SyncKind.{SyncKind}
+use Rattle.c_model.specs.declared.point.SyncKind.TheVariants as sync
+use Rattle.c_model.specs.declared.point.SyncStage.{SyncStage}
+use Rattle.c_model.specs.declared.point.SyncStage.TheVariants as stage
+use Rattle.c_model.specs.Task.{Item}
+use Rattle.c_model.specs.Task.Item.{Sync as SyncItem}
+use Rattle.task_pool.specs.declared.task.TaskKind.{TaskKind}
+use Rattle.task_pool.specs.declared.task.TaskKind.TheVariants as kind
 use Rattle.ompt_calls.specs.declared.snapshot.Snapshot.{Snapshot}
 use Rattle.ompt_calls.specs.declared.snapshot.TaskLevel.{TaskLevel}
 use Rattle.ompt_calls.specs.declared.snapshot.RegionLevel.{RegionLevel}
 use Rattle.ompt_calls.specs.declared.snapshot.Target.{Target}
 use Rattle.ompt_calls.specs.declared.snapshot.Target.TheVariants as target
 use Rattle.omp_model.specs.declared.limits.TheConstants.{INITIAL_TASK, IMPLICIT_REGION}
-use Rattle.omp_model.specs.declared.machine.Event.{Event}
-use Rattle.omp_model.specs.declared.machine.Event.TheVariants.{ThreadBegin, InitialTaskBegin, InitialTaskEnd, ThreadEnd, ParallelBegin, ParallelEnd, MemberBegin, BarrierBegin, WaitBegin, WaitEnd, BarrierEnd, MemberEnd}
-use Rattle.omp_model.specs.State.{World, thread_at, task_at, region_at, current}
-use Rattle.omp_model.specs.Words.{thread_word, region_word, task_word}
-use Rattle.omp_model.specs.Frames.{task_in, frame_of}
-
--- the region was met in the implicit region of the initial task
-abbrev pub is_outermost : World → ℕ → Bool
-is_outermost W r = (task_at W (region_at W r).task).region == IMPLICIT_REGION
+use Rattle.omp_model.specs.declared.event.Event.{Event}
+use Rattle.omp_model.specs.declared.event.Event.TheVariants.{Dispatch, InitialTaskBegin, LockDestroy, LockInit, Masked, MemberBegin, MemberEnd, MutexAcquire, MutexAcquired, MutexReleased, ParallelBegin, Sync, TaskBegin, TaskCreate, TaskEnd, Work}
+use Rattle.omp_model.specs.State.{World, pooled_at, region_at, task_at, thread_at}
+use Rattle.omp_model.specs.Members.{current, current_region, is_outermost, member_index, region_of}
+use Rattle.omp_model.specs.Words.{region_word, task_word, thread_word}
+use Rattle.omp_model.specs.Frames.{frame_of}
 
 -- a thread at work: in the implicit region of the initial task `ompt_state_work_serial`, else `ompt_state_work_parallel`
 abbrev pub work_state : World → ℕ → ℕ
-work_state W t = if (task_at W (current W t)).region == IMPLICIT_REGION then 0x000 else 0x001
+work_state W t = if current_region W t == IMPLICIT_REGION then 0x000 else 0x001
 
--- a member that has left its region: a worker is `ompt_state_idle`, unless the region is a nested one, and the initial thread
--- is in `ompt_state_overhead`
+-- a member that leaves its region: a worker is `ompt_state_idle`, unless the region is a nested one, and the initial thread is in
+-- `ompt_state_overhead`
 abbrev pub left_state : World → ℕ → ℕ → ℕ
 left_state W t r = if t == 0 then 0x101 else if is_outermost W r then 0x100 else 0x101
 
--- the `ompt_state_t` of a thread at its event. A wait at a region's barrier is
--- `ompt_state_wait_barrier_implicit_parallel`, 0x011
-abbrev pub state_of : World → ℕ → Event → ℕ
-state_of W t ThreadBegin = 0x101
+-- a wait: `ompt_state_wait_barrier_explicit`, `ompt_state_wait_taskwait`, `ompt_state_wait_barrier_implicit_workshare`,
+-- `ompt_state_wait_barrier_implicit_parallel`
+abbrev pub wait_state : SyncKind → ℕ
+wait_state sync.Barrier = 0x014
+wait_state sync.Taskwait = 0x020
+wait_state sync.Worksharing = 0x012
+wait_state sync.Parallel = 0x011
+
+abbrev pub sync_state : SyncKind → SyncStage → ℕ
+sync_state which stage.WaitBegin = wait_state which
+sync_state which other = 0x101
+
+-- who asks for a lock or a critical may have to wait: `ompt_state_wait_lock`, `ompt_state_wait_critical`. A test doesn't wait
+abbrev pub acquire_state : World → ℕ → MutexKind → ℕ
+acquire_state W t mutex.Lock = 0x041
+acquire_state W t mutex.TestLock = work_state W t
+acquire_state W t mutex.Critical = 0x042
+
+-- a thread that goes back to a task: to one in a wait, to the initial one after main has returned, or to work
+abbrev pub resumed_state : World → ℕ → List Item → ℕ
+resumed_state W t (SyncItem tree which stage.WaitEnd ∷ items) = wait_state which
+resumed_state W t [] = if current W t == INITIAL_TASK then 0x101 else work_state W t
+resumed_state W t other = work_state W t
+
+-- the `ompt_state_t` of a thread at its event; where nothing else is said, `ompt_state_overhead`
+unfoldable pub state_of : World → ℕ → Event → ℕ
 state_of W t InitialTaskBegin = work_state W t
-state_of W t InitialTaskEnd = 0x101
-state_of W t ThreadEnd = 0x101
-state_of W t (ParallelBegin r requested codeptr) = 0x101
-state_of W t (ParallelEnd r) = 0x101
 state_of W t (MemberBegin r k) = work_state W t
-state_of W t (BarrierBegin r k) = 0x101
-state_of W t (WaitBegin r k) = 0x011
-state_of W t (WaitEnd r k) = 0x101
-state_of W t (BarrierEnd r k) = 0x101
 state_of W t (MemberEnd r k) = left_state W t r
+state_of W t (TaskCreate task undeferred codeptr) = work_state W t
+state_of W t (TaskBegin prior task) = work_state W t
+state_of W t (TaskEnd task) = resumed_state W t (task_at W (current W t)).code.todo
+state_of W t (Work endpoint which count codeptr) = work_state W t
+state_of W t (Dispatch share) = work_state W t
+state_of W t (Masked endpoint codeptr) = work_state W t
+state_of W t (Sync which at codeptr) = sync_state which at
+state_of W t (MutexAcquire which wait_id codeptr) = acquire_state W t which
+state_of W t (MutexAcquired which wait_id codeptr) = work_state W t
+state_of W t (MutexReleased which wait_id codeptr) = work_state W t
+state_of W t (LockInit wait_id codeptr) = work_state W t
+state_of W t (LockDestroy wait_id codeptr) = work_state W t
+state_of W t other = 0x101
 
--- `ompt_task_initial` or `ompt_task_implicit` of `ompt_task_flag_t`
-abbrev pub task_flags : ℕ → ℕ
-task_flags k = if k == INITIAL_TASK then 1 else 2
+-- what the thread waits for, where it is in one of the two states of waiting for a lock or critical
+abbrev pub awaited : MutexKind → ℕ → ℕ
+awaited mutex.TestLock wait_id = 0
+awaited other wait_id = wait_id
 
--- the number of thread u in the team of a region. A nested region has a team of one
-abbrev pub member_index : World → ℕ → ℕ → ℕ
-member_index W u r = if is_outermost W r then u else 0
+abbrev pub wait_id_of : Event → ℕ
+wait_id_of (MutexAcquire which wait_id codeptr) = awaited which wait_id
+wait_id_of other = 0
 
--- the task of thread u with so many below it on the stack, at an event of thread t
-abbrev pub task_level : World → ℕ → Event → ℕ → ℕ → TaskLevel
-task_level W t event u below =
+-- `ompt_task_initial`, `ompt_task_implicit`, `ompt_task_explicit`, and `ompt_task_undeferred` with that
+abbrev pub task_flags : TaskKind → ℕ
+task_flags kind.Initial = 1
+task_flags kind.Implicit = 2
+task_flags kind.Explicit = 4
+task_flags kind.Undeferred = 0x08000004
+
+-- a task of thread u with so many below it, at an event of thread t
+abbrev pub task_level : World → ℕ → Event → ℕ → ℕ → ℕ → TaskLevel
+task_level W t event u k below =
     record {
-      flags = task_flags (task_in W u below);
-      word = task_word W (task_in W u below);
-      frame = frame_of W t event u below;
-      region = region_word W (task_at W (task_in W u below)).region;
-      index = member_index W u (task_at W (task_in W u below)).region;
+      flags = task_flags (pooled_at W k).kind;
+      word = task_word W k;
+      frame = frame_of W t event u k below;
+      region = region_word W (region_of W k);
+      index = member_index W u (region_of W k);
     }
 
--- the lowest tasks of the stack of thread u, so many, from top to bottom
-unfoldable pub lowest_levels : World → ℕ → Event → ℕ → ℕ → List TaskLevel
-lowest_levels W t event u zero = []
-lowest_levels W t event u (suc count) = task_level W t event u count ∷ lowest_levels W t event u count
+-- the tasks of thread u from one of its stack on down
+unfoldable pub levels_from : World → ℕ → Event → ℕ → List ℕ → List TaskLevel
+levels_from W t event u [] = []
+levels_from W t event u (k ∷ below) = task_level W t event u k (length below) ∷ levels_from W t event u below
 
--- how many tasks there are on the stack up to the one at this place
-abbrev pub up_to : Option ℕ → ℕ
-up_to None = 0
-up_to (Some below) = below + 1
+-- a stack from this task on down
+unfoldable pub down_from : ℕ → List ℕ → List ℕ
+down_from k [] = []
+down_from k (task ∷ below) = if task == k then task ∷ below else down_from k below
 
--- how many tasks of thread 0 there are up to this one
-abbrev pub height_of : World → ℕ → ℕ
-height_of W k = up_to (position (λ (task : ℕ). task == k) (thread_at W 0).stack)
+-- beyond a stack whose lowest task isn't the initial one: the encountering task of that task's region, and the tasks below it on the stack of
+-- thread 0
+abbrev pub outer_tasks : World → ℕ → List ℕ
+outer_tasks W lowest =
+    if lowest == 0 then [] else if lowest == INITIAL_TASK then []
+    else down_from (region_at W (region_of W lowest)).head.task (thread_at W 0).stack
 
--- beyond a stack whose lowest task isn't the initial one: the encountering task of that task's region, and the tasks below it
--- on the stack of thread 0
-abbrev pub outer_levels : World → ℕ → Event → List ℕ → List TaskLevel
-outer_levels W t event [] = []
-outer_levels W t event (lowest ∷ above) =
-    if lowest == INITIAL_TASK then [] else lowest_levels W t event 0 (height_of W (region_at W (task_at W lowest).region).task)
+abbrev pub lowest_of : List ℕ → ℕ
+lowest_of stack = slice_index_or stack (length stack - 1) 0
 
 -- the levels of tasks: those of the stack, from top to bottom, and those beyond
 abbrev pub task_levels : World → ℕ → Event → List TaskLevel
 task_levels W t event =
-    lowest_levels W t event t (length (thread_at W t).stack) ++ outer_levels W t event (thread_at W t).stack
+    levels_from W t event t (thread_at W t).stack ++ levels_from W t event 0 (outer_tasks W (lowest_of (thread_at W t).stack))
 
 -- the regions of these levels after one with this identity, each once where it repeats directly
 unfoldable pub regions_after : World → ℕ → List TaskLevel → List RegionLevel
 regions_after W last [] = []
 regions_after W last (level ∷ rest) =
-    if level.region.identity == last then regions_after W last rest else record { word = level.region; team = (region_at W level.region.identity).size } ∷ regions_after W level.region.identity rest
+    if level.region.identity == last then regions_after W last rest
+    else record { word = level.region; team = (region_at W level.region.identity).head.size } ∷ regions_after W level.region.identity rest
 
 -- the levels of regions. No region has the identity 0
 abbrev pub region_levels : World → List TaskLevel → List RegionLevel
@@ -100,27 +141,18 @@ region_levels W levels = regions_after W 0 levels
 
 -- what the event makes, into whose word its callback may store at once
 abbrev pub fresh_of : Event → Option Target
-fresh_of ThreadBegin = None
-fresh_of InitialTaskBegin = None
-fresh_of InitialTaskEnd = None
-fresh_of ThreadEnd = None
 fresh_of (ParallelBegin r requested codeptr) = Some (target.Parallel r)
-fresh_of (ParallelEnd r) = None
-fresh_of (MemberBegin r k) = None
-fresh_of (BarrierBegin r k) = None
-fresh_of (WaitBegin r k) = None
-fresh_of (WaitEnd r k) = None
-fresh_of (BarrierEnd r k) = None
-fresh_of (MemberEnd r k) = None
+fresh_of (TaskCreate task undeferred codeptr) = Some (target.Task task)
+fresh_of other = None
 
--- the snapshot at an event of thread t, in the world after the Go. No event of today waits for a lock or a critical region
+-- the snapshot at an event of thread t, in the world after the Go
 abbrev pub snap_of : World → ℕ → Event → Snapshot
 snap_of W t event =
     let levels = task_levels W t event in
     record {
       thread = thread_word W t;
       state = state_of W t event;
-      wait_id = 0;
+      wait_id = wait_id_of event;
       tasks = levels;
       regions = region_levels W levels;
       fresh = fresh_of event;

@@ -1,50 +1,70 @@
--- The state of the machine: tasks and threads with what they have come to, and beside them the callbacks that haven't
--- returned, the counts of silent steps and turns, and what halted the run.
-use Rattle.std.specs.Prelude.{ℕ, ℤ, zero, suc, ◌-◌, Bool, false, true, List, [], ◌∷◌, ◌++◌, Option, None, length, take, drop, replicate, slice_index_or, slice_set}
-use Rattle.omp_model.specs.declared.limits.TheConstants.{TEAM_LIMIT, IMPLICIT_REGION}
-use Rattle.omp_model.specs.declared.machine.Instruction.{Instruction}
-use Rattle.omp_model.specs.declared.machine.Instruction.TheVariants.{EnterBlock, LeaveBlock}
-use Rattle.omp_model.specs.declared.machine.Condition.{Condition}
-use Rattle.omp_model.specs.declared.machine.Condition.TheVariants as condition
-use Rattle.omp_model.specs.declared.machine.ThreadStage.{ThreadStage}
-use Rattle.omp_model.specs.declared.machine.ThreadStage.TheVariants as stage
-use Rattle.omp_model.specs.declared.machine.TaskStage.{TaskStage}
-use Rattle.omp_model.specs.declared.machine.TaskStage.TheVariants as task_stage
-use Rattle.omp_model.specs.declared.machine.Region.{Region}
-use Rattle.omp_model.specs.declared.machine.Callback.{Callback}
-use Rattle.omp_model.specs.declared.machine.Halt.{Halt}
+-- The state of the machine: threads, tasks, regions, cells and locks, and beside them the callbacks that haven't returned, the counts of silent
+-- steps and turns, and what halted the run.
+use Rattle.std.specs.Prelude.{ℕ, ◌-◌, Bool, true, false, List, [], ◌∷◌, Option, None, replicate, slice_index_or, slice_set}
+use Rattle.c_syntax.specs.Numbered.{TreeView}
+use Rattle.c_check.specs.Seen.{critical_count}
+use Rattle.c_model.specs.Task.{Store, Task as Code}
+use Rattle.c_model.specs.Begin.{blank_task, first_store, main_task}
+use Rattle.task_pool.specs.Tasks.{task_at as pool_task_at}
+use Rattle.task_pool.specs.View.{PoolView, no_pool, with_added}
+use Rattle.task_pool.specs.declared.task.Condition.{Condition}
+use Rattle.task_pool.specs.declared.task.Condition.TheVariants as condition
+use Rattle.task_pool.specs.declared.task.Task.{Task as PoolTask}
+use Rattle.task_pool.specs.declared.task.TaskKind.TheVariants as kind
+use Rattle.team_parts.specs.Team.{TeamView, new_member}
+use Rattle.sync_objects.specs.Owners.{critical_locks}
+use Rattle.sync_objects.specs.View.{LocksView}
+use Rattle.omp_model.specs.declared.limits.TheConstants.{IMPLICIT_REGION}
+use Rattle.team_parts.specs.declared.meeting.TheConstants.{TEAM_LIMIT}
+use Rattle.omp_model.specs.declared.parts.ThreadStage.{ThreadStage}
+use Rattle.omp_model.specs.declared.parts.ThreadStage.TheVariants as stage
+use Rattle.omp_model.specs.declared.parts.RegionHead.{RegionHead}
+use Rattle.omp_model.specs.declared.event.Callback.{Callback}
+use Rattle.omp_model.specs.declared.event.Halt.{Halt}
+use Rattle.omp_model.specs.declared.event.Share.{Share}
 
--- what fixes a run: main's code, the callbacks that are registered (bit n for number n), how many threads there may be,
--- and how many silent steps
+-- what fixes a run: a checked program, the callbacks that are registered (bit n for number n), how many threads there may be, and how many silent
+-- steps
 pub record Run : Type 0 where
-  pub code : List Instruction
+  pub program : TreeView
   pub mask : ℕ
   pub threads : ℕ
   pub steps : ℕ
 
--- a thread: how far it has come, the tasks that it has taken up, by identity, the current one last, the region that it is
--- to join next, or 0, and what was last stored into its data word, or 0
+-- A thread: how far it has come; the tasks that it has taken up, by identity, the current one first; the region that it is to join next, or 0;
+-- the undeferred task that it starts next, or 0; the share of work that its last silent step took and that no event has followed; and what was last
+-- stored into its data word, or 0.
 pub record Thread : Type 0 where
   pub stage : ThreadStage
   pub stack : List ℕ
   pub invited : ℕ
+  pub undeferred : ℕ
+  pub taken : Option Share
   pub word : ℕ
 
--- a task: how far it has come, its region, where it stands, its remaining code, the value that the last call to end in it
--- gave, and what was last stored into its data word, or 0
+-- A task, beside what the pool has of it: its code; the thread that has taken it up, 0 before; the region that it has forked and that isn't over, or
+-- 0; and what was last stored into its data word, or 0.
 pub record Task : Type 0 where
-  pub condition : Condition
-  pub region : ℕ
-  pub stage : TaskStage
-  pub code : List Instruction
-  pub value : Option ℤ
+  pub code : Code
+  pub thread : ℕ
+  pub forked : ℕ
   pub word : ℕ
 
--- what events change: the threads by number, and the tasks and regions by identity. At identity 0 stands none
+-- a parallel region, with what the members of its team have met
+pub record Region : Type 0 where
+  pub head : RegionHead
+  pub team : TeamView
+
+-- What turns change. Threads are by number. Tasks and regions are by identity, and at identity 0 stands none. The pool has each task's parent,
+-- region, kind and condition, and the order of those that are ready. The numbers of room that the pool, the teams and the locks are seen with are 0
+-- here: they count memory, and a state has none.
 pub record World : Type 0 where
   pub threads : List Thread
   pub tasks : List Task
+  pub pool : PoolView
   pub regions : List Region
+  pub store : Store
+  pub locks : LocksView
 
 pub record State : Type 0 where
   pub world : World
@@ -59,31 +79,46 @@ pub record State : Type 0 where
 
 -- a thread that wasn't made
 abbrev pub unmade : Thread
-unmade = record { stage = stage.Unmade; stack = []; invited = 0; word = 0 }
+unmade = record { stage = stage.Unmade; stack = []; invited = 0; undeferred = 0; taken = None; word = 0 }
+
+-- a task with this code
+abbrev pub task_with : Code → Task
+task_with code = record { code = code; thread = 0; forked = 0; word = 0 }
 
 -- the task that there is none
 abbrev pub no_task : Task
-no_task = record { condition = condition.Finished; region = 0; stage = task_stage.Over; code = []; value = None; word = 0 }
+no_task = task_with blank_task
 
--- a region that so many members are to join, none of which has come to anything
-abbrev pub none_so_far : List Bool
-none_so_far = replicate TEAM_LIMIT false
+-- a region of a task, which so many members are to join
+abbrev pub fresh_head : ℕ → ℕ → RegionHead
+fresh_head task size =
+    record { task = task; size = size; word = 0; members = replicate TEAM_LIMIT 0; left = replicate TEAM_LIMIT false; ended = false }
 
-abbrev pub fresh_region : ℕ → ℕ → ℕ → Region
-fresh_region task size codeptr =
-    record { task = task; size = size; codeptr = codeptr; word = 0; arrived = none_so_far; passed = none_so_far; left = none_so_far }
+abbrev pub fresh_team : ℕ → TeamView
+fresh_team size = record { members = replicate size new_member; meetings = []; room = 0 }
+
+abbrev pub fresh_region : ℕ → ℕ → Region
+fresh_region task size = record { head = fresh_head task size; team = fresh_team size }
 
 -- the region that there is none
 abbrev pub no_region : Region
-no_region = fresh_region 0 0 0
+no_region = fresh_region 0 0
 
 -- the thread with this number
 abbrev pub thread_at : World → ℕ → Thread
 thread_at W t = slice_index_or W.threads t unmade
 
--- the task with this identity
+-- the task with this identity, and what the pool has of it
 abbrev pub task_at : World → ℕ → Task
 task_at W k = slice_index_or W.tasks k no_task
+
+abbrev pub pooled_at : World → ℕ → PoolTask
+pooled_at W k = pool_task_at W.pool.tasks k
+
+-- a task that has started and hasn't finished
+abbrev pub is_under_way : Condition → Bool
+is_under_way condition.Started = true
+is_under_way other = false
 
 -- the region with this identity
 abbrev pub region_at : World → ℕ → Region
@@ -93,113 +128,31 @@ region_at W r = slice_index_or W.regions r no_region
 abbrev pub pending_at : State → ℕ → Option Callback
 pending_at S t = slice_index_or S.pending t None
 
--- the current task of this thread, or 0
-abbrev pub top_of : List ℕ → ℕ
-top_of stack = slice_index_or stack (length stack - 1) 0
-
-abbrev pub current : World → ℕ → ℕ
-current W t = top_of (thread_at W t).stack
-
--- one thread is changed
+-- one thread is changed; one task; one region
 abbrev pub with_thread : World → ℕ → Thread → World
 with_thread W t thread = record W { threads = slice_set W.threads t thread }
 
--- one task is changed
 abbrev pub with_task : World → ℕ → Task → World
 with_task W k task = record W { tasks = slice_set W.tasks k task }
 
--- one region is changed
 abbrev pub with_region : World → ℕ → Region → World
 with_region W r region = record W { regions = slice_set W.regions r region }
 
--- one more task, or region, is made, with the next identity
-abbrev pub task_made : World → Task → World
-task_made W task = record W { tasks = W.tasks ++ task ∷ [] }
-
-abbrev pub region_made : World → Region → World
-region_made W region = record W { regions = W.regions ++ region ∷ [] }
-
--- the thread has come so far
-abbrev pub staged : World → ℕ → ThreadStage → World
-staged W t stage = with_thread W t (record (thread_at W t) { stage = stage })
-
--- the task is the current one of the thread from now on
-abbrev pub pushed : World → ℕ → ℕ → World
-pushed W t k = with_thread W t (record (thread_at W t) { stack = (thread_at W t).stack ++ k ∷ [] })
-
--- the thread's current task is taken off its stack
-abbrev pub popped : World → ℕ → World
-popped W t = with_thread W t (record (thread_at W t) { stack = take (length (thread_at W t).stack - 1) (thread_at W t).stack })
-
--- the task has come so far
-abbrev pub conditioned : World → ℕ → Condition → World
-conditioned W k condition = with_task W k (record (task_at W k) { condition = condition })
-
--- the task stands there
-abbrev pub placed : World → ℕ → TaskStage → World
-placed W k stage = with_task W k (record (task_at W k) { stage = stage })
-
--- the task has met a parallel construct, which stood first in its code, and waits for the region
-abbrev pub forked : World → ℕ → ℕ → World
-forked W k r = with_task W k (record (task_at W k) { stage = task_stage.Forked r; code = drop 1 (task_at W k).code })
-
--- the member has taken up its implicit task in the region that it was to join
-abbrev pub joined : World → ℕ → ℕ → World
-joined W t k = with_thread W t (record (thread_at W t) { stack = (thread_at W t).stack ++ k ∷ []; invited = 0 })
-
--- a thread that wasn't made is made
-abbrev pub made : ThreadStage → ThreadStage
-made stage.Unmade = stage.Made
-made stage.Made = stage.Made
-made stage.Begun = stage.Begun
-made stage.Ended = stage.Ended
-
--- the thread is to join the region next, and is made, if it wasn't
-abbrev pub summoned : ℕ → Thread → Thread
-summoned r thread = record thread { stage = made thread.stage; invited = r }
-
--- the first threads, so many, are to join the region
-abbrev pub invited : ℕ → ℕ → List Thread → List Thread
-invited r zero threads = threads
-invited r (suc size) [] = []
-invited r (suc size) (thread ∷ threads) = summoned r thread ∷ invited r size threads
-
-abbrev pub opened : World → ℕ → ℕ → World
-opened W r size = record W { threads = invited r size W.threads }
-
--- the member has arrived, its wait has ended, or it has left
-abbrev pub arrived : World → ℕ → ℕ → World
-arrived W r i = with_region W r (record (region_at W r) { arrived = slice_set (region_at W r).arrived i true })
-
-abbrev pub passed : World → ℕ → ℕ → World
-passed W r i = with_region W r (record (region_at W r) { passed = slice_set (region_at W r).passed i true })
-
-abbrev pub left : World → ℕ → ℕ → World
-left W r i = with_region W r (record (region_at W r) { left = slice_set (region_at W r).left i true })
-
--- the implicit task of a member, which starts at once
-abbrev pub member_task : ℕ → Task
-member_task r = record { condition = condition.Started; region = r; stage = task_stage.Running; code = EnterBlock ∷ LeaveBlock ∷ []; value = None; word = 0 }
-
--- the initial task, before it starts
-abbrev pub initial_task : List Instruction → Task
-initial_task code = record { condition = condition.Made; region = IMPLICIT_REGION; stage = task_stage.Running; code = code; value = None; word = 0 }
-
 -- the thread that is there from the start
 abbrev pub initial_thread : Thread
-initial_thread = record { stage = stage.Made; stack = []; invited = 0; word = 0 }
+initial_thread = record unmade { stage = stage.Made }
 
--- the state before the first entry: thread 0 and the initial task are made
-abbrev pub first : Run → State
-first run =
+-- the state before the first entry: thread 0, the initial task and its region are made
+abbrev pub first_world : Run → World
+first_world run =
     record {
-      world = record {
-        threads = initial_thread ∷ replicate (run.threads - 1) unmade;
-        tasks = no_task ∷ initial_task run.code ∷ [];
-        regions = no_region ∷ fresh_region 0 1 0 ∷ [];
-      };
-      pending = replicate run.threads None;
-      steps = 0;
-      turns = 0;
-      halt = None;
+      threads = initial_thread ∷ replicate (run.threads - 1) unmade;
+      tasks = no_task ∷ task_with (main_task run.program) ∷ [];
+      pool = with_added no_pool 0 IMPLICIT_REGION kind.Initial;
+      regions = no_region ∷ fresh_region 0 1 ∷ [];
+      store = first_store run.program;
+      locks = record { locks = critical_locks (critical_count run.program); room = 0 };
     }
+
+abbrev pub first : Run → State
+first run = record { world = first_world run; pending = replicate run.threads None; steps = 0; turns = 0; halt = None }

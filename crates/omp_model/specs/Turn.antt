@@ -1,15 +1,19 @@
--- A turn: up to 64 silent steps of a thread, and then the next event, where the thread has come to one that is enabled.
+-- A turn: up to 64 silent steps of a thread, and then the next event, where the thread has come to one for which it doesn't wait.
 use Rattle.std.specs.Prelude.{ℕ, zero, suc, ◌+◌, ◌&&◌, Bool, true, false, nat_le, nat_lt, if◌then◌else◌, Option, Some, None, is_none, slice_set}
-use Rattle.omp_model.specs.declared.limits.TheConstants.{STEPS_OF_A_TURN, TURN_LIMIT}
-use Rattle.omp_model.specs.declared.machine.Callback.{Callback}
-use Rattle.omp_model.specs.declared.machine.Event.{Event}
-use Rattle.omp_model.specs.declared.machine.Halt.{Halt}
-use Rattle.omp_model.specs.declared.machine.Halt.TheVariants.{Limit}
-use Rattle.omp_model.specs.declared.machine.Outcome.{Outcome}
-use Rattle.omp_model.specs.declared.machine.Outcome.TheVariants.{Idle, Quiet, Happens, Halts}
+use Rattle.omp_model.specs.declared.limits.TheConstants.{STEPS, STEPS_OF_A_TURN, TURNS, TURN_LIMIT}
+use Rattle.omp_model.specs.declared.event.Arrival.{Arrival}
+use Rattle.omp_model.specs.declared.event.Arrival.TheVariants.{Comes, Meets, Steps, Waits}
+use Rattle.omp_model.specs.declared.event.Callback.{Callback}
+use Rattle.omp_model.specs.declared.event.Event.{Event}
+use Rattle.omp_model.specs.declared.event.Halt.{Halt}
+use Rattle.omp_model.specs.declared.event.Halt.TheVariants.{Limit}
+use Rattle.omp_model.specs.declared.event.Outcome.{Outcome}
+use Rattle.omp_model.specs.declared.event.Outcome.TheVariants as outcome
 use Rattle.omp_model.specs.State.{Run, World, State, pending_at}
-use Rattle.omp_model.specs.Silent.{Silence, NoStep, Steps, silent}
-use Rattle.omp_model.specs.Events.{event, fault_at, at_go}
+use Rattle.omp_model.specs.Gates.{arrival}
+use Rattle.omp_model.specs.Changes.{gone_past}
+use Rattle.omp_model.specs.Silent.{Silence, Goes, Stops, silent_step}
+use Rattle.omp_model.specs.Going.{Going, Nothing, Happens, Halts, going_beside, going_in_code}
 
 -- the silent steps of a turn: the state after them, how many were made, and the trap or limit that stopped them
 pub record Walk : Type 0 where
@@ -17,19 +21,34 @@ pub record Walk : Type 0 where
   pub made : ℕ
   pub stop : Option Halt
 
+abbrev pub walked : State → ℕ → Option Halt → Walk
+walked S made stop = record { state = S; made = made; stop = stop }
+
 -- one silent step was made
 abbrev pub stepped : State → World → State
 stepped S after = record S { world = after; steps = S.steps + 1 }
 
-abbrev pub walk_on : Run → State → ℕ → Silence → (World → Walk) → Walk
-walk_on run S made NoStep more = record { state = S; made = made; stop = None }
+-- The state in which a step or an event of the code halts the run, and from which an event of the code occurs: the task has left out what it goes past.
+-- Where the code isn't tried, it is left as it is.
+abbrev pub going_past : State → ℕ → State
+going_past S t = record S { world = gone_past S.world t }
+
+abbrev pub walk_by : State → ℕ → Silence → (World → Walk) → Walk
+walk_by S made (Goes after) more = more after
+walk_by S made (Stops halt) more = walked S made (Some halt)
+
 -- the limit of silent steps is tested before the step is tried
-walk_on run S made (Steps after) more = if nat_le run.steps S.steps then record { state = S; made = made; stop = Some (Limit 1) } else more after
+abbrev pub walk_on : Run → State → ℕ → ℕ → Arrival → (World → Walk) → Walk
+walk_on run S t made Steps more =
+    if nat_le run.steps S.steps
+    then walked S made (Some (Limit STEPS))
+    else walk_by (going_past S t) made (silent_step run S.world t) more
+walk_on run S t made other more = walked S made None
 
 -- up to `left` more silent steps, after `made` ones
 unfoldable pub walk : Run → ℕ → ℕ → State → ℕ → Walk
-walk run zero made S t = record { state = S; made = made; stop = None }
-walk run (suc left) made S t = walk_on run S made (silent S.world t) (λ after. walk run left (made + 1) (stepped S after) t)
+walk run zero made S t = walked S made None
+walk run (suc left) made S t = walk_on run S t made (arrival S.world t) (λ after. walk run left (made + 1) (stepped S after) t)
 
 -- a turn: what it came to, and the state after it
 pub record Turn : Type 0 where
@@ -41,44 +60,57 @@ counted S = record S { turns = S.turns + 1 }
 
 -- the turn ends the run
 abbrev pub halted : State → Halt → Turn
-halted S halt = record { outcome = Halts halt; state = record (counted S) { halt = Some halt } }
+halted S halt = record { outcome = outcome.Halts halt; state = record (counted S) { halt = Some halt } }
 
 -- the callback of an event, before its tool has stored anything
 abbrev pub called : Event → Callback
 called event = record { event = event; stores = 0 }
 
--- the event occurs, unless its Go meets a trap or a limit
-abbrev pub happening : State → ℕ → Event → Option Halt → Turn
-happening S t event (Some halt) = halted S halt
-happening S t event None =
+-- nothing comes next for which the thread doesn't wait
+abbrev pub without_event : State → ℕ → Turn
+without_event S made =
+    if nat_lt 0 made then record { outcome = outcome.Quiet; state = counted S } else record { outcome = outcome.Idle; state = S }
+
+-- after so many silent steps
+abbrev pub with_going : State → ℕ → ℕ → Going → Turn
+with_going S made t Nothing = without_event S made
+with_going S made t (Happens event after) =
     record {
-      outcome = Happens event;
-      state = record (counted S) { world = at_go S.world t event; pending = slice_set S.pending t (Some (called event)) };
+      outcome = outcome.Happens event;
+      state = record (counted S) { world = after; pending = slice_set S.pending t (Some (called event)) };
     }
+with_going S made t (Halts halt) = halted S halt
 
--- after the silent steps: the event that the thread has come to, or none
-abbrev pub after_steps : State → ℕ → ℕ → Option Event → Turn
-after_steps S made t (Some event) = happening S t event (fault_at S.world t event)
-after_steps S made t None = if nat_lt 0 made then record { outcome = Quiet; state = counted S } else record { outcome = Idle; state = S }
+abbrev pub after_steps : Run → State → ℕ → ℕ → Arrival → Turn
+after_steps run S made t Waits = without_event S made
+after_steps run S made t Steps = without_event S made
+after_steps run S made t Comes = with_going (going_past S t) made t (going_in_code run (gone_past S.world t) t)
+after_steps run S made t (Meets event) = with_going S made t (going_beside S.world t event)
 
-abbrev pub after_walk : Walk → ℕ → Option Halt → Turn
-after_walk walk t (Some halt) = halted walk.state halt
-after_walk walk t None = after_steps walk.state walk.made t (event walk.state.world t)
+abbrev pub after_walk : Run → Walk → ℕ → Option Halt → Turn
+after_walk run walk t (Some halt) = halted walk.state halt
+after_walk run walk t None = after_steps run walk.state walk.made t (arrival walk.state.world t)
 
 -- the turn, but for the limit of turns
 unfoldable pub unlimited : Run → State → ℕ → Turn
-unlimited run S t = let steps = walk run STEPS_OF_A_TURN 0 S t in after_walk steps t steps.stop
+unlimited run S t = let steps = walk run STEPS_OF_A_TURN 0 S t in after_walk run steps t steps.stop
 
 -- the turn of a thread
 unfoldable pub turn : Run → State → ℕ → Turn
-turn run S t = if nat_le TURN_LIMIT (S.turns + 1) then halted S (Limit 2) else unlimited run S t
+turn run S t = if nat_le TURN_LIMIT (S.turns + 1) then halted S (Limit TURNS) else unlimited run S t
 
+-- the turn is one
 abbrev pub has_outcome : Outcome → Bool
-has_outcome Idle = false
-has_outcome Quiet = true
-has_outcome (Happens event) = true
-has_outcome (Halts halt) = true
+has_outcome outcome.Idle = false
+has_outcome other = true
 
--- the thread is inside no callback, the run isn't halted, and there is a turn
-unfoldable pub enabled : Run → State → ℕ → Bool
-enabled run S t = is_none (pending_at S t) && is_none S.halt && has_outcome (unlimited run S t).outcome
+-- the thread doesn't wait
+abbrev pub goes_on : Arrival → Bool
+goes_on Waits = false
+goes_on Steps = true
+goes_on Comes = true
+goes_on (Meets event) = true
+
+-- the thread is inside no callback, the run isn't halted, and a silent step or an event comes next for which the thread doesn't wait
+unfoldable pub enabled : State → ℕ → Bool
+enabled S t = is_none (pending_at S t) && is_none S.halt && goes_on (arrival S.world t)

@@ -3,9 +3,10 @@ use Rattle.std.specs.Prelude.{ℕ, ◌+◌, ◌&&◌, Bool, true, false, nat_lt,
 use Rattle.ompt_calls.specs.declared.call.Word.{Word}
 use Rattle.ompt_calls.specs.declared.snapshot.Target.{Target}
 use Rattle.ompt_calls.specs.declared.snapshot.Target.TheVariants as target
-use Rattle.omp_model.specs.declared.machine.ThreadStage.{ThreadStage}
-use Rattle.omp_model.specs.declared.machine.ThreadStage.TheVariants as stage
-use Rattle.omp_model.specs.State.{World, thread_at, task_at, region_at, with_thread, with_task, with_region}
+use Rattle.omp_model.specs.declared.parts.ThreadStage.{ThreadStage}
+use Rattle.omp_model.specs.declared.parts.ThreadStage.TheVariants as stage
+use Rattle.omp_model.specs.State.{World, thread_at, task_at, region_at, with_thread, with_task}
+use Rattle.omp_model.specs.Changes.{with_head}
 
 -- a word into which nothing was stored
 abbrev pub fresh_word : ℕ → Word
@@ -20,7 +21,7 @@ abbrev pub thread_word : World → ℕ → Word
 thread_word W t = record { identity = t + 1; value = (thread_at W t).word }
 
 abbrev pub region_word : World → ℕ → Word
-region_word W r = record { identity = r; value = (region_at W r).word }
+region_word W r = record { identity = r; value = (region_at W r).head.word }
 
 abbrev pub task_word : World → ℕ → Word
 task_word W k = record { identity = k; value = (task_at W k).word }
@@ -45,5 +46,5 @@ is_made W (target.Task k) = is_made_identity k (length W.tasks)
 -- this is stored into the word
 abbrev pub stored : World → Target → ℕ → World
 stored W (target.Thread t) value = with_thread W t (record (thread_at W t) { word = value })
-stored W (target.Parallel r) value = with_region W r (record (region_at W r) { word = value })
+stored W (target.Parallel r) value = with_head W r (record (region_at W r).head { word = value })
 stored W (target.Task k) value = with_task W k (record (task_at W k) { word = value })

@@ -1,48 +1,64 @@
 //! The profile's OpenMP machine, as definitions.
 //!
-//! `specs/` says what a run is, over plain lists and numbers: the state of the machine and its silent steps, events and
-//! turns, the call that a tool hears of an event and what it can inquire meanwhile, the data words and the stores into them,
-//! the entries that a legal history has, the cause in which a run ends, what is heard of a history, the serial order, and the
-//! records and lines of a history. The crates above cite these definitions in their contracts.
+//! `docs/machine.md` tells it in words. `specs/` says it over the tree of a program, plain lists and numbers:
 //!
-//! `src/` has the few types that the definitions share with the code, and [`laws`]: what follows from the definitions
-//! alone, each law the contract of a function with an empty body.
+//! - `State`: threads, tasks, regions, cells and locks, and what stands beside them;
+//! - `Members`: where a thread is: its task, its region, its number in the region's team;
+//! - `Gates`: what a thread comes to next, and whether it has to wait for it, with no expression evaluated;
+//! - `Changes`: the words of change, of which effects are made;
+//! - `Silent`: silent steps, and what the team and the locks answer to what a step asks;
+//! - `Going` and `Returning`: what happens at an event's Go, with the traps and limits that it meets, and at its callback's Back;
+//! - `Turn`: up to 64 silent steps and an event, and in what state a trap or a limit halts the run;
+//! - `Words`, `Frames`, `Snapshots`, `Calls`: what a tool hears of an event, and what it can inquire meanwhile;
+//! - `Legal`, `Cause`, `Heard`, `Records`: histories, why a run ends, and what is heard of it;
+//! - `Serial`, `Storing`, `Running`: the serial order;
+//! - `Made`, `Named`, `Conditions`: what a state names, and what a tool hears and inquires, was made, and how far its tasks have come.
+//!
+//! What one task's code does between events is `c_model`'s, what a team meets `team_parts`', tasks with their ready order `task_pool`'s, and locks
+//! `sync_objects`'.
+//!
+//! The definitions are total. A thread that isn't a member of its region's team meets nothing and is dealt nothing, a finished task doesn't
+//! start, and nothing happens to what wasn't made. No run meets the first two, and what a run names was made: the laws below say so. Of the region of
+//! a `ParallelEnd` they don't say that there is one, and not 0.
+//!
+//! What the team deals is given to the code only where it fits the work that asks, and a member has code only where the end of the region that was
+//! forked stands first in its encountering task's code. That each run is so is proved nowhere yet.
 //!
 //! Proved, by the contract of the function that is named:
 //!
-//! - two serial histories of a run in which nothing is stored, and that go on to its end, are the same, and each is the one
-//!   that `serial` computes ([`serial_history_is_one`]). It doesn't say of a run that there is one;
-//! - with the callbacks of the profile registered, a million silent steps and 1 to 16 threads, `serial` computes for the empty program
-//!   the eight entries of `empty_history`, whose records are the four of `empty_records` and whose cause is
-//!   [`Cause::Done`] ([`empty_program_ends`]);
-//! - [`History::entries`] gives the history's entries.
+//! - a thread is enabled exactly where it is inside no callback, the run isn't halted and its turn is one ([`enabled_threads_have_turns`]);
+//! - two serial histories of a run in which nothing is stored, and that go on to its end, are the same, and each is the one that `serial`
+//!   computes ([`serial_history_is_one`]);
+//! - after each legal history of a run that has a thread, all that the state names was made ([`what_a_run_names_was_made`]), and each thread with a
+//!   task is a member of its region's team ([`threads_with_tasks_are_members`]);
+//! - what a tool hears of an event that has just occurred, and what it can inquire, was made ([`what_a_tool_hears_was_made`]), so the stores of its
+//!   reply may stand ([`stores_of_replies_may_stand`]);
+//! - after each legal history of a run that has a thread, each task on a stack is under way, each ready one is ready, and what is to start, to finish
+//!   or to become ready does so ([`tasks_are_orderly`]).
 //!
-//! Three more rows are lemmas of `proofs/Rows.antt`: with one thread those eight entries are legal; with an empty mask
-//! nothing of them is heard; and with one silent step the run ends at limit 1, in its third turn. `proofs/Regions.antt`
-//! has the entries and the records of a region of two, and the entries of two such regions with the number of their
-//! records. `proofs/StoringTool.antt` has a run with a store, and what is heard of it, and `proofs/Levels.antt` the
-//! snapshots of a worker. `proofs/Tame.antt` shows that a run of parallel blocks ends in no trap, and returns nothing but 0,
-//! and `proofs/Targets.antt` that each word that a snapshot names is of something that was made.
-//!
-//! No proof says that the definitions are OpenMP's: that is for their reader to judge.
-//! The must-fail edits try wrong bodies. The two laws have none.
+//! In `proofs/` serial runs of small programs are computed: `Rows` has seven with each line that a tool hears, the cause and the count of entries,
+//! and `Facts` single lines, a run with stores, states and a snapshot. That the definitions are OpenMP's is for their reader to judge. For the code
+//! that runs on them, `GonePast` has what is left as it was where a task leaves out what it goes past, and `Coming` what a task's code comes to
+//! where its thread comes to a step or an event of it.
 #![tactic(auto)]
 
-mod blocks;
 mod cause;
+mod event;
 mod history;
 mod laws;
 mod limits;
-mod machine;
+mod parts;
 
-pub use blocks::{Block, Blocks};
 pub use cause::Cause;
+pub use event::{Arrival, Callback, Endpoint, Event, Halt, Outcome, Share};
 pub use history::{Entry, EventRecord, History, What};
-pub use laws::{empty_program_ends, serial_history_is_one};
+pub use laws::{
+    enabled_threads_have_turns, serial_history_is_one, stores_of_replies_may_stand,
+    tasks_are_orderly, threads_with_tasks_are_members, what_a_run_names_was_made,
+    what_a_tool_hears_was_made,
+};
 pub use limits::{
-    IMPLICIT_REGION, INITIAL_TASK, STACK_LIMIT, STEPS_OF_A_TURN, STORE_LIMIT, TEAM_LIMIT,
-    TURN_LIMIT,
+    IMPLICIT_REGION, INITIAL_TASK, MISMATCH, NESTING, STACK, STACK_LIMIT, STEPS, STEPS_OF_A_TURN,
+    STORE_LIMIT, TASKS, TEAM_SIZE, TURN_LIMIT, TURNS,
 };
-pub use machine::{
-    Callback, Condition, Event, Halt, Instruction, Outcome, Region, TaskStage, ThreadStage,
-};
+pub use parts::{RegionHead, ThreadStage};

@@ -1,8 +1,8 @@
 pub mod Decimal
-pub mod Behind
-pub mod Items
 pub mod Calls
 pub mod Handing
 pub mod Listing
 pub mod Ending
 pub mod Reading
+pub mod Walks
+pub mod Telling

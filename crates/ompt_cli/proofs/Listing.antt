@@ -1,10 +1,8 @@
 -- The listers of a run: what they kept is what is recorded of the run.
 use Rattle.std.proofs.Common.{◌≡◌, ℕ, ◌+◌, ◌<◌, ◌≤◌, ◌&&◌, Bool, true, false, if◌then◌else◌, List, [], ◌∷◌, ◌++◌, map, length, replicate, slice_index_or, refl, sym, ap, subst, ◌∙◌, zero, suc, arith}
 use Rattle.std.proofs.lemmas.List.{get_or-replicate, length-replicate}
-use Rattle.ompt_calls.specs.declared.call.Call.{Call}
-use Rattle.ompt_calls.specs.declared.snapshot.Snapshot.{Snapshot}
 use Rattle.ompt_calls.specs.Item.{Item}
-use Rattle.ompt_calls.specs.Number.{number_of, is_registered}
+use Rattle.ompt_calls.specs.Number.{is_registered}
 use Rattle.tool_api.specs.Record.{Record, StartedWith, initialized, StoresNothing}
 use Rattle.omp_codes.specs.declared.callbacks.TheConstants.{PROFILE_MASK}
 use Rattle.tool_report.specs.Lister.{ListerFor}
@@ -14,14 +12,15 @@ use Rattle.omp_model.specs.declared.history.Entry.{Entry}
 use Rattle.omp_model.specs.declared.history.EventRecord.{EventRecord}
 use Rattle.omp_model.specs.declared.history.What.{What}
 use Rattle.omp_model.specs.declared.history.What.TheVariants.{Go, Put, Back}
-use Rattle.omp_model.specs.declared.machine.Outcome.{Outcome}
-use Rattle.omp_model.specs.declared.machine.Outcome.TheVariants.{Idle, Quiet, Happens, Halts}
-use Rattle.omp_model.specs.State.{Run, State, first}
+use Rattle.omp_model.specs.declared.event.Event.{Event}
+use Rattle.omp_model.specs.declared.event.Outcome.{Outcome}
+use Rattle.omp_model.specs.declared.event.Outcome.TheVariants.{Idle, Quiet, Happens, Halts}
+use Rattle.omp_model.specs.State.{Run, State, World, first}
 use Rattle.omp_model.specs.Turn.{turn}
-use Rattle.omp_model.specs.Calls.{call_of}
+use Rattle.omp_model.specs.Calls.{call_of, callback_of}
 use Rattle.omp_model.specs.Snapshots.{snap_of}
 use Rattle.omp_model.specs.Legal.{entered}
-use Rattle.omp_model.specs.Heard.{has_back, stores_in, heard_call, heard_outcome, heard_at, heard_from, heard, heard_of}
+use Rattle.omp_model.specs.Heard.{has_back, stores_in, heard_event, heard_outcome, heard_at, heard_from, heard, heard_of}
 use Rattle.omp_model.specs.Records.{record_of, records_of}
 use Rattle.omp_model.proofs.Recording.{records-by_thread}
 use Rattle.team_run.specs.Serving.{served, mask_of, RunsFor}
@@ -34,11 +33,11 @@ OneAt position [] = Unit {0}
 OneAt position (item ∷ []) = item.seq ≡ position
 OneAt position (item ∷ next ∷ rest) = ⊥
 
-one-call : (run : Run) (position t : ℕ) (call : Call) (snapshot : Snapshot) (rest : List Entry) → OneAt position (heard_call run position t call snapshot rest)
-one-call run position t call snapshot rest = one (is_registered run.mask (number_of call) && has_back t rest)
+one-call : (run : Run) (position t : ℕ) (W : World) (event : Event) (rest : List Entry) → OneAt position (heard_event run position t W event rest)
+one-call run position t W event rest = one (is_registered run.mask (callback_of event) && has_back t rest)
   where
     item : List Item
-    item = record { seq = position; thread = t; call = call; snapshot = snapshot; stores = stores_in t rest } ∷ []
+    item = record { seq = position; thread = t; call = call_of W t event; snapshot = snap_of W t event; stores = stores_in t rest } ∷ []
 
     one : (b : Bool) → OneAt position (if b then item else [])
     one true = refl
@@ -47,7 +46,7 @@ one-call run position t call snapshot rest = one (is_registered run.mask (number
 one-outcome : (run : Run) (position t : ℕ) (after : State) (outcome : Outcome) (rest : List Entry) → OneAt position (heard_outcome run position t after outcome rest)
 one-outcome run position t after Idle rest = tt
 one-outcome run position t after Quiet rest = tt
-one-outcome run position t after (Happens event) rest = one-call run position t (call_of after.world t event) (snap_of after.world t event) rest
+one-outcome run position t after (Happens event) rest = one-call run position t after.world event rest
 one-outcome run position t after (Halts halt) rest = tt
 
 one-at : (run : Run) (S : State) (position t : ℕ) (what : What) (rest : List Entry) → OneAt position (heard_at run S position t what rest)

@@ -1,5 +1,5 @@
 -- A text spells a program, or is refused for one thing, and not both.
-use Rattle.std.proofs.Common.{◌≡◌, ◌≢◌, ℕ, ◌<◌, ◌≤◌, List, [], ◌∷◌, ◌++◌, length, Option, Some, None, Ok, Err, refl, sym, ap, subst, ◌∙◌, arith}
+use Rattle.std.proofs.Common.{◌≡◌, ◌≢◌, ℕ, ◌≤◌, List, [], ◌∷◌, ◌++◌, length, Option, Some, None, Ok, Err, refl, sym, ap, subst, ◌∙◌, arith}
 use Rattle.c_tokens.specs.declared.token.Spot.{Spot}
 use Rattle.c_tokens.specs.declared.token.Token.{Token}
 use Rattle.c_tokens.specs.declared.token.TokenFault.{TokenFault}
@@ -13,29 +13,27 @@ use Rattle.c_syntax.specs.Faults.{IsFault}
 use Rattle.c_tokens.proofs.Spans.{tokens-end}
 use Rattle.c_syntax.specs.Numbered.{TreeView, root_tree}
 use Rattle.c_check.specs.Checked.{rule_fault, rule_fault_in}
-use Rattle.omp_model.specs.declared.blocks.Block.{Block}
 use Rattle.c_syntax.proofs.Unique.{fault-one, spells-no_fault, spells-one}
 use Rattle.c_check.specs.declared.fault.CheckFault.{CheckFault}
 use Rattle.c_check.specs.declared.fault.CheckFault.TheVariants as rule
 use Rattle.ompt_cli.specs.declared.end.Refusal.{Refusal}
-use Rattle.ompt_cli.specs.declared.end.Refusal.TheVariants.{Tokens, Syntax, Rule, TooLong, OtherForm}
+use Rattle.ompt_cli.specs.declared.end.Refusal.TheVariants.{Tokens, Syntax, Rule, TooLong}
 use Rattle.ompt_cli.specs.declared.end.End.{End}
 use Rattle.ompt_cli.specs.declared.end.End.TheVariants.{Refused, Memory}
 use Rattle.ompt_cli.specs.Commands.{MayRefuse, MayRun}
 use Rattle.ompt_cli.specs.Ends.{end_of_check_fault, end_of_fault, end_of_syntax_fault}
-use Rattle.ompt_cli.specs.Form.{blocks_of}
-use Rattle.ompt_cli.specs.Text.{HasCheckFault, HasFault, HasOtherForm, HasSyntaxFault, HasTree, IsProgram, IsReadAs, IsRefused, Spells, end_at, end_of, rule_broken}
+use Rattle.ompt_cli.specs.Text.{HasCheckFault, HasTree, IsProgram, IsReadAs, IsRefused, Spells, end_at, end_of, rule_broken}
 
 module _ (text : List ℕ) where
   -- a text has one list of tokens, with one tree
   tokens-one : (first second : List Token) → tokens_of text ≡ Ok first → tokens_of text ≡ Ok second → first ≡ second
   tokens-one first second one other = cc
 
-  tree-one : (tokens others : List Token) (first second : Tree) → HasTree text tokens first → HasTree text others second → (blocks_of (main_of text tokens) first ≡ blocks_of (main_of text others) second) × (rule_broken text tokens first ≡ rule_broken text others second)
+  tree-one : (tokens others : List Token) (first second : Tree) → HasTree text tokens first → HasTree text others second → rule_broken text tokens first ≡ rule_broken text others second
   tree-one tokens others first second one other =
       let same = tokens-one tokens others one.tokens_are other.tokens_are in
       let tree = spells-one (words_of text others) first second (subst (λ list. HasTree text list first) same one).tree_is other.tree_is in
-      (cc, cc)
+      cc
 
   no-tree : (tokens others : List Token) (tree : Tree) (found : SyntaxFault) → HasTree text tokens tree → tokens_of text ≡ Ok others → IsFault (words_of text others) found → ⊥
   no-tree tokens others tree found spells are fault =
@@ -53,55 +51,39 @@ module _ (text : List ℕ) where
   refusal-one (Tokens found) (Syntax other) has too = let one = has.1 in let two = too.1.1 in cc
   refusal-one (Tokens found) (Rule other) has too = let one = has.1 in let two = too.1.2.tokens_are in cc
   refusal-one (Tokens found) TooLong has over = absurd (omega (arith, has.0, over))
-  refusal-one (Tokens found) OtherForm has too = let one = has.1 in let two = too.1.2.tokens_are in cc
   refusal-one (Syntax found) (Tokens other) has too = let one = has.1.1 in let two = too.1 in cc
   refusal-one (Syntax found) (Syntax other) has too = ap Syntax (syntax-one has.1.0 too.1.0 found other has.1.1 has.1.2 too.1.1 too.1.2)
   refusal-one (Syntax found) (Rule other) has too = absurd (no-tree too.1.0 has.1.0 too.1.1 found too.1.2 has.1.1 has.1.2)
   refusal-one (Syntax found) TooLong has over = absurd (omega (arith, has.0, over))
-  refusal-one (Syntax found) OtherForm has too = absurd (no-tree too.1.0 has.1.0 too.1.1 found too.1.2 has.1.1 has.1.2)
   refusal-one (Rule found) (Tokens other) has too = let one = has.1.2.tokens_are in let two = too.1 in cc
   refusal-one (Rule found) (Syntax other) has too = absurd (no-tree has.1.0 too.1.0 has.1.1 other has.1.2 too.1.1 too.1.2)
   refusal-one (Rule found) (Rule other) has too =
-      let same = (tree-one has.1.0 too.1.0 has.1.1 too.1.1 has.1.2 too.1.2).1 in
+      let same = tree-one has.1.0 too.1.0 has.1.1 too.1.1 has.1.2 too.1.2 in
       let one = has.1.3 in
       let two = too.1.3 in
       cc
   refusal-one (Rule found) TooLong has over = absurd (omega (arith, has.0, over))
-  refusal-one (Rule found) OtherForm has too =
-      let same = (tree-one has.1.0 too.1.0 has.1.1 too.1.1 has.1.2 too.1.2).1 in
-      let one = has.1.3 in
-      let none = too.1.3 in
-      cc
   refusal-one TooLong (Tokens other) over too = absurd (omega (arith, too.0, over))
   refusal-one TooLong (Syntax other) over too = absurd (omega (arith, too.0, over))
   refusal-one TooLong (Rule other) over too = absurd (omega (arith, too.0, over))
   refusal-one TooLong TooLong over too = refl
-  refusal-one TooLong OtherForm over too = absurd (omega (arith, too.0, over))
-  refusal-one OtherForm (Tokens other) has too = let one = has.1.2.tokens_are in let two = too.1 in cc
-  refusal-one OtherForm (Syntax other) has too = absurd (no-tree has.1.0 too.1.0 has.1.1 other has.1.2 too.1.1 too.1.2)
-  refusal-one OtherForm (Rule other) has too =
-      let same = (tree-one has.1.0 too.1.0 has.1.1 too.1.1 has.1.2 too.1.2).1 in
-      let none = has.1.3 in
-      let some = too.1.3 in
-      cc
-  refusal-one OtherForm TooLong has over = absurd (omega (arith, has.0, over))
-  refusal-one OtherForm OtherForm has too = refl
 
-  -- and for nothing where it spells a program that runs
+  -- what is read of a text breaks the rule that the text does
+  rule-is : (program : TreeView) (is : IsReadAs text program) (known : Option CheckFault) → rule_fault program ≡ known → rule_broken text is.tokens (root_tree program) ≡ known
+  rule-is program is known same =
+      subst (λ (end : Spot). rule_fault_in (root_tree program) end (main_of text is.tokens) ≡ known) is.end_is
+      (subst (λ main. rule_fault_in (root_tree program) program.end main ≡ known) is.main_is same)
+
+  -- and for nothing where it spells a program
   pub program-not_refused : (why : Refusal) → IsProgram text → IsRefused why text → ⊥
-  program-not_refused (Tokens found) program other = let one = program.1.has.tokens_are in let two = other.1 in cc
-  program-not_refused (Syntax found) program other = no-tree program.1.tokens other.1.0 program.1.tree found program.1.has other.1.1 other.1.2
+  program-not_refused (Tokens found) program other = let one = program.1.read.has.tokens_are in let two = other.1 in cc
+  program-not_refused (Syntax found) program other = no-tree program.1.read.tokens other.1.0 (root_tree program.0) found program.1.read.has other.1.1 other.1.2
   program-not_refused (Rule found) program other =
-      let same = (tree-one program.1.tokens other.1.0 program.1.tree other.1.1 program.1.has other.1.2).1 in
-      let one = program.1.keeps in
+      let same = tree-one program.1.read.tokens other.1.0 (root_tree program.0) other.1.1 program.1.read.has other.1.2 in
+      let one = rule-is program.0 program.1.read None program.1.keeps in
       let two = other.1.3 in
       cc
   program-not_refused TooLong program over = absurd (omega (arith, program.1.short, over))
-  program-not_refused OtherForm program other =
-      let same = (tree-one program.1.tokens other.1.0 program.1.tree other.1.1 program.1.has other.1.2).0 in
-      let one = program.1.form in
-      let two = other.1.4 in
-      cc
 
   -- so a refusal that was found is the one, and there is none where the text runs
   found-accepted : (found why : Refusal) → IsRefused found text → IsRefused why text → MayRefuse why (Refused found)
@@ -130,33 +112,15 @@ module _ (text : List ℕ) where
 
   -- what was read of a text
   module _ (program : TreeView) (is : IsReadAs text program) where
-    rule-is : (known : Option CheckFault) → rule_fault program ≡ known → rule_broken text is.tokens (root_tree program) ≡ known
-    rule-is known same =
-        subst (λ (end : Spot). rule_fault_in (root_tree program) end (main_of text is.tokens) ≡ known) is.end_is
-        (subst (λ main. rule_fault_in (root_tree program) program.end main ≡ known) is.main_is same)
-
-    form-is : (blocks : Option (List Block)) → blocks_of program.main (root_tree program) ≡ blocks → blocks_of (main_of text is.tokens) (root_tree program) ≡ blocks
-    form-is blocks same = subst (λ main. blocks_of main (root_tree program) ≡ blocks) is.main_is same
-
     module _ (short : length text ≤ 65536) where
-      pub spells-by : (blocks : List Block) → rule_fault program ≡ None → blocks_of program.main (root_tree program) ≡ Some blocks → Spells text blocks
-      spells-by blocks keeps same = record {
-        short = short;
-        tokens = is.tokens;
-        tree = root_tree program;
-        has = is.has;
-        keeps = rule-is None keeps;
-        form = form-is (Some blocks) same;
-      }
+      pub spells-by : (now : TreeView) → now ≡ program → rule_fault program ≡ None → Spells text now
+      spells-by now same keeps = subst (λ (view : TreeView). Spells text view) (sym same) (record { short = short; read = is; keeps = keeps })
 
-      pub other-by : rule_fault program ≡ None → blocks_of program.main (root_tree program) ≡ None → IsRefused OtherForm text
-      other-by keeps same = (short, (is.tokens, root_tree program, is.has, rule-is None keeps, form-is None same))
-
-      pub runs-by : (blocks : List Block) → rule_fault program ≡ None → blocks_of program.main (root_tree program) ≡ Some blocks → IsProgram text
-      runs-by blocks keeps same = (blocks, spells-by blocks keeps same)
+      pub runs-by : rule_fault program ≡ None → IsProgram text
+      runs-by keeps = (program, record { short = short; read = is; keeps = keeps })
 
       broken-by : (found : CheckFault) → rule_fault program ≡ Some found → HasCheckFault found text
-      broken-by found same = (short, (is.tokens, root_tree program, is.has, rule-is (Some found) same))
+      broken-by found same = (short, (is.tokens, root_tree program, is.has, rule-is program is (Some found) same))
 
       -- what is refused for this broken rule, if it is one
       check-ends : (P : End → Type 0) → P Memory → ((found : CheckFault) → IsRefused (Rule found) text → P (Refused (Rule found))) → (found : CheckFault) → (found ≢ rule.Memory → rule_fault program ≡ Some found) → P (end_of_check_fault found)

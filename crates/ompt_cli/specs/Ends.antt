@@ -3,7 +3,7 @@ use Rattle.std.specs.Prelude.{ℕ, if◌then◌else◌, ◌==◌, ◌≡◌, Lis
 use Rattle.std.specs.Io.KnownBytes.{Appends}
 use Rattle.run_edges.specs.Edges.{Rose, AppendsFront}
 use Rattle.ompt_cli.specs.declared.end.Refusal.{Refusal}
-use Rattle.ompt_cli.specs.declared.end.Refusal.TheVariants.{Tokens, Syntax, Rule, TooLong, OtherForm}
+use Rattle.ompt_cli.specs.declared.end.Refusal.TheVariants.{Tokens, Syntax, Rule, TooLong}
 use Rattle.c_tokens.specs.declared.token.Spot.{Spot}
 use Rattle.c_tokens.specs.declared.token.TokenFault.{TokenFault}
 use Rattle.c_tokens.specs.declared.token.TokenFault.TheVariants as token
@@ -14,14 +14,16 @@ use Rattle.c_syntax.specs.Faults.{fault_number as syntax_number, fault_spot as s
 use Rattle.c_check.specs.declared.fault.CheckFault.{CheckFault}
 use Rattle.c_check.specs.declared.fault.CheckFault.TheVariants as rule
 use Rattle.c_check.specs.Faults.{fault_number as rule_number, fault_spot as rule_spot}
-use Rattle.std.specs.Fmt.{decimal}
+use Rattle.std.specs.Fmt.{decimal, signed_decimal}
 use Rattle.ompt_cli.specs.declared.end.End.{End}
-use Rattle.ompt_cli.specs.declared.end.End.TheVariants.{Done, Usage, Refused, Deadlock, Limit, ReadFault, WriteFault, Memory}
+use Rattle.ompt_cli.specs.declared.end.End.TheVariants.{Done, Returned, Usage, Refused, Trapped, Deadlock, Limit, ReadFault, WriteFault, Memory}
 
 abbrev pub status_of : End → ℕ
 status_of Done = 0
+status_of (Returned value) = 1
 status_of Usage = 2
 status_of (Refused why) = 3
+status_of (Trapped number) = 4
 status_of Deadlock = 5
 status_of (Limit number) = 6
 status_of ReadFault = 8
@@ -34,14 +36,12 @@ refusal_number (Tokens found) = token_number found
 refusal_number (Syntax found) = syntax_number found
 refusal_number (Rule found) = rule_number found
 refusal_number TooLong = 15
-refusal_number OtherForm = 16
 
 abbrev pub refusal_spot : Refusal → Spot
 refusal_spot (Tokens found) = token_spot found
 refusal_spot (Syntax found) = syntax_spot found
 refusal_spot (Rule found) = rule_spot found
 refusal_spot TooLong = nowhere
-refusal_spot OtherForm = nowhere
 
 -- the end of a command whose text has this fault in its tokens, of one whose tokens are no program for this fault, and of one whose
 -- program breaks a rule so
@@ -72,8 +72,10 @@ limit_text number =
 -- the line on standard error, which is empty at status 0
 abbrev pub line_of_end : End → List ℕ
 line_of_end Done = []
+line_of_end (Returned value) = codes "returned " ++ signed_decimal value ++ 10 ∷ []
 line_of_end Usage = codes "usage: ompt run, list, record, profile, timeline, show, check or gen" ++ 10 ∷ []
 line_of_end (Refused why) = refusal_text why ++ 10 ∷ []
+line_of_end (Trapped number) = codes "trapped " ++ decimal number ++ 10 ∷ []
 line_of_end Deadlock = codes "deadlock" ++ 10 ∷ []
 line_of_end (Limit number) = limit_text number ++ 10 ∷ []
 line_of_end ReadFault = codes "read fault" ++ 10 ∷ []
@@ -83,8 +85,10 @@ line_of_end Memory = codes "memory" ++ 10 ∷ []
 -- the status where the line of an end was lost: a write fault, but want of memory stays
 abbrev pub status_of_lost : End → ℕ
 status_of_lost Done = 9
+status_of_lost (Returned value) = 9
 status_of_lost Usage = 9
 status_of_lost (Refused why) = 9
+status_of_lost (Trapped number) = 9
 status_of_lost Deadlock = 9
 status_of_lost (Limit number) = 9
 status_of_lost ReadFault = 9

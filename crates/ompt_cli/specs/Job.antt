@@ -1,7 +1,14 @@
 -- What is to run: a program, and how many threads there may be.
-use Rattle.std.specs.Prelude.{ℕ, List}
-use Rattle.omp_model.specs.declared.blocks.Block.{Block}
+use Rattle.std.specs.Prelude.{ℕ, refl}
+use Rattle.std.specs.Coded.{Coded, code_by, coded×, coded_ℕ}
+use Rattle.c_syntax.specs.Codes.{tree_view_code}
+use Rattle.c_syntax.specs.Numbered.{TreeView}
 
 pub record JobView : Type 0 where
-  pub blocks : List Block
+  pub program : TreeView
   pub threads : ℕ
+
+-- a job is stored as the pair of its fields
+abbrev pub job_view_code : Coded JobView
+job_view_code =
+    code_by (TreeView × ℕ) (coded× tree_view_code coded_ℕ) (λ job. (job.program, job.threads)) (λ p. record { program = p.0; threads = p.1 }) (λ _. refl)

@@ -1,5 +1,4 @@
 pub mod Words
-pub mod Form
 pub mod Text
 pub mod Ends
 pub mod Guests

@@ -1,7 +1,7 @@
 -- The texts that run, with their programs, and the refusals of all others.
 use Rattle.std.specs.Prelude.{ℕ, ◌≡◌, ◌<◌, ◌≤◌, List, [], ◌∷◌, length, Option, Some, None, Ok, Err}
 use Rattle.ompt_cli.specs.declared.end.Refusal.{Refusal}
-use Rattle.ompt_cli.specs.declared.end.Refusal.TheVariants.{Tokens, Syntax, Rule, TooLong, OtherForm}
+use Rattle.ompt_cli.specs.declared.end.Refusal.TheVariants.{Tokens, Syntax, Rule, TooLong}
 use Rattle.c_tokens.specs.declared.token.Spot.{Spot}
 use Rattle.c_tokens.specs.declared.token.Token.{Token}
 use Rattle.c_tokens.specs.declared.token.TokenFault.{TokenFault}
@@ -14,8 +14,6 @@ use Rattle.c_syntax.specs.Derivation.{Spells as IsTreeOf}
 use Rattle.c_syntax.specs.Faults.{IsFault}
 use Rattle.c_check.specs.declared.fault.CheckFault.{CheckFault}
 use Rattle.c_check.specs.Checked.{rule_fault_in}
-use Rattle.omp_model.specs.declared.blocks.Block.{Block}
-use Rattle.ompt_cli.specs.Form.{blocks_of}
 
 -- the text has these tokens, and they are a program with this tree
 pub record HasTree (text : List ℕ) (tokens : List Token) (tree : Tree) : Type 0 where
@@ -41,14 +39,11 @@ pub record IsReadAs (text : List ℕ) (program : TreeView) : Type 0 where
   pub end_is : program.end ≡ end_of tokens
   pub main_is : program.main ≡ main_of text tokens
 
--- the text spells this program: it isn't too long, its tree breaks no rule, and the tree is of the form, with these blocks
-pub record Spells (text : List ℕ) (blocks : List Block) : Type 0 where
+-- the text spells this program: it isn't too long, this was read of it, and no rule is broken
+pub record Spells (text : List ℕ) (program : TreeView) : Type 0 where
   pub short : length text ≤ 65536
-  pub tokens : List Token
-  pub tree : Tree
-  pub has : HasTree text tokens tree
-  pub keeps : rule_broken text tokens tree ≡ None
-  pub form : blocks_of (main_of text tokens) tree ≡ Some blocks
+  pub read : IsReadAs text program
+  pub keeps : rule_fault_in (root_tree program) program.end program.main ≡ None
 
 -- the text isn't too long, and the first fault of its tokens is this one
 abbrev pub HasFault : TokenFault → List ℕ → Type 0
@@ -63,20 +58,13 @@ abbrev pub HasCheckFault : CheckFault → List ℕ → Type 0
 HasCheckFault fault text =
     (length text ≤ 65536) × ((tokens : List Token) × (tree : Tree) × HasTree text tokens tree × (rule_broken text tokens tree ≡ Some fault))
 
--- the text isn't too long and is a program that breaks no rule, but of another form
-abbrev pub HasOtherForm : List ℕ → Type 0
-HasOtherForm text =
-    (length text ≤ 65536) × ((tokens : List Token) × (tree : Tree) × HasTree text tokens tree × (rule_broken text tokens tree ≡ None) × (blocks_of (main_of text tokens) tree ≡ None))
-
--- the text is refused for this: it is too long, or else its tokens have a fault, or else it is no program, or else it breaks a rule, or
--- else it is of another form
+-- the text is refused for this: it is too long, or else its tokens have a fault, or else it is no program, or else it breaks a rule
 abbrev pub IsRefused : Refusal → List ℕ → Type 0
 IsRefused (Tokens found) text = HasFault found text
 IsRefused (Syntax found) text = HasSyntaxFault found text
 IsRefused (Rule found) text = HasCheckFault found text
 IsRefused TooLong text = 65536 < length text
-IsRefused OtherForm text = HasOtherForm text
 
 -- the text runs
 abbrev pub IsProgram : List ℕ → Type 0
-IsProgram text = (blocks : List Block) × Spells text blocks
+IsProgram text = (program : TreeView) × Spells text program

@@ -1,7 +1,7 @@
 //! How a command ended: its status and its line on standard error.
 
-ghost use Rattle.std.specs.Prelude.{◌≡◌, ◌≤◌, ◌+◌, ◌∷◌, ◌++◌, [], length};
-ghost use Rattle.std.specs.Fmt.{decimal};
+ghost use Rattle.std.specs.Prelude.{◌≡◌, ◌≤◌, ◌+◌, ◌∷◌, ◌++◌, [], codes, length};
+ghost use Rattle.std.specs.Fmt.{decimal, signed_decimal};
 ghost use Rattle.arrayvec.specs.ArrayString.{array_string_len};
 ghost use Rattle.ompt_cli.specs.Ends.{end_of_check_fault, end_of_fault, end_of_syntax_fault, line_of_end, refusal_number, refusal_spot, refusal_text, status_of};
 
@@ -22,8 +22,6 @@ pub enum Refusal {
     Rule(CheckFault),
     /// Number 15: it is longer than 65,536 bytes.
     TooLong,
-    /// Number 16: it is a program, and isn't of the form that runs.
-    OtherForm,
 }
 
 /// How a command ended.
@@ -31,10 +29,14 @@ pub enum Refusal {
 pub enum End {
     /// The run is whole, and main returned 0.
     Done,
+    /// The run is whole, and main returned this other number.
+    Returned(i32),
     /// The words aren't in the form.
     Usage,
     /// The text is refused.
     Refused(Refusal),
+    /// The run met the trap with this number.
+    Trapped(u8),
     /// No thread can go on, and the run isn't whole.
     Deadlock,
     /// The run met the limit with this number: 1 of silent steps, 2 of turns, 3 of cells, 4 of tasks, 5 of the tasks on a
@@ -55,8 +57,10 @@ impl End {
     {
         match self {
             End::Done => 0,
+            End::Returned(_) => 1,
             End::Usage => 2,
             End::Refused(_) => 3,
+            End::Trapped(_) => 4,
             End::Deadlock => 5,
             End::Limit(_) => 6,
             End::ReadFault => 8,
@@ -71,10 +75,12 @@ impl End {
     {
         match self {
             End::Done => line_of(""),
+            End::Returned(value) => line_of_returned(value),
             End::Usage => line_of(
                 "usage: ompt run, list, record, profile, timeline, show, check or gen\n",
             ),
             End::Refused(why) => why.line(),
+            End::Trapped(number) => line_of_trapped(number),
             End::Deadlock => line_of("deadlock\n"),
             End::Limit(1) => line_of("limit steps\n"),
             End::Limit(2) => line_of("limit turns\n"),
@@ -100,7 +106,6 @@ impl Refusal {
             Refusal::Syntax(fault) => fault.number(),
             Refusal::Rule(fault) => fault.number(),
             Refusal::TooLong => 15,
-            Refusal::OtherForm => 16,
         }
     }
 
@@ -112,7 +117,7 @@ impl Refusal {
             Refusal::Tokens(fault) => fault.spot(),
             Refusal::Syntax(fault) => fault.spot(),
             Refusal::Rule(fault) => fault.spot(),
-            Refusal::TooLong | Refusal::OtherForm => NOWHERE,
+            Refusal::TooLong => NOWHERE,
         }
     }
 
@@ -161,6 +166,27 @@ pub(crate) fn end_of_check_fault(fault: CheckFault) -> End
         CheckFault::Memory => End::Memory,
         _ => End::Refused(Refusal::Rule(fault)),
     }
+}
+
+/// The line that tells what main returned.
+fn line_of_returned(value: i32) -> ArrayString<160>
+    ensures { result.bytes ≡ codes "returned " ++ signed_decimal value ++ 10 ∷ [] }
+{
+    let mut digits = Buffer::new();
+    let mut line = line_of("returned ");
+    line.push_str(digits.format(value));
+    line.push_str("\n");
+    line
+}
+
+/// The line that tells a trap.
+fn line_of_trapped(number: u8) -> ArrayString<160>
+    ensures { result.bytes ≡ codes "trapped " ++ decimal number ++ 10 ∷ [] }
+{
+    let mut line = line_of("trapped ");
+    push_number(&mut line, u32::from(number));
+    line.push_str("\n");
+    line
 }
 
 /// A line of this text.

@@ -1,12 +1,9 @@
 //! How a command ended, before its line is told.
 
-ghost use Rattle.std.specs.Prelude.{◌≡◌, ◌≢◌, None};
-ghost use Rattle.omp_model.specs.Tame.{TameCause};
-ghost use Rattle.ompt_cli.specs.Commands.{EndsAs};
+ghost use Rattle.std.specs.Prelude.{◌≡◌, None};
 
 use crate::end::End;
 use crate::report::Report;
-use omp_model::Cause;
 
 /// How a command ended, and what it reports of its run, if there was one.
 #[derive(Drop)]
@@ -20,19 +17,4 @@ pub(crate) fn without_run(end: End) -> Ended
     ensures { result ≡ record { end = end; ran = None } }
 {
     Ended { end, ran: None }
-}
-
-/// The end that tells why a run ended.
-pub(crate) fn end_of(cause: Cause) -> End
-    requires { cause ≢ Cause.Memory → TameCause cause }
-    ensures told { EndsAs cause result }
-    ensures unwritten { result ≢ End.WriteFault }
-{
-    match cause {
-        Cause::Done => End::Done,
-        Cause::Deadlock => End::Deadlock,
-        Cause::Limit(number) => End::Limit(number),
-        Cause::Memory => End::Memory,
-        Cause::Returned(_) | Cause::Trapped(_) => unreachable!(),
-    }
 }

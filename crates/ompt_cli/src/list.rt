@@ -1,12 +1,11 @@
 //! The command `list`: it runs the program serially, and writes a line for each event.
 
-ghost use Rattle.std.specs.Prelude.{ℕ, ◌≡◌, ◌≢◌, IfSome, IsSomeAnd, List, [], replicate, IfOk};
+ghost use Rattle.std.specs.Prelude.{ℕ, ℤ, ◌≡◌, ◌≢◌, IfSome, IsSomeAnd, List, [], replicate, IfOk};
 ghost use Rattle.std.specs.Io.KnownBytes.{Appends, Keeps};
 ghost use Rattle.omp_model.specs.declared.history.EventRecord.{EventRecord};
 ghost use Rattle.omp_model.specs.Serial.{Serial, serial};
 ghost use Rattle.omp_model.specs.Cause.{cause_of};
 ghost use Rattle.omp_model.specs.Records.{lines_of};
-ghost use Rattle.omp_model.specs.Tame.{TameCause};
 ghost use Rattle.run_edges.specs.Edges.{Rose, AppendsFront};
 ghost use Rattle.tool_report.specs.Order.{AreShared};
 ghost use Rattle.ompt_cli.specs.Commands.{EndsAs, EndsWith, IsAfterRun, TellsRun, out_of, run_of, unless_memory};
@@ -14,16 +13,16 @@ ghost use Rattle.ompt_cli.specs.Commands.{EndsAs, EndsWith, IsAfterRun, TellsRun
 use crate::end::End;
 use crate::ended::{Ended, without_run};
 use crate::job::Job;
-use crate::program::copied;
+use crate::program_tree::ProgramTree;
 use crate::report::{Report, SILENT_STEPS};
 use crate::words::Command;
 use omp_codes::PROFILE_MASK;
 use omp_model::Cause;
 use run_edges::{Sink, write_all};
 use std::alloc::{AllocError, Global};
-use team_run::run_serial;
 use tool_api::GuestTool;
 use tool_report::{Lister, lines_text};
+use team_run::run_serial;
 
 /// Runs the job, and writes its lines. The guests come back as they were.
 pub(crate) fn list<O: Sink>(
@@ -36,7 +35,7 @@ pub(crate) fn list<O: Sink>(
     ensures write { result.end ≡ End.WriteFault → Rose (O.faults out.old) (O.faults out.new) }
     ensures steady { result.end ≢ End.WriteFault → O.faults out.new ≡ O.faults out.old }
     ensures ran { IfSome result.ran (λ report.
-        (report.command ≡ Command.List) × (report.blocks ≡ job.blocks) × (report.threads ≡ job.threads)) }
+        (report.command ≡ Command.List) × (report.program.tree ≡ job.program) × (report.threads ≡ job.threads)) }
     ensures guests { IfSome result.ran (λ report. report.guests ≡ guests) }
     ensures mask { IfSome result.ran (λ report. report.mask ≡ PROFILE_MASK) }
     ensures serial { IfSome result.ran (λ report. Serial (run_of report) report.history) }
@@ -45,6 +44,10 @@ pub(crate) fn list<O: Sink>(
     ensures whole { IfSome result.ran (λ report. report.cause ≢ Cause.Memory →
         report.history ≡ serial (run_of report)) }
     ensures done { result.end ≡ End.Done → IsSomeAnd result.ran (λ report. report.cause ≡ Cause.Done) }
+    ensures returned { (value : ℤ) → result.end ≡ End.Returned value →
+        IsSomeAnd result.ran (λ report. report.cause ≡ Cause.Returned value) }
+    ensures trapped { (number : ℕ) → result.end ≡ End.Trapped number →
+        IsSomeAnd result.ran (λ report. report.cause ≡ Cause.Trapped number) }
     ensures stuck { result.end ≡ End.Deadlock → IsSomeAnd result.ran (λ report. report.cause ≡ Cause.Deadlock) }
     ensures limit { (number : ℕ) → result.end ≡ End.Limit number →
         IsSomeAnd result.ran (λ report. report.cause ≡ Cause.Limit number) }
@@ -58,10 +61,8 @@ pub(crate) fn list<O: Sink>(
         AppendsFront (O.held out.old) (O.held out.new) (out_of result.ran) }
     ensures kept { result.end ≡ End.Memory → Keeps (O.held out.old) (O.held out.new) }
 {
-    let Job { blocks, threads } = job;
-    let Ok(program) = copied(alloc, &blocks) else {
-        return without_run(End::Memory);
-    };
+    let Job { program, threads } = job;
+    let tree = ProgramTree::of(&program);
     let Ok(parts) = listers(alloc, threads) else {
         return without_run(End::Memory);
     };
@@ -73,7 +74,7 @@ pub(crate) fn list<O: Sink>(
     let report = Report {
         command: Command::List,
         cause: ran.cause,
-        blocks,
+        program: tree,
         mask: ran.mask,
         threads,
         history: ran.history,
@@ -99,7 +100,6 @@ fn listers(alloc: Global, threads: u8) -> Result<Vec<Lister>, AllocError>
 /// Writes a line for each event of a run that ended in this cause, unless it found no memory. It answers how the command
 /// ends.
 fn write_run<O: Sink>(alloc: Global, cause: Cause, parts: &[Lister], out: &mut O) -> End
-    requires { cause ≢ Cause.Memory → TameCause cause }
     ensures end { EndsAs cause result }
     ensures listed { (events : List EventRecord) → AreShared events parts.now → result ≢ End.WriteFault → result ≢ End.Memory →
         Appends (O.held out.old) (O.held out.new) (unless_memory cause (lines_of events)) }
@@ -111,10 +111,11 @@ fn write_run<O: Sink>(alloc: Global, cause: Cause, parts: &[Lister], out: &mut O
 {
     match cause {
         Cause::Done => write_lines(alloc, End::Done, parts, out),
+        Cause::Returned(value) => write_lines(alloc, End::Returned(value), parts, out),
+        Cause::Trapped(number) => write_lines(alloc, End::Trapped(number), parts, out),
         Cause::Deadlock => write_lines(alloc, End::Deadlock, parts, out),
         Cause::Limit(number) => write_lines(alloc, End::Limit(number), parts, out),
         Cause::Memory => End::Memory,
-        Cause::Returned(_) | Cause::Trapped(_) => unreachable!(),
     }
 }
 

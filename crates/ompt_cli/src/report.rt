@@ -1,8 +1,9 @@
 //! What a command reports of its run.
 
 use crate::end::End;
+use crate::program_tree::ProgramTree;
 use crate::words::Command;
-use omp_model::{Blocks, Cause, History};
+use omp_model::{Cause, History};
 use tool_api::GuestTool;
 
 /// How many silent steps a run may have where the words don't say.
@@ -15,8 +16,8 @@ pub struct Report {
     pub command: Command,
     /// Why the run ended.
     pub cause: Cause,
-    /// The program: its parallel blocks.
-    pub blocks: Blocks,
+    /// The tree of the program that ran, for contracts.
+    pub program: ProgramTree,
     /// The callbacks that were registered, bit n for number n: for a listing [`PROFILE_MASK`](omp_codes::PROFILE_MASK).
     pub mask: u64,
     /// How many threads there might be.
@@ -34,7 +35,8 @@ pub struct Top {
     pub status: u8,
     /// How the command ended, before its line was told.
     pub end: End,
-    /// The report of the run. It is there at the ends `Done`, `Deadlock`, `Limit` and `WriteFault`, and isn't at `Usage`,
-    /// `Refused` and `ReadFault`. At `Memory` it may be there; where its cause is want of memory, its history has an entry.
+    /// The report of the run. It is there at the ends `Done`, `Returned`, `Trapped`, `Deadlock`, `Limit` and `WriteFault`, and
+    /// isn't at `Usage`, `Refused` and `ReadFault`. At `Memory` it may be there; where its cause is want of memory, its history
+    /// has an entry.
     pub ran: Option<Report>,
 }

@@ -1,31 +1,39 @@
-//! The command `run`: it runs the program serially, with the guests as the parts of its threads.
+//! The command `run`: it runs the program serially, with the guests as the parts of its threads, and writes what it prints.
 
-ghost use Rattle.std.specs.Prelude.{ℕ, ◌≡◌, ◌≢◌, IfSome, IsSomeAnd, []};
+ghost use Rattle.std.specs.Prelude.{ℕ, ℤ, ◌≡◌, ◌≢◌, IfSome, IsSomeAnd, List, []};
+ghost use Rattle.std.specs.Io.KnownBytes.{Appends, Keeps};
 ghost use Rattle.omp_model.specs.Serial.{Serial, serial};
 ghost use Rattle.omp_model.specs.Cause.{cause_of};
 ghost use Rattle.team_run.specs.Standing.{HearsSilent};
-ghost use Rattle.ompt_cli.specs.Commands.{EndsAs, IsAfterRun, out_of, run_of};
+ghost use Rattle.run_edges.specs.Edges.{Rose, AppendsFront};
+ghost use Rattle.ompt_cli.specs.Commands.{EndsAs, EndsWith, IsAfterRun, TellsRun, out_of, run_of, unless_memory};
 ghost use Rattle.ompt_cli.specs.Guests.{GuestsServe};
 
 use crate::end::End;
-use crate::ended::{Ended, end_of, without_run};
+use crate::ended::{Ended, without_run};
 use crate::guests::{hand_out, take_back};
 use crate::job::Job;
-use crate::program::copied;
+use crate::program_tree::ProgramTree;
 use crate::report::{Report, SILENT_STEPS};
 use crate::words::Command;
 use omp_model::Cause;
+use run_edges::{Sink, write_all};
 use std::alloc::Global;
-use team_run::run_serial;
 use tool_api::GuestTool;
+use team_run::run_serial;
 
-/// Runs the job. Guest t is the part of thread t; threads past the guests have none.
-pub(crate) fn run(alloc: Global, job: Job, guests: Vec<Box<dyn GuestTool>>) -> Ended
+/// Runs the job, and writes what the program printed. Guest t is the part of thread t; threads past the guests have none.
+pub(crate) fn run<O: Sink>(
+    alloc: Global,
+    job: Job,
+    guests: Vec<Box<dyn GuestTool>>,
+    out: &mut O,
+) -> Ended
     ensures end { IsAfterRun result.end }
-    ensures unwritten { result.end ≢ End.WriteFault }
-    ensures nothing { out_of result.ran ≡ [] }
+    ensures write { result.end ≡ End.WriteFault → Rose (O.faults out.old) (O.faults out.new) }
+    ensures steady { result.end ≢ End.WriteFault → O.faults out.new ≡ O.faults out.old }
     ensures ran { IfSome result.ran (λ report.
-        (report.command ≡ Command.Run) × (report.blocks ≡ job.blocks) × (report.threads ≡ job.threads)) }
+        (report.command ≡ Command.Run) × (report.program.tree ≡ job.program) × (report.threads ≡ job.threads)) }
     ensures guests { IfSome result.ran (λ report.
         GuestsServe (λ guest h. (GuestTool-box guest).stands_for guest.value h) (run_of report) report.cause report.history
         guests.items report.guests.items) }
@@ -35,18 +43,27 @@ pub(crate) fn run(alloc: Global, job: Job, guests: Vec<Box<dyn GuestTool>>) -> E
     ensures whole { IfSome result.ran (λ report. report.cause ≢ Cause.Memory → HearsSilent (run_of report) report.history →
         report.history ≡ serial (run_of report)) }
     ensures done { result.end ≡ End.Done → IsSomeAnd result.ran (λ report. report.cause ≡ Cause.Done) }
+    ensures returned { (value : ℤ) → result.end ≡ End.Returned value →
+        IsSomeAnd result.ran (λ report. report.cause ≡ Cause.Returned value) }
+    ensures trapped { (number : ℕ) → result.end ≡ End.Trapped number →
+        IsSomeAnd result.ran (λ report. report.cause ≡ Cause.Trapped number) }
     ensures stuck { result.end ≡ End.Deadlock → IsSomeAnd result.ran (λ report. report.cause ≡ Cause.Deadlock) }
     ensures limit { (number : ℕ) → result.end ≡ End.Limit number →
         IsSomeAnd result.ran (λ report. report.cause ≡ Cause.Limit number) }
+    ensures unwritten { result.end ≡ End.WriteFault →
+        IsSomeAnd result.ran (λ report. report.cause ≢ Cause.Memory) }
     ensures ended { IfSome result.ran (λ report. EndsAs report.cause result.end) }
     ensures begun { IfSome result.ran (λ report. report.cause ≡ Cause.Memory → report.history ≢ []) }
+    ensures listed { result.end ≢ End.WriteFault → result.end ≢ End.Memory →
+        Appends (O.held out.old) (O.held out.new) (out_of result.ran) }
+    ensures part { result.end ≡ End.WriteFault →
+        AppendsFront (O.held out.old) (O.held out.new) (out_of result.ran) }
+    ensures kept { result.end ≡ End.Memory → Keeps (O.held out.old) (O.held out.new) }
 {
-    let Job { blocks, threads } = job;
+    let Job { program, threads } = job;
+    let tree = ProgramTree::of(&program);
     let mut waiting = guests;
     waiting.reverse();
-    let Ok(program) = copied(alloc, &blocks) else {
-        return without_run(End::Memory);
-    };
     let Ok(parts) = hand_out(alloc, threads, &mut waiting) else {
         return without_run(End::Memory);
     };
@@ -57,20 +74,59 @@ pub(crate) fn run(alloc: Global, job: Job, guests: Vec<Box<dyn GuestTool>>) -> E
         Ok(ran) => ran,
         Err(_) => return without_run(End::Memory),
     };
+    let end = write_run(ran.cause, &ran.text, out);
     let mut parts = ran.parts;
     take_back(&mut parts, &mut waiting);
     waiting.reverse();
     let report = Report {
         command: Command::Run,
         cause: ran.cause,
-        blocks,
+        program: tree,
         mask: ran.mask,
         threads,
         history: ran.history,
         guests: waiting,
     };
     Ended {
-        end: end_of(ran.cause),
+        end,
         ran: Some(report),
+    }
+}
+
+/// Writes what the program of a run that ended in this cause printed, unless the run found no memory. It answers how the
+/// command ends.
+fn write_run<O: Sink>(cause: Cause, text: &[u8], out: &mut O) -> End
+    ensures end { EndsAs cause result }
+    ensures listed { result ≢ End.WriteFault → result ≢ End.Memory →
+        Appends (O.held out.old) (O.held out.new) (unless_memory cause text.now) }
+    ensures part { result ≡ End.WriteFault →
+        AppendsFront (O.held out.old) (O.held out.new) (unless_memory cause text.now) }
+    ensures write { result ≡ End.WriteFault → Rose (O.faults out.old) (O.faults out.new) }
+    ensures steady { result ≢ End.WriteFault → O.faults out.new ≡ O.faults out.old }
+    ensures kept { result ≡ End.Memory → Keeps (O.held out.old) (O.held out.new) }
+{
+    match cause {
+        Cause::Done => write_text(End::Done, text, out),
+        Cause::Returned(value) => write_text(End::Returned(value), text, out),
+        Cause::Trapped(number) => write_text(End::Trapped(number), text, out),
+        Cause::Deadlock => write_text(End::Deadlock, text, out),
+        Cause::Limit(number) => write_text(End::Limit(number), text, out),
+        Cause::Memory => End::Memory,
+    }
+}
+
+/// Writes the text. It answers this end, unless a write failed.
+fn write_text<O: Sink>(whole: End, text: &[u8], out: &mut O) -> End
+    requires { TellsRun whole }
+    ensures end { EndsWith whole result }
+    ensures memory { result ≢ End.Memory }
+    ensures listed { result ≢ End.WriteFault → Appends (O.held out.old) (O.held out.new) text.now }
+    ensures part { result ≡ End.WriteFault → AppendsFront (O.held out.old) (O.held out.new) text.now }
+    ensures write { result ≡ End.WriteFault → Rose (O.faults out.old) (O.faults out.new) }
+    ensures steady { result ≢ End.WriteFault → O.faults out.new ≡ O.faults out.old }
+{
+    match write_all(out, text) {
+        Ok(()) => whole,
+        Err(_) => End::WriteFault,
     }
 }

@@ -6,20 +6,18 @@ ghost use Rattle.ompt_cli.specs.Text.{IsProgram, IsReadAs, IsRefused, Spells};
 ghost use Rattle.ompt_cli.specs.Commands.{IsBeforeRun, MayRefuse, MayRun};
 
 use crate::end::{End, Refusal, end_of_check_fault, end_of_fault, end_of_syntax_fault};
-use crate::form::blocks_of;
-use c_check::check;
+use c_check::{Program, check};
 use c_syntax::{Tree, read_program};
 use c_tokens::tokens;
-use omp_model::Blocks;
 use run_edges::{ReadAllFault, Source, read_all};
 use std::alloc::Global;
 
 /// The length in bytes of the longest text that is read.
 const TEXT_LIMIT: u32 = 65_536;
 
-/// Reads the text to its end. It spells the blocks, or the command ends for want of a program that runs.
-pub(crate) fn read_blocks<S: Source>(alloc: Global, source: &mut S) -> Result<Blocks, End>
-    ensures program { IfOk result (λ blocks. IfSome (S.left source.old) (λ text. Spells text blocks)) }
+/// Reads the text to its end. It spells the program, or the command ends for want of a program that runs.
+pub(crate) fn read_program_of<S: Source>(alloc: Global, source: &mut S) -> Result<Program, End>
+    ensures program { IfOk result (λ program. IfSome (S.left source.old) (λ text. Spells text program)) }
     ensures before { IfErr result IsBeforeRun }
     ensures refused { (why : Refusal) → result ≡ Err (End.Refused why) →
         IfSome (S.left source.old) (IsRefused why) }
@@ -37,10 +35,10 @@ pub(crate) fn read_blocks<S: Source>(alloc: Global, source: &mut S) -> Result<Bl
     }
 }
 
-/// The blocks that the text spells. All its tokens are tried before the grammar, then the rules, and then the form.
-fn program_of(alloc: Global, text: &[u8]) -> Result<Blocks, End>
+/// The program that the text spells. All its tokens are tried before the grammar, and then the rules.
+fn program_of(alloc: Global, text: &[u8]) -> Result<Program, End>
     requires { length text.now ≤ 65536 }
-    ensures program { IfOk result (λ blocks. Spells text.now blocks) }
+    ensures program { IfOk result (Spells text.now) }
     ensures before { IfErr result IsBeforeRun }
     ensures refused { (why : Refusal) → result ≡ Err (End.Refused why) → IsRefused why text.now }
     ensures accepted { (why : Refusal) → IsRefused why text.now → IsErrAnd result (MayRefuse why) }
@@ -48,7 +46,7 @@ fn program_of(alloc: Global, text: &[u8]) -> Result<Blocks, End>
     ensures read { result ≢ Err End.ReadFault }
 {
     match tree_of(alloc, text) {
-        Ok(tree) => blocks_in(alloc, tree),
+        Ok(tree) => checked_program(alloc, tree),
         Err(end) => Err(end),
     }
 }
@@ -73,9 +71,10 @@ fn tree_of(alloc: Global, text: &[u8]) -> Result<Tree, End>
     }
 }
 
-/// The blocks of a tree that was read, by the rules and then by the form.
-fn blocks_in(alloc: Global, tree: Tree) -> Result<Blocks, End>
-    ensures program { IfOk result (λ blocks. (text : List ℕ) → length text ≤ 65536 → IsReadAs text tree → Spells text blocks) }
+/// The program of a tree that was read, by the rules.
+fn checked_program(alloc: Global, tree: Tree) -> Result<Program, End>
+    ensures program { IfOk result (λ program.
+        (text : List ℕ) → length text ≤ 65536 → IsReadAs text tree → Spells text program) }
     ensures before { IfErr result IsBeforeRun }
     ensures refused { (why : Refusal) → result ≡ Err (End.Refused why) →
         (text : List ℕ) → length text ≤ 65536 → IsReadAs text tree → IsRefused why text }
@@ -84,13 +83,8 @@ fn blocks_in(alloc: Global, tree: Tree) -> Result<Blocks, End>
     ensures runs { (text : List ℕ) → length text ≤ 65536 → IsReadAs text tree → IsProgram text → IfErr result MayRun }
     ensures read { result ≢ Err End.ReadFault }
 {
-    let program = match check(alloc, tree) {
-        Ok(program) => program,
-        Err(fault) => return Err(end_of_check_fault(fault)),
-    };
-    match blocks_of(alloc, program.tree()) {
-        Ok(Some(blocks)) => Ok(blocks),
-        Ok(None) => Err(End::Refused(Refusal::OtherForm)),
-        Err(_) => Err(End::Memory),
+    match check(alloc, tree) {
+        Ok(program) => Ok(program),
+        Err(fault) => Err(end_of_check_fault(fault)),
     }
 }

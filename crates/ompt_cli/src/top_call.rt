@@ -1,6 +1,6 @@
 //! The call that does all: a command from bytes to bytes.
 
-ghost use Rattle.std.specs.Prelude.{ℕ, ◌≡◌, ◌≢◌, ◌<◌, IfSome, IsSomeAnd, IsNone, Some, ◌↔◌, ◌⊎◌, []};
+ghost use Rattle.std.specs.Prelude.{ℕ, ℤ, ◌≡◌, ◌≢◌, ◌<◌, IfSome, IsSomeAnd, IsNone, Some, ◌↔◌, ◌⊎◌, []};
 ghost use Rattle.std.specs.Io.KnownBytes.{Appends, Keeps};
 ghost use Rattle.omp_model.specs.Serial.{Serial, serial};
 ghost use Rattle.omp_model.specs.Cause.{cause_of};
@@ -18,7 +18,7 @@ use crate::job::Job;
 use crate::list::list;
 use crate::report::Top;
 use crate::run::run;
-use crate::text::read_blocks;
+use crate::text::read_program_of;
 use crate::words::{Asked, Command, asked_of};
 use omp_codes::PROFILE_MASK;
 use omp_model::Cause;
@@ -69,7 +69,7 @@ pub fn top<R, S: Source, O: Sink, E: Sink>(
     // What ran is one serial run of the program, with as many threads as the words ask for.
     ensures asked { IfSome result.ran (λ report. InFormWith (texts words.now) report.command report.threads) }
     ensures spelled { IfSome result.ran (λ report.
-        IfSome (S.left source.old) (λ text. Spells text report.blocks)) }
+        IfSome (S.left source.old) (λ text. Spells text report.program.tree)) }
     ensures mask { IfSome result.ran (λ report. report.command ≡ Command.List → report.mask ≡ PROFILE_MASK) }
     ensures serial { IfSome result.ran (λ report. Serial (run_of report) report.history) }
     ensures cause { IfSome result.ran (λ report. report.cause ≢ Cause.Memory →
@@ -89,6 +89,10 @@ pub fn top<R, S: Source, O: Sink, E: Sink>(
 
     // The end is the run's, unless a write or memory fails.
     ensures done { result.end ≡ End.Done → IsSomeAnd result.ran (λ report. report.cause ≡ Cause.Done) }
+    ensures returned { (value : ℤ) → result.end ≡ End.Returned value →
+        IsSomeAnd result.ran (λ report. report.cause ≡ Cause.Returned value) }
+    ensures trapped { (number : ℕ) → result.end ≡ End.Trapped number →
+        IsSomeAnd result.ran (λ report. report.cause ≡ Cause.Trapped number) }
     ensures stuck { result.end ≡ End.Deadlock → IsSomeAnd result.ran (λ report. report.cause ≡ Cause.Deadlock) }
     ensures limit { (number : ℕ) → result.end ≡ End.Limit number →
         IsSomeAnd result.ran (λ report. report.cause ≡ Cause.Limit number) }
@@ -98,7 +102,7 @@ pub fn top<R, S: Source, O: Sink, E: Sink>(
     ensures begun { IfSome result.ran (λ report. report.cause ≡ Cause.Memory → report.history ≢ []) }
     ensures runs { InForm (texts words.now) → IsSomeAnd (S.left source.old) IsProgram → MayRun result.end }
 
-    // What is written is the run's lines.
+    // What is written is the run's lines, or what its program printed.
     ensures listed { result.end ≢ End.WriteFault → result.end ≢ End.Memory →
         Appends (O.held out.old) (O.held out.new) (out_of result.ran) }
     ensures part { result.end ≡ End.WriteFault →
@@ -108,12 +112,14 @@ pub fn top<R, S: Source, O: Sink, E: Sink>(
     let Some(Asked { command, threads }) = asked_of(words) else {
         return tell(without_run(End::Usage), err);
     };
-    match (read_blocks(alloc, source), command) {
-        (Ok(blocks), Command::List) => tell(
-            list(alloc, Job::new(blocks, threads), guests, out),
+    match (read_program_of(alloc, source), command) {
+        (Ok(program), Command::List) => tell(
+            list(alloc, Job::new(program, threads), guests, out),
             err,
         ),
-        (Ok(blocks), Command::Run) => tell(run(alloc, Job::new(blocks, threads), guests), err),
+        (Ok(program), Command::Run) => {
+            tell(run(alloc, Job::new(program, threads), guests, out), err)
+        }
         (Err(end), _) => tell(without_run(end), err),
     }
 }

@@ -1,5 +1,5 @@
 -- What the three stores of a reply come to, one after another.
-use Rattle.std.proofs.Common.{◌≡◌, ℕ, ◌<◌, List, [], ◌∷◌, ◌++◌, length, slice_index_or, slice_set, sym, ap, subst, ◌∙◌, append_assoc, Some, inl, inr}
+use Rattle.std.proofs.Common.{◌≡◌, ℕ, ◌<◌, List, [], ◌∷◌, ◌++◌, length, slice_index_or, slice_set, sym, ap, subst, ◌∙◌, append_assoc, Some, refl, inl, inr}
 use Rattle.std.proofs.lemmas.List.{map-append, get_or_default, get_or-set_same, get_or-set_other}
 use Rattle.std.proofs.lemmas.Bool.Decides.{eqb_tells}
 use Rattle.ompt_calls.specs.Snapshot.{Stored}
@@ -7,10 +7,15 @@ use Rattle.ompt_calls.specs.Item.{Item}
 use Rattle.tool_api.specs.Record.{Record, told, one_unheard}
 use Rattle.omp_model.specs.declared.history.Entry.{Entry}
 use Rattle.omp_model.specs.State.{State}
+use Rattle.omp_model.specs.Legal.{put}
 use Rattle.omp_model.specs.Storing.{put_all, put_at, puts_at, back_at, event_reply}
-use Rattle.omp_model.proofs.Targets.{put_all-append}
 use Rattle.team_run.specs.Serving.{Becomes, told_on}
 use Rattle.team_run.specs.Unheard.{unheard_on}
+
+-- stores one after another
+put_all-append : (S : State) (t : ℕ) (xs ys : List Stored) → put_all S t (xs ++ ys) ≡ put_all (put_all S t xs) t ys
+put_all-append S t [] ys = refl
+put_all-append S t (store ∷ xs) ys = put_all-append (put S t store.target store.word) t xs ys
 
 -- the state after them
 pub reply-state : (S : State) (t : ℕ) (xs ys zs : List Stored) → put_all (put_all (put_all S t xs) t ys) t zs ≡ put_all S t (xs ++ ys ++ zs)

@@ -6,34 +6,32 @@ use Rattle.std.proofs.lemmas.List.{length-set, get_or_past}
 use Rattle.ompt_calls.specs.declared.call.Call.{Call}
 use Rattle.ompt_calls.specs.declared.snapshot.Snapshot.{Snapshot}
 use Rattle.ompt_calls.specs.Item.{Item}
-use Rattle.ompt_calls.specs.Number.{number_of, is_registered}
+use Rattle.ompt_calls.specs.Number.{is_registered}
 use Rattle.ompt_calls.specs.declared.snapshot.Target.{Target}
 use Rattle.ompt_calls.specs.declared.reply.Reply.{Reply}
 use Rattle.ompt_calls.specs.declared.reply.Store.{Store}
 use Rattle.ompt_calls.specs.Snapshot.{Stored, target_of, stored, stored_of, stores_of}
 use Rattle.omp_model.specs.declared.cause.Cause.TheVariants as cause
 use Rattle.omp_model.specs.declared.history.Entry.{Entry}
-use Rattle.omp_model.specs.declared.machine.Callback.{Callback}
-use Rattle.omp_model.specs.declared.machine.Event.{Event}
-use Rattle.omp_model.specs.declared.machine.Halt.{Halt}
-use Rattle.omp_model.specs.declared.machine.Outcome.{Outcome}
-use Rattle.omp_model.specs.declared.machine.Outcome.TheVariants.{Idle, Quiet, Happens, Halts}
+use Rattle.omp_model.specs.declared.event.Callback.{Callback}
+use Rattle.omp_model.specs.declared.event.Event.{Event}
+use Rattle.omp_model.specs.declared.event.Halt.{Halt}
+use Rattle.omp_model.specs.declared.event.Outcome.{Outcome}
+use Rattle.omp_model.specs.declared.event.Outcome.TheVariants.{Idle, Quiet, Happens, Halts}
 use Rattle.omp_model.specs.State.{Run, State, first, pending_at}
-use Rattle.omp_model.specs.Calls.{call_of}
+use Rattle.omp_model.specs.Calls.{call_of, callback_of}
 use Rattle.omp_model.specs.Snapshots.{snap_of}
 use Rattle.omp_model.specs.Turn.{turn, called}
-use Rattle.omp_model.specs.Legal.{after, is_told, put_from, put, back_from, back}
+use Rattle.omp_model.specs.Legal.{after, put_from, put, back_from, back}
 use Rattle.omp_model.specs.Heard.{heard}
 use Rattle.omp_model.specs.Serial.{first_enabled, enabled_among, inside_after, StoresNothing}
 use Rattle.omp_model.specs.Storing.{put_all, MayStore, go_at, event_reply}
 use Rattle.omp_model.specs.Cause.{none_pending, whole_value, is_stuck, cause_of_whole, cause_by_halt, cause_in}
-use Rattle.omp_model.specs.Tame.{IsTame}
 use Rattle.omp_model.proofs.Turns.{Leaves, leaves-turn, turn-pending, turns-rise, back-turns}
+use Rattle.omp_model.proofs.Replies.{may-store}
 use Rattle.omp_model.proofs.Recording.{HasRun-start, HasRun-after, HasRun-alone, HasRun-event, HasRun-serial, HasRun-pending, heard-alone, heard-event, heard-pending, event_at, first_enabled-below, first_enabled-enabled, first_enabled-none, put_all-turns, StoresNothing-append}
-use Rattle.omp_model.proofs.Tame.{tame-turn, tame-back, tame-put-all}
-use Rattle.omp_model.proofs.Made.{made-first, made-turn, made-back}
-use Rattle.omp_model.proofs.Targets.{made-put_all, may-store, pending-put_all}
 use Rattle.team_run.specs.Standing.{AreSilent, StandsAt, StopsAt}
+use Rattle.omp_machine.proofs.Storing.{Inside, inside-put}
 use Rattle.omp_machine.proofs.Telling.{IsTold}
 use Rattle.tool_api.specs.Record.{Record}
 use Rattle.team_run.specs.Serving.{Serves, ServesTo, OnlyUnheard, Answers}
@@ -90,6 +88,12 @@ nobody-back run S t event stores nobody happens waits =
     back-pending (put_all between t stores) t (pending_at (put_all between t stores) t) waits ∙ put_all-others between t stores ∙ ap (λ pending. slice_set pending t None) (turn-pending run S t event happens) ∙ set-twice S.pending t (Some (called event)) None in
     ap all_none same ∙ all_none-set S.pending t nobody
 
+-- a thread inside a callback that is registered still is inside one after its stores
+waits-put_all : (run : Run) (S : State) (t : ℕ) (e : Event) (made : ℕ) (stores : List Stored) → Inside run S t e made → IsSome (pending_at (put_all S t stores) t)
+waits-put_all run S t e made [] inside = rw inside.pending refl
+waits-put_all run S t e made (store ∷ rest) inside =
+    waits-put_all run (put S t store.target store.word) t e (made + 1) rest (inside-put run S t e made store.target store.word inside)
+
 -- a turn with no event leaves the callbacks alone
 same-pending : (S after : State) (t : ℕ) (o : Outcome) → Leaves S t after o → inside_after o t ≡ None → after.pending ≡ S.pending
 same-pending S after t Idle leaves none = leaves.2
@@ -98,22 +102,21 @@ same-pending S after t (Happens event) leaves none = cc
 same-pending S after t (Halts halt) leaves none = leaves.2
 
 -- before the first entry
-pub stands-start : (run : Run) → run.threads ≤ 16 → IsTame (first run) → StandsAt run (first run) 0 []
-stands-start run few tame =
+pub stands-start : (run : Run) → 1 ≤ run.threads → run.threads ≤ 16 → StandsAt run (first run) 0 []
+stands-start run some few =
     record {
+      some = some;
       few = few;
       within = omega arith;
       nobody = all_none-replicate run.threads;
-      tame = tame;
-      made = made-first run;
       has_run = HasRun-start run;
       own = λ k past. refl;
       silent = λ silent. tt;
     }
 
 -- a run may stop where it stands
-pub stops-here : (run : Run) (S : State) (from : ℕ) (H : List Entry) → StandsAt run S from H → StopsAt run H
-stops-here run S from H stands = record { serial = HasRun-serial stands.has_run; own = stands.own }
+pub stops-here : (run : Run) (S : State) (from : ℕ) (H : List Entry) → StandsAt run S from H → StopsAt run S H
+stops-here run S from H stands = record { serial = HasRun-serial stands.has_run; own = stands.own; reached = HasRun-after stands.has_run }
 
 module _ (run : Run) (S : State) (from : ℕ) (H : List Entry) (t : ℕ) (stands : StandsAt run S from H) (turns : first_enabled run S from ≡ Some t) where
   pub below : t + 1 ≤ run.threads
@@ -124,20 +127,23 @@ module _ (run : Run) (S : State) (from : ℕ) (H : List Entry) (t : ℕ) (stands
   stands-alone none =
       let same : heard run (H ++ go_at t ∷ []) ≡ heard run H = heard-alone t stands.has_run none in
       record {
+        some = stands.some;
         few = stands.few;
         within = below;
         nobody = ap all_none (same-pending S (turn run S t).state t (turn run S t).outcome (leaves-turn run S t) none) ∙ stands.nobody;
-        tame = tame-turn run S t stands.tame;
-        made = made-turn run S t stands.made;
         has_run = HasRun-alone t stands.has_run turns none;
         own = own-unheard run H (H ++ go_at t ∷ []) same stands.own;
         silent = λ silent. StoresNothing-append H (go_at t ∷ []) (stands.silent (λ k under. subst AreSilent (heard_of-same run H (H ++ go_at t ∷ []) k same) (silent k under))) (refl, tt);
       }
 
   -- where the thread stops inside its callback
-  pub stops-inside : (e : Event) → (turn run S t).outcome ≡ Happens e → StopsAt run (H ++ go_at t ∷ [])
+  pub stops-inside : (e : Event) → (turn run S t).outcome ≡ Happens e → StopsAt run (turn run S t).state (H ++ go_at t ∷ [])
   stops-inside e happens =
-      record { serial = HasRun-pending t e stands.has_run turns happens; own = own-unheard run H (H ++ go_at t ∷ []) (heard-pending t e stands.has_run happens) stands.own }
+      record {
+        serial = HasRun-pending t e stands.has_run turns happens;
+        own = own-unheard run H (H ++ go_at t ∷ []) (heard-pending t e stands.has_run happens) stands.own;
+        reached = stands.has_run.reached (go_at t ∷ []);
+      }
 
 module _ (run : Run) (S : State) (from : ℕ) (H : List Entry) (t : ℕ) (stands : StandsAt run S from H) (turns : first_enabled run S from ≡ Some t) (e : Event) (happens : (turn run S t).outcome ≡ Happens e) (waits : IsSome (pending_at (turn run S t).state t)) where
   abbrev pub between : State
@@ -161,37 +167,38 @@ module _ (run : Run) (S : State) (from : ℕ) (H : List Entry) (t : ℕ) (stands
   inside-event =
       ap (λ pending. slice_index_or pending t None) (turn-pending run S t e happens) ∙ get_or-set_same S.pending t (Some (called e)) None within-pending
 
-  -- and so it is after its stores
-  pub inside-still : (stores : List Stored) → IsSome (pending_at (put_all between t stores) t)
-  inside-still stores =
-      rw (pending-put_all between t stores (called e) inside-event (omega (arith, within-pending, ap length (turn-pending run S t e happens), length-set S.pending t (Some (called e))))) refl
+  -- and so it is after its stores, where it is registered
+  pub inside-still : is_registered run.mask (callback_of e) ≡ true → (stores : List Stored) → IsSome (pending_at (put_all between t stores) t)
+  inside-still registered stores =
+      waits-put_all run between t e 0 stores (record { pending = inside-event; registered = registered })
 
   -- the stores of any reply may stand next, where the callback is registered
-  pub may-reply : is_registered run.mask (number_of (call_of between.world t e)) ≡ true → (reply : Reply) → MayStore run between t (stores_of reply (snap_of between.world t e))
-  may-reply registered reply = may-store run S t e reply stands.made within-pending happens registered
+  pub may-reply : is_registered run.mask (callback_of e) ≡ true → (reply : Reply) → MayStore run between t (stores_of reply (snap_of between.world t e))
+  may-reply registered reply =
+      let here : after run H ≡ S = HasRun-after stands.has_run in
+      subst (λ (S : State). MayStore run (turn run S t).state t (stores_of reply (snap_of (turn run S t).state.world t e))) here (may-store run H t e stands.some (subst (λ (S : State). (turn run S t).outcome ≡ Happens e) (sym here) happens) reply registered)
 
   -- an event that is told is heard
-  pub told-heard : is_registered run.mask (number_of (call_of between.world t e)) ≡ true → (stores : List Stored) → heard run (H ++ event_at t stores) ≡ heard run H ++ item_with stores ∷ []
+  pub told-heard : is_registered run.mask (callback_of e) ≡ true → (stores : List Stored) → heard run (H ++ event_at t stores) ≡ heard run H ++ item_with stores ∷ []
   told-heard registered stores =
       heard-event t e stores stands.has_run happens ∙ ap (λ said. heard run H ++ said) (rw registered refl)
 
   -- and one that isn't registered isn't
-  pub untold-heard : is_registered run.mask (number_of (call_of between.world t e)) ≡ false → heard run (H ++ event_at t []) ≡ heard run H
+  pub untold-heard : is_registered run.mask (callback_of e) ≡ false → heard run (H ++ event_at t []) ≡ heard run H
   untold-heard unregistered =
       heard-event t e [] stands.has_run happens ∙ ap (λ said. heard run H ++ said) (rw unregistered refl) ∙ append-nil (heard run H)
 
   -- after an event that is heard
-  pub stands-told : is_registered run.mask (number_of (call_of between.world t e)) ≡ true → (stores : List Stored) → length stores ≤ 3 → MayStore run between t stores → StandsAt run (back (put_all between t stores) t) (t + 1) (H ++ event_at t stores)
+  pub stands-told : is_registered run.mask (callback_of e) ≡ true → (stores : List Stored) → length stores ≤ 3 → MayStore run between t stores → StandsAt run (back (put_all between t stores) t) (t + 1) (H ++ event_at t stores)
   stands-told registered stores few may =
       let more = told-heard registered stores in
       let under : t < run.threads = omega (arith, below run S from H t stands turns) in
       record {
+        some = stands.some;
         few = stands.few;
         within = below run S from H t stands turns;
-        nobody = nobody-back run S t e stores stands.nobody happens (inside-still stores);
-        tame = tame-back (put_all between t stores) t (tame-put-all between t stores (tame-turn run S t stands.tame));
-        made = made-back (put_all between t stores) t (made-put_all between t stores (made-turn run S t stands.made));
-        has_run = HasRun-event t e stores stands.has_run turns happens few may (inside-still stores);
+        nobody = nobody-back run S t e stores stands.nobody happens (inside-still registered stores);
+        has_run = HasRun-event t e stores stands.has_run turns happens few may (inside-still registered stores);
         own = own-told run H (H ++ event_at t stores) t (item_with stores) refl under more stands.own;
         silent = λ silent.
             let none : stores ≡ [] = item-silent run H (H ++ event_at t stores) t (item_with stores) refl more under silent in
@@ -199,15 +206,14 @@ module _ (run : Run) (S : State) (from : ℕ) (H : List Entry) (t : ℕ) (stands
       }
 
   -- after one that isn't
-  pub stands-untold : is_registered run.mask (number_of (call_of between.world t e)) ≡ false → StandsAt run (back between t) (t + 1) (H ++ event_at t [])
+  pub stands-untold : is_registered run.mask (callback_of e) ≡ false → StandsAt run (back between t) (t + 1) (H ++ event_at t [])
   stands-untold unregistered =
       let same = untold-heard unregistered in
       record {
+        some = stands.some;
         few = stands.few;
         within = below run S from H t stands turns;
         nobody = nobody-back run S t e [] stands.nobody happens waits;
-        tame = tame-back between t (tame-turn run S t stands.tame);
-        made = made-back between t (made-turn run S t stands.made);
         has_run = HasRun-event t e [] stands.has_run turns happens (omega arith) tt waits;
         own = own-unheard run H (H ++ event_at t []) same stands.own;
         silent = λ silent. StoresNothing-append H (event_at t []) (stands.silent (λ k under. subst AreSilent (heard_of-same run H (H ++ event_at t []) k same) (silent k under))) (refl, (refl, tt));
@@ -234,14 +240,14 @@ all_four : (a b c d : Bool) → a ≡ true → b ≡ true → c ≡ true → d �
 all_four a b c d first second third fourth = rw (first, second, third, fourth)
 
 -- where no thread can go on and nobody is inside a callback, the run has ended
-caused-whole : (run : Run) (S : State) (value : Option ℤ) → whole_value S.world ≡ value → enabled_among run S 0 run.threads ≡ None → none_pending S ≡ true → S.halt ≡ None → cause_of_whole run S value ≡ None → ⊥
+caused-whole : (run : Run) (S : State) (value : Option ℤ) → whole_value S.world ≡ value → enabled_among S 0 run.threads ≡ None → none_pending S ≡ true → S.halt ≡ None → cause_of_whole run S value ≡ None → ⊥
 caused-whole run S (Some value) whole none nobody running no_cause = cc
 caused-whole run S None whole none nobody running no_cause =
     let stuck : is_stuck run S ≡ true = all_four _ _ _ _ (ap is_none none) nobody (ap is_none running) (ap is_none whole) in
     let deadlock : cause_of_whole run S None ≡ Some cause.Deadlock = rw stuck in
     cc
 
-caused-halt : (run : Run) (S : State) (halt : Option Halt) → S.halt ≡ halt → enabled_among run S 0 run.threads ≡ None → none_pending S ≡ true → cause_by_halt run S halt ≡ None → ⊥
+caused-halt : (run : Run) (S : State) (halt : Option Halt) → S.halt ≡ halt → enabled_among S 0 run.threads ≡ None → none_pending S ≡ true → cause_by_halt run S halt ≡ None → ⊥
 caused-halt run S (Some halt) halted none nobody no_cause = cc
 caused-halt run S None halted none nobody no_cause = caused-whole run S (whole_value S.world) refl none nobody halted no_cause
 
@@ -287,7 +293,7 @@ module _ (run : Run) (S : State) (from : ℕ) (H : List Entry) (t : ℕ) (stands
   rises = turns-rise run S t (first_enabled-enabled run S from t turns)
 
   -- with the answer of the thread's part
-  pub visited-told : is_registered run.mask (number_of (call_of inner.world t e)) ≡ true → (after : State) (others : List P) (longer : List Entry) → Answers stands_for (length H) t (call_of inner.world t e) (snap_of inner.world t e) inner parts (H ++ go_at t ∷ []) after others longer → Visited stands_for run S H t parts after others longer
+  pub visited-told : is_registered run.mask (callback_of e) ≡ true → (after : State) (others : List P) (longer : List Entry) → Answers stands_for (length H) t (call_of inner.world t e) (snap_of inner.world t e) inner parts (H ++ go_at t ∷ []) after others longer → Visited stands_for run S H t parts after others longer
   visited-told registered after others longer answers =
       let stores : List Stored = stores_of answers.reply (snap_of inner.world t e) in
       let history : longer ≡ H ++ event_at t stores = answers.history_is ∙ append_assoc H (go_at t ∷ []) (event_reply t stores) in
@@ -299,7 +305,7 @@ module _ (run : Run) (S : State) (from : ℕ) (H : List Entry) (t : ℕ) (stands
       }
 
   -- without a part's answer, where the callback isn't registered
-  pub visited-untold : is_registered run.mask (number_of (call_of inner.world t e)) ≡ false → Visited stands_for run S H t parts (back inner t) parts (H ++ event_at t [])
+  pub visited-untold : is_registered run.mask (callback_of e) ≡ false → Visited stands_for run S H t parts (back inner t) parts (H ++ event_at t [])
   visited-untold unregistered =
       record {
         serves = serves-unheard stands_for run parts parts H (H ++ event_at t []) None (untold-heard run S from H t stands turns e happens waits unregistered) (record { as_many = refl; each = λ k below d h stands. stands });
@@ -308,7 +314,7 @@ module _ (run : Run) (S : State) (from : ℕ) (H : List Entry) (t : ℕ) (stands
       }
 
   -- where the part found no memory, nothing more was heard, and the history ends inside its callback
-  pub serves-inside : is_registered run.mask (number_of (call_of inner.world t e)) ≡ true → (others : List P) → OnlyUnheard stands_for (Some t) parts others → ServesTo stands_for run parts H others (H ++ go_at t ∷ [])
+  pub serves-inside : is_registered run.mask (callback_of e) ≡ true → (others : List P) → OnlyUnheard stands_for (Some t) parts others → ServesTo stands_for run parts H others (H ++ go_at t ∷ [])
   serves-inside registered others kept =
       let reached : after run (H ++ go_at t ∷ []) ≡ inner = stands.has_run.reached (go_at t ∷ []) in
       record {
@@ -319,7 +325,7 @@ module _ (run : Run) (S : State) (from : ℕ) (H : List Entry) (t : ℕ) (stands
               last = refl;
               callback = called e;
               inside = ap (λ (S : State). pending_at S t) reached ∙ inside-event run S from H t stands turns e happens waits;
-              registered = ap (λ (S : State). is_told run S t (called e)) reached ∙ registered;
+              registered = registered;
             };
         serves = serves-unheard stands_for run parts others H (H ++ go_at t ∷ []) (Some t) (heard-pending t e stands.has_run happens) kept;
       }
@@ -341,10 +347,10 @@ module _ (run : Run) (S : State) (from : ℕ) (H : List Entry) (t : ℕ) (stands
       subst (λ (snapshot : Snapshot). MayStore run (turn run S t).state t (stores_of reply snapshot)) said.snapshot_is (may-reply run S from H t stands turns said.event said.happens waits said.registered reply)
 
   pub inside-said : (stores : List Stored) → IsSome (pending_at (put_all (turn run S t).state t stores) t)
-  inside-said stores = inside-still run S from H t stands turns said.event said.happens waits stores
+  inside-said stores = inside-still run S from H t stands turns said.event said.happens waits said.registered stores
 
   -- the history at which the run stops where the part found no memory
-  pub stops-said : StopsAt run (H ++ go_at t ∷ [])
+  pub stops-said : StopsAt run (turn run S t).state (H ++ go_at t ∷ [])
   stops-said = stops-inside run S from H t stands turns said.event said.happens
 
   module _ {P : Type 0} (stands_for : P → Record → Type 0) (parts others : List P) where

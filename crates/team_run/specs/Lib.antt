@@ -1,4 +1,5 @@
 pub mod Entries
+pub mod Program
 pub mod Serving
 pub mod Standing
 pub mod Unheard

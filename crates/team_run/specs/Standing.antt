@@ -5,9 +5,8 @@ use Rattle.omp_model.specs.declared.history.Entry.{Entry}
 use Rattle.omp_model.specs.State.{Run, State}
 use Rattle.omp_model.specs.Cause.{none_pending}
 use Rattle.omp_model.specs.Heard.{heard_of}
-use Rattle.omp_model.specs.Made.{WellMade}
+use Rattle.omp_model.specs.Legal.{after}
 use Rattle.omp_model.specs.Serial.{Serial, StoresNothing}
-use Rattle.omp_model.specs.Tame.{IsTame}
 use Rattle.omp_model.specs.Running.{HasRun}
 
 -- nothing was stored during these calls
@@ -25,16 +24,16 @@ HearsOwn run history = (k : ℕ) → run.threads ≤ k → heard_of run history 
 
 -- the history leads to this state, where nobody is inside a callback
 pub record StandsAt (run : Run) (state : State) (from : ℕ) (history : List Entry) : Type 0 where
+  pub some : 1 ≤ run.threads
   pub few : run.threads ≤ 16
   pub within : from ≤ run.threads
   pub nobody : none_pending state ≡ true
-  pub tame : IsTame state
-  pub made : WellMade state
   pub has_run : HasRun run history (record { state = state; next = from; inside = None })
   pub own : HearsOwn run history
   pub silent : HearsSilent run history → StoresNothing history
 
--- a history at which a run may stop
-pub record StopsAt (run : Run) (history : List Entry) : Type 0 where
+-- a history at which a run may stop, and the state to which it leads
+pub record StopsAt (run : Run) (state : State) (history : List Entry) : Type 0 where
   pub serial : Serial run history
   pub own : HearsOwn run history
+  pub reached : after run history ≡ state

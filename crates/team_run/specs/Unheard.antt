@@ -2,7 +2,7 @@
 use Rattle.std.specs.Prelude.{ℕ, ◌≡◌, ◌==◌, IsTrue, if◌then◌else◌, List, [], ◌∷◌, ◌++◌, Option, Some, None}
 use Rattle.tool_api.specs.Record.{Record, one_unheard}
 use Rattle.omp_model.specs.declared.history.Entry.{Entry}
-use Rattle.omp_model.specs.declared.machine.Callback.{Callback}
+use Rattle.omp_model.specs.declared.event.Callback.{Callback}
 use Rattle.omp_model.specs.State.{Run, pending_at}
 use Rattle.omp_model.specs.Legal.{after, is_told}
 use Rattle.omp_model.specs.Cause.{none_pending}
@@ -15,7 +15,7 @@ pub record EndsInside (run : Run) (history : List Entry) (t : ℕ) : Type 0 wher
   pub last : history ≡ before ++ go_at t ∷ []
   pub callback : Callback
   pub inside : pending_at (after run history) t ≡ Some callback
-  pub registered : IsTrue (is_told run (after run history) t callback)
+  pub registered : IsTrue (is_told run callback)
 
 -- the thread whose callback found no memory is the one inside whose callback the history ends. Where there is none, nobody is
 -- inside a callback at the end

@@ -1,8 +1,8 @@
 //! Runs of a program, with the parts of a tool.
 //!
-//! [`run_serial`] runs a program of parallel blocks on the machine of `omp_machine`, in the serial order: threads take
-//! turns round and round, and the callback of an event comes directly after its Go. It is handed a part of a tool for each
-//! thread, a [`ToolPart`](tool_api::ToolPart), and calls part t for the events of thread t.
+//! [`run_serial`] runs a checked program on the machine of `omp_machine`, in the serial order: threads take turns round and
+//! round, and the callback of an event comes directly after its Go. It is handed a part of a tool for each thread, a
+//! [`ToolPart`](tool_api::ToolPart), and calls part t for the events of thread t.
 //!
 //! Part 0 is also started, before the first entry. Where it answers another number than 0 the tool is active: what part 0
 //! registered is the mask of the run, and part 0 is finished after the last entry. Where it answers 0 the mask is 0, no
@@ -16,8 +16,8 @@
 //! makes room for all entries of a turn before the turn, so that what the machine did always gets its entry.
 //!
 //! Proved by the contracts of [`run_serial`], for every kind of part, over the definitions of `omp_model` and of `specs/`.
-//! They hold of each [`Ran`] that it answers; "the run" is that of the blocks, the threads and the silent steps that it was
-//! handed, with the mask in the answer:
+//! They hold of each [`Ran`] that it answers; "the run" is that of the program, the threads and the silent steps that it
+//! was handed, with the mask in the answer:
 //!
 //! - `serial`: the history is legal for the run, and in the serial order: each Go is of the first enabled thread after the
 //!   one before, and an event's stores and its Back follow its Go directly;
@@ -29,12 +29,12 @@
 //!   [`Memory`](omp_model::Cause::Memory). For nothing else was a part called;
 //! - `kinds`: each part is of the kind that it was;
 //! - `own`: nothing is heard on a thread that the run doesn't have. So nothing is heard for which no part was called;
+//! - `text`: the text is what the program has printed in the state after the history, also where the cause is `Memory`;
 //! - `cause`: the cause is the one in which the history ends;
 //! - `whole`: where no store took effect, the history is `serial` of the run, the one list;
-//! - `tame`: the cause is [`Done`](omp_model::Cause::Done), [`Deadlock`](omp_model::Cause::Deadlock) or a limit;
 //! - `begun`: where the cause is `Memory`, the history has an entry.
 //!
-//! `cause`, `whole` and `tame` say nothing where the cause is `Memory`. The history then stops between two turns, or after
+//! `cause` and `whole` say nothing where the cause is `Memory`. The history then stops between two turns, or after
 //! the Go of the event whose callback found no memory. What a part "was called for" is said by `stands_for` of
 //! its kind: a part that stood for a record of calls stands afterwards for the record with these calls. So a kind that
 //! stands for everything tells nothing.
@@ -44,15 +44,13 @@
 //! - that a run finds memory: an error, or the cause `Memory`, is always allowed. Of the parts nothing is said after an
 //!   error. That they are gone, and that part 0 was started but isn't finished, is to be read;
 //! - that a tool returns from a call;
-//! - that a run ends in `Done`: neither `Deadlock` nor a limit is ruled out;
+//! - in which cause a run ends: each but `Memory` is the one that the definitions give, and none is ruled out;
 //! - what a call told that found no memory;
 //! - all of the order in which calls come. A record doesn't say how many calls came before a start, and the records of two
 //!   parts have no order between them. That part 0 is started first, and that parts are called in the order of the
 //!   positions and none after part 0 is finished, is to be read in `src/`.
 //!
-//! Tests in `ompt_tests` run a region of two on one and two threads. They have a tool that stores and finds the word at a
-//! later call, one that stores several words at once, one that answers 0, one that finds no memory, and one of two parts, and
-//! compare what these heard with values written out by hand. The must-fail edits try wrong bodies.
+//! The must-fail edits try wrong bodies.
 #![tactic(auto)]
 
 mod entries;

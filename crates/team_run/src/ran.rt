@@ -14,6 +14,8 @@ pub struct Ran<P> {
     pub mask: u64,
     /// Its entries.
     pub history: History,
+    /// The bytes that the program printed.
+    pub text: Vec<u8>,
     /// The parts, by thread.
     pub parts: Vec<P>,
 }

@@ -3,20 +3,21 @@
 ghost use Rattle.std.specs.Prelude.{◌≡◌, ◌≢◌, ◌<◌, ◌≤◌, [], Some, IfOk, length, slice_index_or, ℕ};
 ghost use Rattle.omp_model.specs.Serial.{Serial, serial};
 ghost use Rattle.omp_model.specs.Cause.{cause_of};
-ghost use Rattle.omp_model.specs.Tame.{TameCause};
-ghost use Rattle.omp_model.specs.Program.{run_of_blocks};
+ghost use Rattle.omp_model.specs.Legal.{after};
 ghost use Rattle.tool_api.specs.Record.{Record, initialized};
+ghost use Rattle.team_run.specs.Program.{run_of_program};
 ghost use Rattle.team_run.specs.Serving.{Becomes, RunsFor, SameKinds, finished_by, mask_of};
 ghost use Rattle.team_run.specs.Standing.{HearsOwn, HearsSilent};
 
 use crate::ran::{Memory, Ran};
 use crate::serial_run::SerialRun;
-use omp_model::{Blocks, Cause};
+use c_check::Program;
+use omp_model::Cause;
 use std::alloc::{AllocError, Global};
 use tool_api::{Registrar, ToolPart};
 
-/// Runs the program with these parallel blocks serially, with so many threads, and so many silent steps at most. Part t is
-/// called for the events of thread t.
+/// Runs the program serially, with so many threads, and so many silent steps at most. Part t is called for the events of
+/// thread t.
 ///
 /// Part 0 is started before the first entry. What it registers is heard, where it answers another number than 0, and else
 /// nothing. Where it answers another number than 0 it is finished after the last entry.
@@ -26,7 +27,7 @@ use tool_api::{Registrar, ToolPart};
 /// thread's part found none.
 pub fn run_serial<P: ToolPart>(
     alloc: Global,
-    blocks: Blocks,
+    program: Program,
     threads: u8,
     steps: u32,
     parts: Vec<P>,
@@ -36,37 +37,41 @@ pub fn run_serial<P: ToolPart>(
     requires steps { 1 ≤ steps }
     requires bounded { steps ≤ 30000000 }
     requires parts { length parts.items ≡ threads }
-    ensures serial { IfOk result (λ ran. Serial (run_of_blocks blocks ran.mask threads steps) ran.history) }
-    ensures parts { IfOk result (λ ran. RunsFor P.stands_for (run_of_blocks blocks ran.mask threads steps)
+    ensures serial { IfOk result (λ ran. Serial (run_of_program program ran.mask threads steps) ran.history) }
+    ensures parts { IfOk result (λ ran. RunsFor P.stands_for (run_of_program program ran.mask threads steps)
         ran.cause ran.history parts.items ran.parts.items) }
     ensures kinds { IfOk result (λ ran. SameKinds P.kind parts.items ran.parts.items) }
-    ensures own { IfOk result (λ ran. HearsOwn (run_of_blocks blocks ran.mask threads steps) ran.history) }
+    ensures own { IfOk result (λ ran. HearsOwn (run_of_program program ran.mask threads steps) ran.history) }
     ensures cause { IfOk result (λ ran. ran.cause ≢ Cause.Memory →
-        cause_of (run_of_blocks blocks ran.mask threads steps) ran.history ≡ Some ran.cause) }
+        cause_of (run_of_program program ran.mask threads steps) ran.history ≡ Some ran.cause) }
     ensures whole { IfOk result (λ ran. ran.cause ≢ Cause.Memory →
-        HearsSilent (run_of_blocks blocks ran.mask threads steps) ran.history →
-        ran.history ≡ serial (run_of_blocks blocks ran.mask threads steps)) }
-    ensures tame { IfOk result (λ ran. ran.cause ≢ Cause.Memory → TameCause ran.cause) }
+        HearsSilent (run_of_program program ran.mask threads steps) ran.history →
+        ran.history ≡ serial (run_of_program program ran.mask threads steps)) }
+    ensures text { IfOk result (λ ran. ran.text.items ≡
+        (after (run_of_program program ran.mask threads steps) ran.history).world.store.text) }
     ensures begun { IfOk result (λ ran. ran.cause ≡ Cause.Memory → ran.history ≢ []) }
 {
     let mut parts = parts;
     let start = initialize_first(&mut parts);
     let mask = mask_of(start);
-    let mut run = SerialRun::new(alloc, blocks, mask, threads, steps, parts)?;
+    let mut run = SerialRun::new(alloc, program, mask, threads, steps, parts)?;
     let cause = run.finish();
     if cause == Cause::Memory && run.history.len() == 0 {
         return Err(AllocError);
     }
     let SerialRun {
+        machine,
         history,
         mut parts,
         ..
     } = run;
     finalize_first(start, &mut parts);
+    let text = machine.into_text();
     Ok(Ran {
         cause,
         mask,
         history: history.into_history(),
+        text,
         parts,
     })
 }

@@ -7,15 +7,15 @@ ghost use Rattle.omp_model.specs.Legal.{back};
 ghost use Rattle.omp_model.specs.Serial.{first_enabled};
 ghost use Rattle.omp_model.specs.Cause.{cause_in};
 ghost use Rattle.omp_model.specs.Storing.{MayStore, back_at, put_all, puts_at};
-ghost use Rattle.omp_model.specs.Tame.{TameCause};
-ghost use Rattle.omp_model.specs.Program.{run_of_blocks};
+ghost use Rattle.team_run.specs.Program.{run_of_program};
 ghost use Rattle.team_run.specs.Serving.{Answers, OnlyUnheard, SameKinds, ServesTo};
 ghost use Rattle.team_run.specs.Standing.{StandsAt, StopsAt};
 
 use crate::entries::Entries;
 use crate::ran::Memory;
+use c_check::Program;
+use omp_model::{Cause, Entry, What};
 use omp_machine::{Machine, Went};
-use omp_model::{Blocks, Cause, Entry, What};
 use ompt_calls::{Call, Reply, Snapshot, Store};
 use std::alloc::Global;
 use tool_api::ToolPart;
@@ -40,7 +40,7 @@ impl<P: ToolPart> SerialRun<P> {
     /// A run before its first entry.
     pub fn new(
         alloc: Global,
-        blocks: Blocks,
+        program: Program,
         mask: u64,
         threads: u8,
         steps: u32,
@@ -50,14 +50,14 @@ impl<P: ToolPart> SerialRun<P> {
         requires few { threads ≤ 16 }
         requires steps { 1 ≤ steps }
         requires bounded { steps ≤ 30000000 }
-        ensures run { IfOk result (λ serial. serial.machine.run ≡ run_of_blocks blocks mask threads steps) }
+        ensures run { IfOk result (λ serial. serial.machine.run ≡ run_of_program program mask threads steps) }
         ensures parts { IfOk result (λ serial. serial.parts ≡ parts) }
         ensures fresh { IfOk result (λ serial. serial.history.entries ≡ []) }
         ensures stands { IfOk result (λ serial.
             StandsAt serial.machine.run serial.machine.state serial.next serial.history.entries) }
     {
         Ok(SerialRun {
-            machine: Machine::new(alloc, blocks, mask, threads, steps)?,
+            machine: Machine::new(alloc, program, mask, threads, steps)?,
             history: Entries::new(alloc),
             parts,
             next: 0,
@@ -72,13 +72,12 @@ impl<P: ToolPart> SerialRun<P> {
         ensures serves { ServesTo P.stands_for self.old.machine.run self.old.parts.items self.old.history.entries
             self.new.parts.items self.new.history.entries }
         ensures kinds { SameKinds P.kind self.old.parts.items self.new.parts.items }
-        ensures stops { StopsAt self.old.machine.run self.new.history.entries }
+        ensures stops { StopsAt self.old.machine.run self.new.machine.state self.new.history.entries }
         ensures stands { result ≢ Cause.Memory →
             StandsAt self.new.machine.run self.new.machine.state self.new.next self.new.history.entries }
         ensures over { result ≢ Cause.Memory →
             first_enabled self.new.machine.run self.new.machine.state self.new.next ≡ None }
         ensures cause { result ≢ Cause.Memory → cause_in self.new.machine.run self.new.machine.state ≡ Some result }
-        ensures tame { result ≢ Cause.Memory → TameCause result }
     {
         while let Some(thread) = self.machine.first_enabled(self.next) {
             match self.visit(thread) {
@@ -101,7 +100,7 @@ impl<P: ToolPart> SerialRun<P> {
         ensures serves { ServesTo P.stands_for self.old.machine.run self.old.parts.items self.old.history.entries
             self.new.parts.items self.new.history.entries }
         ensures kinds { SameKinds P.kind self.old.parts.items self.new.parts.items }
-        ensures stops { StopsAt self.old.machine.run self.new.history.entries }
+        ensures stops { StopsAt self.old.machine.run self.new.machine.state self.new.history.entries }
         ensures stands { OnOk result
             (StandsAt self.new.machine.run self.new.machine.state self.new.next self.new.history.entries) }
         ensures turns { OnOk result (self.new.machine.state.turns ≡ self.old.machine.state.turns + 1) }
@@ -144,7 +143,8 @@ impl<P: ToolPart> SerialRun<P> {
         ensures answers { OnOk result (Answers P.stands_for seq thread call.now snapshot.now
             self.old.machine.state self.old.parts.items self.old.history.entries
             self.new.machine.state self.new.parts.items self.new.history.entries) }
-        ensures memory { OnErr result ((self.new.history.entries ≡ self.old.history.entries)
+        ensures memory { OnErr result ((self.new.machine.state ≡ self.old.machine.state)
+            × (self.new.history.entries ≡ self.old.history.entries)
             × OnlyUnheard P.stands_for (Some thread) self.old.parts.items self.new.parts.items) }
     {
         let reply = self.parts[thread as usize].callback(seq, thread, call, snapshot)?;

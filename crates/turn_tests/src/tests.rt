@@ -3,11 +3,11 @@ use c_syntax::read_program;
 use c_tokens::tokens;
 use omp_codes::PROFILE_MASK;
 use omp_model::Cause;
-use omp_turns::{Machine, Memory, Went};
+use omp_machine::{Machine, Memory, Went};
 use std::alloc::{AllocError, Global};
 use std::process::Abort;
 use tool_api::Quiet;
-use turn_run::run_serial;
+use team_run::run_serial;
 
 /// The most turns of a run.
 const MOST: u32 = 2_000;

@@ -1,20 +1,20 @@
 //! What a thread comes to next, and whether it has to wait for it. No expression is evaluated for that.
 
 ghost use Rattle.std.specs.Prelude.{◌≡◌, ◌≤◌, length, reverse, take};
-ghost use Rattle.omp_world.specs.State.{task_at};
-ghost use Rattle.omp_world.specs.Members.{current, view_of};
+ghost use Rattle.omp_model.specs.State.{task_at};
+ghost use Rattle.omp_model.specs.Members.{current, view_of};
 ghost use Rattle.c_model.specs.declared.point.SyncKind.TheVariants as sync;
-ghost use Rattle.omp_world.specs.declared.limits.TheConstants.{STACK_LIMIT};
-ghost use Rattle.omp_world.specs.Gates as gates;
+ghost use Rattle.omp_model.specs.declared.limits.TheConstants.{STACK_LIMIT};
+ghost use Rattle.omp_model.specs.Gates as gates;
 
 use crate::board::Board;
 use c_model::{SyncKind, SyncStage, Upcoming, View};
-use omp_world::{Arrival, Event, IMPLICIT_REGION, INITIAL_TASK, STACK_LIMIT, ThreadStage};
+use omp_model::{Arrival, Event, IMPLICIT_REGION, INITIAL_TASK, STACK_LIMIT, ThreadStage};
 use task_pool::{Condition, TaskKind};
 
 impl Board {
     /// What the thread comes to next.
-    #[tactic(auto, unfolding(omp_world::specs::Gates::arrival))]
+    #[tactic(auto, unfolding(omp_model::specs::Gates::arrival))]
     pub fn arrival(&self, thread: u8) -> Arrival
         ensures { result ≡ gates.arrival self.now.world thread }
     {
@@ -22,7 +22,7 @@ impl Board {
     }
 
     /// The same, where the code of the thread's current task sees this.
-    #[tactic(auto, unfolding(omp_world::specs::Gates::arrival))]
+    #[tactic(auto, unfolding(omp_model::specs::Gates::arrival))]
     pub(super) fn arrival_seeing(&self, thread: u8, view: View) -> Arrival
         requires { view ≡ view_of self.now.world thread }
         ensures { result ≡ gates.arrival self.now.world thread }

@@ -10,12 +10,12 @@ ghost use Rattle.c_model.specs.Occurring.{IsAskOfNext};
 ghost use Rattle.c_model.specs.Step.{silent};
 ghost use Rattle.c_steps.specs.Held.{outcome_at};
 ghost use Rattle.c_steps.specs.Passing.{IsEventOfNext};
-ghost use Rattle.omp_world.specs.declared.event.Arrival.TheVariants.{Comes};
-ghost use Rattle.omp_world.specs.Changes.{gone_past, gone_to, with_code};
-ghost use Rattle.omp_world.specs.Gates.{arrival};
-ghost use Rattle.omp_world.specs.Going as going;
-ghost use Rattle.omp_world.specs.Made.{IsMadeWorld};
-ghost use Rattle.omp_world.specs.Members.{code_of, current, moment_of, view_of};
+ghost use Rattle.omp_model.specs.declared.event.Arrival.TheVariants.{Comes};
+ghost use Rattle.omp_model.specs.Changes.{gone_past, gone_to, with_code};
+ghost use Rattle.omp_model.specs.Gates.{arrival};
+ghost use Rattle.omp_model.specs.Going as going;
+ghost use Rattle.omp_model.specs.Made.{IsMadeWorld};
+ghost use Rattle.omp_model.specs.Members.{code_of, current, moment_of, view_of};
 ghost use Rattle.omp_board.specs.Board.{HasEvent, HasStep, IsGoing, IsGoingTo};
 ghost use Rattle.omp_board.specs.Events.{HasComeTo, HasGo, HasPassing, IsSettled, work_event};
 ghost use Rattle.omp_board.specs.Tasks.{IsNamedIn, IsStill};
@@ -24,7 +24,7 @@ use crate::board::Board;
 use crate::board::meeting::work_met;
 use c_model::{Answer, Ask, Point, Work, WorkKind};
 use c_steps::Next;
-use omp_world::{Endpoint, Event, Halt};
+use omp_model::{Endpoint, Event, Halt};
 
 impl Board {
     /// The Go of the event of its code that the thread has come to. Where it meets a trap or a limit, nothing has changed, but that the task has left

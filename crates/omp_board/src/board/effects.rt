@@ -4,13 +4,13 @@ ghost use Rattle.std.specs.Prelude.{◌≡◌, ◌<◌, ◌≤◌, Some, None, i
 ghost use Rattle.team_parts.specs.Meetings.{HasChunk};
 ghost use Rattle.sync_objects.specs.Answers as answers;
 ghost use Rattle.sync_objects.specs.Faults.{fault_number};
-ghost use Rattle.omp_world.specs.declared.event.Halt.TheVariants as halt;
-ghost use Rattle.omp_world.specs.declared.limits.TheConstants as limits;
-ghost use Rattle.omp_world.specs.State.{task_at};
-ghost use Rattle.omp_world.specs.Changes as changes;
-ghost use Rattle.omp_world.specs.Going as going;
-ghost use Rattle.omp_world.specs.Made.{IsMadeWorld};
-ghost use Rattle.omp_world.specs.Members.{code_of, current, is_explicit_task, moment_of};
+ghost use Rattle.omp_model.specs.declared.event.Halt.TheVariants as halt;
+ghost use Rattle.omp_model.specs.declared.limits.TheConstants as limits;
+ghost use Rattle.omp_model.specs.State.{task_at};
+ghost use Rattle.omp_model.specs.Changes as changes;
+ghost use Rattle.omp_model.specs.Going as going;
+ghost use Rattle.omp_model.specs.Made.{IsMadeWorld};
+ghost use Rattle.omp_model.specs.Members.{code_of, current, is_explicit_task, moment_of};
 ghost use Rattle.omp_board.specs.Board.{run_of};
 ghost use Rattle.omp_board.specs.Events.{HasGo, IsCreator, IsEffect, KeepsPassing, MayCreate};
 
@@ -18,14 +18,14 @@ use crate::board::Board;
 use crate::board::arrival::is_barrier;
 use crate::board::meeting::{barrier_met, work_met};
 use c_model::{MutexKind, Point, SyncKind, SyncStage};
-use omp_world::{Halt, IMPLICIT_REGION, MISMATCH, NESTING, TASKS, TEAM_SIZE};
+use omp_model::{Halt, IMPLICIT_REGION, MISMATCH, NESTING, TASKS, TEAM_SIZE};
 use sync_objects::LockFault;
 use task_pool::TaskKind;
 use team_parts::Meeting;
 
 impl Board {
     /// The event at this point changes what it does beside the code: one line for each. Where it meets a trap or a limit, nothing has changed.
-    #[tactic(auto, unfolding(omp_world::specs::Going::fault_of_point, omp_world::specs::Going::effect_of_point))]
+    #[tactic(auto, unfolding(omp_model::specs::Going::fault_of_point, omp_model::specs::Going::effect_of_point))]
     pub(super) fn take_effect(&mut self, thread: u8, point: Point) -> Result<(), Halt>
         requires made { IsMadeWorld self.old.world }
         requires creates { MayCreate self.old.program self.old.world thread point }

@@ -3,17 +3,17 @@
 ghost use Rattle.std.specs.Prelude.{◌≡◌, ◌<◌, ◌≤◌, IsOk, None, length};
 ghost use Rattle.task_pool.specs.Tasks.{MayBeParent};
 ghost use Rattle.task_pool.specs.View.{answer_to_add};
-ghost use Rattle.omp_world.specs.declared.event.Arrival.TheVariants.{Meets};
-ghost use Rattle.omp_world.specs.declared.event.Event.TheVariants as event;
-ghost use Rattle.omp_world.specs.declared.limits.TheConstants.{STACK_LIMIT};
-ghost use Rattle.omp_world.specs.Gates.{arrival};
-ghost use Rattle.omp_world.specs.Going.{effect_of, fault_of, stack_fault};
-ghost use Rattle.omp_world.specs.Made.{IsMadeWorld};
-ghost use Rattle.omp_world.specs.State.{region_at, thread_at};
+ghost use Rattle.omp_model.specs.declared.event.Arrival.TheVariants.{Meets};
+ghost use Rattle.omp_model.specs.declared.event.Event.TheVariants as event;
+ghost use Rattle.omp_model.specs.declared.limits.TheConstants.{STACK_LIMIT};
+ghost use Rattle.omp_model.specs.Gates.{arrival};
+ghost use Rattle.omp_model.specs.Going.{effect_of, fault_of, stack_fault};
+ghost use Rattle.omp_model.specs.Made.{IsMadeWorld};
+ghost use Rattle.omp_model.specs.State.{region_at, thread_at};
 ghost use Rattle.omp_board.specs.Board.{HasEvent, IsGoingBeside};
 
 use crate::board::Board;
-use omp_world::{
+use omp_model::{
     Event, Halt, IMPLICIT_REGION, INITIAL_TASK, STACK, STACK_LIMIT, TASKS, ThreadStage,
 };
 
@@ -34,7 +34,7 @@ impl Board {
     }
 
     /// The limit that the event meets, if it meets one.
-    #[tactic(auto, unfolding(omp_world::specs::Going::fault_of))]
+    #[tactic(auto, unfolding(omp_model::specs::Going::fault_of))]
     fn limit_met(&self, thread: u8, event: Event) -> Option<Halt>
         ensures { result ≡ fault_of self.now.world thread event }
     {
@@ -63,7 +63,7 @@ impl Board {
     }
 
     /// The event happens, which meets no limit.
-    #[tactic(auto, unfolding(omp_world::specs::Going::effect_of))]
+    #[tactic(auto, unfolding(omp_model::specs::Going::effect_of))]
     fn occur(&mut self, thread: u8, event: Event)
         requires meets { arrival self.old.world thread ≡ Meets event }
         requires made { IsMadeWorld self.old.world }
@@ -98,7 +98,7 @@ impl Board {
     }
 
     /// The initial task begins.
-    #[tactic(auto, unfolding(omp_world::specs::Going::effect_of))]
+    #[tactic(auto, unfolding(omp_model::specs::Going::effect_of))]
     fn begin_initial(&mut self, thread: u8)
         requires { length (thread_at self.old.world thread).stack < STACK_LIMIT }
         ensures { self.new ≡ record self.old { world = effect_of self.old.world thread event.InitialTaskBegin } }
@@ -109,7 +109,7 @@ impl Board {
     }
 
     /// A member's implicit task is made and begins.
-    #[tactic(auto, unfolding(omp_world::specs::Going::effect_of))]
+    #[tactic(auto, unfolding(omp_model::specs::Going::effect_of))]
     fn join(&mut self, thread: u8, region: u32, task: u32)
         requires place { region < length self.old.world.regions }
         requires parent { MayBeParent self.old.world.pool.tasks (region_at self.old.world region).head.task }

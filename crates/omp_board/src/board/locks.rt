@@ -2,8 +2,8 @@
 
 ghost use Rattle.std.specs.Prelude.{◌≡◌, ◌<◌, Some, None, OnOk, OnErr};
 ghost use Rattle.sync_objects.specs.Answers as answers;
-ghost use Rattle.omp_world.specs.Changes as changes;
-ghost use Rattle.omp_world.specs.Gates.{is_owned};
+ghost use Rattle.omp_model.specs.Changes as changes;
+ghost use Rattle.omp_model.specs.Gates.{is_owned};
 
 use crate::board::Board;
 use sync_objects::LockFault;

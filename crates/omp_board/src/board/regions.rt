@@ -2,11 +2,11 @@
 
 ghost use Rattle.std.specs.Prelude.{◌≡◌, ◌<◌, ◌≤◌, IsOk, length};
 ghost use Rattle.team_parts.specs.Meetings.{HasChunk};
-ghost use Rattle.omp_world.specs.State.{fresh_region, region_at};
-ghost use Rattle.omp_world.specs.Members.{current_index, current_region};
-ghost use Rattle.omp_world.specs.Changes as changes;
-ghost use Rattle.omp_world.specs.Gates.{all_left};
-ghost use Rattle.omp_world.specs.Going.{after_meeting_at, meeting_at};
+ghost use Rattle.omp_model.specs.State.{fresh_region, region_at};
+ghost use Rattle.omp_model.specs.Members.{current_index, current_region};
+ghost use Rattle.omp_model.specs.Changes as changes;
+ghost use Rattle.omp_model.specs.Gates.{all_left};
+ghost use Rattle.omp_model.specs.Going.{after_meeting_at, meeting_at};
 
 use crate::board::Board;
 use team_parts::{Meeting, Mismatch};

@@ -1,16 +1,16 @@
 //! What takes hold at the Back of an event's callback.
 
 ghost use Rattle.std.specs.Prelude.{◌≡◌};
-ghost use Rattle.omp_world.specs.Returning as returning;
+ghost use Rattle.omp_model.specs.Returning as returning;
 
 use crate::board::Board;
 use crate::board::arrival::is_barrier;
 use c_model::SyncStage;
-use omp_world::{Event, ThreadStage};
+use omp_model::{Event, ThreadStage};
 
 impl Board {
     /// The callback of the thread's event has returned, and what comes of the event takes hold.
-    #[tactic(auto, unfolding(omp_world::specs::Returning::at_back))]
+    #[tactic(auto, unfolding(omp_model::specs::Returning::at_back))]
     pub fn back(&mut self, thread: u8, event: Event)
         ensures { self.new ≡ record self.old { world = returning.at_back self.old.world thread event } }
     {

@@ -8,12 +8,12 @@ ghost use Rattle.c_model.specs.Answers.{AnswersFirst};
 ghost use Rattle.c_model.specs.Occurring.{IsAskOfNext};
 ghost use Rattle.c_steps.specs.Ready.{FitsProgram};
 ghost use Rattle.c_steps.specs.Scopes.{HasNumbers};
-ghost use Rattle.omp_world.specs.declared.event.Arrival.TheVariants.{Steps};
-ghost use Rattle.omp_world.specs.Changes.{gone_past};
-ghost use Rattle.omp_world.specs.Gates.{arrival};
-ghost use Rattle.omp_world.specs.Members.{code_of, current, view_of};
-ghost use Rattle.omp_world.specs.Silent as silence;
-ghost use Rattle.omp_world.specs.State.{task_at};
+ghost use Rattle.omp_model.specs.declared.event.Arrival.TheVariants.{Steps};
+ghost use Rattle.omp_model.specs.Changes.{gone_past};
+ghost use Rattle.omp_model.specs.Gates.{arrival};
+ghost use Rattle.omp_model.specs.Members.{code_of, current, view_of};
+ghost use Rattle.omp_model.specs.Silent as silence;
+ghost use Rattle.omp_model.specs.State.{task_at};
 ghost use Rattle.omp_board.specs.Answering.{ComesTo, IsSettled, chunk_given, dealt, gone_as, section_given, told_answer};
 ghost use Rattle.omp_board.specs.Board.{HasStep, HasTurn, IsSilence};
 ghost use Rattle.omp_board.specs.Tasks.{IsNamedIn, IsStill};
@@ -21,7 +21,7 @@ ghost use Rattle.omp_board.specs.Tasks.{IsNamedIn, IsStill};
 use crate::board::Board;
 use c_model::{Answer, Ask, View};
 use c_steps::Next;
-use omp_world::{Halt, Share};
+use omp_model::{Halt, Share};
 
 impl Board {
     /// Makes the silent step of the thread that stands next, or tells the trap or limit that it meets.

@@ -7,9 +7,9 @@ ghost use Rattle.c_model.specs.Copies.{with_task_cells};
 ghost use Rattle.c_steps.specs.Beginning.{IsCreation};
 ghost use Rattle.task_pool.specs.Tasks.{MayBeParent};
 ghost use Rattle.task_pool.specs.View.{answer_to_add};
-ghost use Rattle.omp_world.specs.State.{pooled_at, task_at};
-ghost use Rattle.omp_world.specs.Changes as changes;
-ghost use Rattle.omp_world.specs.Going.{kind_of_task, member_code};
+ghost use Rattle.omp_model.specs.State.{pooled_at, task_at};
+ghost use Rattle.omp_model.specs.Changes as changes;
+ghost use Rattle.omp_model.specs.Going.{kind_of_task, member_code};
 ghost use Rattle.task_pool.specs.declared.task.TaskKind.TheVariants as kind;
 
 use crate::board::Board;

@@ -1,14 +1,14 @@
 //! What changes of threads.
 
 ghost use Rattle.std.specs.Prelude.{◌≡◌, ◌<◌, ◌≤◌, length};
-ghost use Rattle.omp_world.specs.declared.limits.TheConstants.{STACK_LIMIT};
-ghost use Rattle.omp_world.specs.State.{thread_at};
-ghost use Rattle.omp_world.specs.Changes as changes;
-ghost use Rattle.omp_world.specs.Changes.{all_summoned};
+ghost use Rattle.omp_model.specs.declared.limits.TheConstants.{STACK_LIMIT};
+ghost use Rattle.omp_model.specs.State.{thread_at};
+ghost use Rattle.omp_model.specs.Changes as changes;
+ghost use Rattle.omp_model.specs.Changes.{all_summoned};
 
 use crate::board::Board;
 use crate::thread::Thread;
-use omp_world::{Share, ThreadStage};
+use omp_model::{Share, ThreadStage};
 
 impl Board {
     /// How far the thread has come.

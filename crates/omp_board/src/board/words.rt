@@ -1,12 +1,12 @@
 //! The data words of threads, regions and tasks, and what is told of a run.
 
 ghost use Rattle.std.specs.Prelude.{◌≡◌};
-ghost use Rattle.omp_world.specs.Cause as cause;
-ghost use Rattle.omp_world.specs.Words as words;
+ghost use Rattle.omp_model.specs.Cause as cause;
+ghost use Rattle.omp_model.specs.Words as words;
 
 use crate::board::Board;
 use crate::board::arrival::is_out;
-use omp_world::{INITIAL_TASK, ThreadStage};
+use omp_model::{INITIAL_TASK, ThreadStage};
 use ompt_calls::{Target, Word};
 
 impl Board {

@@ -1,5 +1,5 @@
 use Rattle.std.proofs.Common.{◌≡◌, ◌∷◌, replicate}
-use Rattle.omp_world.specs.State.{initial_thread, unmade}
+use Rattle.omp_model.specs.State.{initial_thread, unmade}
 use Rattle.omp_board.proofs.board.all_threads.Given as goal
 
 abbrev pub invariant-loop-made : goal.invariant-loop-made

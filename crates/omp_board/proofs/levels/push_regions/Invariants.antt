@@ -1,5 +1,5 @@
 use Rattle.std.proofs.Common.{◌≡◌, ◌+◌, ◌≤◌, ◌++◌, drop, vec_len, vec_capacity}
-use Rattle.omp_world.specs.Snapshots.{region_levels, regions_after}
+use Rattle.omp_model.specs.Snapshots.{region_levels, regions_after}
 use Rattle.omp_board.proofs.levels.push_regions.Given as goal
 
 -- the levels so far, and those that are left

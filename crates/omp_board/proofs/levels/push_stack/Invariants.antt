@@ -1,6 +1,6 @@
 use Rattle.std.proofs.Common.{◌≡◌, ◌+◌, ◌≤◌, ◌++◌, length, take, vec_len, vec_capacity}
 use Rattle.std.specs.Prelude.{reverse}
-use Rattle.omp_world.specs.Snapshots.{levels_from}
+use Rattle.omp_model.specs.Snapshots.{levels_from}
 use Rattle.omp_board.proofs.levels.push_stack.Given as goal
 
 -- the levels so far, and those that are left

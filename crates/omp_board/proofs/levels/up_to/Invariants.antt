@@ -1,6 +1,6 @@
 use Rattle.std.proofs.Common.{◌≡◌, ◌≤◌, length}
 use Rattle.std.specs.Prelude.{reverse}
-use Rattle.omp_world.specs.Snapshots.{down_from}
+use Rattle.omp_model.specs.Snapshots.{down_from}
 use Rattle.omp_board.proofs.levels.up_to.Given as goal
 
 -- the tasks that were gone past aren't the one that is sought

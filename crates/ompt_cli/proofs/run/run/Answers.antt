@@ -1,23 +1,18 @@
 use Rattle.std.proofs.Common.{◌≡◌, ◌++◌, reverse, subst, ap, ◌∙◌}
 use Rattle.std.proofs.lemmas.List.{reverse-reverse}
 use Rattle.ompt_cli.specs.declared.report.TheConstants.{SILENT_STEPS}
-use Rattle.omp_model.specs.Program.{run_of_blocks}
+use Rattle.team_run.specs.Program.{run_of_program}
 use Rattle.ompt_cli.specs.Guests.{HandOut, guests_of}
 use Rattle.ompt_cli.proofs.Handing.{guests-serve}
-use Rattle.ompt_cli.proofs.Ending.{nothing-of}
 use Rattle.ompt_cli.proofs.run.run.Goals as goal
 
 pub returns-clause-guests : goal.returns-clause-guests
 returns-clause-guests g c =
     let ran = c.in-Ok-run_serial.ran in
-    let parts = c.in-Ok-hand_out.parts.items in
+    let parts = c.in-Ok.parts.items in
     let rest = reverse c.hand_out.new.waiting.items in
     let out : HandOut (λ guest. guest.0) c.args.guests.items parts rest =
-    subst (λ queue. HandOut (λ guest. guest.0) queue parts rest) (ap reverse c.reverse.ensures.items ∙ reverse-reverse c.args.guests.items) c.in-Ok-hand_out.ensures.handed in
+    subst (λ queue. HandOut (λ guest. guest.0) queue parts rest) (ap reverse c.reverse.ensures.items ∙ reverse-reverse c.args.guests.items) c.in-Ok.ensures.handed in
     let waiting : c.reverse-2.new.self.items ≡ guests_of (λ guest. guest.0) ran.parts.items ++ rest =
     c.reverse-2.ensures.items ∙ c.take_back.ensures ∙ ap (λ items. guests_of (λ guest. guest.0) ran.parts.items ++ reverse items) c.in-Ok-reserve.ensures.items in
-    let runs = rw c.in-Ok.ensures at c.in-Ok-run_serial.ensures.parts in
-    rw waiting (guests-serve (λ guest. guest.0) _ (run_of_blocks c.job.inside.blocks ran.mask c.job.inside.threads SILENT_STEPS) ran.cause ran.history c.args.guests.items parts ran.parts.items rest c.job.invariant.0 c.in-Ok-hand_out.ensures.each out c.in-Ok-run_serial.ensures.kinds runs)
-
-pub returns-clause-nothing : goal.returns-clause-nothing
-returns-clause-nothing g c = nothing-of c.in-Ok-run_serial.ran.cause
+    rw (c.of-tree.ensures, waiting) (guests-serve (λ guest. guest.0) _ (run_of_program c.job.inside.program ran.mask c.job.inside.threads SILENT_STEPS) ran.cause ran.history c.args.guests.items parts ran.parts.items rest c.job.invariant.0 c.in-Ok.ensures.each out c.in-Ok-run_serial.ensures.kinds c.in-Ok-run_serial.ensures.parts)

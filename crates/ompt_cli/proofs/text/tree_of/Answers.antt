@@ -1,4 +1,3 @@
-use Rattle.std.proofs.Common.{arith}
 use Rattle.ompt_cli.proofs.Reading.{end-is, syntax-accepted, syntax-runs, tokens-accepted}
 use Rattle.ompt_cli.proofs.text.tree_of.Goals as goal
 

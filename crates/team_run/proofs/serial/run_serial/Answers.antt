@@ -1,9 +1,10 @@
 use Rattle.std.proofs.Common.{◌≡◌, ◌≢◌, ◌∙◌, Some, sym, ap, subst, [], length, arith}
 use Rattle.omp_model.specs.declared.cause.Cause.TheVariants as causes
-use Rattle.omp_model.specs.State.{Run}
+use Rattle.omp_model.specs.State.{Run, State}
+use Rattle.omp_model.specs.Legal.{after}
 use Rattle.omp_model.specs.Cause.{cause_in, cause_of}
 use Rattle.omp_model.specs.Serial.{serial}
-use Rattle.omp_model.specs.Program.{run_of_blocks}
+use Rattle.team_run.specs.Program.{run_of_program}
 use Rattle.omp_model.proofs.Recording.{HasRun-after, HasRun-whole}
 use Rattle.omp_model.proofs.SerialLaws.{serial-whole}
 use Rattle.team_run.specs.Standing.{HearsOwn, HearsSilent, StandsAt}
@@ -37,23 +38,23 @@ returns-clause-parts g c =
     runs-whole stands_for begun.machine.run cause ended.history.entries parts started between after first.answer first.registered (ap (λ (run : Run). run.mask) c.in_ok-run.ensures.run ∙ c.mask_of-mask.ensures) (omega (arith, c.requires.some, c.requires.parts, ap length c.deref_mut.ensures.value)) c.initialize_first-start.ensures.as_many c.initialize_first-start.ensures.first c.initialize_first-start.ensures.others serves (λ found. unheard-none begun.machine.run _ _ _ serves.unheard (stands found) serves.is_unheard) c.finalize_first.ensures.as_many c.finalize_first.ensures.first c.finalize_first.ensures.others in
     let of_items : RunsFor stands_for begun.machine.run cause ended.history.entries c.args.parts.items after =
     subst (λ parts. RunsFor stands_for begun.machine.run cause ended.history.entries parts after) c.deref_mut.ensures.value whole in
-    let of_run : RunsFor stands_for (run_of_blocks c.args.blocks c.mask_of-mask.result c.args.threads c.args.steps) cause ended.history.entries c.args.parts.items after =
+    let of_run : RunsFor stands_for (run_of_program c.args.program c.mask_of-mask.result c.args.threads c.args.steps) cause ended.history.entries c.args.parts.items after =
     subst (λ (run : Run). RunsFor stands_for run cause ended.history.entries c.args.parts.items after) c.in_ok-run.ensures.run of_items in
-    let of_history : RunsFor stands_for (run_of_blocks c.args.blocks c.mask_of-mask.result c.args.threads c.args.steps) cause c.into_history.result c.args.parts.items after =
-    subst (λ history. RunsFor stands_for (run_of_blocks c.args.blocks c.mask_of-mask.result c.args.threads c.args.steps) cause history c.args.parts.items after) (sym c.into_history.ensures) of_run in
-    subst (λ after. RunsFor stands_for (run_of_blocks c.args.blocks c.mask_of-mask.result c.args.threads c.args.steps) cause c.into_history.result c.args.parts.items after) (sym (written-back after ended.parts.items ended.parts.len (c.finalize_first.ensures.as_many ∙ ap length c.deref_mut-2.ensures.value) (sym ended.parts.ok.0))) of_history
+    let of_history : RunsFor stands_for (run_of_program c.args.program c.mask_of-mask.result c.args.threads c.args.steps) cause c.into_history.result c.args.parts.items after =
+    subst (λ history. RunsFor stands_for (run_of_program c.args.program c.mask_of-mask.result c.args.threads c.args.steps) cause history c.args.parts.items after) (sym c.into_history.ensures) of_run in
+    subst (λ after. RunsFor stands_for (run_of_program c.args.program c.mask_of-mask.result c.args.threads c.args.steps) cause c.into_history.result c.args.parts.items after) (sym (written-back after ended.parts.items ended.parts.len (c.finalize_first.ensures.as_many ∙ ap length c.deref_mut-2.ensures.value) (sym ended.parts.ok.0))) of_history
 
 pub returns-clause-cause : goal.returns-clause-cause
 returns-clause-cause g c = λ found.
-    let same : c.finish-cause.new.self.machine.run ≡ run_of_blocks c.args.blocks c.mask_of-mask.result c.args.threads c.args.steps = c.finish-cause.ensures.run ∙ c.in_ok-run.ensures.run in
+    let same : c.finish-cause.new.self.machine.run ≡ run_of_program c.args.program c.mask_of-mask.result c.args.threads c.args.steps = c.finish-cause.ensures.run ∙ c.in_ok-run.ensures.run in
     let stands = c.finish-cause.ensures.stands found in
-    subst (λ history. cause_of (run_of_blocks c.args.blocks c.mask_of-mask.result c.args.threads c.args.steps) history ≡ Some c.finish-cause.result) (sym c.into_history.ensures) (subst (λ (run : Run). cause_of run c.finish-cause.new.self.history.entries ≡ Some c.finish-cause.result) same (ap (cause_in c.finish-cause.new.self.machine.run) (HasRun-after stands.has_run) ∙ c.finish-cause.ensures.cause found))
+    subst (λ history. cause_of (run_of_program c.args.program c.mask_of-mask.result c.args.threads c.args.steps) history ≡ Some c.finish-cause.result) (sym c.into_history.ensures) (subst (λ (run : Run). cause_of run c.finish-cause.new.self.history.entries ≡ Some c.finish-cause.result) same (ap (cause_in c.finish-cause.new.self.machine.run) (HasRun-after stands.has_run) ∙ c.finish-cause.ensures.cause found))
 
 pub returns-clause-whole : goal.returns-clause-whole
 returns-clause-whole g c = λ found silent.
-    let same : c.finish-cause.new.self.machine.run ≡ run_of_blocks c.args.blocks c.mask_of-mask.result c.args.threads c.args.steps = c.finish-cause.ensures.run ∙ c.in_ok-run.ensures.run in
+    let same : c.finish-cause.new.self.machine.run ≡ run_of_program c.args.program c.mask_of-mask.result c.args.threads c.args.steps = c.finish-cause.ensures.run ∙ c.in_ok-run.ensures.run in
     let stands = c.finish-cause.ensures.stands found in
-    let quiet : HearsSilent (run_of_blocks c.args.blocks c.mask_of-mask.result c.args.threads c.args.steps) c.finish-cause.new.self.history.entries = rw (← c.into_history.ensures) silent in
+    let quiet : HearsSilent (run_of_program c.args.program c.mask_of-mask.result c.args.threads c.args.steps) c.finish-cause.new.self.history.entries = rw (← c.into_history.ensures) silent in
     rw c.into_history.ensures (subst (λ (run : Run). c.finish-cause.new.self.history.entries ≡ serial run) same (sym (serial-whole c.finish-cause.new.self.machine.run c.finish-cause.new.self.history.entries (HasRun-whole stands.has_run (c.finish-cause.ensures.over found)) (stands.silent (subst (λ (run : Run). HearsSilent run c.finish-cause.new.self.history.entries) (sym same) quiet)))))
 
 pub returns-clause-kinds : goal.returns-clause-kinds
@@ -75,6 +76,16 @@ returns-clause-kinds g c =
 
 pub returns-clause-own : goal.returns-clause-own
 returns-clause-own g c =
-    let run : Run = run_of_blocks c.args.blocks c.mask_of-mask.result c.args.threads c.args.steps in
+    let run : Run = run_of_program c.args.program c.mask_of-mask.result c.args.threads c.args.steps in
     let own : HearsOwn run c.finish-cause.new.self.history.entries = subst (λ (run : Run). HearsOwn run c.finish-cause.new.self.history.entries) c.in_ok-run.ensures.run c.finish-cause.ensures.stops.own in
     subst (λ history. HearsOwn run history) (sym c.into_history.ensures) own
+
+pub returns-clause-text : goal.returns-clause-text
+returns-clause-text g c =
+    let ended = c.finish-cause.new.self in
+    let reached : after c.in_ok-run.run'.machine.run ended.history.entries ≡ ended.machine.state = c.finish-cause.ensures.stops.reached in
+    let of_run : after (run_of_program c.args.program c.mask_of-mask.result c.args.threads c.args.steps) ended.history.entries ≡ ended.machine.state =
+    subst (λ (run : Run). after run ended.history.entries ≡ ended.machine.state) c.in_ok-run.ensures.run reached in
+    let of_history : after (run_of_program c.args.program c.mask_of-mask.result c.args.threads c.args.steps) c.into_history.result ≡ ended.machine.state =
+    subst (λ history. after (run_of_program c.args.program c.mask_of-mask.result c.args.threads c.args.steps) history ≡ ended.machine.state) (sym c.into_history.ensures) of_run in
+    c.into_text-text.ensures ∙ ap (λ (S : State). S.world.store.text) (sym of_history)

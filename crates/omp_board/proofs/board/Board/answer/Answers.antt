@@ -2,8 +2,8 @@ use Rattle.std.proofs.Common.{◌<◌, length, sym, ◌∙◌, subst}
 use Rattle.c_syntax.specs.Numbered.{tree_at}
 use Rattle.c_model.specs.declared.question.Answer.{Answer}
 use Rattle.c_model.specs.Answers.{AnswersFirst}
-use Rattle.omp_world.specs.State.{task_at}
-use Rattle.omp_world.specs.Silent.{answer_to}
+use Rattle.omp_model.specs.State.{task_at}
+use Rattle.omp_model.specs.Silent.{answer_to}
 use Rattle.omp_board.specs.Board.{BoardView}
 use Rattle.omp_board.proofs.Silence.{construct_there, reply_fits}
 use Rattle.omp_board.proofs.board.Board.answer.Goals as goal

@@ -2,9 +2,9 @@ use Rattle.std.proofs.Common.{◌≤◌, sym, ap, subst}
 use Rattle.c_syntax.specs.Numbered.{tree_at}
 use Rattle.c_model.specs.declared.question.Ask.{Ask}
 use Rattle.c_model.specs.Task.Outcome.{Asks, Limits, Traps}
-use Rattle.omp_world.specs.Made.{IsMadeWorld}
-use Rattle.omp_world.specs.Members.{current}
-use Rattle.omp_world.proofs.MadeRuns.{past-made}
+use Rattle.omp_model.specs.Made.{IsMadeWorld}
+use Rattle.omp_model.specs.Members.{current}
+use Rattle.omp_model.proofs.MadeRuns.{past-made}
 use Rattle.omp_board.specs.Board.{BoardView}
 use Rattle.omp_board.specs.Events.{IsSettled}
 use Rattle.omp_board.proofs.ToldFree.{AsksNoLock, come_past, goes_past, going_past, past_settled, some_comes, went_past}

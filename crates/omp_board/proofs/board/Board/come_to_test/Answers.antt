@@ -3,11 +3,11 @@ use Rattle.c_model.specs.declared.point.Point.{Point}
 use Rattle.c_model.specs.Step.{silent}
 use Rattle.c_model.specs.Task.Outcome.{Occurs}
 use Rattle.c_syntax.specs.Numbered.{tree_at}
-use Rattle.omp_world.specs.State.{World}
-use Rattle.omp_world.specs.Changes.{gone_past}
-use Rattle.omp_world.specs.Made.{IsMadeWorld}
-use Rattle.omp_world.specs.Members.{code_of, current, moment_of, view_of}
-use Rattle.omp_world.proofs.MadeRuns.{past-made}
+use Rattle.omp_model.specs.State.{World}
+use Rattle.omp_model.specs.Changes.{gone_past}
+use Rattle.omp_model.specs.Made.{IsMadeWorld}
+use Rattle.omp_model.specs.Members.{code_of, current, moment_of, view_of}
+use Rattle.omp_model.proofs.MadeRuns.{past-made}
 use Rattle.omp_board.specs.Board.{BoardView, IsGoingTo}
 use Rattle.omp_board.proofs.Replies.{lock_replies}
 use Rattle.omp_board.proofs.Tested.{acquired, come_told, halts_told, made_told, occurs_told, settled_told, some_event, went_told, world_told}

@@ -1,8 +1,8 @@
 use Rattle.std.proofs.Common.{◌≡◌, sym, ap, ◌∙◌, subst}
 use Rattle.c_model.specs.Step.{settled_task}
 use Rattle.c_steps.specs.declared.next.Next.TheVariants as next
-use Rattle.omp_world.specs.Members.{code_of, moment_of, view_of}
-use Rattle.omp_world.specs.Silent.{Goes}
+use Rattle.omp_model.specs.Members.{code_of, moment_of, view_of}
+use Rattle.omp_model.specs.Silent.{Goes}
 use Rattle.omp_board.specs.Board.{BoardView}
 use Rattle.omp_board.proofs.Silence.{is_other, no_event, past_settled, silent_by, turn_replied, view_replied, world_replied}
 use Rattle.omp_board.proofs.board.Board.step.Goals as goal

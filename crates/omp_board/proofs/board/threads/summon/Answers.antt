@@ -1,6 +1,6 @@
 use Rattle.std.proofs.Common.{add-one, ap, ◌∙◌, get_or, set, arith}
-use Rattle.omp_world.specs.State.{Thread}
-use Rattle.omp_world.specs.Changes.{summoned}
+use Rattle.omp_model.specs.State.{Thread}
+use Rattle.omp_model.specs.Changes.{summoned}
 use Rattle.omp_board.proofs.Summoning.{all_of, none_yet, one_more}
 use Rattle.omp_board.proofs.board.threads.summon.Goals as goal
 

@@ -1,5 +1,5 @@
 use Rattle.std.proofs.Common.{◌≡◌}
-use Rattle.omp_world.specs.Changes.{all_summoned}
+use Rattle.omp_model.specs.Changes.{all_summoned}
 use Rattle.omp_board.proofs.board.threads.summon.Given as goal
 
 abbrev pub invariant-loop-thread : goal.invariant-loop-thread

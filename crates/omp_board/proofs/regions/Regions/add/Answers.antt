@@ -1,6 +1,6 @@
 use Rattle.std.proofs.Common.{◌≡◌, ◌++◌, ◌∷◌, [], refl, ap, sym, ◌∙◌}
 use Rattle.std.specs.Prelude.{Some}
-use Rattle.omp_world.specs.State.{fresh_region}
+use Rattle.omp_model.specs.State.{fresh_region}
 use Rattle.omp_board.specs.Regions.{RegionsView}
 use Rattle.omp_board.specs.contracts.regions.Regions.{the_view}
 use Rattle.omp_board.proofs.Seeing.{added, fitted}

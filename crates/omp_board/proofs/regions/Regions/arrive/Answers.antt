@@ -1,5 +1,5 @@
 use Rattle.std.proofs.Common.{◌<◌, length, refl, ap, ◌∙◌, arith}
-use Rattle.omp_world.specs.State.{Region as Seen}
+use Rattle.omp_model.specs.State.{Region as Seen}
 use Rattle.team_parts.specs.Team.{with_begun}
 use Rattle.omp_board.specs.Regions.{RegionsView, team_in, with_team_in}
 use Rattle.omp_board.specs.contracts.regions.Regions.{the_view}

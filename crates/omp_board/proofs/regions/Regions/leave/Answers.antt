@@ -1,6 +1,6 @@
 use Rattle.std.proofs.Common.{◌<◌, length, refl, ap, ◌∙◌, arith, set, true}
-use Rattle.omp_world.specs.declared.parts.RegionHead.{RegionHead}
-use Rattle.omp_world.specs.State.{Region as Seen}
+use Rattle.omp_model.specs.declared.parts.RegionHead.{RegionHead}
+use Rattle.omp_model.specs.State.{Region as Seen}
 use Rattle.omp_board.specs.Regions.{RegionsView, region_in, with_head_in}
 use Rattle.omp_board.specs.KeepingRegions.{seen_region}
 use Rattle.omp_board.specs.contracts.regions.Regions.{the_view}

@@ -1,5 +1,5 @@
 use Rattle.std.proofs.Common.{◌<◌, cond, length, refl, ap, ◌∙◌, arith}
-use Rattle.omp_world.specs.State.{Region as Seen}
+use Rattle.omp_model.specs.State.{Region as Seen}
 use Rattle.team_parts.specs.Team.{after_meeting}
 use Rattle.omp_board.specs.Regions.{RegionsView, is_member_in, team_in, with_team_in}
 use Rattle.omp_board.specs.KeepingRegions.{has_member}

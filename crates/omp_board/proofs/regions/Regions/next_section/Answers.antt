@@ -1,5 +1,5 @@
 use Rattle.std.proofs.Common.{◌<◌, length, refl, ap, ◌∙◌, arith, cond}
-use Rattle.omp_world.specs.State.{Region as Seen}
+use Rattle.omp_model.specs.State.{Region as Seen}
 use Rattle.team_parts.specs.Team.{after_section}
 use Rattle.omp_board.specs.Regions.{RegionsView, after_section_in}
 use Rattle.omp_board.specs.KeepingRegions.{has_member}

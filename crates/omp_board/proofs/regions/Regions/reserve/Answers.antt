@@ -1,5 +1,5 @@
 use Rattle.std.proofs.Common.{◌≡◌, ◌<◌, List, length, refl, ap, ◌∙◌, arith}
-use Rattle.omp_world.specs.State.{Region as Seen}
+use Rattle.omp_model.specs.State.{Region as Seen}
 use Rattle.omp_board.specs.Regions.{RegionsView}
 use Rattle.omp_board.specs.KeepingRegions.{seen_regions}
 use Rattle.omp_board.proofs.Seeing.{unchanged}

@@ -1,5 +1,5 @@
 use Rattle.std.proofs.Common.{◌<◌, length, refl, ap, ◌∙◌, arith}
-use Rattle.omp_world.specs.State.{Region as Seen}
+use Rattle.omp_model.specs.State.{Region as Seen}
 use Rattle.omp_board.specs.Regions.{RegionsView, region_in, with_head_in}
 use Rattle.omp_board.specs.contracts.regions.Regions.{the_view}
 use Rattle.omp_board.proofs.Seeing.{changed}

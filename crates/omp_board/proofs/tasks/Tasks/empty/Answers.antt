@@ -1,6 +1,6 @@
 use Rattle.std.proofs.Common.{refl, ◌∙◌}
 use Rattle.c_model.specs.Begin.{blank_task}
-use Rattle.omp_world.specs.State.{Task as Seen}
+use Rattle.omp_model.specs.State.{Task as Seen}
 use Rattle.omp_board.specs.Keeping.{kept_nothing, seen_task}
 use Rattle.omp_board.specs.Tasks.{code_of}
 use Rattle.omp_board.proofs.Kept.{kept_blank}

@@ -1,5 +1,5 @@
 use Rattle.std.proofs.Common.{refl}
-use Rattle.omp_world.specs.State.{Task as Seen}
+use Rattle.omp_model.specs.State.{Task as Seen}
 use Rattle.omp_board.specs.Keeping.{kept_nothing}
 use Rattle.omp_board.proofs.Seen.{wrote}
 use Rattle.omp_board.proofs.tasks.Tasks.set_forked.Goals as goal

@@ -22,15 +22,15 @@ returns-in_err-reserve-clause-serves g c =
 
 pub overflow_cast-seq : goal.overflow_cast-seq
 overflow_cast-seq g c =
-    let on = first_enabled-enabled _ _ _ _ c.requires.turn in
-    let turns : c.args.self.now.machine.state.turns < TURN_LIMIT = c.requires.stands.has_run.running (turn-goes _ _ _ on).halt in
+    let on = first_enabled-enabled c.args.self.now.machine.run _ _ _ c.requires.turn in
+    let turns : c.args.self.now.machine.state.turns < TURN_LIMIT = c.requires.stands.has_run.running (turn-goes _ _ on).halt in
     omega (arith, c.len-seq.ensures, ap length c.in_ok-reserve.ensures.entries, c.requires.stands.has_run.short)
 
 pub go-requires : goal.go-requires
-go-requires g c = first_enabled-enabled _ _ _ _ c.requires.turn
+go-requires g c = first_enabled-enabled c.args.self.now.machine.run _ _ _ c.requires.turn
 
 pub returns-in_err-went-clause-stops : goal.returns-in_err-went-clause-stops
-returns-in_err-went-clause-stops g c = rw c.in_ok-reserve.ensures.entries (stops-here _ _ _ _ c.requires.stands)
+returns-in_err-went-clause-stops g c = rw (c.in_err-went.ensures.err, c.in_ok-reserve.ensures.entries) (stops-here _ _ _ _ c.requires.stands)
 
 pub returns-in_err-went-clause-serves : goal.returns-in_err-went-clause-serves
 returns-in_err-went-clause-serves g c =
@@ -38,10 +38,10 @@ returns-in_err-went-clause-serves g c =
 
 pub overflow_add-self : goal.overflow_add-self
 overflow_add-self g c =
-    omega (arith, first_enabled-below _ _ _ _ c.requires.stands.within c.requires.turn, c.requires.stands.few)
+    omega (arith, first_enabled-below c.args.self.now.machine.run c.args.self.now.machine.state _ _ c.requires.stands.within c.requires.turn, c.requires.stands.few)
 
 pub serve-requires-clause-part : goal.serve-requires-clause-part
-serve-requires-clause-part g c κs within = omega (arith, first_enabled-below _ _ _ _ c.requires.stands.within c.requires.turn, c.requires.parts)
+serve-requires-clause-part g c κs within = omega (arith, first_enabled-below c.args.self.now.machine.run c.args.self.now.machine.state _ _ c.requires.stands.within c.requires.turn, c.requires.parts)
 
 pub serve-requires-clause-stores : goal.serve-requires-clause-stores
 serve-requires-clause-stores g c κs within = λ reply.
@@ -63,8 +63,8 @@ serve-requires-clause-inside g c κs within = λ reply.
     let waits : IsSome (pending_at (turn run S t).state t) = rw c.in_ok-went.ensures.turn at (c.in_ok-went.ensures.waits called) in
     rw c.in_ok-went.ensures.turn (inside-said run S _ _ t c.requires.stands c.requires.turn waits _ _ said (stores_of reply c.in-Told.snapshot))
 
-pub returns-in-Told-clause-serves : goal.returns-in-Told-clause-serves
-returns-in-Told-clause-serves g c =
+pub returns-in-Told : goal.returns-in-Told
+returns-in-Told g c =
     let run : Run = c.args.self.now.machine.run in
     let S : State = c.args.self.now.machine.state in
     let t = c.args.thread in
@@ -74,53 +74,22 @@ returns-in-Told-clause-serves g c =
     let state_is : c.go.new.self.state ≡ (turn run S t).state = rw c.in_ok-went.ensures.turn refl in
     let before_is : c.push.new.self.entries ≡ c.args.self.now.history.entries ++ go_at t ∷ [] = rw (c.push.ensures.entries, c.in_ok-reserve.ensures.entries) refl in
     let seq_is : c.len-seq.result ≡ length c.args.self.now.history.entries = c.len-seq.ensures ∙ ap length c.in_ok-reserve.ensures.entries in
-    from_either c.serve.result c.serve.ensures.answers c.serve.ensures.memory
-    (λ answered. let visited = visited-said run S _ _ t c.requires.stands c.requires.turn waits _ _ said g.P.ToolPart.stands_for c.args.self.now.parts.items _ _ _ _ seq_is state_is before_is _ _ answered in serves-to _ _ _ _ _ visited.stands g.P.ToolPart.stands_for _ _ visited.serves)
-    (λ kept. rw (kept.0, before_is) (serves-said run S _ _ t c.requires.stands c.requires.turn waits _ _ said g.P.ToolPart.stands_for _ _ kept.1))
+    let visited = visited-said run S _ _ t c.requires.stands c.requires.turn waits _ _ said g.P.ToolPart.stands_for c.args.self.now.parts.items _ _ _ _ seq_is state_is before_is in
+    record {
+      run = rw (c.serve.ensures.run, c.in_ok-went.ensures.turn) refl;
+      serves = from_either c.serve.result c.serve.ensures.answers c.serve.ensures.memory
+          (λ answered. serves-to _ _ _ _ _ (visited _ _ answered).stands g.P.ToolPart.stands_for _ _ (visited _ _ answered).serves)
+          (λ kept. rw (kept.1, before_is) (serves-said run S _ _ t c.requires.stands c.requires.turn waits _ _ said g.P.ToolPart.stands_for _ _ kept.2));
+      kinds = c.serve.ensures.kinds;
+      stops = from_either c.serve.result c.serve.ensures.answers c.serve.ensures.memory
+          (λ answered. stops-here _ _ _ _ (visited _ _ answered).stands)
+          (λ kept. rw (kept.0, kept.1, state_is, before_is) (stops-said run S _ _ t c.requires.stands c.requires.turn waits _ _ said));
+      stands = from_ok c.serve.result c.serve.ensures.answers (λ answered. rw (c.serve.ensures.run, c.in_ok-went.ensures.turn, c.serve.ensures.next) (visited _ _ answered).stands);
+      turns = from_ok c.serve.result c.serve.ensures.answers (λ answered. (visited _ _ answered).turns);
+    }
 
-pub returns-in-Told-clause-stops : goal.returns-in-Told-clause-stops
-returns-in-Told-clause-stops g c =
-    let run : Run = c.args.self.now.machine.run in
-    let S : State = c.args.self.now.machine.state in
-    let t = c.args.thread in
-    let said = told-by run (turn run S t).state t (turn run S t).outcome _ _ (sym c.in_ok-went.ensures.went ∙ c.in-Told.is) in
-    let called : is_call c.in_ok-went.went ≡ true = rw c.in-Told.is refl in
-    let waits : IsSome (pending_at (turn run S t).state t) = rw c.in_ok-went.ensures.turn at (c.in_ok-went.ensures.waits called) in
-    let state_is : c.go.new.self.state ≡ (turn run S t).state = rw c.in_ok-went.ensures.turn refl in
-    let before_is : c.push.new.self.entries ≡ c.args.self.now.history.entries ++ go_at t ∷ [] = rw (c.push.ensures.entries, c.in_ok-reserve.ensures.entries) refl in
-    let seq_is : c.len-seq.result ≡ length c.args.self.now.history.entries = c.len-seq.ensures ∙ ap length c.in_ok-reserve.ensures.entries in
-    from_either c.serve.result c.serve.ensures.answers c.serve.ensures.memory
-    (λ answered. stops-here _ _ _ _ (visited-said run S _ _ t c.requires.stands c.requires.turn waits _ _ said g.P.ToolPart.stands_for c.args.self.now.parts.items _ _ _ _ seq_is state_is before_is _ _ answered).stands)
-    (λ kept. rw (kept.0, before_is) (stops-said run S _ _ t c.requires.stands c.requires.turn waits _ _ said))
-
-pub returns-in-Told-clause-stands : goal.returns-in-Told-clause-stands
-returns-in-Told-clause-stands g c =
-    let run : Run = c.args.self.now.machine.run in
-    let S : State = c.args.self.now.machine.state in
-    let t = c.args.thread in
-    let said = told-by run (turn run S t).state t (turn run S t).outcome _ _ (sym c.in_ok-went.ensures.went ∙ c.in-Told.is) in
-    let called : is_call c.in_ok-went.went ≡ true = rw c.in-Told.is refl in
-    let waits : IsSome (pending_at (turn run S t).state t) = rw c.in_ok-went.ensures.turn at (c.in_ok-went.ensures.waits called) in
-    let state_is : c.go.new.self.state ≡ (turn run S t).state = rw c.in_ok-went.ensures.turn refl in
-    let before_is : c.push.new.self.entries ≡ c.args.self.now.history.entries ++ go_at t ∷ [] = rw (c.push.ensures.entries, c.in_ok-reserve.ensures.entries) refl in
-    let seq_is : c.len-seq.result ≡ length c.args.self.now.history.entries = c.len-seq.ensures ∙ ap length c.in_ok-reserve.ensures.entries in
-    from_ok c.serve.result c.serve.ensures.answers (λ answered. rw (c.serve.ensures.run, c.in_ok-went.ensures.turn, c.serve.ensures.next) (visited-said run S _ _ t c.requires.stands c.requires.turn waits _ _ said g.P.ToolPart.stands_for c.args.self.now.parts.items _ _ _ _ seq_is state_is before_is _ _ answered).stands)
-
-pub returns-in-Told-clause-turns : goal.returns-in-Told-clause-turns
-returns-in-Told-clause-turns g c =
-    let run : Run = c.args.self.now.machine.run in
-    let S : State = c.args.self.now.machine.state in
-    let t = c.args.thread in
-    let said = told-by run (turn run S t).state t (turn run S t).outcome _ _ (sym c.in_ok-went.ensures.went ∙ c.in-Told.is) in
-    let called : is_call c.in_ok-went.went ≡ true = rw c.in-Told.is refl in
-    let waits : IsSome (pending_at (turn run S t).state t) = rw c.in_ok-went.ensures.turn at (c.in_ok-went.ensures.waits called) in
-    let state_is : c.go.new.self.state ≡ (turn run S t).state = rw c.in_ok-went.ensures.turn refl in
-    let before_is : c.push.new.self.entries ≡ c.args.self.now.history.entries ++ go_at t ∷ [] = rw (c.push.ensures.entries, c.in_ok-reserve.ensures.entries) refl in
-    let seq_is : c.len-seq.result ≡ length c.args.self.now.history.entries = c.len-seq.ensures ∙ ap length c.in_ok-reserve.ensures.entries in
-    from_ok c.serve.result c.serve.ensures.answers (λ answered. (visited-said run S _ _ t c.requires.stands c.requires.turn waits _ _ said g.P.ToolPart.stands_for c.args.self.now.parts.items _ _ _ _ seq_is state_is before_is _ _ answered).turns)
-
-pub returns-in-Untold-clause-serves : goal.returns-in-Untold-clause-serves
-returns-in-Untold-clause-serves g c =
+pub returns-in-Untold : goal.returns-in-Untold
+returns-in-Untold g c =
     let run : Run = c.args.self.now.machine.run in
     let S : State = c.args.self.now.machine.state in
     let t = c.args.thread in
@@ -130,46 +99,14 @@ returns-in-Untold-clause-serves g c =
     let visited = visited-untold run S _ _ t c.requires.stands c.requires.turn unsaid.event unsaid.happens waits g.P.ToolPart.stands_for c.args.self.now.parts.items unsaid.unregistered in
     let history : c.back.new.self.history.entries ≡ c.args.self.now.history.entries ++ event_at t [] = rw (c.back.ensures.history, c.push.ensures.entries, c.in_ok-reserve.ensures.entries) (append_assoc c.args.self.now.history.entries (go_at t ∷ []) (back_at t ∷ [])) in
     let state : c.back.new.self.machine.state ≡ back (turn run S t).state t = rw (c.back.ensures.state, c.in_ok-went.ensures.turn) refl in
-    rw (c.back.ensures.parts, history) (serves-to _ _ _ _ _ visited.stands g.P.ToolPart.stands_for _ _ visited.serves)
-
-pub returns-in-Untold-clause-stops : goal.returns-in-Untold-clause-stops
-returns-in-Untold-clause-stops g c =
-    let run : Run = c.args.self.now.machine.run in
-    let S : State = c.args.self.now.machine.state in
-    let t = c.args.thread in
-    let unsaid = untold-by run (turn run S t).state t (turn run S t).outcome (sym c.in_ok-went.ensures.went ∙ c.in-Untold.is) in
-    let called : is_call c.in_ok-went.went ≡ true = rw c.in-Untold.is refl in
-    let waits : IsSome (pending_at (turn run S t).state t) = rw c.in_ok-went.ensures.turn at (c.in_ok-went.ensures.waits called) in
-    let visited = visited-untold run S _ _ t c.requires.stands c.requires.turn unsaid.event unsaid.happens waits g.P.ToolPart.stands_for c.args.self.now.parts.items unsaid.unregistered in
-    let history : c.back.new.self.history.entries ≡ c.args.self.now.history.entries ++ event_at t [] = rw (c.back.ensures.history, c.push.ensures.entries, c.in_ok-reserve.ensures.entries) (append_assoc c.args.self.now.history.entries (go_at t ∷ []) (back_at t ∷ [])) in
-    let state : c.back.new.self.machine.state ≡ back (turn run S t).state t = rw (c.back.ensures.state, c.in_ok-went.ensures.turn) refl in
-    rw history (stops-here _ _ _ _ visited.stands)
-
-pub returns-in-Untold-clause-stands : goal.returns-in-Untold-clause-stands
-returns-in-Untold-clause-stands g c =
-    let run : Run = c.args.self.now.machine.run in
-    let S : State = c.args.self.now.machine.state in
-    let t = c.args.thread in
-    let unsaid = untold-by run (turn run S t).state t (turn run S t).outcome (sym c.in_ok-went.ensures.went ∙ c.in-Untold.is) in
-    let called : is_call c.in_ok-went.went ≡ true = rw c.in-Untold.is refl in
-    let waits : IsSome (pending_at (turn run S t).state t) = rw c.in_ok-went.ensures.turn at (c.in_ok-went.ensures.waits called) in
-    let visited = visited-untold run S _ _ t c.requires.stands c.requires.turn unsaid.event unsaid.happens waits g.P.ToolPart.stands_for c.args.self.now.parts.items unsaid.unregistered in
-    let history : c.back.new.self.history.entries ≡ c.args.self.now.history.entries ++ event_at t [] = rw (c.back.ensures.history, c.push.ensures.entries, c.in_ok-reserve.ensures.entries) (append_assoc c.args.self.now.history.entries (go_at t ∷ []) (back_at t ∷ [])) in
-    let state : c.back.new.self.machine.state ≡ back (turn run S t).state t = rw (c.back.ensures.state, c.in_ok-went.ensures.turn) refl in
-    rw (c.back.ensures.run, c.in_ok-went.ensures.turn, c.back.ensures.next, state, history) visited.stands
-
-pub returns-in-Untold-clause-turns : goal.returns-in-Untold-clause-turns
-returns-in-Untold-clause-turns g c =
-    let run : Run = c.args.self.now.machine.run in
-    let S : State = c.args.self.now.machine.state in
-    let t = c.args.thread in
-    let unsaid = untold-by run (turn run S t).state t (turn run S t).outcome (sym c.in_ok-went.ensures.went ∙ c.in-Untold.is) in
-    let called : is_call c.in_ok-went.went ≡ true = rw c.in-Untold.is refl in
-    let waits : IsSome (pending_at (turn run S t).state t) = rw c.in_ok-went.ensures.turn at (c.in_ok-went.ensures.waits called) in
-    let visited = visited-untold run S _ _ t c.requires.stands c.requires.turn unsaid.event unsaid.happens waits g.P.ToolPart.stands_for c.args.self.now.parts.items unsaid.unregistered in
-    let history : c.back.new.self.history.entries ≡ c.args.self.now.history.entries ++ event_at t [] = rw (c.back.ensures.history, c.push.ensures.entries, c.in_ok-reserve.ensures.entries) (append_assoc c.args.self.now.history.entries (go_at t ∷ []) (back_at t ∷ [])) in
-    let state : c.back.new.self.machine.state ≡ back (turn run S t).state t = rw (c.back.ensures.state, c.in_ok-went.ensures.turn) refl in
-    rw state visited.turns
+    record {
+      run = rw (c.back.ensures.run, c.in_ok-went.ensures.turn) refl;
+      serves = rw (c.back.ensures.parts, history) (serves-to _ _ _ _ _ visited.stands g.P.ToolPart.stands_for _ _ visited.serves);
+      kinds = rw c.back.ensures.parts (kinds-same g.P.ToolPart.kind c.args.self.now.parts.items);
+      stops = rw (state, history) (stops-here _ _ _ _ visited.stands);
+      stands = rw (c.back.ensures.run, c.in_ok-went.ensures.turn, c.back.ensures.next, state, history) visited.stands;
+      turns = rw state visited.turns;
+    }
 
 pub returns-in-Quiet : goal.returns-in-Quiet
 returns-in-Quiet g c =
@@ -184,7 +121,7 @@ returns-in-Quiet g c =
       run = rw c.in_ok-went.ensures.turn refl;
       serves = rw before_is (serves-to _ _ _ _ _ visited.stands g.P.ToolPart.stands_for _ _ visited.serves);
       kinds = kinds-same g.P.ToolPart.kind c.args.self.now.parts.items;
-      stops = rw before_is (stops-here _ _ _ _ visited.stands);
+      stops = rw (c.in_ok-went.ensures.turn, before_is) (stops-here _ _ _ _ visited.stands);
       stands = rw (c.in_ok-went.ensures.turn, before_is) visited.stands;
       turns = rw c.in_ok-went.ensures.turn visited.turns;
     }

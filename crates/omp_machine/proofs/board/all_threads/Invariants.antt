@@ -1,7 +1,0 @@
-use Rattle.std.proofs.Common.{◌≡◌, ◌∷◌, replicate}
-use Rattle.omp_model.specs.State.{initial_thread, unmade}
-use Rattle.omp_machine.proofs.board.all_threads.Given as goal
-
--- thread 0, and as many others as were counted
-abbrev pub invariant-loop-made : goal.invariant-loop-made
-invariant-loop-made l = l.all.items ≡ initial_thread ∷ replicate l._made unmade

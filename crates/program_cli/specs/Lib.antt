@@ -1,6 +1,0 @@
-pub mod Words
-pub mod Text
-pub mod Ends
-pub mod Guests
-pub mod Job
-pub mod Commands

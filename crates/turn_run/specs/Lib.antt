@@ -1,5 +1,0 @@
-pub mod Entries
-pub mod Program
-pub mod Serving
-pub mod Standing
-pub mod Unheard
