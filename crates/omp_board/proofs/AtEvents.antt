@@ -25,7 +25,8 @@ use Rattle.omp_model.specs.Made.{IsMadeWorld, IsTask}
 use Rattle.omp_model.proofs.Later.{at-set}
 use Rattle.omp_model.proofs.MadeEvents.{current-made}
 use Rattle.omp_board.specs.Board.{run_of}
-use Rattle.omp_board.specs.Events.{HasComeTo, IsSettled, MayCreate}
+use Rattle.omp_board.specs.Answering.{IsSettled}
+use Rattle.omp_board.specs.Events.{HasComeTo, MayCreate}
 use Rattle.omp_board.proofs.Creations.{creation_fits, creation_stands}
 
 -- an explicit task is made of what the code has come to, with room for its cells

@@ -32,7 +32,7 @@ use Rattle.omp_model.proofs.GonePast.{last-written}
 use Rattle.omp_model.proofs.MadeEvents.{current-below}
 use Rattle.omp_model.proofs.MadeWords.{after-code, after-store}
 use Rattle.omp_board.specs.Board.{IsGoing, IsGoingBy, IsGoingTo, run_of}
-use Rattle.omp_board.specs.Events.{IsSettled}
+use Rattle.omp_board.specs.Answering.{IsSettled}
 use Rattle.omp_board.proofs.ToldFree.{told-settled}
 
 -- the event that stands next then

@@ -27,7 +27,8 @@ use Rattle.omp_model.proofs.Arriving.{Arrives, arrives}
 use Rattle.omp_model.proofs.Coming.{comes-told-past}
 use Rattle.omp_model.proofs.GonePast.{code-past, settled-once, silent-past}
 use Rattle.omp_board.specs.Board.{BoardView, IsGoingBy, IsGoingTo, IsGoing, run_of}
-use Rattle.omp_board.specs.Events.{HasComeTo, IsSettled}
+use Rattle.omp_board.specs.Answering.{IsSettled}
+use Rattle.omp_board.specs.Events.{HasComeTo}
 
 -- a code that has left out what it goes past has left it out
 pub past_settled : (W : World) (t : ℕ) → IsSettled (gone_past W t) t

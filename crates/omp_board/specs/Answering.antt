@@ -7,6 +7,7 @@ use Rattle.c_model.specs.declared.view.View.{View}
 use Rattle.c_model.specs.Asked.{count_asked, sections_asked}
 use Rattle.c_model.specs.Going.{settled_after_answer}
 use Rattle.c_model.specs.Step.{settled_task, silent}
+use Rattle.c_model.specs.Task.{Moment}
 use Rattle.c_steps.specs.declared.next.Next.{Next}
 use Rattle.c_steps.specs.Held.{outcome_at}
 use Rattle.omp_model.specs.State.{World, task_at}
@@ -38,6 +39,10 @@ section_given W t = fitting_section (sections_asked (code_of W t).todo) (section
 abbrev pub dealt : World → ℕ → Ask → World
 dealt W t ask = with_team W (current_region W t) (team_after W t ask)
 
+-- the code of the task, and what all code shares
+abbrev pub moment_at : World → ℕ → Moment
+moment_at W k = record { task = (task_at W k).code; store = W.store }
+
 -- the code of the task goes on with this answer to what stands first in it
 abbrev pub told_answer : World → ℕ → Answer → World
-told_answer W k given = gone_to W k (settled_after_answer given (record { task = (task_at W k).code; store = W.store }))
+told_answer W k given = gone_to W k (settled_after_answer given (moment_at W k))

@@ -1,15 +1,12 @@
 -- What an event of a task's code requires at its Go, and what it answers and changes beside the code.
-use Rattle.std.specs.Prelude.{◌≡◌, ℕ, ◌<◌, ◌≤◌, Bool, length, slice_get, Option, Some, None, Result, Ok, Err}
+use Rattle.std.specs.Prelude.{◌≡◌, ℕ, ◌<◌, ◌≤◌, Bool, slice_get, Option, Some, None, Result, Ok, Err}
 use Rattle.c_syntax.specs.Numbered.{TreeView, tree_at}
-use Rattle.c_model.specs.declared.limits.TheConstants.{CELL_LIMIT}
 use Rattle.c_model.specs.declared.point.Point.{Point}
 use Rattle.c_model.specs.declared.point.Point.TheVariants.{TaskCreate}
 use Rattle.c_model.specs.declared.point.Work.{Work}
 use Rattle.c_model.specs.declared.point.Work.TheVariants as work
 use Rattle.c_model.specs.declared.point.WorkKind.TheVariants as work_kind
-use Rattle.c_model.specs.Begin.{created_construct}
-use Rattle.c_model.specs.Copies.{with_task_cells}
-use Rattle.c_model.specs.Step.{settled_task, silent}
+use Rattle.c_model.specs.Step.{silent}
 use Rattle.c_model.specs.Task.Outcome.{Occurs}
 use Rattle.c_steps.specs.Beginning.{IsCreation}
 use Rattle.c_steps.specs.Passing.{IsEventOfNext}
@@ -20,13 +17,11 @@ use Rattle.omp_model.specs.declared.event.Halt.{Halt}
 use Rattle.omp_model.specs.State.{World}
 use Rattle.omp_model.specs.Members.{code_of, current, current_region, moment_of, view_of}
 use Rattle.omp_model.specs.Going.{single_kind}
+use Rattle.omp_board.specs.Answering.{IsSettled}
 use Rattle.omp_board.specs.Board.{BoardRoom, BoardView}
+use Rattle.omp_board.specs.Tasks.{HasCells}
 
--- the code of the thread's task has left out what it goes past
-abbrev pub IsSettled : World → ℕ → Type 0
-IsSettled W t = settled_task (view_of W t) (code_of W t) ≡ code_of W t
-
--- .. and has come to this event, which stands at this node
+-- the code of the thread's task has left out what it goes past, and has come to this event, which stands at this node
 pub record HasComeTo (program : TreeView) (W : World) (t : ℕ) (what : Point) (node : ℕ) : Type 0 where
   pub some : 1 ≤ current W t
   pub settled : IsSettled W t
@@ -38,7 +33,7 @@ pub record IsCreator (program : TreeView) (W : World) (t : ℕ) : Type 0 where
   pub some : 1 ≤ current W t
   pub settled : IsSettled W t
   pub creation : IsCreation (slice_get (code_of W t).todo 0)
-  pub cells : length (with_task_cells program (record { env = (code_of W t).env; cells = W.store.cells }) (created_construct (code_of W t).todo)).cells ≤ CELL_LIMIT
+  pub cells : HasCells program (moment_of W t)
 
 abbrev pub MayCreate : TreeView → World → ℕ → Point → Type 0
 MayCreate program W t (TaskCreate codeptr undeferred) = IsCreator program W t

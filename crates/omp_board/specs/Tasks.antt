@@ -1,5 +1,5 @@
 -- What the tasks of a run are seen as, with the program and the store that their code shares.
-use Rattle.std.specs.Prelude.{ℕ, ◌-◌, ◌≡◌, ◌<◌, ◌≤◌, ◌++◌, List, [], ◌∷◌, Option, Some, None, length, slice_index_or, slice_set, refl}
+use Rattle.std.specs.Prelude.{ℕ, ◌+◌, ◌-◌, ◌≡◌, ◌<◌, ◌≤◌, ◌++◌, List, [], ◌∷◌, Option, Some, None, length, slice_index_or, slice_set, refl}
 use Rattle.std.specs.Coded.{Coded, code_by, coded×, coded_ℕ, coded_list}
 use Rattle.c_syntax.specs.Codes.{tree_view_code}
 use Rattle.c_syntax.specs.Numbered.{TreeView}
@@ -14,6 +14,7 @@ use Rattle.c_steps.specs.Held.{Held, task_at}
 use Rattle.c_steps.specs.Passing.{IsEventOfNext}
 use Rattle.c_steps.specs.declared.next.Next.{Next}
 use Rattle.c_steps.specs.declared.next.Next.TheVariants as next
+use Rattle.omp_model.specs.declared.limits.TheConstants.{STEPS_OF_A_TURN}
 use Rattle.omp_model.specs.State.{Task, no_task, task_with}
 use Rattle.omp_board.specs.Codes.{store_code, task_code}
 
@@ -51,7 +52,7 @@ no_task_room = record { task = 0; steps = 0; passes = 0; tasks = 0 }
 
 -- how many silent steps, answers and looks there is room for in a turn: its 64 silent steps, an answer that ends none, and a look
 abbrev pub steps_ahead : ℕ
-steps_ahead = 66
+steps_ahead = STEPS_OF_A_TURN + 2
 
 abbrev pub turn_room : ℕ → TaskRoom
 turn_room task = record { task = task; steps = steps_ahead; passes = 1; tasks = 1 }

@@ -7,6 +7,7 @@ ghost use Rattle.omp_model.specs.State.{first_world, initial_thread, region_at, 
 ghost use Rattle.omp_model.specs.Snapshots.{lowest_of};
 ghost use Rattle.omp_model.specs.Members.{current, current_index, current_region, is_outermost, member_index, region_of, view_of};
 ghost use Rattle.omp_board.specs.Board.{HasEvent, run_in};
+ghost use Rattle.omp_board.specs.Tasks.{steps_ahead};
 ghost use Rattle.c_steps.specs.Scopes.{HasNumbers};
 
 mod arrival;
@@ -95,7 +96,7 @@ impl Board {
     pub fn reserve(&mut self, thread: u8) -> Result<(), AllocError>
         ensures kept { self.new ≡ record self.old { room = self.new.room } }
         ensures turn { OnOk result (HasEvent self.new.room self.new.world thread) }
-        ensures steps { OnOk result (66 ≤ self.new.room.steps) }
+        ensures steps { OnOk result (steps_ahead ≤ self.new.room.steps) }
     {
         let task = self.current(thread);
         let region = self.region_of(task);
@@ -150,11 +151,13 @@ impl Board {
         if self.is_outermost(region) { thread } else { 0 }
     }
 
-    /// The number of the thread in the team of its current region.
-    pub fn current_index(&self, thread: u8) -> u8
-        ensures { result ≡ current_index self.now.world thread }
+    /// The region of the thread's current task, or 0, and the number of the thread in its team.
+    fn place_in_team(&self, thread: u8) -> (u32, u8)
+        ensures region { result.0 ≡ current_region self.now.world thread }
+        ensures member { result.1 ≡ current_index self.now.world thread }
     {
-        self.member_index(thread, self.current_region(thread))
+        let region = self.current_region(thread);
+        (region, self.member_index(thread, region))
     }
 
     /// The tasks that the thread has taken up, the current one last.
@@ -211,9 +214,9 @@ impl Board {
         ensures view { result ≡ view_of self.now.world thread }
         ensures numbers { HasNumbers result }
     {
-        let region = self.current_region(thread);
+        let (region, member) = self.place_in_team(thread);
         View {
-            index: u32::from(self.member_index(thread, region)),
+            index: u32::from(member),
             team: u32::from(self.regions.size(region)),
             max: u32::from(self.threads()),
         }

@@ -3,12 +3,10 @@
 ghost use Rattle.std.specs.Prelude.{◌≡◌, ◌<◌, ◌≤◌, IfNone, IfOk, IfSome, OnErr, OnOk, length, slice_get, slice_index_or};
 ghost use Rattle.c_syntax.specs.Derivation.{nothing};
 ghost use Rattle.c_syntax.specs.Numbered.{tree_at};
-ghost use Rattle.c_model.specs.declared.limits.TheConstants.{CELL_LIMIT};
 ghost use Rattle.c_model.specs.Answers.{AnswersFirst};
 ghost use Rattle.c_model.specs.Asked.{count_asked, sections_asked};
-ghost use Rattle.c_model.specs.Begin.{blank_task, created_construct, explicit_task_of};
+ghost use Rattle.c_model.specs.Begin.{blank_task};
 ghost use Rattle.c_model.specs.Clauses.{statements_among};
-ghost use Rattle.c_model.specs.Copies.{with_task_cells};
 ghost use Rattle.c_model.specs.Going.{settled_after_answer, settled_after_event};
 ghost use Rattle.c_model.specs.Parts.{parts};
 ghost use Rattle.c_model.specs.Program.{place_of};
@@ -21,7 +19,7 @@ ghost use Rattle.c_steps.specs.Passing.{IsEventOfNext};
 ghost use Rattle.c_steps.specs.Ready.{FitsProgram};
 ghost use Rattle.c_steps.specs.Scopes.{HasNumbers};
 ghost use Rattle.omp_model.specs.Going.{member_code};
-ghost use Rattle.omp_board.specs.Tasks.{HasPass, HasSteps, IsNamedIn, IsStill, code_in, first_tasks, gone_in, moment_in, one_pass_less, one_step_less, room_after, task_in, turn_room, with_code_in, with_one_more, with_task_in};
+ghost use Rattle.omp_board.specs.Tasks.{HasCells, HasPass, HasSteps, IsNamedIn, IsStill, code_in, created_by, first_tasks, gone_in, moment_in, one_pass_less, one_step_less, room_after, task_in, turn_room, with_code_in, with_one_more, with_task_in};
 
 use crate::controls::{
     MEMBER_0, begin_explicit, begin_member, control_of, reserve_blank, reserve_code,
@@ -30,11 +28,12 @@ use crate::task::{Task, task_with};
 use c_check::Program;
 use c_model::{Answer, Point, Upcoming, View};
 use c_steps::{Cells, Code, Control, Next};
+use omp_model::STEPS_OF_A_TURN;
 use std::alloc::{AllocError, Global};
 use std::marker::Model;
 
 /// How many silent steps, answers and looks there is room for in a turn.
-const STEPS_AHEAD: u32 = 66;
+const STEPS_AHEAD: u32 = STEPS_OF_A_TURN + 2;
 
 /// The most controls without code that are kept for tasks to come.
 const BLANKS: usize = 32;
@@ -351,11 +350,11 @@ impl Tasks {
     pub fn add_explicit(&mut self, creator: u32)
         requires room { 0 < self.old.room.tasks }
         requires created { IsCreation (slice_get (code_in self.old creator).todo 0) }
-        requires cells { length (with_task_cells self.old.program (record { env = (code_in self.old creator).env; cells = self.old.store.cells }) (created_construct (code_in self.old creator).todo)).cells ≤ CELL_LIMIT }
-        ensures task { self.new.tasks ≡ (with_one_more self.old (explicit_task_of self.old.program (created_construct (code_in self.old creator).todo) (moment_in self.old creator)).task).tasks }
+        requires cells { HasCells self.old.program (moment_in self.old creator) }
+        ensures task { self.new.tasks ≡ (with_one_more self.old (created_by self.old.program (moment_in self.old creator)).task).tasks }
         ensures rest { self.new ≡ record self.old {
           tasks = self.new.tasks;
-          store = (explicit_task_of self.old.program (created_construct (code_in self.old creator).todo) (moment_in self.old creator)).store;
+          store = (created_by self.old.program (moment_in self.old creator)).store;
           room = record self.old.room { tasks = 0 };
         } }
     {

@@ -13,6 +13,7 @@ ghost use Rattle.omp_model.specs.declared.event.Arrival.TheVariants.{Steps};
 ghost use Rattle.omp_model.specs.Turn.{after_steps, called, enabled, going_past, halted, stepped, turn, unlimited, walk};
 ghost use Rattle.omp_model.specs.Words.{is_made};
 ghost use Rattle.omp_board.specs.Board.{HasEvent, HasStep, HasTurn, IsSilence};
+ghost use Rattle.omp_board.specs.Tasks.{steps_ahead};
 ghost use Rattle.omp_machine.specs.State.{SameCounts, happened, run_in};
 ghost use Rattle.omp_machine.specs.Standing.{went_after};
 
@@ -168,19 +169,15 @@ impl State {
         ensures turn { HasTurn self.new.room self.new.state.world thread }
         ensures view { view ≡ view_of self.new.state.world thread }
     {
-        match self.board.step(thread, view) {
-            Ok(()) => {
-                self.steps += 1;
-                Ok(())
-            }
-            Err(halt) => Err(halt),
-        }
+        self.board.step(thread, view)?;
+        self.steps += 1;
+        Ok(())
     }
 
     /// Makes silent steps, at most as many as a turn may have.
     fn walk(&mut self, limit: u32, thread: u8) -> Walk
         requires room { HasEvent self.old.room self.old.state.world thread }
-        requires steps { 66 ≤ self.old.room.steps }
+        requires steps { steps_ahead ≤ self.old.room.steps }
         ensures walk { (run : Run) → run.program ≡ self.old.program → run.steps ≡ limit →
             walk run STEPS_OF_A_TURN 0 self.old.state thread ≡ record { state = self.new.state; made = result.made; stop = result.stop } }
         ensures room { HasEvent self.new.room self.new.state.world thread }
@@ -285,7 +282,7 @@ impl State {
     fn unlimited(&mut self, limit: u32, thread: u8) -> Outcome
         requires turns { self.old.state.turns < TURN_LIMIT }
         requires room { HasEvent self.old.room self.old.state.world thread }
-        requires steps { 66 ≤ self.old.room.steps }
+        requires steps { steps_ahead ≤ self.old.room.steps }
         requires world { IsMadeWorld self.old.state.world }
         ensures turn { (run : Run) → run.program ≡ self.old.program → run.steps ≡ limit →
             unlimited run self.old.state thread ≡ record { outcome = result; state = self.new.state } }
@@ -302,7 +299,7 @@ impl State {
     pub fn reserve(&mut self, thread: u8) -> Result<(), AllocError>
         ensures kept { self.new ≡ record self.old { room = self.new.room } }
         ensures room { OnOk result (HasEvent self.new.room self.new.state.world thread) }
-        ensures steps { OnOk result (66 ≤ self.new.room.steps) }
+        ensures steps { OnOk result (steps_ahead ≤ self.new.room.steps) }
     {
         self.board.reserve(thread)
     }
@@ -312,7 +309,7 @@ impl State {
     pub fn turn(&mut self, limit: u32, thread: u8) -> Outcome
         requires turns { self.old.state.turns < TURN_LIMIT }
         requires room { HasEvent self.old.room self.old.state.world thread }
-        requires steps { 66 ≤ self.old.room.steps }
+        requires steps { steps_ahead ≤ self.old.room.steps }
         requires world { IsMadeWorld self.old.state.world }
         ensures turn { (run : Run) → run.program ≡ self.old.program → run.steps ≡ limit →
             turn run self.old.state thread ≡ record { outcome = result; state = self.new.state } }

@@ -167,8 +167,7 @@ impl Board {
     fn may_pass(&self, thread: u8) -> bool
         ensures { result ≡ gates.may_end self.now.world thread sync.Barrier }
     {
-        let region = self.current_region(thread);
-        let member = self.member_index(thread, region);
+        let (region, member) = self.place_in_team(thread);
         self.regions
             .may_pass(region, member, self.pool.unfinished(region))
     }

@@ -16,8 +16,9 @@ ghost use Rattle.omp_model.specs.Gates.{arrival};
 ghost use Rattle.omp_model.specs.Going as going;
 ghost use Rattle.omp_model.specs.Made.{IsMadeWorld};
 ghost use Rattle.omp_model.specs.Members.{code_of, current, moment_of, view_of};
+ghost use Rattle.omp_board.specs.Answering.{IsSettled};
 ghost use Rattle.omp_board.specs.Board.{HasEvent, HasStep, IsGoing, IsGoingTo};
-ghost use Rattle.omp_board.specs.Events.{HasComeTo, HasGo, HasPassing, IsSettled, work_event};
+ghost use Rattle.omp_board.specs.Events.{HasComeTo, HasGo, HasPassing, work_event};
 ghost use Rattle.omp_board.specs.Tasks.{IsNamedIn, IsStill};
 
 use crate::board::Board;
@@ -57,8 +58,7 @@ impl Board {
         ensures named { IsNamedIn self.old.program result (code_of self.new.world thread).todo }
     {
         let view = self.view(thread);
-        let task = self.current(thread);
-        self.tasks.step(task, view)
+        self.advance(thread, view)
     }
 
     /// The Go of the event with which an `omp_test_lock` comes to own the lock, which no task owns.
@@ -92,7 +92,7 @@ impl Board {
         } }
     {
         let task = self.current(thread);
-        self.tasks.give(task, Answer::Free(true));
+        self.give(task, Answer::Free(true));
     }
 
     /// The Go of the event at this point, which stands at this node.

@@ -238,14 +238,10 @@ impl Board {
             result W self.new.world }
         ensures kept { KeepsPassing self.old self.new }
     {
-        match self.may_acquire(wait_id) {
-            Ok(()) => {
-                let task = self.current(thread);
-                self.take(wait_id, task);
-                Ok(())
-            }
-            Err(halt) => Err(halt),
-        }
+        self.may_acquire(wait_id)?;
+        let task = self.current(thread);
+        self.take(wait_id, task);
+        Ok(())
     }
 
     /// It is given back.
@@ -257,10 +253,7 @@ impl Board {
         ensures kept { KeepsPassing self.old self.new }
     {
         let task = self.current(thread);
-        match self.give_back(wait_id, task) {
-            Ok(()) => Ok(()),
-            Err(fault) => Err(trap(fault)),
-        }
+        self.give_back(wait_id, task).map_err(trap)
     }
 
     /// A lock is initialised.
@@ -272,10 +265,7 @@ impl Board {
             result W self.new.world }
         ensures kept { KeepsPassing self.old self.new }
     {
-        match self.init(wait_id) {
-            Ok(()) => Ok(()),
-            Err(fault) => Err(trap(fault)),
-        }
+        self.init(wait_id).map_err(trap)
     }
 
     /// A lock is destroyed.
@@ -286,10 +276,7 @@ impl Board {
             result W self.new.world }
         ensures kept { KeepsPassing self.old self.new }
     {
-        match self.destroy(wait_id) {
-            Ok(()) => Ok(()),
-            Err(fault) => Err(trap(fault)),
-        }
+        self.destroy(wait_id).map_err(trap)
     }
 
     /// Whether a task construct made the task.

@@ -64,8 +64,7 @@ impl Board {
     pub(super) fn meeting_answer(&self, thread: u8, what: Meeting) -> Result<bool, Mismatch>
         ensures { result ≡ meeting_at self.now.world thread what }
     {
-        let region = self.current_region(thread);
-        let member = self.member_index(thread, region);
+        let (region, member) = self.place_in_team(thread);
         self.regions.meeting_answer(region, member, what)
     }
 
@@ -80,8 +79,7 @@ impl Board {
           room = record self.old.room { meetings = 0 };
         } }
     {
-        let region = self.current_region(thread);
-        let member = self.member_index(thread, region);
+        let (region, member) = self.place_in_team(thread);
         self.regions.meet(region, member, what);
     }
 
@@ -89,8 +87,7 @@ impl Board {
     pub(super) fn arrive(&mut self, thread: u8)
         ensures { self.new ≡ record self.old { world = changes.begun self.old.world (current_region self.old.world thread) (current_index self.old.world thread) } }
     {
-        let region = self.current_region(thread);
-        let member = self.member_index(thread, region);
+        let (region, member) = self.place_in_team(thread);
         self.regions.arrive(region, member);
     }
 
@@ -98,8 +95,7 @@ impl Board {
     pub(super) fn pass_barrier(&mut self, thread: u8)
         ensures { self.new ≡ record self.old { world = changes.passed self.old.world (current_region self.old.world thread) (current_index self.old.world thread) } }
     {
-        let region = self.current_region(thread);
-        let member = self.member_index(thread, region);
+        let (region, member) = self.place_in_team(thread);
         self.regions.pass(region, member);
     }
 }

@@ -105,8 +105,7 @@ impl Board {
         ensures chunk { result ≡ chunk_given self.old.world thread }
         ensures taken { self.new ≡ record self.old { world = dealt self.old.world thread asks.Chunk } }
     {
-        let region = self.current_region(thread);
-        let member = self.member_index(thread, region);
+        let (region, member) = self.place_in_team(thread);
         let chunk = self.regions.next_chunk(region, member);
         fitting_chunk(self.tasks.asked_count(task), chunk)
     }
@@ -117,8 +116,7 @@ impl Board {
         ensures section { result ≡ section_given self.old.world thread }
         ensures taken { self.new ≡ record self.old { world = dealt self.old.world thread asks.Section } }
     {
-        let region = self.current_region(thread);
-        let member = self.member_index(thread, region);
+        let (region, member) = self.place_in_team(thread);
         let section = self.regions.next_section(region, member);
         fitting_section(self.tasks.asked_sections(task), section)
     }

@@ -1,9 +1,6 @@
 //! What changes of tasks.
 
 ghost use Rattle.std.specs.Prelude.{◌≡◌, ◌==◌, ◌<◌, ◌≤◌, Ok, IsOk, length, slice_get, slice_set};
-ghost use Rattle.c_model.specs.declared.limits.TheConstants.{CELL_LIMIT};
-ghost use Rattle.c_model.specs.Begin.{created_construct, explicit_task_of};
-ghost use Rattle.c_model.specs.Copies.{with_task_cells};
 ghost use Rattle.c_steps.specs.Beginning.{IsCreation};
 ghost use Rattle.task_pool.specs.Tasks.{MayBeParent};
 ghost use Rattle.task_pool.specs.View.{answer_to_add};
@@ -11,6 +8,8 @@ ghost use Rattle.omp_model.specs.State.{pooled_at, task_at};
 ghost use Rattle.omp_model.specs.Changes as changes;
 ghost use Rattle.omp_model.specs.Going.{kind_of_task, member_code};
 ghost use Rattle.task_pool.specs.declared.task.TaskKind.TheVariants as kind;
+ghost use Rattle.omp_board.specs.Answering.{moment_at};
+ghost use Rattle.omp_board.specs.Tasks.{HasCells, created_by};
 
 use crate::board::Board;
 use task_pool::{Condition, TASK_LIMIT, TaskKind};
@@ -66,8 +65,8 @@ impl Board {
         requires parent { MayBeParent self.old.world.pool.tasks creator }
         requires few { IsOk (answer_to_add self.old.world.pool.tasks) }
         requires created { IsCreation (slice_get (task_at self.old.world creator).code.todo 0) }
-        requires cells { length (with_task_cells self.old.program (record { env = (task_at self.old.world creator).code.env; cells = self.old.world.store.cells }) (created_construct (task_at self.old.world creator).code.todo)).cells ≤ CELL_LIMIT }
-        ensures { self.new ≡ (let created = explicit_task_of self.old.program (created_construct (task_at self.old.world creator).code.todo) (record { task = (task_at self.old.world creator).code; store = self.old.world.store }) in record self.old {
+        requires cells { HasCells self.old.program (moment_at self.old.world creator) }
+        ensures { self.new ≡ (let created = created_by self.old.program (moment_at self.old.world creator) in record self.old {
           world = record (changes.task_made self.old.world creator region (kind_of_task undeferred) created.task) { store = created.store };
           room = record self.old.room { tasks = 0 };
         }) }

@@ -6,7 +6,7 @@ use Rattle.omp_model.specs.Made.{IsMadeWorld}
 use Rattle.omp_model.specs.Members.{current}
 use Rattle.omp_model.proofs.MadeRuns.{past-made}
 use Rattle.omp_board.specs.Board.{BoardView}
-use Rattle.omp_board.specs.Events.{IsSettled}
+use Rattle.omp_board.specs.Answering.{IsSettled}
 use Rattle.omp_board.proofs.ToldFree.{AsksNoLock, come_past, goes_past, going_past, past_settled, some_comes, went_past}
 use Rattle.omp_board.proofs.board.Board.come.Goals as goal
 

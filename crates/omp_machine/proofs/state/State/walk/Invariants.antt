@@ -5,6 +5,7 @@ use Rattle.omp_model.specs.State.{Run}
 use Rattle.omp_model.specs.Members.{view_of}
 use Rattle.omp_model.specs.Turn.{walk}
 use Rattle.omp_board.specs.Board.{HasEvent}
+use Rattle.omp_board.specs.Tasks.{steps_ahead}
 use Rattle.omp_machine.specs.State.{SameCounts}
 use Rattle.omp_machine.proofs.state.State.walk.Given as goal
 
@@ -16,7 +17,7 @@ invariant-loop-made l =
       program : l.self.program ≡ l.initial.self.program;
       counts : SameCounts l.initial.self.state l.self.state;
       room : HasEvent l.self.room l.self.state.world l.thread;
-      steps : 66 ≤ l.self.room.steps + l.made;
+      steps : steps_ahead ≤ l.self.room.steps + l.made;
       view : l.view ≡ view_of l.self.state.world l.thread;
       numbers : HasNumbers l.view;
     }
