@@ -1,4 +1,4 @@
-//! The profile's OpenMP machine over programs.
+//! The machine: runs of checked programs, turn by turn.
 //!
 //! A [`Machine`] stands for a run of a checked program and a state of the machine that `omp_model` defines. Its calls are that machine's: `new` gives
 //! the first state, `go` does one turn and tells what it came to, `put` stores what a tool stores during its callback, `back` lets an event's result

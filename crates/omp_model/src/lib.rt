@@ -22,7 +22,7 @@
 //! a `ParallelEnd` they don't say that there is one, and not 0.
 //!
 //! What the team deals is given to the code only where it fits the work that asks, and a member has code only where the end of the region that was
-//! forked stands first in its encountering task's code. That each run is so is proved nowhere yet.
+//! forked stands first in its encountering task's code. That each run is so is proved nowhere.
 //!
 //! Proved, by the contract of the function that is named:
 //!

@@ -14,7 +14,7 @@
 //! alone ([`ProgramTree`]).
 //!
 //! Want of memory is free: no clause says when it comes, only what stands after it. That the calls succeed with ample
-//! memory isn't proved, and no test shows it yet.
+//! memory isn't proved: the rows of `run_tables` show it.
 #![tactic(auto)]
 
 mod end;
