@@ -11,14 +11,14 @@ ghost use Rattle.omp_model.specs.Members.{current, is_member};
 ghost use Rattle.omp_model.specs.Named.{IsMade, IsMadeCall, IsMadeSnapshot};
 ghost use Rattle.omp_model.specs.Serial.{StoresNothing, WholeSerial, serial};
 ghost use Rattle.omp_model.specs.Snapshots.{snap_of};
-ghost use Rattle.omp_model.specs.State.{Run, State, pending_at, region_at};
+ghost use Rattle.omp_model.specs.State.{Run, State, World, pending_at, region_at};
 ghost use Rattle.omp_model.specs.Turn.{enabled, has_outcome, turn, unlimited, walk};
 ghost use Rattle.omp_model.specs.declared.event.Arrival.TheVariants.{Meets};
 ghost use Rattle.omp_model.specs.declared.event.Callback.{Callback};
 ghost use Rattle.omp_model.specs.declared.event.Event.{Event};
 ghost use Rattle.omp_model.specs.declared.event.Outcome.TheVariants.{Happens};
 ghost use Rattle.omp_model.specs.Storing.{MayStore};
-ghost use Rattle.ompt_calls.specs.Number.{is_registered};
+ghost use Rattle.ompt_calls.specs.Number.{is_registered, number_of};
 ghost use Rattle.ompt_calls.specs.Snapshot.{stores_of, target_of};
 ghost use Rattle.ompt_calls.specs.declared.reply.Reply.{Reply};
 ghost use Rattle.ompt_calls.specs.declared.reply.WordAt.{WordAt};
@@ -31,6 +31,12 @@ ghost use Rattle.team_parts.specs.declared.meeting.TheConstants.{TEAM_LIMIT};
 pub fn enabled_threads_have_turns()
     ensures { (run : Run) (S : State) (t : ℕ) →
         enabled S t ≡ (is_none (pending_at S t) && is_none S.halt && has_outcome (unlimited run S t).outcome) }
+{}
+
+/// The callback of an event, which a tool registers to hear of it, is that of the event's call, whatever the world.
+#[tactic(auto, using(crate::proofs::Callbacks::number_of_call))]
+pub fn calls_are_of_their_callbacks()
+    ensures { (W : World) (t : ℕ) (event : Event) → number_of (call_of W t event) ≡ callback_of event }
 {}
 
 /// Two serial histories to the end in which nothing is stored are the same, and they are `serial`. It doesn't say of a run that there is one.

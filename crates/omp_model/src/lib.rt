@@ -27,6 +27,7 @@
 //! Proved, by the contract of the function that is named:
 //!
 //! - a thread is enabled exactly where it is inside no callback, the run isn't halted and its turn is one ([`enabled_threads_have_turns`]);
+//! - the callback of an event is that of its call ([`calls_are_of_their_callbacks`]);
 //! - two serial histories of a run in which nothing is stored, and that go on to its end, are the same, and each is the one that `serial`
 //!   computes ([`serial_history_is_one`]);
 //! - after each legal history of a run that has a thread, all that the state names was made ([`what_a_run_names_was_made`]), and each thread with a
@@ -53,9 +54,9 @@ pub use cause::Cause;
 pub use event::{Arrival, Callback, Endpoint, Event, Halt, Outcome, Share};
 pub use history::{Entry, EventRecord, History, What};
 pub use laws::{
-    enabled_threads_have_turns, serial_history_is_one, stores_of_replies_may_stand,
-    tasks_are_orderly, threads_with_tasks_are_members, what_a_run_names_was_made,
-    what_a_tool_hears_was_made,
+    calls_are_of_their_callbacks, enabled_threads_have_turns, serial_history_is_one,
+    stores_of_replies_may_stand, tasks_are_orderly, threads_with_tasks_are_members,
+    what_a_run_names_was_made, what_a_tool_hears_was_made,
 };
 pub use limits::{
     IMPLICIT_REGION, INITIAL_TASK, MISMATCH, NESTING, STACK, STACK_LIMIT, STEPS, STEPS_OF_A_TURN,

@@ -20,9 +20,9 @@ use omp_codes::PROFILE_MASK;
 use omp_model::Cause;
 use run_edges::{Sink, write_all};
 use std::alloc::{AllocError, Global};
+use team_run::run_serial;
 use tool_api::GuestTool;
 use tool_report::{Lister, lines_text};
-use team_run::run_serial;
 
 /// Runs the job, and writes its lines. The guests come back as they were.
 pub(crate) fn list<O: Sink>(

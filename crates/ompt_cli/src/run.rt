@@ -19,8 +19,8 @@ use crate::words::Command;
 use omp_model::Cause;
 use run_edges::{Sink, write_all};
 use std::alloc::Global;
-use tool_api::GuestTool;
 use team_run::run_serial;
+use tool_api::GuestTool;
 
 /// Runs the job, and writes what the program printed. Guest t is the part of thread t; threads past the guests have none.
 pub(crate) fn run<O: Sink>(
@@ -53,6 +53,7 @@ pub(crate) fn run<O: Sink>(
     ensures unwritten { result.end ≡ End.WriteFault →
         IsSomeAnd result.ran (λ report. report.cause ≢ Cause.Memory) }
     ensures ended { IfSome result.ran (λ report. EndsAs report.cause result.end) }
+    ensures memory { IfSome result.ran (λ report. report.cause ≢ Cause.Memory → result.end ≢ End.Memory) }
     ensures begun { IfSome result.ran (λ report. report.cause ≡ Cause.Memory → report.history ≢ []) }
     ensures listed { result.end ≢ End.WriteFault → result.end ≢ End.Memory →
         Appends (O.held out.old) (O.held out.new) (out_of result.ran) }
@@ -97,6 +98,7 @@ pub(crate) fn run<O: Sink>(
 /// command ends.
 fn write_run<O: Sink>(cause: Cause, text: &[u8], out: &mut O) -> End
     ensures end { EndsAs cause result }
+    ensures memory { cause ≢ Cause.Memory → result ≢ End.Memory }
     ensures listed { result ≢ End.WriteFault → result ≢ End.Memory →
         Appends (O.held out.old) (O.held out.new) (unless_memory cause text.now) }
     ensures part { result ≡ End.WriteFault →

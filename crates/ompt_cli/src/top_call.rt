@@ -99,6 +99,8 @@ pub fn top<R, S: Source, O: Sink, E: Sink>(
     ensures unwritten { result.end ≡ End.WriteFault →
         IsSomeAnd result.ran (λ report. report.cause ≢ Cause.Memory) }
     ensures ended { IfSome result.ran (λ report. EndsAs report.cause result.end) }
+    ensures memory { IfSome result.ran (λ report. report.command ≡ Command.Run → report.cause ≢ Cause.Memory →
+        result.end ≢ End.Memory) }
     ensures begun { IfSome result.ran (λ report. report.cause ≡ Cause.Memory → report.history ≢ []) }
     ensures runs { InForm (texts words.now) → IsSomeAnd (S.left source.old) IsProgram → MayRun result.end }
 

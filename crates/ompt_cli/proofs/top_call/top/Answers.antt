@@ -36,5 +36,8 @@ returns-in-Ok-Run-clause-spelled g c =
 pub returns-in-Ok-Run-clause-silent_run : goal.returns-in-Ok-Run-clause-silent_run
 returns-in-Ok-Run-clause-silent_run g c = rw c.tell-in-Ok-Run.ensures.ran (c.run.ensures.whole)
 
+pub returns-in-Ok-Run-clause-memory : goal.returns-in-Ok-Run-clause-memory
+returns-in-Ok-Run-clause-memory g c = rw (c.tell-in-Ok-Run.ensures.end, c.tell-in-Ok-Run.ensures.ran) (where_some c.run.result.ran c.run.ensures.memory (λ report kept running found. kept found))
+
 pub returns-in-Ok-Run-clause-part : goal.returns-in-Ok-Run-clause-part
 returns-in-Ok-Run-clause-part g c = rw (c.tell-in-Ok-Run.ensures.end, c.tell-in-Ok-Run.ensures.ran) c.run.ensures.part
