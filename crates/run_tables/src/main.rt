@@ -31,7 +31,8 @@
 //! # Bytes
 //!
 //! A sign, `$`, `|`, `>` or `!`, has a blank behind it, or a mode that says what the line gives: see [`piece`]. So `|+` is a piece of a
-//! line, `|*64 (` are 64 parentheses, `>=3 a` are three lines, and `|x 0d0a` are two bytes. A text is written as it is: no byte stands for another one.
+//! line, `|*64 (` are 64 parentheses, `>=3 a` are three lines, and `|x 0d0a` are two bytes. A text is written as it is: no byte stands
+//! for another one.
 //!
 //! # A part of an output
 //!
