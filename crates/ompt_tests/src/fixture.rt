@@ -1,14 +1,18 @@
 //! What the tests hand to the command, and what is reported of it.
 
 use crate::listening::{Answers, Listening, answers_of};
-use omp_model::{Blocks, Cause, Entry, History, What};
+use c_check::{Program, check};
+use c_syntax::read_program;
+use c_tokens::tokens;
+use omp_model::{Cause, Entry, History, What};
 use ompt_calls::Call;
 use ompt_cli::{Command, End, Report, Top, top};
 use run_edges::{MemSink, MemSource, Memory, Script, Source};
+use std::alloc::{AllocError, Global};
 use std::process::Abort;
 use tool_api::GuestTool;
 
-/// The program without a block.
+/// The program that does nothing.
 pub(crate) const PROGRAM: &[u8] = b"int main(void) { return 0; }\n";
 
 /// A region of two.
@@ -37,7 +41,6 @@ pub(crate) struct Told {
 pub(crate) struct Ran {
     pub command: Command,
     pub cause: Cause,
-    pub blocks: Blocks,
     pub mask: u64,
     pub threads: u8,
     pub history: History,
@@ -54,14 +57,15 @@ pub(crate) fn tell<R: AllocGlobal, S: Source>(
     hand(rt, words, source, out, Vec::new(rt.alloc()), &[])
 }
 
-/// Hands the command these words, the text of a region of two, and these guests. The guests are asked for these calls.
+/// Hands the command these words, this text, and these guests. The guests are asked for these calls.
 pub(crate) fn tell_guests<R: AllocGlobal>(
     rt: &R,
     words: &[&str],
+    text: &[u8],
     guests: Vec<Listening>,
     asked: &[(u32, Call)],
 ) -> Result<Told, Memory> {
-    let mut source = source_of(rt, REGION_OF_TWO)?;
+    let mut source = source_of(rt, text)?;
     hand(rt, words, &mut source, ample(rt)?, guests, asked)
 }
 
@@ -115,7 +119,6 @@ fn ran_of<R: AllocGlobal>(rt: &R, report: Report, asked: &[(u32, Call)]) -> Resu
     Ok(Ran {
         command: report.command,
         cause: report.cause,
-        blocks: report.blocks,
         mask: report.mask,
         threads: report.threads,
         history: report.history,
@@ -152,4 +155,26 @@ fn ample<R: AllocGlobal>(rt: &R) -> Result<MemSink, Memory> {
 /// A script whose first call fails.
 pub(crate) fn failing<R: AllocGlobal>(rt: &R) -> Result<Vec<Script>, Memory> {
     Ok(Vec::from_array(rt.alloc(), [Script::Fail])?)
+}
+
+/// The most bytes of a text.
+const TEXT_LIMIT: usize = 65_536;
+
+/// The program of a text that has no fault. A fault is told as want of memory.
+pub(crate) fn program_of(alloc: Global, text: &[u8]) -> Result<Program, Memory> {
+    if text.len() > TEXT_LIMIT {
+        return Err(AllocError);
+    }
+    let found = match tokens(alloc, text) {
+        Ok(found) => found,
+        Err(_) => return Err(AllocError),
+    };
+    let tree = match read_program(alloc, text, &found) {
+        Ok(tree) => tree,
+        Err(_) => return Err(AllocError),
+    };
+    match check(alloc, tree) {
+        Ok(program) => Ok(program),
+        Err(_) => Err(AllocError),
+    }
 }

@@ -7,6 +7,8 @@ mod calls;
 #[cfg(test)]
 mod codes;
 #[cfg(test)]
+mod counts;
+#[cfg(test)]
 mod edges;
 #[cfg(test)]
 mod fixture;
@@ -20,5 +22,11 @@ mod parts;
 mod reports;
 #[cfg(test)]
 mod runs;
+#[cfg(test)]
+mod runs_of_programs;
+#[cfg(test)]
+mod snapshots;
+#[cfg(test)]
+mod stored_words;
 #[cfg(test)]
 mod tests;

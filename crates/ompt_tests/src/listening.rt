@@ -3,6 +3,7 @@
 //! A guest that comes back from a run is a `Box<dyn GuestTool>`, of which nothing but its calls is there. So it is asked by
 //! a call at a position that no run has here, and answers in the words of its stores.
 
+use omp_codes::PROFILE;
 use ompt_calls::{
     Call, Frame, RegionLevel, RegionLevels, Reply, Snapshot, Store, TaskLevel, TaskLevels, Word,
     WordAt, is_registered,
@@ -10,8 +11,11 @@ use ompt_calls::{
 use std::alloc::AllocError;
 use tool_api::{GuestTool, Memory, Registrar};
 
-/// From this position on a call is a question.
+/// From this position on a call is a question, whether it was heard at the position that is so much less.
 const QUESTIONS: u32 = 1_000_000;
+
+/// From this position on a call is a question, how many calls were heard of the callback whose number is so much less.
+const CALLBACKS: u32 = 2_000_000;
 
 /// The question for the counts.
 const COUNTS: u32 = u32::MAX;
@@ -23,6 +27,8 @@ pub(crate) struct Listening {
     pub answer: u32,
     /// What it stores at the begin of a region, into the word of that region; 0 for nothing.
     pub stores: u64,
+    /// What it stores at the begin of work, into the word of the current task; 0 for nothing.
+    pub stores_at_work: u64,
     /// The call that finds no memory, counted from 1; 0 for none.
     pub fails: usize,
     pub heard: Vec<Heard>,
@@ -55,6 +61,7 @@ impl Listening {
             mask,
             answer,
             stores: 0,
+            stores_at_work: 0,
             fails: 0,
             heard: Vec::new(rt.alloc()),
             initialized: 0,
@@ -73,6 +80,44 @@ impl Listening {
             }
         }
         [0, 0]
+    }
+
+    /// How many calls it heard of the callback with this number.
+    fn count_of(&self, number: u32) -> u64 {
+        let mut count = 0_u64;
+        for heard in &self.heard {
+            if heard.call.number() == number {
+                count = count.saturating_add(1);
+            }
+        }
+        count
+    }
+
+    /// What it answers to this call.
+    fn reply_to(&self, call: &Call) -> Reply {
+        match call {
+            Call::ParallelBegin { .. } if self.stores != 0 => storing(WordAt::Fresh, self.stores),
+            Call::Work { endpoint: 1, .. } if self.stores_at_work != 0 => {
+                storing(WordAt::Task(0), self.stores_at_work)
+            }
+            _ => NOTHING,
+        }
+    }
+}
+
+/// A reply without a store.
+pub(crate) const NOTHING: Reply = Reply {
+    first: None,
+    second: None,
+    third: None,
+};
+
+/// A reply with one store.
+fn storing(place: WordAt, word: u64) -> Reply {
+    Reply {
+        first: Some(Store { place, word }),
+        second: None,
+        third: None,
     }
 }
 
@@ -106,6 +151,9 @@ impl GuestTool for Listening {
                 self.finalized as u64,
             ]));
         }
+        if seq >= CALLBACKS {
+            return Ok(reply_of([self.count_of(seq - CALLBACKS), 0, 0]));
+        }
         if seq >= QUESTIONS {
             let [number, same] = self.told(seq - QUESTIONS, thread, call, inquired);
             return Ok(reply_of([number, same, 0]));
@@ -114,21 +162,7 @@ impl GuestTool for Listening {
             return Err(AllocError);
         }
         self.heard.push(heard_of(seq, thread, call, snapshot))?;
-        Ok(match call {
-            Call::ParallelBegin { .. } if self.stores != 0 => Reply {
-                first: Some(Store {
-                    place: WordAt::Fresh,
-                    word: self.stores,
-                }),
-                second: None,
-                third: None,
-            },
-            _ => Reply {
-                first: None,
-                second: None,
-                third: None,
-            },
-        })
+        Ok(self.reply_to(call))
     }
 
     fn finalize(&mut self) {
@@ -141,12 +175,14 @@ impl GuestTool for Listening {
 pub(crate) struct Answers {
     /// How many calls it got, how often it was started, and how often it was finished.
     pub counts: [u64; 3],
+    /// How many calls it got of each callback of the profile, in their order.
+    pub by_callback: Vec<u64>,
     /// For each call that it is asked for, at which of its calls, counted from 1, it heard this; 0 where it did at none. And
     /// whether it could inquire there what it can of the snapshot `inside`.
     pub heard: Vec<(u64, bool)>,
 }
 
-/// Asks a guest for its counts, and for these calls of thread 0.
+/// Asks a guest for its counts, for those of each callback, and for these calls of thread 0.
 pub(crate) fn answers_of<R: AllocGlobal>(
     rt: &R,
     guest: &mut Box<dyn GuestTool>,
@@ -154,13 +190,23 @@ pub(crate) fn answers_of<R: AllocGlobal>(
 ) -> Result<Answers, Memory> {
     let snapshot = inside(rt)?;
     let counts = words_of(guest.callback(COUNTS, 0, &QUESTION, &snapshot)?);
+    let mut by_callback = Vec::new(rt.alloc());
+    for number in PROFILE {
+        let asked = CALLBACKS.saturating_add(number);
+        let [count, _, _] = words_of(guest.callback(asked, 0, &QUESTION, &snapshot)?);
+        by_callback.push(count)?;
+    }
     let mut heard = Vec::new(rt.alloc());
     for (seq, call) in asked {
         let reply = guest.callback(QUESTIONS.saturating_add(*seq), 0, call, &snapshot)?;
         let [number, same, _] = words_of(reply);
         heard.push((number, same == 1))?;
     }
-    Ok(Answers { counts, heard })
+    Ok(Answers {
+        counts,
+        by_callback,
+        heard,
+    })
 }
 
 /// The call by which a guest is asked for its counts, which tells nothing.

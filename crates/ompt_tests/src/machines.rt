@@ -1,8 +1,9 @@
 //! Steps of the machine that no listing shows, against values written out by hand.
 
+use crate::fixture::{PROGRAM, REGION_OF_TWO, program_of};
 use crate::listening::{NULL, ONE, TWO};
 use omp_machine::{Machine, Memory, Went};
-use omp_model::{Block, Blocks, Cause};
+use omp_model::Cause;
 use ompt_calls::{Call, Frame, RegionLevel, Snapshot, Target, TaskLevel, Word, WordAt};
 use std::alloc::Global;
 use std::process::Abort;
@@ -21,7 +22,7 @@ const THREE: Word = Word {
     value: 0,
 };
 
-/// The calls of a program without a block.
+/// The calls of the program that does nothing.
 const EMPTY_CALLS: [Call; 4] = [
     Call::ThreadBegin {
         kind: 1,
@@ -46,11 +47,11 @@ const EMPTY_CALLS: [Call; 4] = [
     Call::ThreadEnd { thread: ONE },
 ];
 
-/// A program without a block: what the calls of the machine answer at each step.
+/// The program that does nothing: what the calls of the machine answer at each step.
 #[test]
 fn the_empty_program_runs(rt: HostRuntime) -> Result<(), Memory> {
-    let no_blocks = Blocks(Vec::new(rt.alloc()));
-    let mut machine = Machine::new(rt.alloc(), no_blocks, THREADS_AND_TASKS, 1, 1_000_000)?;
+    let program = program_of(rt.alloc(), PROGRAM)?;
+    let mut machine = Machine::new(rt.alloc(), program, THREADS_AND_TASKS, 1, 1_000_000)?;
     assert!(rt; machine.first_enabled(1) == Some(0));
     for call in &EMPTY_CALLS {
         is_told(&rt, &mut machine, call)?;
@@ -94,7 +95,8 @@ const WORDS: &[(Target, bool)] = &[
 /// A region has a word once it begins.
 #[test]
 fn words_are_there_once_they_are_made(rt: HostRuntime) -> Result<(), Memory> {
-    let mut machine = Machine::new(rt.alloc(), two_threads(rt.alloc())?, 0, 1, 1_000_000)?;
+    let program = program_of(rt.alloc(), REGION_OF_TWO)?;
+    let mut machine = Machine::new(rt.alloc(), program, 0, 1, 1_000_000)?;
     for _event in 0..2 {
         untold(&rt, &mut machine)?;
     }
@@ -189,7 +191,8 @@ fn is_before_the_region(rt: &impl Abort, begun: &Snapshot) {
 
 /// What this one of two threads can inquire at each call that it is told in a whole run of a region of two, with these callbacks.
 fn snapshots_of(alloc: Global, mask: u64, told: u8) -> Result<Vec<Snapshot>, Memory> {
-    let mut machine = Machine::new(alloc, two_threads(alloc)?, mask, 2, 1_000_000)?;
+    let program = program_of(alloc, REGION_OF_TWO)?;
+    let mut machine = Machine::new(alloc, program, mask, 2, 1_000_000)?;
     let mut snapshots = Vec::new(alloc);
     for turn_number in 0..42 {
         let thread = turn_number % 2;
@@ -225,13 +228,4 @@ fn untold(rt: &impl Abort, machine: &mut Machine) -> Result<(), Memory> {
     assert!(rt; machine.pending(0));
     machine.back(0);
     Ok(())
-}
-
-/// A program with one block, in line 2, that asks for two threads.
-fn two_threads(alloc: Global) -> Result<Blocks, Memory> {
-    let block = Block {
-        requested: 2,
-        codeptr: 131_073,
-    };
-    Ok(Blocks(Vec::from_array(alloc, [block])?))
 }

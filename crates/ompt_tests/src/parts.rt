@@ -1,18 +1,12 @@
 //! Serial runs with parts of a tool that no guest is: what each part hears, and replies with several stores.
 
-use crate::fixture::has_entries;
-use crate::listening::{Heard, ONE, TWO, heard_of};
-use omp_model::{Block, Blocks, Cause, What};
+use crate::fixture::{REGION_OF_TWO, has_entries, program_of};
+use crate::listening::{Heard, NOTHING, ONE, TWO, heard_of};
+use omp_model::{Cause, What};
 use ompt_calls::{Call, Reply, Snapshot, Store, Target, Word, WordAt};
 use std::process::Abort;
 use team_run::{Memory, Ran, run_serial};
 use tool_api::{Registrar, ToolPart};
-
-const NOTHING: Reply = Reply {
-    first: None,
-    second: None,
-    third: None,
-};
 
 /// A part that registers the callbacks of the profile, keeps what it hears, and stores at its positions.
 #[derive(Drop)]
@@ -56,7 +50,8 @@ impl ToolPart for Keeping {
 #[test]
 fn two_parts_hear_their_own(rt: HostRuntime) -> Result<(), Memory> {
     let parts = Vec::from_array(rt.alloc(), [new_part(&rt), new_part(&rt)])?;
-    let ran = run_serial(rt.alloc(), two_threads(&rt)?, 2, 1_000_000, parts)?;
+    let program = program_of(rt.alloc(), REGION_OF_TWO)?;
+    let ran = run_serial(rt.alloc(), program, 2, 1_000_000, parts)?;
     assert!(rt; ran.cause == Cause::Done);
     let [first, second] = ran.parts.as_slice() else {
         panic!(rt; "there are two parts");
@@ -158,7 +153,8 @@ fn run_with_stores(rt: &impl AllocGlobal) -> Result<Ran<Keeping>, Memory> {
     part.replies.push((6, thrice))?;
     part.replies.push((11, once))?;
     let parts = Vec::from_array(rt.alloc(), [part])?;
-    run_serial(rt.alloc(), two_threads(rt)?, 1, 1_000_000, parts)
+    let program = program_of(rt.alloc(), REGION_OF_TWO)?;
+    run_serial(rt.alloc(), program, 1, 1_000_000, parts)
 }
 
 /// A part that has heard nothing, and stores nothing.
@@ -167,15 +163,6 @@ fn new_part(rt: &impl AllocGlobal) -> Keeping {
         replies: Vec::new(rt.alloc()),
         heard: Vec::new(rt.alloc()),
     }
-}
-
-/// A program with one block, in line 2, that asks for two threads.
-fn two_threads(rt: &impl AllocGlobal) -> Result<Blocks, Memory> {
-    let block = Block {
-        requested: 2,
-        codeptr: 131_073,
-    };
-    Ok(Blocks(Vec::from_array(rt.alloc(), [block])?))
 }
 
 /// The part heard of this thread alone, at these positions.

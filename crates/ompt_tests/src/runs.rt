@@ -3,7 +3,7 @@
 use crate::fixture::*;
 use crate::listening::{Listening, NULL, ONE, STORED, TWO, answers_of};
 use omp_codes::PROFILE_MASK;
-use omp_model::{Blocks, Cause, What};
+use omp_model::{Cause, What};
 use ompt_calls::{Call, Frame, Target, Word};
 use ompt_cli::{Command, End};
 use run_edges::Memory;
@@ -13,7 +13,7 @@ use team_run::run_serial;
 use tool_api::Guest;
 
 /// Words of a run with one thread.
-const RUN_ON_ONE: &[&str] = &["run", "--serial", "--threads", "1"];
+pub(crate) const RUN_ON_ONE: &[&str] = &["run", "--serial", "--threads", "1"];
 
 /// Words of a run with two threads.
 const RUN_ON_TWO: &[&str] = &["run", "--serial", "--threads", "2"];
@@ -140,7 +140,7 @@ fn told_in<R: AllocGlobal>(rt: &R, case: &Case) -> Result<Told, Memory> {
         guest.fails = case.fails;
         guests.push(guest)?;
     }
-    tell_guests(rt, case.words, guests, &[])
+    tell_guests(rt, case.words, REGION_OF_TWO, guests, &[])
 }
 
 /// What ran is what the case says, and nothing was stored.
@@ -155,7 +155,7 @@ fn went(rt: &impl Abort, ran: &Ran, case: &Case) {
 }
 
 /// How many stores there are in the history.
-fn stores_in(ran: &Ran) -> usize {
+pub(crate) fn stores_in(ran: &Ran) -> usize {
     let entries = ran.history.entries().iter();
     entries
         .filter(|entry| matches!(entry.what, What::Put(..)))
@@ -213,7 +213,8 @@ fn a_guest_stores(rt: HostRuntime) -> Result<(), Fail> {
     let mut guest = Listening::new(&rt, REGIONS_AND_TASKS, 1);
     guest.stores = 77;
     let guests = Vec::from_array(rt.alloc(), [guest])?;
-    let told = tell_guests(&rt, RUN_ON_ONE, guests, &heard_of_a_region())?;
+    let asked = heard_of_a_region();
+    let told = tell_guests(&rt, RUN_ON_ONE, REGION_OF_TWO, guests, &asked)?;
     assert!(rt; told.end == End::Done);
     let ran = ran_in(&rt, &told);
     assert!(rt; ran.mask == 0x88);
@@ -236,7 +237,8 @@ fn a_guest_stores(rt: HostRuntime) -> Result<(), Fail> {
 fn a_run_meets_its_limit(rt: HostRuntime) -> Result<(), Fail> {
     let guest = Guest(Box::new(rt.alloc(), Listening::new(&rt, PROFILE_MASK, 1))?);
     let parts = Vec::from_array(rt.alloc(), [guest])?;
-    let mut ran = run_serial(rt.alloc(), Blocks(Vec::new(rt.alloc())), 1, 1, parts)?;
+    let program = program_of(rt.alloc(), PROGRAM)?;
+    let mut ran = run_serial(rt.alloc(), program, 1, 1, parts)?;
     assert!(rt; ran.cause == Cause::Limit(1));
     assert!(rt; ran.history.entries().len() == 5);
     for guest in &mut ran.parts {

@@ -20,6 +20,7 @@
 //! | `status 3` | the status that is wanted; without this line, 0 |
 //! | `> LINE` | the next line that is wanted of the output |
 //! | `! LINE` | the next line that is wanted of standard error |
+//! | `entries 8` | how many entries the history of the run is to have; without this line, any number |
 //! | `in 5 50` | at most 50 bytes of the text are given in each of 5 reads, and the next read fails |
 //! | `out 5 50` | at most 50 bytes are taken in each of 5 writes to the output, and the next one fails |
 //! | `err 5 50` | the same of standard error |
@@ -30,7 +31,8 @@
 //! # Bytes
 //!
 //! A sign, `$`, `|`, `>` or `!`, has a blank behind it, or a mode that says what the line gives: see [`piece`]. So `|+` is a piece of a
-//! line, `|*64 (` are 64 parentheses, and `|x 0d0a` are two bytes. A text is written as it is: no byte stands for another one.
+//! line, `|*64 (` are 64 parentheses, `>=3 a` are three lines, and `|x 0d0a` are two bytes. A text is written as it is: no byte stands
+//! for another one.
 //!
 //! # A part of an output
 //!

@@ -7,6 +7,7 @@
 //! | none | the text and a newline |
 //! | `+` | the text alone |
 //! | `*12` | the text so many times, without newlines |
+//! | `=12` | the text and a newline, so many times |
 //! | `x` | the bytes of these hexadecimal digits, which may have blanks between the bytes |
 
 use crate::row_fault::RowFault;
@@ -20,12 +21,30 @@ pub(crate) fn add_piece(
     text: &str,
 ) -> Result<(), RowFault> {
     match mode {
-        "" => add_times(bytes, text, 1)?,
-        "+" => return add_times(bytes, text, 1),
-        "x" => return add_digits(bytes, alloc, text),
-        _ => return add_times(bytes, text, times_of(mode)?),
+        "" => add_lines(bytes, text, 1),
+        "+" => add_times(bytes, text, 1),
+        "x" => add_digits(bytes, alloc, text),
+        _ => add_repeated(bytes, mode, text),
     }
-    bytes.push(b'\n')?;
+}
+
+/// Adds the text, or the line, as often as the mode says.
+fn add_repeated(bytes: &mut Vec<u8>, mode: &str, text: &str) -> Result<(), RowFault> {
+    if let Some(times) = mode.strip_prefix('=') {
+        return add_lines(bytes, text, times.parse()?);
+    }
+    match mode.strip_prefix('*') {
+        Some(times) => add_times(bytes, text, times.parse()?),
+        None => Err(RowFault::NoSuchLine),
+    }
+}
+
+/// Adds the text and a newline, so many times.
+fn add_lines(bytes: &mut Vec<u8>, text: &str, times: u32) -> Result<(), RowFault> {
+    for _time in 0..times {
+        bytes.extend_from_slice(text.as_bytes())?;
+        bytes.push(b'\n')?;
+    }
     Ok(())
 }
 
@@ -43,12 +62,4 @@ fn add_digits(bytes: &mut Vec<u8>, alloc: Global, text: &str) -> Result<(), RowF
         bytes.extend_from_slice(&hex::decode(alloc, digits)?)?;
     }
     Ok(())
-}
-
-/// The number of times in a mode.
-fn times_of(mode: &str) -> Result<u32, RowFault> {
-    match mode.strip_prefix('*') {
-        Some(times) => Ok(times.parse()?),
-        None => Err(RowFault::NoSuchLine),
-    }
 }

@@ -3,7 +3,7 @@
 use crate::piece::add_piece;
 use crate::row_fault::RowFault;
 use crate::wanted::Wanted;
-use ompt_cli::top;
+use ompt_cli::{Report, top};
 use run_edges::{MemSink, MemSource, Script};
 use std::alloc::Global;
 
@@ -20,6 +20,8 @@ pub(crate) struct Row {
     out_writes: Vec<Script>,
     err_writes: Vec<Script>,
     status: u8,
+    /// How many entries the history of the run is to have; `None` where any number will do.
+    entries: Option<usize>,
     out: Wanted,
     err: Wanted,
     /// Whether it is to come to something else than is wanted.
@@ -36,6 +38,7 @@ impl Row {
             out_writes: Vec::new(alloc),
             err_writes: Vec::new(alloc),
             status: 0,
+            entries: None,
             out: Wanted::new(alloc)?,
             err: Wanted::new(alloc)?,
             is_unlike: false,
@@ -55,6 +58,7 @@ impl Row {
         }
         match head {
             "status" => self.status = text.parse()?,
+            "entries" => self.entries = Some(text.parse()?),
             "in" => add_steps(&mut self.reads, text)?,
             "out" => add_steps(&mut self.out_writes, text)?,
             "err" => add_steps(&mut self.err_writes, text)?,
@@ -78,10 +82,14 @@ impl Row {
         let top = top(rt, alloc, words, &mut source, &mut out, &mut err, guests);
         let came = Came {
             status: top.status,
+            entries: entries_of(&top.ran),
             out: out.bytes(),
             err: err.bytes(),
         };
-        let difference = came.difference(alloc, self.status, &self.out, &self.err)?;
+        let difference = match came.difference(alloc, self.status, &self.out, &self.err)? {
+            Some(difference) => Some(difference),
+            None => came.other_entries(alloc, self.entries)?,
+        };
         told(alloc, self.name.as_str(), difference, self.is_unlike)
     }
 }
@@ -90,6 +98,8 @@ impl Row {
 #[derive(Clone, Copy)]
 struct Came<'a> {
     status: u8,
+    /// How many entries the history of the run has; `None` where nothing ran.
+    entries: Option<usize>,
     out: &'a [u8],
     err: &'a [u8],
 }
@@ -116,6 +126,30 @@ impl Came<'_> {
             return Ok(Some(format!(in alloc; "standard error has {rest}")?));
         }
         Ok(None)
+    }
+
+    /// What differs from the number of entries that is wanted, where one is.
+    fn other_entries(
+        &self,
+        alloc: Global,
+        wanted: Option<usize>,
+    ) -> Result<Option<String>, RowFault> {
+        let Some(wanted) = wanted else {
+            return Ok(None);
+        };
+        match self.entries {
+            Some(entries) if entries == wanted => Ok(None),
+            Some(entries) => Ok(Some(format!(in alloc; "the history has {entries} entries")?)),
+            None => Ok(Some(format!(in alloc; "nothing ran")?)),
+        }
+    }
+}
+
+/// How many entries the history of a run has, if something ran.
+fn entries_of(ran: &Option<Report>) -> Option<usize> {
+    match ran {
+        Some(report) => Some(report.history.entries().len()),
+        None => None,
     }
 }
 

@@ -1,13 +1,14 @@
-use c_check::{Program, check};
-use c_syntax::read_program;
-use c_tokens::tokens;
+//! Runs of programs by the machine, one thread after another as far as each goes, and one without a tool. They show what no clause says:
+//! that the machine's calls find memory, and that a run comes to its end.
+
+use crate::fixture::program_of;
 use omp_codes::PROFILE_MASK;
-use omp_model::Cause;
 use omp_machine::{Machine, Memory, Went};
-use std::alloc::{AllocError, Global};
+use omp_model::Cause;
+use std::alloc::Global;
 use std::process::Abort;
-use tool_api::Quiet;
 use team_run::run_serial;
+use tool_api::Quiet;
 
 /// The most turns of a run.
 const MOST: u32 = 2_000;
@@ -107,26 +108,4 @@ fn a_run_without_a_tool_prints(rt: HostRuntime) -> Result<(), Memory> {
     assert!(rt; ran.text.as_slice() == b"42\n".as_slice());
     assert_eq!(rt; ran.history.entries().len(), 8);
     Ok(())
-}
-
-/// The most bytes of a text.
-const TEXT_LIMIT: usize = 65_536;
-
-/// The program of a text that has no fault. A fault is told as want of memory.
-fn program_of(alloc: Global, text: &[u8]) -> Result<Program, Memory> {
-    if text.len() > TEXT_LIMIT {
-        return Err(AllocError);
-    }
-    let found = match tokens(alloc, text) {
-        Ok(found) => found,
-        Err(_) => return Err(AllocError),
-    };
-    let tree = match read_program(alloc, text, &found) {
-        Ok(tree) => tree,
-        Err(_) => return Err(AllocError),
-    };
-    match check(alloc, tree) {
-        Ok(program) => Ok(program),
-        Err(_) => Err(AllocError),
-    }
 }

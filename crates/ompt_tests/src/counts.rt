@@ -1,0 +1,113 @@
+//! How many calls four guests get of each callback, through the command.
+
+use crate::fixture::{Ran, Told, ran_in, tell_guests};
+use crate::listening::Listening;
+use omp_codes::PROFILE_MASK;
+use run_edges::Memory;
+use std::process::Abort;
+use std::test::Fail;
+
+/// Words of a run with four threads.
+const RUN_ON_FOUR: &[&str] = &["run", "--serial", "--threads", "4"];
+
+/// A program that four threads run, what it prints, and what the four guests together get: how many calls of each callback of the profile,
+/// in their order, and how many in all.
+struct Counted {
+    text: &'static [u8],
+    printed: &'static [u8],
+    calls: [u64; 17],
+    all: u64,
+}
+
+const COUNTED: &[Counted] = &[
+    // Two sections, of which each is dispatched once. Each of four members begins and ends their work.
+    Counted {
+        text: b"int main(void) {
+#pragma omp parallel num_threads(4)
+#pragma omp sections nowait
+{
+#pragma omp section
+;
+#pragma omp section
+;
+}
+return 0;
+}
+",
+        printed: b"",
+        calls: [4, 4, 1, 1, 0, 0, 10, 8, 0, 8, 0, 8, 0, 0, 0, 0, 2],
+        all: 46,
+    },
+    // 15 calls of fib, of which 7 create two tasks each and wait for them. The others are the barriers of the single and of the region.
+    Counted {
+        text: b"#include <omp.h>
+#include <stdio.h>
+int fib(int n) {
+  int x, y;
+  if (n < 2) return n;
+  #pragma omp task shared(x)
+  x = fib(n - 1);
+  #pragma omp task shared(y)
+  y = fib(n - 2);
+  #pragma omp taskwait
+  return x + y;
+}
+int main(void) {
+  int r;
+  #pragma omp parallel
+  #pragma omp single
+  r = fib(5);
+  printf(\"%d\\n\", r);
+  return 0;
+}
+",
+        printed: b"5\n",
+        calls: [4, 4, 1, 1, 14, 28, 10, 30, 0, 8, 0, 30, 0, 0, 0, 0, 0],
+        all: 130,
+    },
+];
+
+#[test]
+fn guests_on_four_threads_count_their_calls(rt: HostRuntime) -> Result<(), Fail> {
+    for counted in COUNTED {
+        let told = told_to_four(&rt, counted.text)?;
+        assert!(rt; told.status == 0);
+        assert!(rt; told.out.bytes() == counted.printed);
+        let ran = ran_in(&rt, &told);
+        assert!(rt; ran.guests.len() == 4);
+        has_calls(&rt, ran, counted);
+    }
+    Ok(())
+}
+
+/// Hands the command the text, with four guests that register the callbacks of the profile.
+fn told_to_four<R: AllocGlobal>(rt: &R, text: &[u8]) -> Result<Told, Memory> {
+    let mut guests = Vec::new(rt.alloc());
+    for _guest in 0..4 {
+        guests.push(Listening::new(rt, PROFILE_MASK, 1))?;
+    }
+    tell_guests(rt, RUN_ON_FOUR, text, guests, &[])
+}
+
+/// The guests together got these calls.
+fn has_calls(rt: &impl Abort, ran: &Ran, counted: &Counted) {
+    for (place, calls) in counted.calls.iter().enumerate() {
+        assert!(rt; calls_at(ran, place) == *calls, "at {place}");
+    }
+    let mut all = 0_u64;
+    for guest in &ran.guests {
+        all = all.saturating_add(guest.counts[0]);
+    }
+    assert!(rt; all == counted.all);
+}
+
+/// How many calls of the callback at this place of the profile the guests got together.
+fn calls_at(ran: &Ran, place: usize) -> u64 {
+    let mut all = 0_u64;
+    for guest in &ran.guests {
+        if let Some(calls) = guest.by_callback.get(place) {
+            all = all.saturating_add(*calls);
+        }
+    }
+    all
+}
