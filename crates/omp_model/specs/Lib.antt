@@ -20,3 +20,4 @@ pub mod Running
 pub mod Made
 pub mod Named
 pub mod Conditions
+pub mod Empty

@@ -3,12 +3,15 @@
 ghost use Rattle.std.specs.Prelude.{◌≡◌, ◌≤◌, ◌&&◌, ℕ, List, Some, is_none, true};
 ghost use Rattle.omp_model.specs.declared.history.Entry.{Entry};
 ghost use Rattle.omp_model.specs.Calls.{call_of, callback_of};
+ghost use Rattle.omp_model.specs.Cause.{cause_of};
 ghost use Rattle.omp_model.specs.Conditions.{BackActs, GoActs, IsOrderly};
+ghost use Rattle.omp_model.specs.Empty.{empty_history, empty_records, empty_run};
 ghost use Rattle.omp_model.specs.Gates.{arrival};
 ghost use Rattle.omp_model.specs.Legal.{Legal, after};
 ghost use Rattle.omp_model.specs.Made.{IsMadeState, IsRegion, IsTeam};
 ghost use Rattle.omp_model.specs.Members.{current, is_member};
 ghost use Rattle.omp_model.specs.Named.{IsMade, IsMadeCall, IsMadeSnapshot};
+ghost use Rattle.omp_model.specs.Records.{records_of};
 ghost use Rattle.omp_model.specs.Serial.{StoresNothing, WholeSerial, serial};
 ghost use Rattle.omp_model.specs.Snapshots.{snap_of};
 ghost use Rattle.omp_model.specs.State.{Run, State, World, pending_at, region_at};
@@ -24,6 +27,8 @@ ghost use Rattle.ompt_calls.specs.declared.reply.Reply.{Reply};
 ghost use Rattle.ompt_calls.specs.declared.reply.WordAt.{WordAt};
 ghost use Rattle.ompt_calls.specs.declared.snapshot.Target.{Target};
 ghost use Rattle.team_parts.specs.declared.meeting.TheConstants.{TEAM_LIMIT};
+
+use crate::cause::Cause;
 
 /// A thread is enabled exactly where it is inside no callback, the run isn't halted, and its turn is one: a silent step, an event, a trap or a
 /// limit. So no enabled thread has a turn that comes to nothing, though no expression is evaluated to tell.
@@ -44,6 +49,14 @@ pub fn serial_history_is_one()
     ensures one { (run : Run) (history other : List Entry) → WholeSerial run history → WholeSerial run other →
         StoresNothing history → StoresNothing other → history ≡ other }
     ensures named { (run : Run) (history : List Entry) → WholeSerial run history → StoresNothing history → serial run ≡ history }
+{}
+
+/// With the callbacks of the profile registered, a million silent steps and 1 to 16 threads, the serial run of the smallest program, whose main returns
+/// 0 at once, has eight entries and four records, and ends because all is done.
+pub fn empty_program_ends()
+    ensures entries { (n : ℕ) → 1 ≤ n → n ≤ 16 → serial (empty_run n) ≡ empty_history }
+    ensures records { (n : ℕ) → 1 ≤ n → n ≤ 16 → records_of (empty_run n) (serial (empty_run n)) ≡ empty_records }
+    ensures cause { (n : ℕ) → 1 ≤ n → n ≤ 16 → cause_of (empty_run n) (serial (empty_run n)) ≡ Some Cause.Done }
 {}
 
 /// After each legal history of a run that has a thread these were made, where they aren't 0 for none: the tasks on stacks, in the ready order and those
