@@ -117,7 +117,7 @@ with_head W r head = with_region W r (record (region_at W r) { head = head })
 abbrev pub with_team : World → ℕ → TeamView → World
 with_team W r team = with_region W r (record (region_at W r) { team = team })
 
--- the member with this number has begun, with this implicit task; it has left; the region is over
+-- the member with this number has begun, with this implicit task; it has left; the event of the end of the region has come
 abbrev pub member_begun : World → ℕ → ℕ → ℕ → World
 member_begun W r i k = with_head W r (record (region_at W r).head { members = slice_set (region_at W r).head.members i k })
 

@@ -42,7 +42,7 @@ pub record Thread : Type 0 where
   pub taken : Option Share
   pub word : ℕ
 
--- A task, beside what the pool has of it: its code; the thread that has taken it up, 0 before; the region that it has forked and that isn't over, or
+-- A task, beside what the pool has of it: its code; the thread that has taken it up, and 0 for none before; the region that it has forked and that isn't over, or
 -- 0; and what was last stored into its data word, or 0.
 pub record Task : Type 0 where
   pub code : Code
@@ -85,7 +85,7 @@ unmade = record { stage = stage.Unmade; stack = []; invited = 0; undeferred = 0;
 abbrev pub task_with : Code → Task
 task_with code = record { code = code; thread = 0; forked = 0; word = 0 }
 
--- the task that there is none
+-- what stands for a task where there is none
 abbrev pub no_task : Task
 no_task = task_with blank_task
 
@@ -100,7 +100,7 @@ fresh_team size = record { members = replicate size new_member; meetings = []; r
 abbrev pub fresh_region : ℕ → ℕ → Region
 fresh_region task size = record { head = fresh_head task size; team = fresh_team size }
 
--- the region that there is none
+-- what stands for a region where there is none
 abbrev pub no_region : Region
 no_region = fresh_region 0 0
 
