@@ -27,6 +27,8 @@ mod runs_of_programs;
 #[cfg(test)]
 mod snapshots;
 #[cfg(test)]
+mod states;
+#[cfg(test)]
 mod stored_words;
 #[cfg(test)]
 mod tests;

@@ -196,7 +196,7 @@ fn snapshots_of(alloc: Global, mask: u64, told: u8) -> Result<Vec<Snapshot>, Mem
     let mut snapshots = Vec::new(alloc);
     for turn_number in 0..42 {
         let thread = turn_number % 2;
-        if let Some(snapshot) = turn(&mut machine, thread)?
+        if let Some((_, snapshot)) = turn(&mut machine, thread)?
             && thread == told
         {
             snapshots.push(snapshot)?;
@@ -205,8 +205,9 @@ fn snapshots_of(alloc: Global, mask: u64, told: u8) -> Result<Vec<Snapshot>, Mem
     Ok(snapshots)
 }
 
-/// Does a turn of the thread, with the Back of its event, where the thread is enabled. Answers what can be inquired, if a call was told.
-fn turn(machine: &mut Machine, thread: u8) -> Result<Option<Snapshot>, Memory> {
+/// Does a turn of the thread, with the Back of its event, where the thread is enabled. Answers the call that was told, if one was, and what
+/// can be inquired there.
+pub(crate) fn turn(machine: &mut Machine, thread: u8) -> Result<Option<(Call, Snapshot)>, Memory> {
     if !machine.enabled(thread) {
         return Ok(None);
     }
@@ -215,7 +216,7 @@ fn turn(machine: &mut Machine, thread: u8) -> Result<Option<Snapshot>, Memory> {
         machine.back(thread);
     }
     Ok(match went {
-        Went::Told(_, snapshot) => Some(snapshot),
+        Went::Told(call, snapshot) => Some((call, snapshot)),
         _ => None,
     })
 }
