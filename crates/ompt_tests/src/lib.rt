@@ -15,19 +15,11 @@ mod fixture;
 #[cfg(test)]
 mod listening;
 #[cfg(test)]
-mod machines;
-#[cfg(test)]
 mod parts;
 #[cfg(test)]
 mod reports;
 #[cfg(test)]
 mod runs;
-#[cfg(test)]
-mod runs_of_programs;
-#[cfg(test)]
-mod snapshots;
-#[cfg(test)]
-mod states;
 #[cfg(test)]
 mod stored_words;
 #[cfg(test)]
