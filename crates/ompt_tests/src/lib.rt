@@ -21,6 +21,12 @@ mod reports;
 #[cfg(test)]
 mod runs;
 #[cfg(test)]
+mod runs_of_programs;
+#[cfg(test)]
+mod snapshots;
+#[cfg(test)]
+mod states;
+#[cfg(test)]
 mod stored_words;
 #[cfg(test)]
 mod tests;

@@ -10,9 +10,9 @@ use tool_api::{Registrar, ToolPart};
 
 /// A part that registers the callbacks of the profile, keeps what it hears, and stores at its positions.
 #[derive(Drop)]
-struct Keeping {
+pub(crate) struct Keeping {
     replies: Vec<(u32, Reply)>,
-    heard: Vec<Heard>,
+    pub heard: Vec<Heard>,
 }
 
 impl ToolPart for Keeping {
@@ -163,6 +163,30 @@ fn new_part(rt: &impl AllocGlobal) -> Keeping {
         replies: Vec::new(rt.alloc()),
         heard: Vec::new(rt.alloc()),
     }
+}
+
+/// A run of the text's program on one thread, whose part stores nothing.
+pub(crate) fn run_on_one(rt: &impl AllocGlobal, text: &[u8]) -> Result<Ran<Keeping>, Memory> {
+    let parts = Vec::from_array(rt.alloc(), [new_part(rt)])?;
+    run_serial(
+        rt.alloc(),
+        program_of(rt.alloc(), text)?,
+        1,
+        1_000_000,
+        parts,
+    )
+}
+
+/// The same on two threads, each with its part.
+pub(crate) fn run_on_two(rt: &impl AllocGlobal, text: &[u8]) -> Result<Ran<Keeping>, Memory> {
+    let parts = Vec::from_array(rt.alloc(), [new_part(rt), new_part(rt)])?;
+    run_serial(
+        rt.alloc(),
+        program_of(rt.alloc(), text)?,
+        2,
+        1_000_000,
+        parts,
+    )
 }
 
 /// The part heard of this thread alone, at these positions.
