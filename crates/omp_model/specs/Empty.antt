@@ -42,13 +42,13 @@ empty_program =
 abbrev pub empty_run : ℕ → Run
 empty_run threads = record { program = empty_program; mask = PROFILE_MASK; threads = threads; steps = 1000000 }
 
--- the eight entries of that run: its four events are on thread 0, each with its callback
 abbrev go_zero : Entry
 go_zero = record { thread = 0; what = Go }
 
 abbrev back_zero : Entry
 back_zero = record { thread = 0; what = Back }
 
+-- the eight entries of that run: its four events are on thread 0, each with its callback
 abbrev pub empty_history : List Entry
 empty_history = go_zero ∷ back_zero ∷ go_zero ∷ back_zero ∷ go_zero ∷ back_zero ∷ go_zero ∷ back_zero ∷ []
 

@@ -42,8 +42,8 @@ pub record Thread : Type 0 where
   pub taken : Option Share
   pub word : ℕ
 
--- A task, beside what the pool has of it: its code; the thread that has taken it up, and 0 for none before; the region that it has forked and that isn't over, or
--- 0; and what was last stored into its data word, or 0.
+-- A task, beside what the pool has of it: its code; the thread that has taken it up, and 0 for none before; the region that it has forked and that
+-- isn't over, or 0; and what was last stored into its data word, or 0.
 pub record Task : Type 0 where
   pub code : Code
   pub thread : ℕ
