@@ -49,9 +49,7 @@ impl ToolPart for Keeping {
 /// Each of two parts hears what its own thread comes to.
 #[test]
 fn two_parts_hear_their_own(rt: HostRuntime) -> Result<(), Memory> {
-    let parts = Vec::from_array(rt.alloc(), [new_part(&rt), new_part(&rt)])?;
-    let program = program_of(rt.alloc(), REGION_OF_TWO)?;
-    let ran = run_serial(rt.alloc(), program, 2, 1_000_000, parts)?;
+    let ran = run_on_two(&rt, REGION_OF_TWO)?;
     assert!(rt; ran.cause == Cause::Done);
     let [first, second] = ran.parts.as_slice() else {
         panic!(rt; "there are two parts");

@@ -13,6 +13,18 @@ const THREE: Word = Word {
     value: 0,
 };
 
+/// The level of the initial task around a region.
+const INITIAL: TaskLevel = TaskLevel {
+    flags: 1,
+    word: ONE,
+    frame: Frame {
+        exit: 0,
+        enter: 32_769,
+    },
+    region: ONE,
+    index: 0,
+};
+
 /// A region in a region of one.
 const NESTED: &[u8] = b"int main(void) {
 #pragma omp parallel num_threads(1)
@@ -41,16 +53,7 @@ const NESTED_TASKS: [TaskLevel; 3] = [
         region: TWO,
         index: 0,
     },
-    TaskLevel {
-        flags: 1,
-        word: ONE,
-        frame: Frame {
-            exit: 0,
-            enter: 32_769,
-        },
-        region: ONE,
-        index: 0,
-    },
+    INITIAL,
 ];
 
 /// The levels of regions there.
@@ -105,18 +108,6 @@ fn a_wait_for_a_lock_is_told(rt: HostRuntime) -> Result<(), Memory> {
     }
     Ok(())
 }
-
-/// The level of the initial task around a region.
-const INITIAL: TaskLevel = TaskLevel {
-    flags: 1,
-    word: ONE,
-    frame: Frame {
-        exit: 0,
-        enter: 32_769,
-    },
-    region: ONE,
-    index: 0,
-};
 
 /// The level of the worker's task in a region of two.
 const WORKER: TaskLevel = TaskLevel {
