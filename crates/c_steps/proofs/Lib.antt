@@ -34,6 +34,7 @@ pub mod Standing
 mod StepNames
 mod Stepping
 pub mod TaskNames
+pub mod Trying
 mod Values
 mod ValuesAll
 mod ValuesNamed
