@@ -1,5 +1,5 @@
 -- A silent step that is tried: it was made, or nothing was done.
-use Rattle.std.specs.Prelude.{◌≡◌, ◌+◌, ◌<◌, Bool, true, false, List, [], ◌∷◌, ℕ, Some, None, drop, ⊥}
+use Rattle.std.specs.Prelude.{◌≡◌, ◌+◌, ◌<◌, Bool, true, false, List, [], ◌∷◌, ℕ, Some, None, drop}
 use Rattle.c_syntax.specs.Numbered.{TreeView}
 use Rattle.c_model.specs.declared.view.View.{View}
 use Rattle.c_model.specs.declared.upcoming.Upcoming.TheVariants as upcoming
@@ -58,7 +58,7 @@ item_of plain.FallOff = item.FallOff
 -- an item has begun by a frame: the frame stays, as it is then, or nothing is left of it
 abbrev pub IsBegunFrame : Frame → Bool → Frame → Type 0
 IsBegunFrame old true new = BeginsAs old (Some new)
-IsBegunFrame old false new = BeginsAs old None
+IsBegunFrame old false new = (new ≡ old) × BeginsAs old None
 
 abbrev pub IsBegun : Stacked Frame → Bool → Stacked Frame → Type 0
 IsBegun old true new = new ≡ record old { frames = begun old.frames }

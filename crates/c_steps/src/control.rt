@@ -107,6 +107,7 @@ impl Control {
     }
 
     /// The item that stands next begins.
+    #[tactic(auto, using(crate::proofs::Showing::begun_calls))]
     #[inline(always)]
     fn begin(&mut self)
         requires { CanBegin self.old.frames }

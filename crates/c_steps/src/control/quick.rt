@@ -261,15 +261,22 @@ impl Control {
 fn changed_number(which: Setting, held: i32, right: i32) -> Option<i32>
     ensures { IfSome result (λ number. statements.new_number which held (Ok right) ≡ Ok number) }
 {
-    let operator = match which {
-        Setting::Plain => return Some(right),
-        Setting::Add => BinaryOp::Add,
-        Setting::Subtract => BinaryOp::Subtract,
-        Setting::Multiply => BinaryOp::Multiply,
-        Setting::Divide => BinaryOp::Divide,
-        Setting::Remainder => BinaryOp::Remainder,
-    };
-    match binary_result(operator, held, right) {
+    match which {
+        Setting::Plain => Some(right),
+        Setting::Add => quick_result(BinaryOp::Add, held, right),
+        Setting::Subtract => quick_result(BinaryOp::Subtract, held, right),
+        Setting::Multiply => quick_result(BinaryOp::Multiply, held, right),
+        Setting::Divide => quick_result(BinaryOp::Divide, held, right),
+        Setting::Remainder => quick_result(BinaryOp::Remainder, held, right),
+    }
+}
+
+/// What an operator makes of two numbers, if that fits.
+#[inline(always)]
+fn quick_result(operator: BinaryOp, left: i32, right: i32) -> Option<i32>
+    ensures { IfSome result (λ number. values.binary_result operator left right ≡ Ok number) }
+{
+    match binary_result(operator, left, right) {
         Ok(number) => Some(number),
         Err(_) => None,
     }

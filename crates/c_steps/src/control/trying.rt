@@ -91,8 +91,8 @@ impl Control {
         ensures task { task_at code.now self.new ≡ task_at code.now self.old }
         ensures found { IfSome result (λ plain. IsFront code.now self.new.frames (item_of plain)) }
     {
-        let (part, names) = match self.stack.top() {
-            Some(Frame::One(item)) => return plain_item(item),
+        match self.stack.top() {
+            Some(Frame::One(item)) => plain_item(item),
             Some(
                 Frame::Parts {
                     block,
@@ -100,20 +100,23 @@ impl Control {
                     at,
                     names,
                 },
-            ) => (shown_part(code, *block, *place, *at), *names),
-            _ => return None,
-        };
-        match part {
-            Part::Next(plain) => Some(plain),
-            Part::Past => None,
-            Part::Over => {
-                self.end_parts(names);
-                Some(Plain::Leave(names))
+            ) => {
+                let names = *names;
+                match shown_part(code, *block, *place, *at) {
+                    Part::Next(plain) => Some(plain),
+                    Part::Past => None,
+                    Part::Over => {
+                        self.end_parts(names);
+                        Some(Plain::Leave(names))
+                    }
+                }
             }
+            _ => None,
         }
     }
 
     /// The part of a block is past that stands next.
+    #[tactic(auto, using(crate::proofs::Showing::next_calls))]
     #[inline(always)]
     fn go_to_next_part(&mut self)
         requires { HasPartOnTop self.old.frames }
