@@ -1,10 +1,9 @@
 -- What stands next where another frame says the same.
-use Rattle.std.proofs.Common.{◌≡◌, List, [], ◌∷◌, Some, slice_get, slice_set, length, drop, take, refl, sym, ap, ◌∙◌, subst, rules}
+use Rattle.std.proofs.Common.{◌≡◌, List, [], ◌∷◌, Option, Some, None, IfSome, slice_get, slice_set, length, drop, take, refl, sym, ap, ◌∙◌, subst, rules}
 use Rattle.std.proofs.lemmas.List.Elements.{All-cons, All-head, All-tail}
 use Rattle.c_syntax.specs.Numbered.{TreeView}
 use Rattle.c_model.specs.declared.entry.Entry.{Entry}
 use Rattle.c_steps.specs.declared.item.Item.{Item}
-use Rattle.c_steps.specs.declared.item.Item.TheVariants as item
 use Rattle.c_steps.specs.declared.frame.Frame.{Frame}
 use Rattle.c_steps.specs.declared.frame.Frame.TheVariants as frame
 use Rattle.c_steps.specs.declared.plain.Plain.{Plain}
@@ -96,11 +95,14 @@ module _ (program : TreeView) (old : Held) (it : Frame) (are : AreFrames program
   past new same is =
       subst (IsSameBy program old) (sym (is ∙ ap (λ (frames : List Frame). record old { frames = next_on_top frames }) whole)) (placed (next_part it) same)
 
--- the item that is a frame of its own
-pub shown_item : (program : TreeView) (old : Held) (it : Item) (found : Plain) → AreFrames program old.frames → Some (frame.One it) ≡ slice_get old.frames 0 → it ≡ item_of found → IsFront program old.frames (item_of found)
-shown_item program old it found are top is =
-    subst (IsFront program old.frames) is (shown_top program old (frame.One it) are top it (shows_one program it (is_top program old (frame.One it) are top)))
+  -- an item that is the frame of its own stands there
+  pub placed_front : (found : Item) → IsInPlaceOf program it (frame.One found) → (new : Held) → new ≡ record old { frames = slice_set old.frames 0 (frame.One found) } → IsFront program new.frames found
+  placed_front found same new is =
+      subst (λ (frames : List Frame). IsFront program frames found) (sym (ap Held.frames is ∙ set_top (frame.One found) same))
+          ((shows_one program found same.is_frame).front rest (All-tail (IsFrame program) it rest are_whole))
 
--- the end of a block stands next
-pub left_front : (program : TreeView) (frames : List Frame) (names : _) → AreFrames program frames → IsFront program (frame.One (item.Leave names) ∷ frames) (item.Leave names)
-left_front program frames names are = (shows_one program (item.Leave names) tt).front frames are
+-- an item that is a frame of its own stands next, if it is plain
+pub shown_one : (program : TreeView) (old : Held) (it : Item) (found : Option Plain) → AreFrames program old.frames → Some (frame.One it) ≡ slice_get old.frames 0 → IfSome found (λ (found : Plain). it ≡ item_of found) → IfSome found (λ (found : Plain). IsFront program old.frames (item_of found))
+shown_one program old it None are top is = is
+shown_one program old it (Some found) are top is =
+    subst (IsFront program old.frames) is (shown_top program old (frame.One it) are top it (shows_one program it (is_top program old (frame.One it) are top)))
