@@ -30,10 +30,14 @@ pub mod Rests
 mod Returning
 mod Sections
 mod Settling
+pub mod Showing
 pub mod Standing
 mod StepNames
 mod Stepping
 pub mod TaskNames
+pub mod Tried
+pub mod Trying
+pub mod Tops
 mod Values
 mod ValuesAll
 mod ValuesNamed

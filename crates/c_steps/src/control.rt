@@ -24,14 +24,16 @@ mod member;
 mod own_cells;
 mod passing;
 mod prints;
+mod quick;
 mod settling;
 mod standing;
 mod statement;
 mod statements;
 mod steps;
+mod trying;
 mod upcoming;
 
-use crate::frame::{Frame, begun};
+use crate::frame::Frame;
 use crate::item::Item;
 use crate::names::Names;
 use crate::stack::Stack;
@@ -105,17 +107,14 @@ impl Control {
     }
 
     /// The item that stands next begins.
+    #[tactic(auto, using(crate::proofs::Showing::begun_calls))]
     #[inline(always)]
     fn begin(&mut self)
         requires { CanBegin self.old.frames }
         ensures { self.new ≡ record self.old { frames = begun self.old.frames } }
     {
-        let Some(frame) = self.stack.top() else {
-            return;
-        };
-        match begun(frame) {
-            Some(other) => self.replace_top(other),
-            None => self.drop_top(),
+        if !self.stack.begin() {
+            self.drop_top();
         }
     }
 

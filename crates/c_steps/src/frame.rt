@@ -1,8 +1,9 @@
 //! What a control's stack holds.
 
-ghost use Rattle.std.specs.Prelude.{◌∷◌, []};
+ghost use Rattle.std.specs.Prelude.{◌≡◌, ◌∷◌, []};
 ghost use Rattle.c_steps.specs.Ready.{CanBegin};
 ghost use Rattle.c_steps.specs.Standing.{BeginsAs};
+ghost use Rattle.c_steps.specs.Trying.{HasPart, IsBegunFrame, next_part};
 
 use crate::item::Item;
 use crate::listed::ListedPlace;
@@ -72,5 +73,45 @@ pub(crate) fn begun(frame: &Frame) -> Option<Frame>
             names,
         }),
         Frame::Combining { .. } | Frame::Caller { .. } => Some(*frame),
+    }
+}
+
+impl Frame {
+    /// The item begins that stands next by it. Answers whether the frame stays.
+    #[inline(always)]
+    pub(crate) fn begin(&mut self) -> bool
+        requires { CanBegin (self.old ∷ []) }
+        ensures { IsBegunFrame self.old result self.new }
+    {
+        match self {
+            Frame::One(_) => return false,
+            Frame::Parts { at, .. } => *at += 1,
+            Frame::Combines {
+                construct,
+                from,
+                names,
+                ..
+            } => {
+                *self = Frame::Combining {
+                    construct: *construct,
+                    from: *from,
+                    names: *names,
+                };
+            }
+            Frame::Combining { .. } | Frame::Caller { .. } => {}
+        }
+        true
+    }
+
+    /// The part of the block is past that stands next.
+    #[inline(always)]
+    pub(crate) fn next_part(&mut self)
+        requires { HasPart self.old }
+        ensures { self.new ≡ next_part self.old }
+    {
+        if let Frame::Parts { place, at, .. } = self {
+            *place += 1;
+            *at = 0;
+        }
     }
 }

@@ -42,6 +42,7 @@ mod names;
 mod next;
 mod numbers;
 mod parts;
+mod plain;
 mod printing;
 mod scope;
 mod stack;

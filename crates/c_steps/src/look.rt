@@ -128,7 +128,7 @@ fn item_of_part(code: &Code, node: u32) -> Item
 
 /// The declarator of a part of a block behind so many. What declares no names is its own only one.
 #[inline(always)]
-fn declarator(code: &Code, part: u32, at: u32) -> Option<u32>
+pub(crate) fn declarator(code: &Code, part: u32, at: u32) -> Option<u32>
     requires { part < length code.now.trees }
     ensures found { IfSome result (λ node. declarators_from (kind_of (tree_at code.now.trees part)) (tree_at code.now.trees part) at ≡ tree_at code.now.trees node ∷ declarators_from (kind_of (tree_at code.now.trees part)) (tree_at code.now.trees part) (at + 1)) }
     ensures none { IfNone result (declarators_from (kind_of (tree_at code.now.trees part)) (tree_at code.now.trees part) at ≡ []) }

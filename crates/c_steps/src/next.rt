@@ -2,6 +2,7 @@
 
 ghost use Rattle.std.specs.Prelude.{◌≡◌};
 ghost use Rattle.c_steps.specs.Held.{next_of};
+ghost use Rattle.c_steps.specs.Trying.{is_quiet};
 
 use c_model::{Ask, Point};
 
@@ -30,4 +31,12 @@ pub(crate) fn made(step: Result<(), u8>) -> Next
         Ok(()) => Next::Quiet,
         Err(trap) => Next::Trap(trap),
     }
+}
+
+/// Whether a silent step was made.
+#[inline(always)]
+pub(crate) fn is_quiet(next: Next) -> bool
+    ensures { result ≡ is_quiet next }
+{
+    matches!(next, Next::Quiet)
 }

@@ -1,6 +1,6 @@
 //! What an expression is evaluated in, and its number.
 
-ghost use Rattle.std.specs.Prelude.{◌≡◌, ◌<◌, ◌≤◌, ◌++◌, length, pos, IfOk};
+ghost use Rattle.std.specs.Prelude.{◌≡◌, ◌<◌, ◌≤◌, ◌++◌, length, pos, IfOk, IfSome, Ok};
 ghost use Rattle.std.specs.Option.{unwrap_or};
 ghost use Rattle.c_syntax.specs.Numbered.{tree_at};
 ghost use Rattle.c_model.specs.declared.entry.Entry.{Entry as SeenEntry};
@@ -144,6 +144,140 @@ impl<'a> Scope<'a> {
             NodeKind::Unary(operator) => self.unary(operator, node),
             NodeKind::Binary(operator) => self.binary(operator, node),
             _ => Ok(0),
+        }
+    }
+
+    /// The number of an expression, if it has no trap. One that is missing is 0.
+    #[tactic(auto, using(crate::proofs::Values::value_is))]
+    #[inline(always)]
+    pub(crate) fn quick_value(&self, part: Option<u32>) -> Option<i32>
+        requires part { IsPart self.now.tree.now.trees part }
+        requires view { HasNumbers self.now.view }
+        ensures { IfSome result (λ number. value (scope_of self.now) (part_at self.now.tree.now.trees part) ≡ Ok number) }
+    {
+        match part {
+            Some(node) => self.quick_node(node),
+            None => Some(0),
+        }
+    }
+
+    /// The cell of a place, if it has no trap.
+    #[inline(always)]
+    pub(crate) fn quick_place(&self, place: Option<u32>) -> Option<usize>
+        requires place { IsPart self.now.tree.now.trees place }
+        requires view { HasNumbers self.now.view }
+        ensures { IfSome result (λ cell. cell_of (scope_of self.now) (part_at self.now.tree.now.trees place) ≡ Ok cell) }
+    {
+        match place {
+            Some(node) => self.quick_cell(node),
+            None => None,
+        }
+    }
+
+    /// The number of an expression, if it has no trap.
+    #[cycle(quick)]
+    #[tactic(auto, using(crate::proofs::Values::value_is, crate::proofs::Values::cell_is))]
+    fn quick_node(&self, node: u32) -> Option<i32>
+        requires node { node < length self.now.tree.now.trees }
+        requires view { HasNumbers self.now.view }
+        ensures { IfSome result (λ number. value (scope_of self.now) (tree_at self.now.tree.now.trees node) ≡ Ok number) }
+    {
+        match self.tree.kind(node) {
+            NodeKind::Number => Some(self.tree.number(node)),
+            NodeKind::Place => {
+                let cell = self.quick_cell(node)?;
+                Some(number_in(self.cells, cell))
+            }
+            NodeKind::Paren => self.quick_operand(node, 0),
+            NodeKind::Getter(which) => Some(thread_number(which, self.view)),
+            NodeKind::Unary(operator) => self.quick_unary(operator, node),
+            NodeKind::Binary(operator) => self.quick_binary(operator, node),
+            _ => Some(0),
+        }
+    }
+
+    /// The number of an operand, if it has no trap. One that is missing is 0. Numbers and plain names are told without a call.
+    #[cycle(quick)]
+    #[tactic(auto, using(crate::proofs::Values::value_is, crate::proofs::Values::cell_is))]
+    #[inline(always)]
+    fn quick_operand(&self, node: u32, place: u32) -> Option<i32>
+        requires node { node < length self.now.tree.now.trees }
+        requires view { HasNumbers self.now.view }
+        ensures { IfSome result (λ number. operand_at self.now node place ≡ Ok number) }
+    {
+        let Some(child) = self.tree.child(node, place) else {
+            return Some(0);
+        };
+        match self.tree.kind(child) {
+            NodeKind::Number => Some(self.tree.number(child)),
+            NodeKind::Place => match self.tree.child(child, 0) {
+                None => Some(self.named_number(self.tree.name(child))),
+                Some(_) => self.quick_node(child),
+            },
+            _ => self.quick_node(child),
+        }
+    }
+
+    /// What is in the first cell of a name.
+    #[inline(always)]
+    fn named_number(&self, name: u32) -> i32
+        ensures { result ≡ cell_at self.now.cells.now (entry_of (scope_of self.now).env name).first }
+    {
+        number_in(self.cells, self.entry(name).first as usize)
+    }
+
+    /// The cell of a place, if it has no trap.
+    #[cycle(quick)]
+    #[tactic(auto, using(crate::proofs::Values::cell_is))]
+    #[inline(always)]
+    fn quick_cell(&self, node: u32) -> Option<usize>
+        requires node { node < length self.now.tree.now.trees }
+        requires view { HasNumbers self.now.view }
+        ensures { IfSome result (λ cell. cell_of (scope_of self.now) (tree_at self.now.tree.now.trees node) ≡ Ok cell) }
+    {
+        let entry = self.entry(self.tree.name(node));
+        match self.tree.child(node, 0) {
+            None => Some(entry.first as usize),
+            Some(child) => {
+                let index = self.quick_node(child)?;
+                match element(entry, index) {
+                    Ok(cell) => Some(cell),
+                    Err(_) => None,
+                }
+            }
+        }
+    }
+
+    #[cycle(quick)]
+    #[inline(always)]
+    fn quick_unary(&self, operator: UnaryOp, node: u32) -> Option<i32>
+        requires node { node < length self.now.tree.now.trees }
+        requires view { HasNumbers self.now.view }
+        ensures { IfSome result (λ number. unary_value operator (operand_at self.now node 0) ≡ Ok number) }
+    {
+        let number = self.quick_operand(node, 0)?;
+        match unary_result(operator, number) {
+            Ok(result) => Some(result),
+            Err(_) => None,
+        }
+    }
+
+    /// The right operand isn't looked at where the left one decides.
+    #[cycle(quick)]
+    #[inline(always)]
+    fn quick_binary(&self, operator: BinaryOp, node: u32) -> Option<i32>
+        requires node { node < length self.now.tree.now.trees }
+        requires view { HasNumbers self.now.view }
+        ensures { IfSome result (λ number. binary_value operator (operand_at self.now node 0) (operand_at self.now node 1) ≡ Ok number) }
+    {
+        let left = self.quick_operand(node, 0)?;
+        if let Some(number) = deciding_value(operator, left) {
+            return Some(number);
+        }
+        let right = self.quick_operand(node, 1)?;
+        match binary_result(operator, left, right) {
+            Ok(result) => Some(result),
+            Err(_) => None,
         }
     }
 

@@ -3,7 +3,10 @@
 ghost use Rattle.std.specs.Prelude.{◌≡◌, ◌+◌, ◌<◌, ◌≤◌, [], ◌∷◌, drop, length, max, reverse, slice_get, slice_set, IfOk, OnErr, OnOk};
 ghost use Rattle.std.specs.Option.{option_map};
 ghost use Rattle.c_steps.specs.declared.stack.TheConstants.{LEAST_ROOM};
+ghost use Rattle.c_steps.specs.Ready.{CanBegin};
+ghost use Rattle.c_steps.specs.Trying.{HasPartOnTop, IsBegun, next_on_top};
 
+use crate::frame::Frame;
 use std::alloc::{AllocError, Global};
 use std::marker::Model;
 
@@ -117,5 +120,31 @@ impl<T: Copy + Drop> Stack<T> {
         self.items.reserve(room)?;
         self.free = self.free.max(room);
         Ok(())
+    }
+}
+
+impl Stack<Frame> {
+    /// The item begins that stands next. Answers whether its frame stays.
+    #[inline(always)]
+    pub(crate) fn begin(&mut self) -> bool
+        requires { CanBegin self.old.frames }
+        ensures { IsBegun self.old result self.new }
+    {
+        let Some(frame) = self.items.last_mut() else {
+            return true;
+        };
+        frame.begin()
+    }
+
+    /// The part of a block is past that stands next.
+    #[inline(always)]
+    pub(crate) fn next_part(&mut self)
+        requires { HasPartOnTop self.old.frames }
+        ensures { self.new ≡ record self.old { frames = next_on_top self.old.frames } }
+    {
+        let Some(frame) = self.items.last_mut() else {
+            return;
+        };
+        frame.next_part();
     }
 }

@@ -239,7 +239,7 @@ impl Control {
 }
 
 /// The branch of an `if` that is taken, if there is one.
-fn branch_taken(code: &Code, node: u32, number: i32) -> Option<Item>
+pub(super) fn branch_taken(code: &Code, node: u32, number: i32) -> Option<Item>
     requires { node < length code.now.trees }
     ensures branch { items_if code.now result ≡ statements.branch_taken (tree_at code.now.trees node) number }
     ensures items { IfSome result (IsItem code.now) }

@@ -172,7 +172,7 @@ fn operated(operator: BinaryOp, left: i32, right: Result<i32, u8>) -> Result<i32
 }
 
 /// The assignment that a `++` or `--` makes of 1.
-fn setting_of(which: Bump) -> Setting
+pub(super) fn setting_of(which: Bump) -> Setting
     ensures { result ≡ statements.setting_of which }
 {
     match which {

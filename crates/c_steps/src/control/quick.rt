@@ -1,0 +1,283 @@
+//! Statements that evaluate expressions, made where no expression has a trap.
+
+ghost use Rattle.std.specs.Prelude.{◌≡◌, ◌<◌, length, if◌then◌else◌, Ok, pos, IfSome};
+ghost use Rattle.c_syntax.specs.Tree.{kind_of};
+ghost use Rattle.c_syntax.specs.Numbered.{tree_at};
+ghost use Rattle.c_check.specs.Loops.{child_at};
+ghost use Rattle.c_model.specs.Calls as calls;
+ghost use Rattle.c_model.specs.Parts.{has_child};
+ghost use Rattle.c_model.specs.Statements as statements;
+ghost use Rattle.c_model.specs.Value as values;
+ghost use Rattle.c_steps.specs.Held.{here_at, scope_in};
+ghost use Rattle.c_steps.specs.Items.{with_file};
+ghost use Rattle.c_steps.specs.Nodes.{IsPart, part_at};
+ghost use Rattle.c_steps.specs.Ready.{IsStepping};
+ghost use Rattle.c_steps.specs.Scopes.{HasNumbers};
+ghost use Rattle.c_steps.specs.Trying.{IsAttempt, IsChange};
+ghost use Rattle.c_steps.specs.Widths.{step_names};
+
+use crate::cells::Cells;
+use crate::code::Code;
+use crate::control::Control;
+use crate::control::statements::branch_taken;
+use crate::control::steps::setting_of;
+use crate::item::Item;
+use crate::numbers::binary_result;
+use c_model::View;
+use c_syntax::{BinaryOp, NodeKind, Setting};
+
+/// A cell and the number that it gets.
+#[derive(Clone, Copy)]
+pub(crate) struct Change {
+    pub(crate) cell: usize,
+    pub(crate) number: i32,
+}
+
+impl Control {
+    /// A step that is a statement.
+    #[inline(never)]
+    pub(super) fn try_change(
+        &mut self,
+        code: &Code,
+        cells: &mut Cells,
+        view: View,
+        node: u32,
+    ) -> bool
+        requires ready { IsStepping code.now self.old }
+        requires node { node < length code.now.trees }
+        requires view { HasNumbers view }
+        ensures { IsAttempt code.now (statements.begin_step (here_at code.now view self.old cells.old) (tree_at code.now.trees node)) result self.old cells.old self.new cells.new }
+    {
+        match self.change(code, cells, view, code.child(Some(node), 0)) {
+            Some(change) => {
+                self.step();
+                cells.set(change.cell, change.number);
+                true
+            }
+            None => false,
+        }
+    }
+
+    /// The third part of a plain `for`, and then its test stands next.
+    #[tactic(auto, unfolding(crate::specs::Items::todo_at, crate::specs::Items::calls_at))]
+    #[inline(never)]
+    pub(super) fn try_third(
+        &mut self,
+        code: &Code,
+        cells: &mut Cells,
+        view: View,
+        node: u32,
+        names: usize,
+    ) -> bool
+        requires ready { IsStepping code.now self.old }
+        requires node { node < length code.now.trees }
+        requires view { HasNumbers view }
+        ensures { IsAttempt code.now (statements.third_for (here_at code.now view self.old cells.old) (tree_at code.now.trees node) (with_file code.now names)) result self.old cells.old self.new cells.new }
+    {
+        match self.change(code, cells, view, code.child(Some(node), 2)) {
+            Some(change) => {
+                self.step();
+                self.then(Item::Test { node, names });
+                cells.set(change.cell, change.number);
+                true
+            }
+            None => false,
+        }
+    }
+
+    /// `if`: the branch that is taken stands next.
+    #[tactic(auto, using(crate::proofs::Stepping::todo_if, crate::proofs::Stepping::calls_if, crate::proofs::Stepping::are_if))]
+    #[inline(never)]
+    pub(super) fn try_if(&mut self, code: &Code, cells: &Cells, view: View, node: u32) -> bool
+        requires ready { IsStepping code.now self.old }
+        requires node { node < length code.now.trees }
+        requires view { HasNumbers view }
+        ensures { IsAttempt code.now (statements.begin_if (here_at code.now view self.old cells.now) (tree_at code.now.trees node)) result self.old cells.now self.new cells.now }
+    {
+        let condition = code.child(Some(node), 0);
+        match self.quick_value(code, cells, view, condition) {
+            Some(number) => {
+                let branch = branch_taken(code, node, number);
+                self.step();
+                self.then_if(branch);
+                true
+            }
+            None => false,
+        }
+    }
+
+    /// `while`: the statement stands next, and then the loop again, or nothing.
+    #[tactic(auto, unfolding(crate::specs::Items::todo_at, crate::specs::Items::calls_at))]
+    #[inline(never)]
+    pub(super) fn try_while(&mut self, code: &Code, cells: &Cells, view: View, node: u32) -> bool
+        requires ready { IsStepping code.now self.old }
+        requires node { node < length code.now.trees }
+        requires view { HasNumbers view }
+        ensures { IsAttempt code.now (statements.begin_while (here_at code.now view self.old cells.now) (tree_at code.now.trees node)) result self.old cells.now self.new cells.now }
+    {
+        let condition = code.child(Some(node), 0);
+        match self.quick_value(code, cells, view, condition) {
+            None => false,
+            Some(0) => {
+                self.step();
+                true
+            }
+            Some(_) => {
+                let statement = code.child(Some(node), 1);
+                self.step();
+                self.then(Item::Start(Some(node)));
+                self.then(Item::Start(statement));
+                true
+            }
+        }
+    }
+
+    /// The test of a plain `for`. Where it is 0 so many names stay in scope.
+    #[tactic(auto, using(crate::proofs::Frames::cut_names, crate::proofs::Frames::take_shorter), unfolding(crate::specs::Items::todo_at, crate::specs::Items::calls_at))]
+    #[inline(never)]
+    pub(super) fn try_test(
+        &mut self,
+        code: &Code,
+        cells: &Cells,
+        view: View,
+        node: u32,
+        names: usize,
+    ) -> bool
+        requires ready { IsStepping code.now self.old }
+        requires node { node < length code.now.trees }
+        requires view { HasNumbers view }
+        ensures { IsAttempt code.now (statements.test_for (here_at code.now view self.old cells.now) (tree_at code.now.trees node) (with_file code.now names)) result self.old cells.now self.new cells.now }
+    {
+        match self.quick_test(code, cells, view, node) {
+            None => false,
+            Some(0) => {
+                self.step();
+                self.cut(names);
+                true
+            }
+            Some(_) => {
+                let statement = code.child(Some(node), 3);
+                self.step();
+                self.then(Item::Third { node, names });
+                self.then(Item::Start(statement));
+                true
+            }
+        }
+    }
+
+    /// `return`, of nothing, of a call, or of an expression.
+    #[inline(never)]
+    pub(super) fn try_return(
+        &mut self,
+        code: &Code,
+        cells: &mut Cells,
+        view: View,
+        node: u32,
+    ) -> bool
+        requires ready { IsStepping code.now self.old }
+        requires node { node < length code.now.trees }
+        requires view { HasNumbers view }
+        requires step_names { self.old.step_names ≡ step_names code.now }
+        ensures { IsAttempt code.now (calls.begin_return (here_at code.now view self.old cells.old) (tree_at code.now.trees node)) result self.old cells.old self.new cells.new }
+    {
+        let right = code.child(Some(node), 0);
+        match code.kind(right) {
+            NodeKind::Call | NodeKind::TestLock => {
+                self.try_call_returned(code, cells, view, node)
+            }
+            _ => match self.quick_value(code, cells, view, right) {
+                Some(number) => self.try_returns(code, cells, view, number),
+                None => false,
+            },
+        }
+    }
+
+    /// The number of the test of a plain `for`, 1 where it has none, if it has no trap.
+    #[inline(always)]
+    fn quick_test(&self, code: &Code, cells: &Cells, view: View, node: u32) -> Option<i32>
+        requires node { node < length code.now.trees }
+        requires view { HasNumbers view }
+        ensures { IfSome result (λ number. (if has_child (tree_at code.now.trees node) 1 then values.value (scope_in code.now view self.now cells.now) (child_at (tree_at code.now.trees node) 1) else Ok (pos 1)) ≡ Ok number) }
+    {
+        match code.child(Some(node), 1) {
+            Some(test) => self.quick_value(code, cells, view, Some(test)),
+            None => Some(1),
+        }
+    }
+
+    /// The number of an expression, if it has no trap. An expression that is missing is 0.
+    #[inline(always)]
+    fn quick_value(&self, code: &Code, cells: &Cells, view: View, part: Option<u32>) -> Option<i32>
+        requires part { IsPart code.now.trees part }
+        requires view { HasNumbers view }
+        ensures { IfSome result (λ number. values.value (scope_in code.now view self.now cells.now) (part_at code.now.trees part) ≡ Ok number) }
+    {
+        self.scope(code, cells.items(), view).quick_value(part)
+    }
+
+    /// What an assignment, `++` or `--` changes, if it has no trap. Any other statement has none.
+    #[tactic(auto, using(crate::proofs::Trying::assigns_change))]
+    #[inline(always)]
+    fn change(&self, code: &Code, cells: &Cells, view: View, part: Option<u32>) -> Option<Change>
+        requires part { IsPart code.now.trees part }
+        requires view { HasNumbers view }
+        ensures { IfSome result (IsChange (statements.makes_step (kind_of (part_at code.now.trees part)) (here_at code.now view self.now cells.now) (part_at code.now.trees part)) (here_at code.now view self.now cells.now)) }
+    {
+        match code.kind(part) {
+            NodeKind::Assign(which) => {
+                let right = self.quick_value(code, cells, view, code.child(part, 1))?;
+                self.assignment(code, cells, view, which, code.child(part, 0), right)
+            }
+            NodeKind::Bump(which, _) => {
+                self.assignment(code, cells, view, setting_of(which), code.child(part, 0), 1)
+            }
+            _ => None,
+        }
+    }
+
+    /// What an assignment of this number changes, if it has no trap.
+    #[inline(always)]
+    fn assignment(
+        &self,
+        code: &Code,
+        cells: &Cells,
+        view: View,
+        which: Setting,
+        place: Option<u32>,
+        right: i32,
+    ) -> Option<Change>
+        requires place { IsPart code.now.trees place }
+        requires view { HasNumbers view }
+        ensures { IfSome result (IsChange (statements.assigns (here_at code.now view self.now cells.now) which (part_at code.now.trees place) (Ok right)) (here_at code.now view self.now cells.now)) }
+    {
+        let cell = self.scope(code, cells.items(), view).quick_place(place)?;
+        let number = changed_number(which, cells.number(cell), right)?;
+        Some(Change { cell, number })
+    }
+}
+
+/// What an assignment puts into its cell, by what the cell holds and the number of its right side, if that fits.
+#[inline(always)]
+fn changed_number(which: Setting, held: i32, right: i32) -> Option<i32>
+    ensures { IfSome result (λ number. statements.new_number which held (Ok right) ≡ Ok number) }
+{
+    match which {
+        Setting::Plain => Some(right),
+        Setting::Add => quick_result(BinaryOp::Add, held, right),
+        Setting::Subtract => quick_result(BinaryOp::Subtract, held, right),
+        Setting::Multiply => quick_result(BinaryOp::Multiply, held, right),
+        Setting::Divide => quick_result(BinaryOp::Divide, held, right),
+        Setting::Remainder => quick_result(BinaryOp::Remainder, held, right),
+    }
+}
+
+/// What an operator makes of two numbers, if that fits.
+#[inline(always)]
+fn quick_result(operator: BinaryOp, left: i32, right: i32) -> Option<i32>
+    ensures { IfSome result (λ number. values.binary_result operator left right ≡ Ok number) }
+{
+    match binary_result(operator, left, right) {
+        Ok(number) => Some(number),
+        Err(_) => None,
+    }
+}
