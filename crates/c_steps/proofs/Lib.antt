@@ -1,4 +1,5 @@
 mod Advancing
+pub mod AtOnce
 pub mod Around
 pub mod Asked
 mod BeginCall

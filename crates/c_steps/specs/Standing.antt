@@ -1,9 +1,12 @@
 -- What a frame comes to, when what the task goes past is left out.
-use Rattle.std.specs.Prelude.{◌≡◌, List, [], ◌∷◌, slice_get, Option, Some, None}
+use Rattle.std.specs.Prelude.{◌≡◌, false, List, [], ◌∷◌, slice_get, Option, Some, None}
 use Rattle.c_syntax.specs.Numbered.{TreeView}
 use Rattle.c_model.specs.declared.view.View.{View}
-use Rattle.c_model.specs.Step.{items_from_next}
+use Rattle.c_model.specs.Step.{is_passed_over, items_from_next}
+use Rattle.c_model.specs.Upcoming.{upcoming_item}
+use Rattle.c_model.specs.declared.upcoming.Upcoming.{Upcoming}
 use Rattle.c_steps.specs.declared.frame.Frame.{Frame}
+use Rattle.c_steps.specs.declared.item.Item.{Item}
 use Rattle.c_steps.specs.declared.control.standing.Front.{Front}
 use Rattle.c_steps.specs.declared.control.standing.Front.TheVariants as front
 use Rattle.c_steps.specs.Items.{begun, item_at, todo_at}
@@ -26,3 +29,7 @@ above (Some it) frames = it ∷ frames
 -- a frame whose item has begun is this one
 abbrev pub BeginsAs : Frame → Option Frame → Type 0
 BeginsAs it other = (frames : List Frame) → begun (it ∷ frames) ≡ above other frames
+
+-- an item tells by itself that this comes next where it stands next, and no task goes past it
+abbrev pub ItemTells : TreeView → Item → Upcoming → Type 0
+ItemTells program it upcoming = (upcoming_item (item_at program it) ≡ upcoming) × ((view : View) → is_passed_over (item_at program it) view ≡ false)
