@@ -304,21 +304,6 @@ impl Tasks {
         next
     }
 
-    /// Makes a plain silent step.
-    pub fn try_step(&mut self, task: u32, view: View) -> bool {
-        let Some(kept) = self.list.get_mut(task as usize) else {
-            return false;
-        };
-        let Some(control) = &mut kept.control else {
-            return false;
-        };
-        let made = control.try_step(&self.code, &mut self.cells, view);
-        if made {
-            self.room.steps -= 1;
-        }
-        made
-    }
-
     /// What the task's code has asked is answered.
     pub fn give(&mut self, task: u32, answer: Answer)
         requires room { HasSteps self.old.room task }

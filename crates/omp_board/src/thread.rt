@@ -103,15 +103,6 @@ impl Thread {
         &self.stack
     }
 
-    /// Whether it's to do what its current task's code says.
-    pub fn is_free(&self) -> bool {
-        matches!(self.stage, ThreadStage::Begun)
-            && self.invited == 0
-            && self.undeferred == 0
-            && self.taken.is_none()
-            && !self.stack.is_empty()
-    }
-
     /// The current task, or 0.
     pub fn current(&self) -> u32
         ensures { result ≡ slice_index_or self.now.stack 0 0 }

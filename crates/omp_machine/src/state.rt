@@ -174,14 +174,6 @@ impl State {
         Ok(())
     }
 
-    fn try_step(&mut self, thread: u8, view: View) -> bool {
-        let made = self.board.try_step(thread, view);
-        if made {
-            self.steps += 1;
-        }
-        made
-    }
-
     /// Makes silent steps, at most as many as a turn may have.
     fn walk(&mut self, limit: u32, thread: u8) -> Walk
         requires room { HasEvent self.old.room self.old.state.world thread }
@@ -194,9 +186,6 @@ impl State {
     {
         let view = self.view(thread);
         for made in 0..STEPS_OF_A_TURN {
-            if self.steps < limit && self.try_step(thread, view) {
-                continue;
-            }
             match self.arrival(thread) {
                 Arrival::Steps => {}
                 Arrival::Waits | Arrival::Comes | Arrival::Meets(_) => {

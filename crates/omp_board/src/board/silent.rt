@@ -49,23 +49,6 @@ impl Board {
         }
     }
 
-    /// Makes a plain silent step.
-    pub fn try_step(&mut self, thread: u8, view: View) -> bool {
-        match self.free_task(thread) {
-            Some(task) => self.tasks.try_step(task, view),
-            None => false,
-        }
-    }
-
-    fn free_task(&self, thread: u8) -> Option<u32> {
-        let found = self.threads.get(thread as usize)?;
-        if found.is_free() {
-            Some(found.current())
-        } else {
-            None
-        }
-    }
-
     /// Makes a silent step of the code of the thread's current task, or says what stands next.
     pub(super) fn advance(&mut self, thread: u8, view: View) -> Next
         requires numbers { HasNumbers view }
