@@ -7,21 +7,21 @@ use Rattle.c_syntax.specs.Numbered.{TreeView}
 use Rattle.c_model.specs.declared.upcoming.Upcoming.TheVariants as upcoming
 use Rattle.c_model.specs.declared.view.View.{View}
 use Rattle.c_model.specs.Standing.{Fits}
-use Rattle.c_model.specs.Step.{is_event, is_event_statement, is_masked, is_passed_over, items_from_next, settled_task, silent, step_of}
+use Rattle.c_model.specs.Step.{is_event, is_event_statement, is_masked, is_passed_over, settled_task, silent, step_of}
 use Rattle.c_model.specs.Task.{Here, Item as SeenItem, Moment, Outcome, Store, Task}
 use Rattle.c_model.specs.Task.Item.{Start}
 use Rattle.c_model.specs.Task.Outcome.{StepsTo}
-use Rattle.c_model.specs.Upcoming.{upcoming_among, upcoming_item, upcoming_of}
+use Rattle.c_model.specs.Upcoming.{upcoming_among, upcoming_item}
 use Rattle.c_model.specs.Width.{IsWithin}
 use Rattle.c_model.proofs.Standing.{fits-item}
 use Rattle.c_steps.specs.declared.next.Next.TheVariants as next
 use Rattle.c_steps.specs.declared.plain.Plain.{Plain}
 use Rattle.c_steps.specs.declared.plain.Plain.TheVariants as plain
 use Rattle.c_steps.specs.Held.{Held, here_at, moment_at, task_at}
-use Rattle.c_steps.specs.Items.{begun, item_at, todo_at}
+use Rattle.c_steps.specs.Items.{item_at}
 use Rattle.c_steps.specs.Made.{IsMadeFor}
-use Rattle.c_steps.specs.Ready.{AreFrames, IsAfterStep, IsFront}
-use Rattle.c_steps.specs.Trying.{ComesTo, IsAttempt, IsStepMade, IsTried, IsUntouched, item_of}
+use Rattle.c_steps.specs.Ready.{AreFrames, IsFront}
+use Rattle.c_steps.specs.Trying.{ComesTo, IsAttempt, IsTried, item_of}
 use Rattle.c_steps.proofs.Advancing.{made_after, silent_front}
 use Rattle.c_steps.proofs.Settling.{settled_at_front, settles_none}
 

@@ -1,4 +1,4 @@
-use Rattle.std.proofs.Common.{◌≡◌, ◌-◌, ◌<◌, length, reverse, slice_index_or, vec_len, refl, arith, rules}
+use Rattle.std.proofs.Common.{◌≡◌, ◌-◌, ◌<◌, length, reverse, vec_len, refl, arith, rules}
 use Rattle.c_steps.proofs.Tops.{begun_stack}
 use Rattle.c_steps.proofs.stack.Stack+Frame.begin.Goals as goal
 

@@ -1,5 +1,5 @@
-use Rattle.std.proofs.Common.{◌≡◌, ◌-◌, ◌<◌, length, reverse, slice_index_or, vec_len, refl, arith, rules}
-use Rattle.c_steps.proofs.Tops.{next_stack, part_top}
+use Rattle.std.proofs.Common.{◌≡◌, ◌-◌, ◌<◌, length, reverse, vec_len, refl, arith, rules}
+use Rattle.c_steps.proofs.Tops.{next_stack}
 use Rattle.c_steps.proofs.stack.Stack+Frame.next_part.Goals as goal
 
 pub returns : goal.returns
