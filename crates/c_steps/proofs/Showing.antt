@@ -99,7 +99,7 @@ module _ (program : TreeView) (old : Held) (it : Frame) (are : AreFrames program
   pub placed_front : (found : Item) → IsInPlaceOf program it (frame.One found) → (new : Held) → new ≡ record old { frames = slice_set old.frames 0 (frame.One found) } → IsFront program new.frames found
   placed_front found same new is =
       subst (λ (frames : List Frame). IsFront program frames found) (sym (ap Held.frames is ∙ set_top (frame.One found) same))
-          ((shows_one program found same.is_frame).front rest (All-tail (IsFrame program) it rest are_whole))
+      ((shows_one program found same.is_frame).front rest (All-tail (IsFrame program) it rest are_whole))
 
 -- an item that is a frame of its own stands next, if it is plain
 pub shown_one : (program : TreeView) (old : Held) (it : Item) (found : Option Plain) → AreFrames program old.frames → Some (frame.One it) ≡ slice_get old.frames 0 → IfSome found (λ (found : Plain). it ≡ item_of found) → IfSome found (λ (found : Plain). IsFront program old.frames (item_of found))

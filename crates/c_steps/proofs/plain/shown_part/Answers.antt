@@ -7,6 +7,6 @@ returns-in_default c = λ names. instead_leave c.args.code.now c.args.block c.ar
 
 pub returns-in-None : goal.returns-in-None
 returns-in-None c = λ names. (
-    omega (arith, c.in-Some.ensures.fits),
-    instead_next c.args.code.now c.args.block c.args.place c.args.at names _ c.requires c.in-Some.ensures.parts c.in-None.ensures.none,
+  omega (arith, c.in-Some.ensures.fits),
+  instead_next c.args.code.now c.args.block c.args.place c.args.at names _ c.requires c.in-Some.ensures.parts c.in-None.ensures.none,
 )
