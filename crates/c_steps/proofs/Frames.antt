@@ -8,7 +8,7 @@ use Rattle.c_model.specs.declared.point.Target.{Target}
 use Rattle.c_model.specs.Task.{OpenCall}
 use Rattle.c_steps.specs.declared.frame.Frame.{Frame}
 use Rattle.c_steps.specs.declared.frame.Frame.TheVariants as frame
-use Rattle.c_steps.specs.Items.{begun, calls_at, file_names, todo_at, with_file}
+use Rattle.c_steps.specs.Items.{calls_at, file_names, todo_at, with_file}
 use Rattle.c_steps.specs.Moves.{below_call, last_call}
 use Rattle.c_syntax.specs.Numbered.{tree_at}
 use Rattle.c_check.specs.Tasks.{from_place}
@@ -16,7 +16,6 @@ use Rattle.c_model.specs.Parts.{flat_declarations, parts}
 use Rattle.c_model.specs.Task.{items_of_parts}
 use Rattle.c_model.specs.Task.Item.{Leave}
 use Rattle.c_steps.specs.Ready.{IsPlain}
-use Rattle.c_steps.specs.Standing.{BeginsAs}
 use Rattle.c_steps.specs.Widths.{step_names}
 use Rattle.c_steps.proofs.Looking.{parts_left_whole}
 use Rattle.c_steps.specs.Rooming.{open_calls}
@@ -69,27 +68,6 @@ same_count it other frames plain fine = sym (plain_first other frames fine).coun
 pub replaced_top : (frames : List Frame) (it other : Frame) → Some it ≡ slice_get frames 0 → IsPlain it → IsPlain other → open_calls (slice_set frames 0 other) ≡ open_calls frames
 replaced_top [] it other top plain fine = absurd (search rules)
 replaced_top (first ∷ frames) it other top plain fine = let same : it ≡ first = search rules in same_count first other frames (subst IsPlain same plain) fine
-
--- no call more or less is open when an item has begun
-begun_count : (it : Frame) (frames : List Frame) → open_calls (begun (it ∷ frames)) ≡ open_calls (it ∷ frames)
-unfolding open_calls
-begun_count (frame.One it) frames = refl
-begun_count (frame.Parts block place at names) frames = refl
-begun_count (frame.Combining construct from names) frames = refl
-begun_count (frame.Combines operator name construct from names) frames = refl
-begun_count (frame.Caller base to) frames = refl
-
-pub begun_gone : (frames : List Frame) (it : Frame) → Some it ≡ slice_get frames 0 → BeginsAs it None → open_calls (drop 1 frames) ≡ open_calls frames
-begun_gone [] it top begins = absurd (search rules)
-begun_gone (first ∷ frames) it top begins =
-    let same : it ≡ first = search rules in
-    subst (λ (it : Frame). open_calls frames ≡ open_calls (it ∷ frames)) same (sym (ap open_calls (begins frames)) ∙ begun_count it frames)
-
-pub begun_left : (frames : List Frame) (it other : Frame) → Some it ≡ slice_get frames 0 → BeginsAs it (Some other) → open_calls (slice_set frames 0 other) ≡ open_calls frames
-begun_left [] it other top begins = absurd (search rules)
-begun_left (first ∷ frames) it other top begins =
-    let same : it ≡ first = search rules in
-    subst (λ (it : Frame). open_calls (other ∷ frames) ≡ open_calls (it ∷ frames)) same (sym (ap open_calls (begins frames)) ∙ begun_count it frames)
 
 -- a call on top
 pub record IsCallerTop (base : ℕ) (to : Target) (frames : List Frame) : Type 0 where

@@ -36,9 +36,9 @@ pub mod Standing
 mod StepNames
 mod Stepping
 pub mod TaskNames
+pub mod Tops
 pub mod Tried
 pub mod Trying
-pub mod Tops
 mod Values
 mod ValuesAll
 mod ValuesNamed

@@ -1,18 +1,12 @@
 -- A step that is tried.
-use Rattle.std.proofs.Common.{◌≡◌, ℕ, ℤ, Ok, refl, sym}
-use Rattle.c_syntax.specs.declared.node.Setting.{Setting}
-use Rattle.c_syntax.specs.Tree.{Tree}
+use Rattle.std.proofs.Common.{◌≡◌, sym}
 use Rattle.c_syntax.specs.Numbered.{TreeView}
-use Rattle.c_model.specs.Cells.{cell_at}
-use Rattle.c_model.specs.Coming.{scope_of}
-use Rattle.c_model.specs.Statements.{assigns, new_number}
-use Rattle.c_model.specs.Task.{Here, Outcome, Store}
-use Rattle.c_model.specs.Value.{cell_of}
+use Rattle.c_model.specs.Task.{Outcome, Store}
 use Rattle.c_steps.specs.declared.next.Next.{Next}
 use Rattle.c_steps.specs.declared.next.Next.TheVariants as next
 use Rattle.c_steps.specs.Held.{Held, moment_at, outcome_at}
 use Rattle.c_steps.specs.Ready.{AreFrames, IsSettled}
-use Rattle.c_steps.specs.Trying.{IsAttempt, IsChange, is_quiet}
+use Rattle.c_steps.specs.Trying.{IsAttempt, is_quiet}
 
 -- what a step comes to, told by whether it was made
 pub attempt_of : (program : TreeView) (outcome : Outcome) (result : Next) (old new : Held) (before after : Store) →
@@ -24,9 +18,3 @@ attempt_of program outcome (next.Event point node) old new before after step set
 attempt_of program outcome (next.Ended number) old new before after step settled frames = settled
 attempt_of program outcome (next.Trap trap) old new before after step settled frames = settled
 attempt_of program outcome (next.Limit limit) old new before after step settled frames = settled
-
--- an assignment whose cell and number are known changes that cell
-pub assigns_change : (here : Here) (which : Setting) (place : Tree) (right number : ℤ) (cell : ℕ) →
-    cell_of (scope_of here) place ≡ Ok cell → new_number which (cell_at here.store.cells cell) (Ok right) ≡ Ok number →
-    IsChange (assigns here which place (Ok right)) here (record { cell = cell; number = number })
-assigns_change here which place right number cell found fits items = rw (found, fits) refl

@@ -216,7 +216,6 @@ impl Control {
     }
 
     /// What an assignment, `++` or `--` changes, if it has no trap. Any other statement has none.
-    #[tactic(auto, using(crate::proofs::Trying::assigns_change))]
     #[inline(always)]
     fn change(&self, code: &Code, cells: &Cells, view: View, part: Option<u32>) -> Option<Change>
         requires part { IsPart code.now.trees part }
