@@ -45,6 +45,7 @@ impl Control {
 
     /// What stands next, when what the task goes past is left out.
     #[tactic(auto, using(crate::proofs::Standing::top_is_frame, crate::proofs::Standing::over_below, crate::proofs::Standing::nothing_below, crate::proofs::Standing::found_below, crate::proofs::Standing::none_below))]
+    #[inline(always)]
     pub(super) fn front(&self, code: &Code, view: View) -> Option<Item>
         requires { AreFrames code.now self.now.frames }
         ensures first { slice_get (steps.items_from_next view (todo_at code.now self.now.frames)) 0 ≡ option_map (item_at code.now) result }
@@ -63,6 +64,7 @@ impl Control {
 }
 
 /// What a frame comes to, when what the task goes past is left out.
+#[inline(always)]
 fn front_of(code: &Code, view: View, frame: Frame) -> Front
     requires { IsFrame code.now frame }
     ensures { Fronts code.now view frame result }
@@ -87,6 +89,7 @@ fn front_of(code: &Code, view: View, frame: Frame) -> Front
 }
 
 /// Whether an item is an event by its form.
+#[inline(always)]
 pub(super) fn is_event(code: &Code, item: Item) -> bool
     requires { IsItem code.now item }
     ensures { result ≡ steps.is_event (item_at code.now item) }
@@ -109,6 +112,7 @@ pub(super) fn is_event(code: &Code, item: Item) -> bool
 }
 
 /// Whether a statement is an event by its form.
+#[inline(always)]
 fn is_event_statement(code: &Code, part: Option<u32>) -> bool
     requires { IsPart code.now.trees part }
     ensures { result ≡ steps.is_event_statement (kind_of (part_at code.now.trees part)) (part_at code.now.trees part) }
@@ -122,6 +126,7 @@ fn is_event_statement(code: &Code, part: Option<u32>) -> bool
 }
 
 /// Whether a call tests a lock.
+#[inline(always)]
 fn is_test(kind: NodeKind) -> bool
     ensures { result ≡ steps.is_test kind }
 {

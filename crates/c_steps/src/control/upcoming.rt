@@ -15,6 +15,7 @@ use c_model::{Upcoming, View};
 
 impl Control {
     /// What comes next, told without a look at cells.
+    #[inline(always)]
     pub fn upcoming(&self, code: &Code, view: View) -> Upcoming
         requires { IsMadeFor code.now self.now }
         ensures { result ≡ upcoming_of view (task_at code.now self.now) }
@@ -27,6 +28,7 @@ impl Control {
 }
 
 /// What comes next where this item stands next.
+#[inline(always)]
 fn upcoming_item(code: &Code, item: Item) -> Upcoming
     requires { IsItem code.now item }
     ensures { result ≡ upcoming_item (item_at code.now item) }
@@ -41,6 +43,7 @@ fn upcoming_item(code: &Code, item: Item) -> Upcoming
 }
 
 /// An event or a silent step, by the form of the item.
+#[inline(always)]
 fn upcoming_by_form(code: &Code, item: Item) -> Upcoming
     requires { IsItem code.now item }
     ensures { result ≡ upcoming_by_form (item_at code.now item) }
