@@ -114,6 +114,7 @@ impl Board {
     }
 
     /// The current task of the thread, or 0.
+    #[inline(always)]
     pub fn current(&self, thread: u8) -> u32
         ensures { result ≡ current self.now.world thread }
     {
@@ -124,6 +125,7 @@ impl Board {
     }
 
     /// The region of the task, or 0.
+    #[inline(always)]
     pub fn region_of(&self, task: u32) -> u32
         ensures { result ≡ region_of self.now.world task }
     {
@@ -131,6 +133,7 @@ impl Board {
     }
 
     /// The region of the thread's current task, or 0.
+    #[inline(always)]
     pub fn current_region(&self, thread: u8) -> u32
         ensures { result ≡ current_region self.now.world thread }
     {
@@ -138,6 +141,7 @@ impl Board {
     }
 
     /// Whether the region was forked in the implicit region of the initial task.
+    #[inline(always)]
     pub fn is_outermost(&self, region: u32) -> bool
         ensures { result ≡ is_outermost self.now.world region }
     {
@@ -145,6 +149,7 @@ impl Board {
     }
 
     /// The number of the thread in the region's team.
+    #[inline(always)]
     pub fn member_index(&self, thread: u8, region: u32) -> u8
         ensures { result ≡ member_index self.now.world thread region }
     {
@@ -152,6 +157,7 @@ impl Board {
     }
 
     /// The region of the thread's current task, or 0, and the number of the thread in its team.
+    #[inline(always)]
     fn place_in_team(&self, thread: u8) -> (u32, u8)
         ensures region { result.0 ≡ current_region self.now.world thread }
         ensures member { result.1 ≡ current_index self.now.world thread }

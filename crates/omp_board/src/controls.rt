@@ -22,6 +22,7 @@ pub(crate) const MEMBER_0: View = View {
 };
 
 /// What is left of the task's code, if it has some.
+#[inline(always)]
 pub(crate) fn control_of(list: &[Task], task: u32) -> Option<&Control>
     ensures { option_copied result ≡ control_at list.now task }
 {

@@ -15,6 +15,7 @@ const FRAMES_OF_A_THREAD: u32 = 65536;
 const INSIDE: u32 = 32768;
 
 /// Whether the event starts the current task of its thread.
+#[inline(always)]
 fn starts_task(event: Event) -> bool
     ensures { result ≡ frames.starts_task event }
 {
@@ -25,6 +26,7 @@ fn starts_task(event: Event) -> bool
 }
 
 /// Whether a started task of the owner, with so many below it, is inside the runtime, at the event of the thread.
+#[inline(always)]
 fn is_inside(board: &Board, thread: u8, event: Event, owner: u8, task: u32, below: usize) -> bool
     requires { below ≤ STACK_LIMIT }
     ensures { result ≡ frames.is_inside board.now.world thread event owner task below }
@@ -35,6 +37,7 @@ fn is_inside(board: &Board, thread: u8, event: Event, owner: u8, task: u32, belo
 }
 
 /// The number of the place on the owner's stack with so many tasks below it.
+#[inline(always)]
 fn frame_base(owner: u8, below: usize) -> u32
     requires { below ≤ STACK_LIMIT }
     ensures base { result ≡ frames.frame_base owner below }
@@ -44,6 +47,7 @@ fn frame_base(owner: u8, below: usize) -> u32
 }
 
 /// The frame of a task of the owner, with so many below it, at the event of the thread. The initial task's code has no frame outside of it.
+#[inline(always)]
 pub fn frame_of(
     board: &Board,
     thread: u8,

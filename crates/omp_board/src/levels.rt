@@ -46,6 +46,19 @@ impl Levels {
         Ok(Levels { tasks, regions })
     }
 
+    /// The room of a snapshot's levels for those of the next one, where it is room for as many.
+    pub fn again(tasks: TaskLevels, regions: RegionLevels) -> Option<Levels> {
+        let TaskLevels(mut tasks) = tasks;
+        let RegionLevels(mut regions) = regions;
+        tasks.clear();
+        regions.clear();
+        if tasks.capacity() >= LEVEL_LIMIT && regions.capacity() >= LEVEL_LIMIT {
+            Some(Levels { tasks, regions })
+        } else {
+            None
+        }
+    }
+
     /// The levels at the event of the thread. They take no memory.
     pub fn fill(self, board: &Board, thread: u8, event: Event) -> (TaskLevels, RegionLevels)
         ensures tasks { result.0 ≡ snapshots.task_levels board.now.world thread event }
@@ -75,6 +88,7 @@ pub fn task_flags(kind: TaskKind) -> u32
 }
 
 /// The level of a task of the owner, with so many below it, at the event of the thread.
+#[inline(always)]
 fn task_level(
     board: &Board,
     thread: u8,
@@ -168,6 +182,7 @@ fn region_level(board: &Board, word: Word) -> RegionLevel
 }
 
 /// Adds the level of the region with this word, unless it is the last one again.
+#[inline(always)]
 fn push_region(levels: &mut Vec<RegionLevel>, board: &Board, last: u32, word: Word)
     requires { vec_len levels.old < vec_capacity levels.old }
     ensures items { levels.new.items ≡ levels.old.items ++ unless_again board.now.world last word }
@@ -180,6 +195,7 @@ fn push_region(levels: &mut Vec<RegionLevel>, board: &Board, last: u32, word: Wo
 }
 
 /// Adds the levels of regions of these levels of tasks, each once where it repeats directly.
+#[inline(always)]
 fn push_regions(levels: &mut Vec<RegionLevel>, board: &Board, tasks: &[TaskLevel])
     requires { vec_len levels.old + length tasks.now ≤ vec_capacity levels.old }
     ensures { levels.new.items ≡ levels.old.items ++ snapshots.region_levels board.now.world tasks.now }

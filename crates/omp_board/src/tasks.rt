@@ -195,6 +195,7 @@ impl Tasks {
 
     /// What comes next in the task's code, as a thread that sees this of its team executes it.
     #[tactic(auto, unfolding(c_model::specs::Step::items_from_next))]
+    #[inline(always)]
     pub fn upcoming(&self, task: u32, view: View) -> Upcoming
         ensures { result ≡ upcoming.upcoming_of view (code_in self.now task) }
     {
@@ -386,6 +387,7 @@ impl Tasks {
     }
 
     /// The program, and what is left of the task's code, if it has some.
+    #[inline(always)]
     fn code_of(&self, task: u32) -> Option<(&Code, &Control)>
         ensures code { IfSome result (λ found. task_at found.0.now found.1.now ≡ code_in self.now task) }
         ensures made { IfSome result (λ found. IsMadeFor found.0.now found.1.now) }

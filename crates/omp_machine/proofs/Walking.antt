@@ -1,6 +1,6 @@
 -- One more silent step of a walk, or its end.
 use Rattle.std.proofs.Common.{◌⊎◌, inl, inr, ◌≡◌, ℕ, zero, suc, ◌+◌, ◌-◌, ◌<◌, ◌≤◌, ◌∙◌, true, false, nat_le, Some, None, refl, ap, arith}
-use Rattle.omp_model.specs.declared.limits.TheConstants.{STEPS}
+use Rattle.omp_model.specs.declared.limits.TheConstants.{STEPS, STEPS_OF_A_TURN}
 use Rattle.omp_model.specs.declared.event.Arrival.{Arrival}
 use Rattle.omp_model.specs.declared.event.Arrival.TheVariants.{Waits, Steps, Comes, Meets}
 use Rattle.omp_model.specs.declared.event.Event.{Event}
@@ -9,7 +9,7 @@ use Rattle.omp_model.specs.declared.event.Halt.TheVariants.{Limit}
 use Rattle.omp_model.specs.State.{Run, World, State}
 use Rattle.omp_model.specs.Gates.{arrival}
 use Rattle.omp_model.specs.Silent.{Goes, Stops, silent_step}
-use Rattle.omp_model.specs.Turn.{Walk, going_past, stepped, walk, walk_by, walk_on, walked}
+use Rattle.omp_model.specs.Turn.{Walk, after_steps, after_walk, going_past, stepped, unlimited, walk, walk_by, walk_on, walked}
 
 -- where no step stands next, the walk is over
 on-rest : (run : Run) (S : State) (t made : ℕ) (next : Arrival) (more : World → Walk) → (next ≡ Steps → ⊥) → walk_on run S t made next more ≡ walked S made None
@@ -22,6 +22,11 @@ pub walk-at_rest : (run : Run) (left made : ℕ) (S : State) (t : ℕ) → (arri
 unfolding walk
 walk-at_rest run zero made S t rest = refl
 walk-at_rest run (suc left) made S t rest = on-rest run S t made (arrival S.world t) (λ after. walk run left (made + 1) (stepped S after) t) rest
+
+-- and the turn goes on with what the thread has come to
+pub turn-at_rest : (run : Run) (S : State) (t : ℕ) → (arrival S.world t ≡ Steps → ⊥) → unlimited run S t ≡ after_steps run S 0 t (arrival S.world t)
+unfolding unlimited
+turn-at_rest run S t rest = ap (λ (steps : Walk). after_walk run steps t steps.stop) (walk-at_rest run STEPS_OF_A_TURN 0 S t rest)
 
 -- where all steps were made, a step that stands next meets the limit; else it is made, or stops the run
 by-steps : (run : Run) (left made : ℕ) (S : State) (t : ℕ) → arrival S.world t ≡ Steps → walk run (suc left) made S t ≡ walk_on run S t made Steps (λ after. walk run left (made + 1) (stepped S after) t)

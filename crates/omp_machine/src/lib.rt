@@ -6,9 +6,9 @@
 //!
 //! What turns change is a board (`omp_board`): threads, tasks with their code, regions, cells and locks. `state` has the board, the callbacks that
 //! threads are inside, the counts of turns and silent steps and what halted the run, and makes a turn of them: up to 64 silent steps, and then the
-//! event that comes next. `went` is what a turn tells its caller, `settings` what fixes a run beside its program, and `machine` puts them together. In
-//! `specs/` `Standing` says what a machine is seen as, what is true of each of its states and what a turn tells, and `State` what a state of the code
-//! is seen as.
+//! event that comes next. `ready` is a thread that may begin a turn, `went` what a turn tells its caller, `settings` what fixes a run beside its
+//! program, and `machine` puts them together. In `specs/` `Standing` says what a machine is seen as, what is true of each of its states and what a
+//! turn tells, and `State` what a state of the code is seen as.
 //!
 //! Proved by the contracts of [`Machine`], over the definitions of `omp_model`:
 //!
@@ -20,9 +20,10 @@
 //! - [`Machine::put`], where `may` allows the entry, changes the state as `put` does: one word, and the count of the
 //!   stores during the callback. It takes no memory;
 //! - [`Machine::back`], of a thread inside a callback, changes the state as `back` does;
+//! - [`Machine::go_ready`] is `go` where it is known to what the thread comes, and [`Machine::reuse`] changes nothing;
 //! - [`Machine::enabled`], [`Machine::pending`], [`Machine::made`], [`Machine::halted`], [`Machine::whole`],
-//!   [`Machine::stuck`], [`Machine::first_enabled`], [`Machine::cause`], [`Machine::text`] and [`Machine::into_text`] answer exactly what the
-//!   definitions say of the run and the state.
+//!   [`Machine::stuck`], [`Machine::first_enabled`], [`Machine::first_ready`], [`Machine::cause`], [`Machine::text`] and
+//!   [`Machine::into_text`] answer exactly what the definitions say of the run and the state.
 //!
 //! For callers, `proofs/Telling.antt` has what follows from an answer of `go`: where an event was told, that it happened
 //! and is registered, and that what was told is its call with its snapshot. `proofs/Storing.antt` has what follows for
@@ -33,9 +34,11 @@
 #![tactic(auto)]
 
 mod machine;
+mod ready;
 mod settings;
 mod state;
 mod went;
 
 pub use machine::{Machine, Memory};
+pub use ready::Ready;
 pub use went::Went;

@@ -1,7 +1,9 @@
 //! The machine that runs the program.
 
-ghost use Rattle.std.specs.Prelude.{◌≡◌, ◌≤◌, IfOk, OnOk, OnErr, IsSome, IsTrue, is_some, ◌-◌};
+ghost use Rattle.std.specs.Prelude.{◌≡◌, ◌≤◌, IfOk, IfSome, OnOk, OnErr, IsSome, IsTrue, is_some, ◌-◌};
+ghost use Rattle.std.specs.Option.{option_map};
 ghost use Rattle.omp_model.specs.State.{Run, first, pending_at};
+ghost use Rattle.omp_model.specs.Gates.{arrival};
 ghost use Rattle.omp_model.specs.Turn.{turn, enabled};
 ghost use Rattle.omp_model.specs.Words.{is_made};
 ghost use Rattle.omp_model.specs.Legal.{back, may, put};
@@ -10,13 +12,14 @@ ghost use Rattle.omp_model.specs.Serial.{enabled_among, first_enabled};
 ghost use Rattle.omp_model.specs.Cause.{whole_value, is_stuck, cause_of_value, cause_of_halt, cause_in};
 ghost use Rattle.omp_machine.specs.Standing.{Standing, went_of, is_call};
 
+use crate::ready::Ready;
 use crate::settings::Settings;
 use crate::state::State;
 use crate::went::Went;
 use c_check::Program;
 use omp_board::Levels;
 use omp_model::{Cause, Halt};
-use ompt_calls::Target;
+use ompt_calls::{Snapshot, Target};
 use std::alloc::Global;
 use std::marker::Model;
 
@@ -32,6 +35,8 @@ pub struct Machine {
     settings: Settings,
     /// What the run has come to.
     state: State,
+    /// Room for the levels of the next snapshot, if there is some.
+    levels: Option<Levels>,
 }
 
 impl Model for Machine {
@@ -73,6 +78,7 @@ impl Machine {
             alloc,
             settings,
             state,
+            levels: None,
         })
     }
 
@@ -137,6 +143,42 @@ impl Machine {
         None
     }
 
+    /// The first enabled thread from `next` on, round and round, with what it comes to.
+    pub fn first_ready(&self, next: u8) -> Option<Ready>
+        requires { next ≤ self.now.run.threads }
+        ensures thread { option_map (λ (ready : Ready). ready.thread) result ≡ first_enabled self.now.run self.now.state next }
+        ensures arrival { IfSome result (λ ready. ready.arrival ≡ arrival self.now.state.world ready.thread) }
+    {
+        match self.ready_among(next, self.settings.threads) {
+            Some(ready) => Some(ready),
+            None => self.ready_among(0, next),
+        }
+    }
+
+    /// The first enabled thread from `from` on, before `end`, with what it comes to.
+    fn ready_among(&self, from: u8, end: u8) -> Option<Ready>
+        ensures thread { option_map (λ (ready : Ready). ready.thread) result ≡ enabled_among self.now.state from (end - from) }
+        ensures arrival { IfSome result (λ ready. ready.arrival ≡ arrival self.now.state.world ready.thread) }
+    {
+        for thread in from..end {
+            match self.ready(thread) {
+                Some(ready) => return Some(ready),
+                None => {}
+            }
+        }
+        None
+    }
+
+    /// The thread with what it comes to, where it may begin a turn.
+    fn ready(&self, thread: u8) -> Option<Ready>
+        ensures enabled { is_some result ≡ enabled self.now.state thread }
+        ensures thread { IfSome result (λ ready. ready.thread ≡ thread) }
+        ensures arrival { IfSome result (λ ready. ready.arrival ≡ arrival self.now.state.world thread) }
+    {
+        let arrival = self.state.ready(thread)?;
+        Some(Ready { thread, arrival })
+    }
+
     /// The cause in which the run has ended, if it has.
     pub fn cause(&self) -> Option<Cause>
         ensures { result ≡ cause_in self.now.run self.now.state }
@@ -158,10 +200,32 @@ impl Machine {
         ensures waits { IfOk result (λ went. IsTrue (is_call went) → IsSome (pending_at self.new.state thread)) }
         ensures err { OnErr result (self.new ≡ self.old) }
     {
-        let levels = Levels::new(self.alloc)?;
-        self.state.reserve(thread)?;
-        let outcome = self.state.turn(self.settings.steps, thread);
-        Ok(self.state.went(self.settings.mask, thread, outcome, levels))
+        let arrival = self.state.arrival(thread);
+        self.go_ready(Ready { thread, arrival })
+    }
+
+    /// The same, where it is known to what the thread comes.
+    pub fn go_ready(&mut self, ready: Ready) -> Result<Went, Memory>
+        requires enabled { IsTrue (enabled self.old.state ready.thread) }
+        requires arrival { ready.arrival ≡ arrival self.old.state.world ready.thread }
+        ensures turn { OnOk result (self.new ≡ record self.old { state = (turn self.old.run self.old.state ready.thread).state }) }
+        ensures went { IfOk result (λ went. went ≡ went_of self.old.run self.old.state ready.thread) }
+        ensures waits { IfOk result (λ went. IsTrue (is_call went) → IsSome (pending_at self.new.state ready.thread)) }
+        ensures err { OnErr result (self.new ≡ self.old) }
+    {
+        reserve_levels(self.alloc, &mut self.levels)?;
+        self.state.reserve(ready.thread)?;
+        let outcome = self
+            .state
+            .turn(self.settings.steps, ready.thread, ready.arrival);
+        Ok(self.state.went(self.settings.mask, ready.thread, outcome, &mut self.levels))
+    }
+
+    /// The snapshot isn't used any more. The next one takes its place in memory.
+    pub fn reuse(&mut self, snapshot: Snapshot)
+        ensures { self.new ≡ self.old }
+    {
+        self.levels = Levels::again(snapshot.tasks, snapshot.regions);
     }
 
     /// Whether the thread, region or task whose data word this is was made.
@@ -200,6 +264,16 @@ impl Machine {
     {
         self.state.into_text()
     }
+}
+
+/// Makes room for the levels of a snapshot, where there is none.
+fn reserve_levels(alloc: Global, levels: &mut Option<Levels>) -> Result<(), Memory>
+    ensures { OnOk result (IsSome levels.new) }
+{
+    if levels.is_none() {
+        *levels = Some(Levels::new(alloc)?);
+    }
+    Ok(())
 }
 
 /// Main returned this.

@@ -1,6 +1,6 @@
 //! A state of the machine, and the order of a turn.
 
-ghost use Rattle.std.specs.Prelude.{◌≡◌, ◌≤◌, ◌<◌, ◌+◌, ◌^◌, None, IfErr, IfOk, IfSome, OnErr, OnOk, nat_le, replicate, slice_set};
+ghost use Rattle.std.specs.Prelude.{◌≡◌, ◌≤◌, ◌<◌, ◌+◌, ◌^◌, None, IfErr, IfOk, IfSome, IsSome, OnErr, OnOk, is_none, is_some, nat_le, replicate, slice_set};
 ghost use Rattle.c_steps.specs.Scopes.{HasNumbers};
 ghost use Rattle.omp_model.specs.State.{Run, first, pending_at};
 ghost use Rattle.omp_model.specs.Cause.{none_pending, whole_value};
@@ -124,15 +124,46 @@ impl State {
     }
 
     /// Whether the thread may begin a turn.
-    #[tactic(auto, unfolding(omp_model::specs::Turn::enabled))]
     pub fn enabled(&self, thread: u8) -> bool
         ensures { result ≡ enabled self.now.state thread }
     {
-        self.pending(thread).is_none() && self.halt.is_none() && goes_on(self.board.arrival(thread))
+        self.may_go(thread, self.arrival(thread))
+    }
+
+    /// Whether the thread is inside no callback.
+    fn is_outside(&self, thread: u8) -> bool
+        ensures { result ≡ is_none (pending_at self.now.state thread) }
+    {
+        match self.pending.get(thread as usize) {
+            Some(callback) => callback.is_none(),
+            None => true,
+        }
+    }
+
+    /// Whether the thread, which comes to this, may begin a turn.
+    #[tactic(auto, unfolding(omp_model::specs::Turn::enabled))]
+    fn may_go(&self, thread: u8, next: Arrival) -> bool
+        requires { next ≡ arrival self.now.state.world thread }
+        ensures { result ≡ enabled self.now.state thread }
+    {
+        self.is_outside(thread) && self.halt.is_none() && goes_on(next)
+    }
+
+    /// What the thread comes to next, where it may begin a turn.
+    pub fn ready(&self, thread: u8) -> Option<Arrival>
+        ensures enabled { is_some result ≡ enabled self.now.state thread }
+        ensures arrival { IfSome result (λ next. next ≡ arrival self.now.state.world thread) }
+    {
+        let next = self.arrival(thread);
+        if self.may_go(thread, next) {
+            Some(next)
+        } else {
+            None
+        }
     }
 
     /// What the thread comes to next.
-    fn arrival(&self, thread: u8) -> Arrival
+    pub fn arrival(&self, thread: u8) -> Arrival
         ensures { result ≡ arrival self.now.state.world thread }
     {
         self.board.arrival(thread)
@@ -248,8 +279,9 @@ impl State {
         }
     }
 
-    /// What follows the silent steps of a turn, so many.
-    fn after_steps(&mut self, thread: u8, made: u32) -> Outcome
+    /// What follows the silent steps of a turn, so many, where the thread comes to this.
+    fn after_steps(&mut self, thread: u8, made: u32, next: Arrival) -> Outcome
+        requires arrival { next ≡ arrival self.old.state.world thread }
         requires turns { self.old.state.turns < TURN_LIMIT }
         requires room { HasEvent self.old.room self.old.state.world thread }
         requires world { IsMadeWorld self.old.state.world }
@@ -257,7 +289,7 @@ impl State {
             ≡ record { outcome = result; state = self.new.state } }
         ensures program { self.new.program ≡ self.old.program }
     {
-        match self.board.arrival(thread) {
+        match next {
             Arrival::Waits | Arrival::Steps => {
                 if made > 0 {
                     self.turns += 1;
@@ -277,9 +309,29 @@ impl State {
         }
     }
 
-    /// The turn, but for the limit of turns.
+    /// The turn of a thread that comes to this, but for the limit of turns.
     #[tactic(auto, unfolding(omp_model::specs::Turn::unlimited))]
-    fn unlimited(&mut self, limit: u32, thread: u8) -> Outcome
+    fn unlimited(&mut self, limit: u32, thread: u8, next: Arrival) -> Outcome
+        requires arrival { next ≡ arrival self.old.state.world thread }
+        requires turns { self.old.state.turns < TURN_LIMIT }
+        requires room { HasEvent self.old.room self.old.state.world thread }
+        requires steps { steps_ahead ≤ self.old.room.steps }
+        requires world { IsMadeWorld self.old.state.world }
+        ensures turn { (run : Run) → run.program ≡ self.old.program → run.steps ≡ limit →
+            unlimited run self.old.state thread ≡ record { outcome = result; state = self.new.state } }
+        ensures program { self.new.program ≡ self.old.program }
+    {
+        match next {
+            Arrival::Steps => self.silent_first(limit, thread),
+            Arrival::Waits | Arrival::Comes | Arrival::Meets(_) => {
+                self.after_steps(thread, 0, next)
+            }
+        }
+    }
+
+    /// The same, where silent steps come first.
+    #[tactic(auto, unfolding(omp_model::specs::Turn::unlimited))]
+    fn silent_first(&mut self, limit: u32, thread: u8) -> Outcome
         requires turns { self.old.state.turns < TURN_LIMIT }
         requires room { HasEvent self.old.room self.old.state.world thread }
         requires steps { steps_ahead ≤ self.old.room.steps }
@@ -291,7 +343,10 @@ impl State {
         let walk = self.walk(limit, thread);
         match walk.stop {
             Some(halt) => self.halt_by(halt),
-            None => self.after_steps(thread, walk.made),
+            None => {
+                let next = self.arrival(thread);
+                self.after_steps(thread, walk.made, next)
+            }
         }
     }
 
@@ -304,9 +359,10 @@ impl State {
         self.board.reserve(thread)
     }
 
-    /// Does one turn of the thread, where so many silent steps may be made in all.
+    /// Does one turn of the thread, which comes to this, where so many silent steps may be made in all.
     #[tactic(auto, unfolding(omp_model::specs::Turn::turn))]
-    pub fn turn(&mut self, limit: u32, thread: u8) -> Outcome
+    pub fn turn(&mut self, limit: u32, thread: u8, next: Arrival) -> Outcome
+        requires arrival { next ≡ arrival self.old.state.world thread }
         requires turns { self.old.state.turns < TURN_LIMIT }
         requires room { HasEvent self.old.room self.old.state.world thread }
         requires steps { steps_ahead ≤ self.old.room.steps }
@@ -318,12 +374,13 @@ impl State {
         if self.turns + 1 >= TURN_LIMIT {
             self.halt_by(Halt::Limit(TURNS))
         } else {
-            self.unlimited(limit, thread)
+            self.unlimited(limit, thread, next)
         }
     }
 
     /// What the turn of the thread that has just come to this tells its caller.
-    pub fn went(&self, mask: u64, thread: u8, outcome: Outcome, levels: Levels) -> Went
+    pub fn went(&self, mask: u64, thread: u8, outcome: Outcome, levels: &mut Option<Levels>) -> Went
+        requires { IsSome levels.old }
         ensures { (run : Run) → run.mask ≡ mask → result ≡ went_after run self.now.state thread outcome }
     {
         match outcome {

@@ -1,6 +1,6 @@
 //! What a turn tells its caller.
 
-ghost use Rattle.std.specs.Prelude.{◌≡◌};
+ghost use Rattle.std.specs.Prelude.{◌≡◌, IsSome};
 ghost use Rattle.omp_model.specs.Calls as calls;
 ghost use Rattle.omp_model.specs.Snapshots.{snap_of};
 ghost use Rattle.omp_machine.specs.Standing.{told};
@@ -26,13 +26,14 @@ pub enum Went {
 }
 
 /// An event is told where its callback is registered, with what can be inquired during it.
-pub fn told(mask: u64, board: &Board, thread: u8, event: Event, levels: Levels) -> Went
+pub fn told(mask: u64, board: &Board, thread: u8, event: Event, levels: &mut Option<Levels>) -> Went
+    requires { IsSome levels.old }
     ensures { result ≡ told mask (calls.callback_of event) (calls.call_of board.now.world thread event) (snap_of board.now.world thread event) }
 {
     if is_registered(mask, callback_of(event)) {
         Went::Told(
             call_of(board, thread, event),
-            snapshot_of(board, thread, event, levels),
+            snapshot_of(board, thread, event, levels.take().unwrap()),
         )
     } else {
         Went::Untold

@@ -61,8 +61,10 @@ impl Locks {
         ensures room { OnOk result (self.new ≡ record self.old { room = 1 }) }
         ensures memory { OnErr result (self.new ≡ self.old) }
     {
-        self.entries.reserve(1)?;
-        self.room = 1;
+        if self.room != 1 {
+            self.entries.reserve(1)?;
+            self.room = 1;
+        }
         Ok(())
     }
 

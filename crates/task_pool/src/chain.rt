@@ -63,6 +63,9 @@ impl Chain {
         ensures room { OnOk result (self.new ≡ with_regions self.old region) }
         ensures memory { OnErr result (self.new ≡ self.old) }
     {
+        if self.room == 1 && (region as usize) < self.regions.len() {
+            return Ok(());
+        }
         let regions = (region as usize + 1).max(self.regions.len());
         self.nodes.reserve(1)?;
         self.regions.resize(regions, no_region())?;

@@ -3,6 +3,7 @@
 ghost use Rattle.std.specs.Prelude.{◌≡◌, ◌≢◌, ◌≤◌, ◌<◌, ◌+◌, ◌++◌, ◌∷◌, [], Some, None, IfOk, OnOk, OnErr, IsSome, IsTrue, length, ℕ};
 ghost use Rattle.ompt_calls.specs.Snapshot.{stored_of, stores_of};
 ghost use Rattle.omp_model.specs.State.{pending_at};
+ghost use Rattle.omp_model.specs.Gates.{arrival};
 ghost use Rattle.omp_model.specs.Legal.{back};
 ghost use Rattle.omp_model.specs.Serial.{first_enabled};
 ghost use Rattle.omp_model.specs.Cause.{cause_in};
@@ -14,7 +15,7 @@ ghost use Rattle.team_run.specs.Standing.{StandsAt, StopsAt};
 use crate::entries::Entries;
 use crate::ran::Memory;
 use c_check::Program;
-use omp_machine::{Machine, Went};
+use omp_machine::{Machine, Ready, Went};
 use omp_model::{Cause, Entry, What};
 use ompt_calls::{Call, Reply, Snapshot, Store};
 use std::alloc::Global;
@@ -79,8 +80,8 @@ impl<P: ToolPart> SerialRun<P> {
             first_enabled self.new.machine.run self.new.machine.state self.new.next ≡ None }
         ensures cause { result ≢ Cause.Memory → cause_in self.new.machine.run self.new.machine.state ≡ Some result }
     {
-        while let Some(thread) = self.machine.first_enabled(self.next) {
-            match self.visit(thread) {
+        while let Some(ready) = self.machine.first_ready(self.next) {
+            match self.visit(ready) {
                 Ok(()) => {}
                 Err(_) => return Cause::Memory,
             }
@@ -92,9 +93,10 @@ impl<P: ToolPart> SerialRun<P> {
     }
 
     /// One turn of the thread, with its callback.
-    fn visit(&mut self, thread: u8) -> Result<(), Memory>
+    fn visit(&mut self, ready: Ready) -> Result<(), Memory>
         requires stands { StandsAt self.old.machine.run self.old.machine.state self.old.next self.old.history.entries }
-        requires turn { first_enabled self.old.machine.run self.old.machine.state self.old.next ≡ Some thread }
+        requires turn { first_enabled self.old.machine.run self.old.machine.state self.old.next ≡ Some ready.thread }
+        requires arrival { ready.arrival ≡ arrival self.old.machine.state.world ready.thread }
         requires parts { length self.old.parts.items ≡ self.old.machine.run.threads }
         ensures run { self.new.machine.run ≡ self.old.machine.run }
         ensures serves { ServesTo P.stands_for self.old.machine.run self.old.parts.items self.old.history.entries
@@ -107,14 +109,15 @@ impl<P: ToolPart> SerialRun<P> {
     {
         self.history.reserve(ENTRIES_OF_A_TURN)?;
         let seq = self.history.len() as u32;
-        let went = self.machine.go(thread)?;
+        let thread = ready.thread;
+        let went = self.machine.go_ready(ready)?;
         self.next = thread + 1;
         self.history.push(Entry {
             thread,
             what: What::Go,
         });
         match went {
-            Went::Told(call, snapshot) => self.serve(seq, thread, &call, &snapshot),
+            Went::Told(call, snapshot) => self.serve(seq, thread, &call, snapshot),
             Went::Untold => {
                 self.back(thread);
                 Ok(())
@@ -124,38 +127,34 @@ impl<P: ToolPart> SerialRun<P> {
     }
 
     /// Calls the thread's part for its event, and adds what it stores and the return.
-    fn serve(
-        &mut self,
-        seq: u32,
-        thread: u8,
-        call: &Call,
-        snapshot: &Snapshot,
-    ) -> Result<(), Memory>
+    fn serve(&mut self, seq: u32, thread: u8, call: &Call, snapshot: Snapshot) -> Result<(), Memory>
         requires part { thread < length self.old.parts.items }
         requires room { 4 ≤ self.old.history.room }
         requires stores { (reply : Reply) →
-            MayStore self.old.machine.run self.old.machine.state thread (stores_of reply snapshot.now) }
+            MayStore self.old.machine.run self.old.machine.state thread (stores_of reply snapshot) }
         requires inside { (reply : Reply) →
-            IsSome (pending_at (put_all self.old.machine.state thread (stores_of reply snapshot.now)) thread) }
+            IsSome (pending_at (put_all self.old.machine.state thread (stores_of reply snapshot)) thread) }
         ensures run { self.new.machine.run ≡ self.old.machine.run }
         ensures next { self.new.next ≡ self.old.next }
         ensures kinds { SameKinds P.kind self.old.parts.items self.new.parts.items }
-        ensures answers { OnOk result (Answers P.stands_for seq thread call.now snapshot.now
+        ensures answers { OnOk result (Answers P.stands_for seq thread call.now snapshot
             self.old.machine.state self.old.parts.items self.old.history.entries
             self.new.machine.state self.new.parts.items self.new.history.entries) }
         ensures memory { OnErr result ((self.new.machine.state ≡ self.old.machine.state)
             × (self.new.history.entries ≡ self.old.history.entries)
             × OnlyUnheard P.stands_for (Some thread) self.old.parts.items self.new.parts.items) }
     {
-        let reply = self.parts[thread as usize].callback(seq, thread, call, snapshot)?;
-        self.store(thread, reply.first, snapshot);
-        self.store(thread, reply.second, snapshot);
-        self.store(thread, reply.third, snapshot);
+        let reply = self.parts[thread as usize].callback(seq, thread, call, &snapshot)?;
+        self.store(thread, reply.first, &snapshot);
+        self.store(thread, reply.second, &snapshot);
+        self.store(thread, reply.third, &snapshot);
         self.back(thread);
+        self.machine.reuse(snapshot);
         Ok(())
     }
 
     /// Stores this, where it takes effect.
+    #[inline(always)]
     fn store(&mut self, thread: u8, store: Option<Store>, snapshot: &Snapshot)
         requires room { 0 < self.old.history.room }
         requires may { MayStore self.old.machine.run self.old.machine.state thread (stored_of snapshot.now store) }

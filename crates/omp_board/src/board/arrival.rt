@@ -2,7 +2,7 @@
 
 ghost use Rattle.std.specs.Prelude.{◌≡◌, ◌≤◌, length, reverse, take};
 ghost use Rattle.omp_model.specs.State.{task_at};
-ghost use Rattle.omp_model.specs.Members.{current, view_of};
+ghost use Rattle.omp_model.specs.Members.{current, current_region, view_of};
 ghost use Rattle.c_model.specs.declared.point.SyncKind.TheVariants as sync;
 ghost use Rattle.omp_model.specs.declared.limits.TheConstants.{STACK_LIMIT};
 ghost use Rattle.omp_model.specs.Gates as gates;
@@ -23,6 +23,7 @@ impl Board {
 
     /// The same, where the code of the thread's current task sees this.
     #[tactic(auto, unfolding(omp_model::specs::Gates::arrival))]
+    #[inline(always)]
     pub(super) fn arrival_seeing(&self, thread: u8, view: View) -> Arrival
         requires { view ≡ view_of self.now.world thread }
         ensures { result ≡ gates.arrival self.now.world thread }
@@ -73,6 +74,7 @@ impl Board {
     }
 
     /// What a thread comes to in its current task, where this comes next in the task's code.
+    #[inline(always)]
     fn arrival_in(&self, thread: u8, task: u32, upcoming: Upcoming) -> Arrival
         requires { task ≡ current self.now.world thread }
         ensures { result ≡ gates.arrival_in self.now.world thread task upcoming }
@@ -95,6 +97,7 @@ impl Board {
     }
 
     /// What a thread comes to at an event of a barrier or taskwait.
+    #[inline(always)]
     fn arrival_at_sync(&self, thread: u8, kind: SyncKind, stage: SyncStage) -> Arrival
         ensures { result ≡ gates.arrival_at_sync self.now.world thread kind stage }
     {
@@ -139,6 +142,7 @@ impl Board {
     }
 
     /// A thread that waits starts the newest task that it may start, if there is one.
+    #[inline(always)]
     fn starts_if(&self, thread: u8) -> Arrival
         ensures { result ≡ gates.starts_if self.now.world thread (gates.next_task self.now.world thread) }
     {
@@ -152,6 +156,7 @@ impl Board {
     }
 
     /// Whether the wait of the thread's current task may end.
+    #[inline(always)]
     fn may_end(&self, thread: u8, kind: SyncKind) -> bool
         ensures { result ≡ gates.may_end self.now.world thread kind }
     {
@@ -164,6 +169,7 @@ impl Board {
     }
 
     /// Whether the thread may pass the barrier that its team met last.
+    #[inline(always)]
     fn may_pass(&self, thread: u8) -> bool
         ensures { result ≡ gates.may_end self.now.world thread sync.Barrier }
     {
@@ -173,6 +179,7 @@ impl Board {
     }
 
     /// The newest task of the thread's region that descends from all tasks that the thread holds, if there is one.
+    #[inline(always)]
     fn next_allowed(&self, thread: u8) -> Option<u32>
         ensures { result ≡ gates.next_task self.now.world thread }
     {
@@ -180,6 +187,15 @@ impl Board {
         if self.pool.newest_allowed(region, &[]).is_none() {
             return None;
         }
+        self.newest_beyond_held(thread, region)
+    }
+
+    /// The same, in this region of the thread.
+    #[inline(never)]
+    fn newest_beyond_held(&self, thread: u8, region: u32) -> Option<u32>
+        requires { region ≡ current_region self.now.world thread }
+        ensures { result ≡ gates.next_task self.now.world thread }
+    {
         let mut held = [0; STACK_LIMIT];
         let count = self.hold(thread, &mut held);
         self.pool.newest_allowed(region, &held[..count])

@@ -50,6 +50,7 @@ impl Board {
     }
 
     /// What stands next in the code of the thread's task, which leaves out what it goes past. It may be a silent step, and then that is made.
+    #[inline(always)]
     fn look(&mut self, thread: u8) -> Next
         requires room { HasStep self.old.room self.old.world thread }
         ensures outcome { outcome_at self.old.program result (moment_of self.new.world thread) ≡
@@ -96,6 +97,7 @@ impl Board {
     }
 
     /// The Go of the event at this point, which stands at this node.
+    #[inline(always)]
     fn come_to(&mut self, thread: u8, point: Point, node: u32) -> Result<Event, Halt>
         requires comes { HasComeTo self.old.program self.old.world thread point node }
         requires made { IsMadeWorld self.old.world }

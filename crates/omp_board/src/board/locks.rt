@@ -10,6 +10,7 @@ use sync_objects::LockFault;
 
 impl Board {
     /// Whether some task owns the lock or critical.
+    #[inline(always)]
     pub fn is_owned(&self, wait_id: u32) -> bool
         ensures { result ≡ is_owned self.now.world wait_id }
     {

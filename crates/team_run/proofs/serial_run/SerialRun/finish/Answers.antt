@@ -1,6 +1,9 @@
-use Rattle.std.proofs.Common.{◌<◌, ◌∙◌, None, sym, subst, arith}
+use Rattle.std.proofs.Common.{ℕ, ◌≡◌, ◌<◌, ◌∙◌, IfSome, None, Option, Some, ap, sym, subst, arith}
 use Rattle.omp_model.specs.declared.limits.TheConstants.{TURN_LIMIT}
+use Rattle.std.specs.Option.{option_map}
+use Rattle.omp_model.specs.Gates.{arrival}
 use Rattle.omp_model.specs.State.{Run}
+use Rattle.omp_machine.specs.declared.ready.Ready.{Ready}
 use Rattle.omp_model.proofs.Turns.{turn-goes}
 use Rattle.omp_model.proofs.Recording.{first_enabled-enabled}
 use Rattle.team_run.specs.Standing.{StandsAt, StopsAt}
@@ -9,18 +12,22 @@ use Rattle.team_run.proofs.Serving.{serves-then, kinds-then}
 use Rattle.team_run.proofs.Visiting.{caused, stops-here, serves-to, serves-all}
 use Rattle.team_run.proofs.serial_run.SerialRun.finish.Goals as goal
 
-pub loop-thread-smaller : goal.loop-thread-smaller
-loop-thread-smaller g c =
-    let on = first_enabled-enabled c.loop-thread.self.machine.run c.loop-thread.self.machine.state _ _ (sym c.first_enabled.ensures ∙ c.in-Some.is) in
-    let turns : c.loop-thread.self.machine.state.turns < TURN_LIMIT = c.loop-thread.invariant.stands.has_run.running (turn-goes _ _ on).halt in
+-- the thread that was found
+abbrev thread_of : Option Ready → Option ℕ
+thread_of found = option_map (λ (ready : Ready). ready.thread) found
+
+pub loop-ready-smaller : goal.loop-ready-smaller
+loop-ready-smaller g c =
+    let on = first_enabled-enabled c.loop-ready.self.machine.run c.loop-ready.self.machine.state _ _ (sym c.first_ready.ensures.thread ∙ ap thread_of c.in-Some.is) in
+    let turns : c.loop-ready.self.machine.state.turns < TURN_LIMIT = c.loop-ready.invariant.stands.has_run.running (turn-goes _ _ on).halt in
     omega (arith, c.in-Ok.ensures.turns)
 
-pub loop-thread-preserved : goal.loop-thread-preserved
-loop-thread-preserved g c =
+pub loop-ready-preserved : goal.loop-ready-preserved
+loop-ready-preserved g c =
     let stands_for = g.P.ToolPart.stands_for in
-    let before = c.loop-thread.self in
+    let before = c.loop-ready.self in
     let after = c.visit.new.self in
-    let kept = c.loop-thread.invariant in
+    let kept = c.loop-ready.invariant in
     let served : Serves stands_for before.machine.run before.parts.items before.history.entries None after.parts.items after.history.entries =
     serves-all _ _ _ _ _ (subst (λ (run : Run). StandsAt run after.machine.state after.next after.history.entries) c.in-Ok.ensures.run c.in-Ok.ensures.stands) stands_for _ _ c.in-Ok.ensures.serves in
     let of_run = subst (λ (run : Run). Serves stands_for run before.parts.items before.history.entries None after.parts.items after.history.entries) kept.run served in
@@ -33,13 +40,20 @@ loop-thread-preserved g c =
 
 pub returns-clause-serves : goal.returns-clause-serves
 returns-clause-serves g c =
-    let kept = c.loop-thread.invariant in
-    serves-to _ _ _ _ _ (subst (λ (run : Run). StandsAt run c.loop-thread.self.machine.state c.loop-thread.self.next c.loop-thread.self.history.entries) kept.run kept.stands) g.P.ToolPart.stands_for _ _ kept.serves
+    let kept = c.loop-ready.invariant in
+    serves-to _ _ _ _ _ (subst (λ (run : Run). StandsAt run c.loop-ready.self.machine.state c.loop-ready.self.next c.loop-ready.self.history.entries) kept.run kept.stands) g.P.ToolPart.stands_for _ _ kept.serves
 
 pub unreachable-requires : goal.unreachable-requires
 unreachable-requires g c =
-    caused _ _ _ _ c.loop-thread.invariant.stands (sym c.first_enabled.ensures ∙ c.in_default.is) (sym c.cause.ensures ∙ c.in-None.is)
+    caused _ _ _ _ c.loop-ready.invariant.stands (sym c.first_ready.ensures.thread ∙ ap thread_of c.in_default.is) (sym c.cause.ensures ∙ c.in-None.is)
 
 pub returns-clause-stops : goal.returns-clause-stops
 returns-clause-stops g c =
-    subst (λ (run : Run). StopsAt run c.loop-thread.self.machine.state c.loop-thread.self.history.entries) c.loop-thread.invariant.run (stops-here _ _ _ _ c.loop-thread.invariant.stands)
+    subst (λ (run : Run). StopsAt run c.loop-ready.self.machine.state c.loop-ready.self.history.entries) c.loop-ready.invariant.run (stops-here _ _ _ _ c.loop-ready.invariant.stands)
+
+pub visit-requires-clause-turn : goal.visit-requires-clause-turn
+visit-requires-clause-turn g c κs within = sym c.first_ready.ensures.thread ∙ ap thread_of c.in-Some.is
+
+pub visit-requires-clause-arrival : goal.visit-requires-clause-arrival
+visit-requires-clause-arrival g c κs within =
+    subst (λ (found : Option Ready). IfSome found (λ (ready : Ready). ready.arrival ≡ arrival c.loop-ready.self.machine.state.world ready.thread)) c.in-Some.is c.first_ready.ensures.arrival

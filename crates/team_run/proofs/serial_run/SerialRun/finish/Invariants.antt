@@ -5,8 +5,8 @@ use Rattle.team_run.specs.Standing.{StandsAt}
 use Rattle.team_run.proofs.serial_run.SerialRun.finish.Given as goal
 
 -- the run stands where its history leads to, and its parts were called for what was heard
-abbrev pub invariant-loop-thread : goal.invariant-loop-thread
-invariant-loop-thread g l =
+abbrev pub invariant-loop-ready : goal.invariant-loop-ready
+invariant-loop-ready g l =
     record {
       run : l.self.machine.run ≡ l.initial.self.machine.run;
       stands : StandsAt l.self.machine.run l.self.machine.state l.self.next l.self.history.entries;
@@ -15,5 +15,5 @@ invariant-loop-thread g l =
     }
 
 -- the turns that are left
-abbrev pub decreases-loop-thread : goal.decreases-loop-thread
-decreases-loop-thread g l = TURN_LIMIT - l.self.machine.state.turns
+abbrev pub decreases-loop-ready : goal.decreases-loop-ready
+decreases-loop-ready g l = TURN_LIMIT - l.self.machine.state.turns

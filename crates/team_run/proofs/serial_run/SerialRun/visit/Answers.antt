@@ -26,8 +26,8 @@ overflow_cast-seq g c =
     let turns : c.args.self.now.machine.state.turns < TURN_LIMIT = c.requires.stands.has_run.running (turn-goes _ _ on).halt in
     omega (arith, c.len-seq.ensures, ap length c.in_ok-reserve.ensures.entries, c.requires.stands.has_run.short)
 
-pub go-requires : goal.go-requires
-go-requires g c = first_enabled-enabled c.args.self.now.machine.run _ _ _ c.requires.turn
+pub go_ready-requires-clause-enabled : goal.go_ready-requires-clause-enabled
+go_ready-requires-clause-enabled g c = first_enabled-enabled c.args.self.now.machine.run _ _ _ c.requires.turn
 
 pub returns-in_err-went-clause-stops : goal.returns-in_err-went-clause-stops
 returns-in_err-went-clause-stops g c = rw (c.in_err-went.ensures.err, c.in_ok-reserve.ensures.entries) (stops-here _ _ _ _ c.requires.stands)
@@ -47,7 +47,7 @@ pub serve-requires-clause-stores : goal.serve-requires-clause-stores
 serve-requires-clause-stores g c κs within = λ reply.
     let run : Run = c.args.self.now.machine.run in
     let S : State = c.args.self.now.machine.state in
-    let t = c.args.thread in
+    let t = c.args.ready.thread in
     let said = told-by run (turn run S t).state t (turn run S t).outcome _ _ (sym c.in_ok-went.ensures.went ∙ c.in-Told.is) in
     let called : is_call c.in_ok-went.went ≡ true = rw c.in-Told.is refl in
     let waits : IsSome (pending_at (turn run S t).state t) = rw c.in_ok-went.ensures.turn at (c.in_ok-went.ensures.waits called) in
@@ -57,7 +57,7 @@ pub serve-requires-clause-inside : goal.serve-requires-clause-inside
 serve-requires-clause-inside g c κs within = λ reply.
     let run : Run = c.args.self.now.machine.run in
     let S : State = c.args.self.now.machine.state in
-    let t = c.args.thread in
+    let t = c.args.ready.thread in
     let said = told-by run (turn run S t).state t (turn run S t).outcome _ _ (sym c.in_ok-went.ensures.went ∙ c.in-Told.is) in
     let called : is_call c.in_ok-went.went ≡ true = rw c.in-Told.is refl in
     let waits : IsSome (pending_at (turn run S t).state t) = rw c.in_ok-went.ensures.turn at (c.in_ok-went.ensures.waits called) in
@@ -67,11 +67,11 @@ pub returns-in-Told : goal.returns-in-Told
 returns-in-Told g c =
     let run : Run = c.args.self.now.machine.run in
     let S : State = c.args.self.now.machine.state in
-    let t = c.args.thread in
+    let t = c.args.ready.thread in
     let said = told-by run (turn run S t).state t (turn run S t).outcome _ _ (sym c.in_ok-went.ensures.went ∙ c.in-Told.is) in
     let called : is_call c.in_ok-went.went ≡ true = rw c.in-Told.is refl in
     let waits : IsSome (pending_at (turn run S t).state t) = rw c.in_ok-went.ensures.turn at (c.in_ok-went.ensures.waits called) in
-    let state_is : c.go.new.self.state ≡ (turn run S t).state = rw c.in_ok-went.ensures.turn refl in
+    let state_is : c.go_ready.new.self.state ≡ (turn run S t).state = rw c.in_ok-went.ensures.turn refl in
     let before_is : c.push.new.self.entries ≡ c.args.self.now.history.entries ++ go_at t ∷ [] = rw (c.push.ensures.entries, c.in_ok-reserve.ensures.entries) refl in
     let seq_is : c.len-seq.result ≡ length c.args.self.now.history.entries = c.len-seq.ensures ∙ ap length c.in_ok-reserve.ensures.entries in
     let visited = visited-said run S _ _ t c.requires.stands c.requires.turn waits _ _ said g.P.ToolPart.stands_for c.args.self.now.parts.items _ _ _ _ seq_is state_is before_is in
@@ -92,7 +92,7 @@ pub returns-in-Untold : goal.returns-in-Untold
 returns-in-Untold g c =
     let run : Run = c.args.self.now.machine.run in
     let S : State = c.args.self.now.machine.state in
-    let t = c.args.thread in
+    let t = c.args.ready.thread in
     let unsaid = untold-by run (turn run S t).state t (turn run S t).outcome (sym c.in_ok-went.ensures.went ∙ c.in-Untold.is) in
     let called : is_call c.in_ok-went.went ≡ true = rw c.in-Untold.is refl in
     let waits : IsSome (pending_at (turn run S t).state t) = rw c.in_ok-went.ensures.turn at (c.in_ok-went.ensures.waits called) in
@@ -112,7 +112,7 @@ pub returns-in-Quiet : goal.returns-in-Quiet
 returns-in-Quiet g c =
     let run : Run = c.args.self.now.machine.run in
     let S : State = c.args.self.now.machine.state in
-    let t = c.args.thread in
+    let t = c.args.ready.thread in
     let quiet : is_call c.in_ok-went.went ≡ false = elim c.in-Quiet.is [ inl is ↦ rw is refl | inr other ↦ elim other [ inl trap ↦ rw trap.1 refl | inr limit ↦ rw limit.1 refl ] ] in
     let alone : is_call (went_of run S t) ≡ false = rw (← c.in_ok-went.ensures.went) quiet in
     let visited = visited-alone run S _ _ t c.requires.stands c.requires.turn g.P.ToolPart.stands_for c.args.self.now.parts.items (alone-by run (turn run S t).state t (turn run S t).outcome alone) in
