@@ -1,5 +1,5 @@
 -- One more level of a snapshot.
-use Rattle.std.proofs.Common.{◌≡◌, ℕ, zero, suc, ◌+◌, ◌-◌, ◌<◌, ◌≤◌, List, [], ◌∷◌, ◌++◌, ◌∙◌, length, drop, drop-cons, slice_index_or, add-one, append-nil, refl, ap, append_assoc, inl, inr, arith, take, sym}
+use Rattle.std.proofs.Common.{◌≡◌, ℕ, zero, suc, ◌+◌, ◌-◌, ◌<◌, ◌≤◌, List, [], ◌∷◌, ◌++◌, ◌∙◌, length, drop, drop-cons, slice_index_or, add-one, append-nil, refl, ap, append_assoc, inl, inr, arith, take}
 use Rattle.std.specs.Prelude.{reverse}
 use Rattle.std.proofs.lemmas.Bool.Decides.{eqb_tells}
 use Rattle.std.proofs.lemmas.List.{reverse-append, take_more, length-reverse, length-take-le, take_all}

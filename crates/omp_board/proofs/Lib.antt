@@ -16,3 +16,4 @@ pub mod Silence
 pub mod Summoning
 pub mod Tested
 pub mod ToldFree
+pub mod TriedSteps

@@ -1,15 +1,19 @@
 -- What the tasks that are kept are seen as, where one of them is written.
 use Rattle.std.proofs.Common.{◌≡◌, ℕ, ◌<◌, List, length, slice_set, slice_index_or, Some, refl, sym, ap, ◌∙◌, subst}
 use Rattle.std.proofs.Math.ListN.{get_or-map}
-use Rattle.std.proofs.lemmas.List.{get_or-set_same, map-set}
+use Rattle.std.proofs.lemmas.List.{get_or-set_same, map-set, set-get_or}
 use Rattle.c_syntax.specs.Numbered.{TreeView}
 use Rattle.c_model.specs.declared.view.View.{View}
 use Rattle.c_model.specs.Step.{settled_moment, silent}
 use Rattle.c_model.specs.Task.{Moment, Store}
+use Rattle.c_model.specs.Task.Outcome.{StepsTo}
+use Rattle.c_model.specs.Upcoming.{upcoming_of}
+use Rattle.c_model.specs.declared.upcoming.Upcoming.TheVariants as upcoming
 use Rattle.c_steps.specs.declared.next.Next.{Next}
 use Rattle.c_steps.specs.declared.next.Next.TheVariants as next
 use Rattle.c_steps.specs.Advancing.{IsKept as IsAfterAdvance, IsLeft, IsNamed}
 use Rattle.c_steps.specs.Held.{Held, moment_at, outcome_at, task_at}
+use Rattle.c_steps.specs.Trying.{IsStepMade, IsUntouched}
 use Rattle.omp_model.specs.State.{Task as Seen, no_task}
 use Rattle.omp_board.specs.declared.task.Task.{Task}
 use Rattle.omp_board.specs.Keeping.{kept_nothing, seen_task, seen_tasks}
@@ -101,3 +105,22 @@ module _ (program : TreeView) (tasks : List Task) (store : Store) (room : TaskRo
           let so = named_by program of new named in
           subst (λ (program : TreeView). IsNamedIn program of (code_in behind k).todo) (ap (λ (view : TasksView). view.program) is)
           (subst (λ (now : Moment). IsNamedIn program of now.task.todo) (sym moment_now) so)
+
+      -- a step that was tried was made ..
+      pub has_stepped : (change : TaskRoom → TaskRoom) (room_now : TaskRoom) (sight : View) → room_now ≡ change room → IsStepMade program sight control store new after →
+          (silent view.program sight (moment_in view k) ≡ StepsTo (moment_in behind k)) × (upcoming_of sight (code_in view k) ≡ upcoming.Step) × (record behind { room = room_now } ≡ record (gone_in view k (moment_in behind k)) { room = change view.room })
+      has_stepped change room_now sight is_room made = (
+        sym (stepped next.Quiet sight (sym made.step)),
+        sym (ap (λ (now : Moment). upcoming_of sight now.task) moment_found) ∙ made.upcoming,
+        gone_on change room_now is_room,
+      )
+
+    same_task : task_at program new ≡ task_at program control → seen_task program changed ≡ seen_task program kept
+    same_task same i = record (seen_task program kept) { code = (same ∙ sym (ap (code_of program) is_kept)) i }
+
+    -- .. or nothing was done
+    pub untouched : IsUntouched program control store new after → seen program (slice_set tasks k changed) after room ≡ view
+    untouched left =
+        ap (λ (now : Store). seen program (slice_set tasks k changed) now room) left.store
+        ∙ wrote changed (λ (task : Seen). task) (same_task left.task)
+        ∙ ap (λ (now : List Seen). record view { tasks = now }) (set-get_or view.tasks k no_task)

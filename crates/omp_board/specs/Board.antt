@@ -1,5 +1,5 @@
 -- What a board is seen as: the program, the world, and room for a turn.
-use Rattle.std.specs.Prelude.{ℕ, ◌+◌, ◌≡◌, ◌<◌, ◌≤◌, List, Result, Ok, Err, length, refl}
+use Rattle.std.specs.Prelude.{ℕ, Bool, true, false, ◌+◌, ◌≡◌, ◌<◌, ◌≤◌, List, Result, Ok, Err, length, refl}
 use Rattle.std.specs.Coded.{Coded, code_by, coded×, coded_ℕ, coded_list}
 use Rattle.c_syntax.specs.Codes.{tree_view_code}
 use Rattle.c_syntax.specs.Numbered.{TreeView}
@@ -17,7 +17,10 @@ use Rattle.omp_model.specs.declared.parts.RegionHead.{RegionHead}
 use Rattle.omp_model.specs.declared.event.Event.{Event}
 use Rattle.omp_model.specs.declared.event.Halt.{Halt}
 use Rattle.omp_model.specs.State.{Region, Run, Task, Thread, World}
-use Rattle.omp_model.specs.Members.{current, current_region}
+use Rattle.omp_model.specs.Gates.{arrival, arrival_in}
+use Rattle.omp_model.specs.Members.{code_of, current, current_region, view_of}
+use Rattle.omp_model.specs.declared.event.Arrival.TheVariants.{Steps}
+use Rattle.c_model.specs.Upcoming.{upcoming_of}
 use Rattle.omp_model.specs.Silent.{Goes, Stops, silent_step}
 use Rattle.omp_model.specs.Going.{Going, Happens, Halts, going_beside, going_in_code, going_to_point}
 use Rattle.omp_model.specs.Changes.{gone_past}
@@ -152,3 +155,22 @@ IsGoingBeside W t which answer after = IsGoingBy (going_beside W t which) W answ
 -- the run of a program with so many threads, in what its first world depends on
 abbrev pub run_in : TreeView → ℕ → Run
 run_in program threads = record { program = program; mask = 0; threads = threads; steps = 0 }
+
+-- what the thread comes to next is what its current task's code says, which is this task
+pub record IsFree (W : World) (t task : ℕ) : Type 0 where
+  pub of_thread : task ≡ current W t
+  pub arrives : arrival W t ≡ arrival_in W t task (upcoming_of (view_of W t) (code_of W t))
+
+-- a silent step of the thread that is tried was made, and is the one that stands next; or nothing was done
+pub record HasStepped (old : BoardView) (t : ℕ) (new : BoardView) : Type 0 where
+  pub arrives : arrival old.world t ≡ Steps
+  pub silence : silent_step (run_of old.program) old.world t ≡ Goes new.world
+  pub program : new.program ≡ old.program
+  pub room : new.room ≡ record old.room { steps = new.room.steps }
+  pub steps : old.room.steps ≤ new.room.steps + 1
+  pub turn : HasTurn new.room new.world t
+  pub view : view_of new.world t ≡ view_of old.world t
+
+abbrev pub HasTried : BoardView → ℕ → Bool → BoardView → Type 0
+HasTried old t true new = HasStepped old t new
+HasTried old t false new = new ≡ old

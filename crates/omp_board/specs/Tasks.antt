@@ -1,5 +1,5 @@
 -- What the tasks of a run are seen as, with the program and the store that their code shares.
-use Rattle.std.specs.Prelude.{ℕ, ◌+◌, ◌-◌, ◌≡◌, ◌<◌, ◌≤◌, ◌++◌, List, [], ◌∷◌, Option, Some, None, length, slice_index_or, slice_set, refl}
+use Rattle.std.specs.Prelude.{ℕ, Bool, true, false, ◌+◌, ◌-◌, ◌≡◌, ◌<◌, ◌≤◌, ◌++◌, List, [], ◌∷◌, Option, Some, None, length, slice_index_or, slice_set, refl}
 use Rattle.std.specs.Coded.{Coded, code_by, coded×, coded_ℕ, coded_list}
 use Rattle.c_syntax.specs.Codes.{tree_view_code}
 use Rattle.c_syntax.specs.Numbered.{TreeView}
@@ -9,6 +9,11 @@ use Rattle.c_model.specs.Copies.{with_task_cells}
 use Rattle.c_model.specs.declared.limits.TheConstants.{CELL_LIMIT}
 use Rattle.c_model.specs.Task.{Item, Moment, Store, Task as Code}
 use Rattle.c_model.specs.Occurring.{IsAskOfNext}
+use Rattle.c_model.specs.Step.{silent}
+use Rattle.c_model.specs.Task.Outcome.{StepsTo}
+use Rattle.c_model.specs.Upcoming.{upcoming_of}
+use Rattle.c_model.specs.declared.upcoming.Upcoming.TheVariants as upcoming
+use Rattle.c_model.specs.declared.view.View.{View}
 use Rattle.c_syntax.specs.Numbered.{tree_at}
 use Rattle.c_steps.specs.Held.{Held, task_at}
 use Rattle.c_steps.specs.Passing.{IsEventOfNext}
@@ -136,3 +141,13 @@ cells_around now = record { env = now.task.env; cells = now.store.cells }
 
 abbrev pub HasCells : TreeView → Moment → Type 0
 HasCells program now = length (with_task_cells program (cells_around now) (created_construct now.task.todo)).cells ≤ CELL_LIMIT
+
+-- a step of the task's code that is tried was made, and stands next by its form; or nothing was done
+pub record HasSteppedIn (old : TasksView) (view : View) (task : ℕ) (new : TasksView) : Type 0 where
+  pub step : silent old.program view (moment_in old task) ≡ StepsTo (moment_in new task)
+  pub upcoming : upcoming_of view (code_in old task) ≡ upcoming.Step
+  pub rest : new ≡ record (gone_in old task (moment_in new task)) { room = one_step_less old.room }
+
+abbrev pub HasTriedIn : TasksView → View → ℕ → Bool → TasksView → Type 0
+HasTriedIn old view task true new = HasSteppedIn old view task new
+HasTriedIn old view task false new = new ≡ old

@@ -12,6 +12,7 @@ ghost use Rattle.c_model.specs.Parts.{parts};
 ghost use Rattle.c_model.specs.Program.{place_of};
 ghost use Rattle.c_model.specs.Step.{settled_moment, silent};
 ghost use Rattle.c_model.specs.Upcoming as upcoming;
+ghost use Rattle.c_model.specs.declared.view.View.{View as SeenView};
 ghost use Rattle.c_steps.specs.Beginning.{IsCreation};
 ghost use Rattle.c_steps.specs.Held.{outcome_at, task_at};
 ghost use Rattle.c_steps.specs.Made.{IsMadeFor};
@@ -19,7 +20,7 @@ ghost use Rattle.c_steps.specs.Passing.{IsEventOfNext};
 ghost use Rattle.c_steps.specs.Ready.{FitsProgram};
 ghost use Rattle.c_steps.specs.Scopes.{HasNumbers};
 ghost use Rattle.omp_model.specs.Going.{member_code};
-ghost use Rattle.omp_board.specs.Tasks.{HasCells, HasPass, HasSteps, IsNamedIn, IsStill, code_in, created_by, first_tasks, gone_in, moment_in, one_pass_less, one_step_less, room_after, task_in, turn_room, with_code_in, with_one_more, with_task_in};
+ghost use Rattle.omp_board.specs.Tasks.{HasCells, HasPass, HasSteps, HasTriedIn, IsNamedIn, IsStill, code_in, created_by, first_tasks, gone_in, moment_in, one_pass_less, one_step_less, room_after, task_in, turn_room, with_code_in, with_one_more, with_task_in};
 
 use crate::controls::{
     MEMBER_0, begin_explicit, begin_member, control_of, reserve_blank, reserve_code,
@@ -205,12 +206,27 @@ impl Tasks {
         }
     }
 
+    /// What comes next in the task's code, whatever a thread sees of its team, where that can be told at once.
+    #[tactic(auto, unfolding(c_model::specs::Step::items_from_next))]
+    #[inline(always)]
+    pub fn upcoming_at_once(&self, task: u32) -> Option<Upcoming>
+        ensures { (view : SeenView) → IfSome result (λ coming. upcoming.upcoming_of view (code_in self.now task) ≡ coming) }
+    {
+        match self.code_of(task) {
+            Some((_, control)) => control.upcoming_at_once(),
+            None => Some(Upcoming::End),
+        }
+    }
+
     /// What stands first in the task's code.
     #[tactic(auto, using(c_steps::proofs::Giving::nothing_past))]
     pub fn standing(&self, task: u32) -> Upcoming
         ensures { result ≡ upcoming.upcoming_among (code_in self.now task).todo }
     {
-        self.upcoming(task, MEMBER_0)
+        match self.upcoming_at_once(task) {
+            Some(upcoming) => upcoming,
+            None => self.upcoming(task, MEMBER_0),
+        }
     }
 
     /// Whether the task is in a region of a worksharing construct.
@@ -303,6 +319,27 @@ impl Tasks {
             self.room.steps -= 1;
         }
         next
+    }
+
+    /// Makes the silent step of the task's code that stands next, where it is one of C's own statements and meets no trap and no limit. Otherwise
+    /// nothing is done.
+    #[inline(always)]
+    pub fn try_step(&mut self, task: u32, view: View) -> bool
+        requires view { HasNumbers view }
+        requires room { HasSteps self.old.room task }
+        ensures { HasTriedIn self.old view task result self.new }
+    {
+        let Some(kept) = self.list.get_mut(task as usize) else {
+            return false;
+        };
+        let Some(control) = &mut kept.control else {
+            return false;
+        };
+        let made = control.try_step(&self.code, &mut self.cells, view);
+        if made {
+            self.room.steps -= 1;
+        }
+        made
     }
 
     /// What the task's code has asked is answered.

@@ -1,5 +1,5 @@
 -- One more silent step of a walk, or its end.
-use Rattle.std.proofs.Common.{◌⊎◌, inl, inr, ◌≡◌, ℕ, zero, suc, ◌+◌, ◌-◌, ◌<◌, ◌≤◌, ◌∙◌, true, false, nat_le, Some, None, refl, ap, arith}
+use Rattle.std.proofs.Common.{◌⊎◌, inl, inr, ◌≡◌, ℕ, zero, suc, ◌+◌, ◌-◌, ◌<◌, ◌≤◌, ◌∙◌, Bool, true, false, nat_le, Some, None, refl, sym, ap, arith}
 use Rattle.omp_model.specs.declared.limits.TheConstants.{STEPS, STEPS_OF_A_TURN}
 use Rattle.omp_model.specs.declared.event.Arrival.{Arrival}
 use Rattle.omp_model.specs.declared.event.Arrival.TheVariants.{Waits, Steps, Comes, Meets}
@@ -9,6 +9,9 @@ use Rattle.omp_model.specs.declared.event.Halt.TheVariants.{Limit}
 use Rattle.omp_model.specs.State.{Run, World, State}
 use Rattle.omp_model.specs.Gates.{arrival}
 use Rattle.omp_model.specs.Silent.{Goes, Stops, silent_step}
+use Rattle.omp_board.specs.Board.{BoardRoom, HasEvent, HasTurn, run_of}
+use Rattle.omp_machine.specs.State.{HasStepped, HasTried, SameCounts, StateView}
+use Rattle.omp_machine.proofs.Programs.{same-silence}
 use Rattle.omp_model.specs.Turn.{Walk, after_steps, after_walk, going_past, stepped, unlimited, walk, walk_by, walk_on, walked}
 
 -- where no step stands next, the walk is over
@@ -64,3 +67,34 @@ pub no-step : (next : Arrival) → (next ≡ Waits) ⊎ ((next ≡ Comes) ⊎ ((
 no-step next (inl waits) steps = cc
 no-step next (inr (inl comes)) steps = cc
 no-step next (inr (inr (event, meets))) steps = cc
+
+-- one silent step more was made, where the program is this
+pub one_more : (run : Run) (made : ℕ) (program : TreeView) (S after : State) (t : ℕ) → made < STEPS_OF_A_TURN → run.program ≡ program → nat_le run.steps S.steps ≡ false → arrival S.world t ≡ Steps → silent_step (run_of program) S.world t ≡ Goes after.world → after ≡ stepped S after.world →
+    walk run (STEPS_OF_A_TURN - made) made S t ≡ walk run (STEPS_OF_A_TURN - (made + 1)) (made + 1) after t
+one_more run made program S after t below is more arrives goes counted =
+    ap (λ left. walk run left made S t) (left-suc STEPS_OF_A_TURN made below)
+    ∙ walk-goes run (STEPS_OF_A_TURN - (made + 1)) made S t after.world arrives more (same-silence run S.world t ∙ ap (λ p. silent_step (run_of p) S.world t) is ∙ goes)
+    ∙ ap (λ (next : State). walk run (STEPS_OF_A_TURN - (made + 1)) (made + 1) next t) (sym counted)
+
+-- what it leaves
+pub counts_after : (initial before after : State) → after ≡ stepped before after.world → SameCounts initial before → SameCounts initial after
+counts_after initial before after counted kept = record {
+  turns = ap (λ (next : State). next.turns) counted ∙ kept.turns;
+  pending = ap (λ (next : State). next.pending) counted ∙ kept.pending;
+  halt = ap (λ (next : State). next.halt) counted ∙ kept.halt;
+}
+
+pub room_behind : (before after : BoardRoom) (W V : World) (t : ℕ) → HasEvent before W t → after ≡ record before { steps = after.steps } → HasTurn after V t → 2 ≤ after.steps → HasEvent after V t
+room_behind before after W V t kept room turn steps = record {
+  turn = turn;
+  steps = steps;
+  passes = omega (arith, kept.passes, ap (λ (room : BoardRoom). room.passes) room);
+  tasks = omega (arith, kept.tasks, ap (λ (room : BoardRoom). room.tasks) room);
+  meetings = omega (arith, kept.meetings, ap (λ (room : BoardRoom). room.meetings) room);
+  regions = omega (arith, kept.regions, ap (λ (room : BoardRoom). room.regions) room);
+  locks = omega (arith, kept.locks, ap (λ (room : BoardRoom). room.locks) room);
+}
+
+pub was_stepped : (old new : StateView) (t : ℕ) (was : Bool) → was ≡ true → HasTried old t was new → HasStepped old t new
+was_stepped old new t true so stepped = stepped
+was_stepped old new t false so same = cc

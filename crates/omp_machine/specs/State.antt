@@ -1,5 +1,5 @@
 -- What a state of the code is seen as: the program, the state of the machine, and room for a turn.
-use Rattle.std.specs.Prelude.{ℕ, ◌≡◌, List, Option, Some, slice_set, refl}
+use Rattle.std.specs.Prelude.{ℕ, ◌≡◌, ◌≤◌, ◌+◌, Bool, true, false, List, Option, Some, slice_set, refl}
 use Rattle.std.specs.Coded.{Coded, code_by, coded×, coded_ℕ, coded_list, coded_option}
 use Rattle.c_syntax.specs.Codes.{tree_view_code}
 use Rattle.c_syntax.specs.Numbered.{TreeView}
@@ -8,10 +8,14 @@ use Rattle.omp_model.specs.contracts.event.Callback as callback
 use Rattle.omp_model.specs.declared.event.Event.{Event}
 use Rattle.omp_model.specs.declared.event.Halt.{Halt}
 use Rattle.omp_model.specs.declared.event.Outcome.TheVariants as outcome
-use Rattle.omp_model.specs.Turn.{Turn, called, counted}
+use Rattle.omp_model.specs.Turn.{Turn, called, counted, stepped}
+use Rattle.omp_model.specs.Gates.{arrival}
+use Rattle.omp_model.specs.Members.{view_of}
+use Rattle.omp_model.specs.Silent.{Goes, silent_step}
+use Rattle.omp_model.specs.declared.event.Arrival.TheVariants.{Steps}
 use Rattle.omp_model.specs.contracts.event.Halt as halt
 use Rattle.omp_model.specs.State.{Run, State, World}
-use Rattle.omp_board.specs.Board.{BoardRoom, room_code, world_code}
+use Rattle.omp_board.specs.Board.{BoardRoom, HasTurn, room_code, run_of, world_code}
 use Rattle.omp_machine.specs.declared.settings.Settings.{Settings}
 
 pub record StateView : Type 0 where
@@ -55,3 +59,18 @@ pub record SameCounts (old new : State) : Type 0 where
   pub turns : new.turns ≡ old.turns
   pub pending : new.pending ≡ old.pending
   pub halt : new.halt ≡ old.halt
+
+-- a silent step of the thread that is tried was made, and is the one that stands next; or nothing was done
+pub record HasStepped (old : StateView) (t : ℕ) (new : StateView) : Type 0 where
+  pub arrives : arrival old.state.world t ≡ Steps
+  pub silence : silent_step (run_of old.program) old.state.world t ≡ Goes new.state.world
+  pub counted : new.state ≡ stepped old.state new.state.world
+  pub program : new.program ≡ old.program
+  pub room : new.room ≡ record old.room { steps = new.room.steps }
+  pub steps : old.room.steps ≤ new.room.steps + 1
+  pub turn : HasTurn new.room new.state.world t
+  pub view : view_of new.state.world t ≡ view_of old.state.world t
+
+abbrev pub HasTried : StateView → ℕ → Bool → StateView → Type 0
+HasTried old t true new = HasStepped old t new
+HasTried old t false new = new ≡ old

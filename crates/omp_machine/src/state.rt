@@ -1,6 +1,6 @@
 //! A state of the machine, and the order of a turn.
 
-ghost use Rattle.std.specs.Prelude.{◌≡◌, ◌≤◌, ◌<◌, ◌+◌, ◌^◌, None, IfErr, IfOk, IfSome, IsSome, OnErr, OnOk, is_none, is_some, nat_le, replicate, slice_set};
+ghost use Rattle.std.specs.Prelude.{ℕ, suc, true, ◌≡◌, ◌≤◌, ◌<◌, ◌+◌, ◌^◌, None, IfErr, IfOk, IfSome, IsSome, OnErr, OnOk, is_none, is_some, nat_le, replicate, slice_set};
 ghost use Rattle.c_steps.specs.Scopes.{HasNumbers};
 ghost use Rattle.omp_model.specs.State.{Run, first, pending_at};
 ghost use Rattle.omp_model.specs.Cause.{none_pending, whole_value};
@@ -14,7 +14,7 @@ ghost use Rattle.omp_model.specs.Turn.{after_steps, called, enabled, going_past,
 ghost use Rattle.omp_model.specs.Words.{is_made};
 ghost use Rattle.omp_board.specs.Board.{HasEvent, HasStep, HasTurn, IsSilence};
 ghost use Rattle.omp_board.specs.Tasks.{steps_ahead};
-ghost use Rattle.omp_machine.specs.State.{SameCounts, happened, run_in};
+ghost use Rattle.omp_machine.specs.State.{HasTried, SameCounts, happened, run_in};
 ghost use Rattle.omp_machine.specs.Standing.{went_after};
 
 use crate::settings::Settings;
@@ -36,6 +36,8 @@ struct Walk {
     made: u32,
     /// The trap or limit that stopped them.
     stop: Option<Halt>,
+    /// What the thread comes to behind them, where that is known.
+    next: Option<Arrival>,
 }
 
 /// A state of the machine. Contracts see beside it the program, and room for a turn.
@@ -205,40 +207,84 @@ impl State {
         Ok(())
     }
 
+    /// Makes the silent step of the thread that stands next, where it is one of C's own statements, asks nothing, and meets no trap and no limit.
+    /// Otherwise nothing is done.
+    #[inline(always)]
+    fn try_step(&mut self, thread: u8, view: View) -> bool
+        requires view { view ≡ view_of self.old.state.world thread }
+        requires numbers { HasNumbers view }
+        requires room { HasStep self.old.room self.old.state.world thread }
+        requires countable { self.old.state.steps + 1 < 2 ^ 32 }
+        ensures { HasTried self.old thread result self.new }
+    {
+        let made = self.board.try_step(thread, view);
+        if made {
+            self.steps += 1;
+        }
+        made
+    }
+
     /// Makes silent steps, at most as many as a turn may have.
     fn walk(&mut self, limit: u32, thread: u8) -> Walk
         requires room { HasEvent self.old.room self.old.state.world thread }
         requires steps { steps_ahead ≤ self.old.room.steps }
         ensures walk { (run : Run) → run.program ≡ self.old.program → run.steps ≡ limit →
             walk run STEPS_OF_A_TURN 0 self.old.state thread ≡ record { state = self.new.state; made = result.made; stop = result.stop } }
+        ensures next { IfSome result.next (λ next. next ≡ arrival self.new.state.world thread) }
         ensures room { HasEvent self.new.room self.new.state.world thread }
         ensures counts { SameCounts self.old.state self.new.state }
         ensures program { self.new.program ≡ self.old.program }
     {
         let view = self.view(thread);
         for made in 0..STEPS_OF_A_TURN {
+            if self.is_spent(limit) {
+                return self.walk_spent(thread, made);
+            }
+            if self.try_step(thread, view) {
+                continue;
+            }
             match self.arrival(thread) {
                 Arrival::Steps => {}
-                Arrival::Waits | Arrival::Comes | Arrival::Meets(_) => {
-                    return Walk { made, stop: None };
+                next => {
+                    return Walk {
+                        made,
+                        stop: None,
+                        next: Some(next),
+                    };
                 }
-            }
-            if self.is_spent(limit) {
-                return Walk {
-                    made,
-                    stop: Some(Halt::Limit(STEPS)),
-                };
             }
             if let Err(halt) = self.step(thread, view) {
                 return Walk {
                     made,
                     stop: Some(halt),
+                    next: None,
                 };
             }
         }
         Walk {
             made: STEPS_OF_A_TURN,
             stop: None,
+            next: None,
+        }
+    }
+
+    /// The end of a walk, after so many steps, where no more may be made in all.
+    fn walk_spent(&self, thread: u8, made: u32) -> Walk
+        ensures walk { (run : Run) (left : ℕ) → nat_le run.steps self.now.state.steps ≡ true →
+            walk run (suc left) made self.now.state thread ≡ record { state = self.now.state; made = result.made; stop = result.stop } }
+        ensures next { IfSome result.next (λ next. next ≡ arrival self.now.state.world thread) }
+    {
+        match self.arrival(thread) {
+            Arrival::Steps => Walk {
+                made,
+                stop: Some(Halt::Limit(STEPS)),
+                next: None,
+            },
+            next => Walk {
+                made,
+                stop: None,
+                next: Some(next),
+            },
         }
     }
 
@@ -344,7 +390,10 @@ impl State {
         match walk.stop {
             Some(halt) => self.halt_by(halt),
             None => {
-                let next = self.arrival(thread);
+                let next = match walk.next {
+                    Some(next) => next,
+                    None => self.arrival(thread),
+                };
                 self.after_steps(thread, walk.made, next)
             }
         }

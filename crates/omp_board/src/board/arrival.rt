@@ -2,13 +2,14 @@
 
 ghost use Rattle.std.specs.Prelude.{◌≡◌, ◌≤◌, length, reverse, take};
 ghost use Rattle.omp_model.specs.State.{task_at};
-ghost use Rattle.omp_model.specs.Members.{current, current_region, view_of};
+ghost use Rattle.c_model.specs.Upcoming.{upcoming_of};
+ghost use Rattle.omp_model.specs.Members.{code_of, current, current_region, view_of};
 ghost use Rattle.c_model.specs.declared.point.SyncKind.TheVariants as sync;
 ghost use Rattle.omp_model.specs.declared.limits.TheConstants.{STACK_LIMIT};
 ghost use Rattle.omp_model.specs.Gates as gates;
 
 use crate::board::Board;
-use c_model::{SyncKind, SyncStage, Upcoming, View};
+use c_model::{SyncKind, SyncStage, Upcoming};
 use omp_model::{Arrival, Event, IMPLICIT_REGION, INITIAL_TASK, STACK_LIMIT, ThreadStage};
 use task_pool::{Condition, TaskKind};
 
@@ -16,16 +17,6 @@ impl Board {
     /// What the thread comes to next.
     #[tactic(auto, unfolding(omp_model::specs::Gates::arrival))]
     pub fn arrival(&self, thread: u8) -> Arrival
-        ensures { result ≡ gates.arrival self.now.world thread }
-    {
-        self.arrival_seeing(thread, self.view(thread))
-    }
-
-    /// The same, where the code of the thread's current task sees this.
-    #[tactic(auto, unfolding(omp_model::specs::Gates::arrival))]
-    #[inline(always)]
-    pub(super) fn arrival_seeing(&self, thread: u8, view: View) -> Arrival
-        requires { view ≡ view_of self.now.world thread }
         ensures { result ≡ gates.arrival self.now.world thread }
     {
         let Some(found) = self.threads.get(thread as usize) else {
@@ -55,7 +46,19 @@ impl Board {
         if current == 0 {
             self.arrival_without_task(thread)
         } else {
-            self.arrival_in(thread, current, self.tasks.upcoming(current, view))
+            self.arrival_in(thread, current, self.upcoming(thread, current))
+        }
+    }
+
+    /// What comes next in the code of the thread's current task.
+    #[inline(always)]
+    fn upcoming(&self, thread: u8, task: u32) -> Upcoming
+        requires { task ≡ current self.now.world thread }
+        ensures { result ≡ upcoming_of (view_of self.now.world thread) (code_of self.now.world thread) }
+    {
+        match self.tasks.upcoming_at_once(task) {
+            Some(upcoming) => upcoming,
+            None => self.tasks.upcoming(task, self.view(thread)),
         }
     }
 

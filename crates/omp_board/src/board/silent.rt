@@ -1,6 +1,6 @@
 //! Silent steps: what a thread does between events.
 
-ghost use Rattle.std.specs.Prelude.{◌≡◌, ◌+◌, ◌-◌, ◌<◌, ◌≤◌, ℕ, Some, length};
+ghost use Rattle.std.specs.Prelude.{◌≡◌, ◌+◌, ◌-◌, ◌<◌, ◌≤◌, ℕ, IfSome, Some, length};
 ghost use Rattle.c_syntax.specs.Numbered.{tree_at};
 ghost use Rattle.c_model.specs.declared.question.Answer.TheVariants as answers;
 ghost use Rattle.c_model.specs.declared.question.Ask.TheVariants as asks;
@@ -15,13 +15,13 @@ ghost use Rattle.omp_model.specs.Members.{code_of, current, view_of};
 ghost use Rattle.omp_model.specs.Silent as silence;
 ghost use Rattle.omp_model.specs.State.{task_at};
 ghost use Rattle.omp_board.specs.Answering.{ComesTo, IsSettled, chunk_given, dealt, gone_as, section_given, told_answer};
-ghost use Rattle.omp_board.specs.Board.{HasStep, HasTurn, IsSilence};
+ghost use Rattle.omp_board.specs.Board.{HasStep, HasTried, HasTurn, IsFree, IsSilence};
 ghost use Rattle.omp_board.specs.Tasks.{IsNamedIn, IsStill};
 
 use crate::board::Board;
 use c_model::{Answer, Ask, View};
 use c_steps::Next;
-use omp_model::{Halt, Share};
+use omp_model::{Halt, Share, ThreadStage};
 
 impl Board {
     /// Makes the silent step of the thread that stands next, or tells the trap or limit that it meets.
@@ -47,6 +47,47 @@ impl Board {
             Next::Quiet => Ok(()),
             Next::Event(..) | Next::Ended(_) => unreachable!(),
         }
+    }
+
+    /// Makes the silent step of the thread that stands next, where it is one of C's own statements, asks nothing, and meets no trap and no limit.
+    /// Otherwise nothing is done.
+    #[inline(always)]
+    pub fn try_step(&mut self, thread: u8, view: View) -> bool
+        requires view { view ≡ view_of self.old.world thread }
+        requires numbers { HasNumbers view }
+        requires room { HasStep self.old.room self.old.world thread }
+        ensures { HasTried self.old thread result self.new }
+    {
+        match self.free_task(thread) {
+            Some(task) => self.tasks.try_step(task, view),
+            None => false,
+        }
+    }
+
+    /// The current task of the thread, where what the thread comes to next is what the task's code says.
+    #[tactic(auto, unfolding(omp_model::specs::Gates::arrival))]
+    #[inline(always)]
+    fn free_task(&self, thread: u8) -> Option<u32>
+        ensures { IfSome result (IsFree self.now.world thread) }
+    {
+        let Some(found) = self.threads.get(thread as usize) else {
+            return None;
+        };
+        match found.stage() {
+            ThreadStage::Unmade | ThreadStage::Made | ThreadStage::Ended => return None,
+            ThreadStage::Begun => {}
+        }
+        if found.invited() != 0 || found.undeferred() != 0 {
+            return None;
+        }
+        if let Some(_) = found.taken() {
+            return None;
+        }
+        let current = found.current();
+        if current == 0 {
+            return None;
+        }
+        Some(current)
     }
 
     /// Makes a silent step of the code of the thread's current task, or says what stands next.

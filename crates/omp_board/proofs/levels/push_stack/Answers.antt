@@ -1,4 +1,4 @@
-use Rattle.std.proofs.Common.{◌≡◌, ◌++◌, ◌∷◌, [], ◌∙◌, sym, ap, arith}
+use Rattle.std.proofs.Common.{◌≡◌, ◌++◌, ◌∷◌, [], ◌∙◌, sym, arith}
 use Rattle.omp_board.proofs.Filling.{stack-more, stack-none}
 use Rattle.omp_board.proofs.levels.push_stack.Goals as goal
 

@@ -1,4 +1,4 @@
-use Rattle.std.proofs.Common.{◌≡◌, ◌++◌, ◌∷◌, [], ◌∙◌, length, length-append, sym, ap, arith}
+use Rattle.std.proofs.Common.{◌∷◌, [], ◌∙◌, length, length-append, ap, arith}
 use Rattle.omp_board.proofs.Filling.{down-here, down-past, down-none}
 use Rattle.omp_board.proofs.levels.up_to.Goals as goal
 

@@ -4,23 +4,20 @@ use Rattle.omp_model.specs.State.{State}
 use Rattle.omp_model.specs.Silent.{Goes, Stops, silent_step}
 use Rattle.omp_model.specs.Turn.{stepped, walk, walked}
 use Rattle.omp_board.specs.Board.{BoardRoom, run_of}
-use Rattle.omp_machine.proofs.Walking.{no-step, walk-at_rest, walk-spent, walk-goes, walk-stops, walk-over, left-suc}
+use Rattle.omp_machine.proofs.Walking.{counts_after, left-suc, one_more, room_behind, walk-at_rest, walk-over, walk-stops, was_stepped}
 use Rattle.omp_machine.proofs.Programs.{same-silence}
 use Rattle.omp_machine.proofs.state.State.walk.Goals as goal
 
-pub returns-in-Waits : goal.returns-in-Waits
-returns-in-Waits c = record {
-  walk = λ run program steps. c.loop-made.invariant.walk run program steps ∙ walk-at_rest run (STEPS_OF_A_TURN - c.loop-made.made) c.loop-made.made c.loop-made.self.state c.args.thread (λ next. no-step c.arrival.result c.in-Waits.is (c.arrival.ensures ∙ next));
-  room = c.loop-made.invariant.room;
-  counts = c.loop-made.invariant.counts;
-  program = c.loop-made.invariant.program;
-}
+pub returns-in-next-clause-walk : goal.returns-in-next-clause-walk
+returns-in-next-clause-walk c = λ run program steps.
+    c.loop-made.invariant.walk run program steps
+    ∙ walk-at_rest run (STEPS_OF_A_TURN - c.loop-made.made) c.loop-made.made c.loop-made.self.state c.args.thread (λ next. c.in-next.not-Steps (c.arrival.ensures ∙ next))
 
 pub returns-then-is_spent-clause-walk : goal.returns-then-is_spent-clause-walk
 returns-then-is_spent-clause-walk c = λ run program steps.
     c.loop-made.invariant.walk run program steps
     ∙ ap (λ left. walk run left c.loop-made.made c.loop-made.self.state c.args.thread) (left-suc STEPS_OF_A_TURN c.loop-made.made c.loop-made-test.true)
-    ∙ walk-spent run (STEPS_OF_A_TURN - (c.loop-made.made + 1)) c.loop-made.made c.loop-made.self.state c.args.thread (sym c.arrival.ensures ∙ c.in-Steps.is) (ap (λ limit. nat_le limit c.loop-made.self.state.steps) steps ∙ sym c.is_spent.ensures ∙ c.if-is_spent.true)
+    ∙ c.walk_spent.ensures.walk run (STEPS_OF_A_TURN - (c.loop-made.made + 1)) (ap (λ limit. nat_le limit c.loop-made.self.state.steps) steps ∙ sym c.is_spent.ensures ∙ c.if-is_spent.true)
 
 pub returns-in-Err-clause-walk : goal.returns-in-Err-clause-walk
 returns-in-Err-clause-walk c = λ run program steps.
@@ -36,35 +33,39 @@ pub returns-clause-walk : goal.returns-clause-walk
 returns-clause-walk c = λ run program steps.
     c.loop-made.invariant.walk run program steps ∙ walk-over run STEPS_OF_A_TURN c.loop-made.made c.loop-made.self.state c.args.thread c.loop-made-test.false c.loop-made.auto.made-end
 
-pub loop-made-preserved : goal.loop-made-preserved
-loop-made-preserved c =
-    let S : State = c.loop-made.self.state in
-    let after : State = c.step.new.self.state in
-    let counted : after ≡ stepped S after.world = c.in_default.ensures.counted in
+pub loop-made-preserved-then-try_step : goal.loop-made-preserved-then-try_step
+loop-made-preserved-then-try_step c =
+    let before = c.loop-made.self in
+    let after = c.try_step.new.self in
     let kept = c.loop-made.invariant in
+    let so = was_stepped before after c.args.thread c.try_step.result c.if-try_step.true c.try_step.ensures in
     record {
       walk = λ run program steps.
-          let goes : silent_step run S.world c.args.thread ≡ Goes after.world =
-          same-silence run S.world c.args.thread ∙ ap (λ p. silent_step (run_of p) S.world c.args.thread) (program ∙ sym kept.program) ∙ c.in_default.ensures.silence in
           kept.walk run program steps
-          ∙ ap (λ left. walk run left c.loop-made.made S c.args.thread) (left-suc STEPS_OF_A_TURN c.loop-made.made c.loop-made-test.true)
-          ∙ walk-goes run (STEPS_OF_A_TURN - (c.loop-made.made + 1)) c.loop-made.made S c.args.thread after.world (sym c.arrival.ensures ∙ c.in-Steps.is) (ap (λ limit. nat_le limit S.steps) steps ∙ sym c.is_spent.ensures ∙ c.if-is_spent.false) goes
-          ∙ ap (λ (next : State). walk run (STEPS_OF_A_TURN - (c.loop-made.made + 1)) (c.loop-made.made + 1) next c.args.thread) (sym counted);
+          ∙ one_more run c.loop-made.made before.program before.state after.state c.args.thread c.loop-made-test.true (program ∙ sym kept.program)
+          (ap (λ limit. nat_le limit before.state.steps) steps ∙ sym c.is_spent.ensures ∙ c.if-is_spent.false) so.arrives so.silence so.counted;
+      program = so.program ∙ kept.program;
+      counts = counts_after c.args.self.now.state before.state after.state so.counted kept.counts;
+      room = room_behind before.room after.room before.state.world after.state.world c.args.thread kept.room so.room so.turn (omega (arith, kept.steps, so.steps, c.loop-made-test.true));
+      steps = omega (arith, kept.steps, so.steps);
+      view = kept.view ∙ sym so.view;
+      numbers = kept.numbers;
+    }
+
+pub loop-made-preserved : goal.loop-made-preserved
+loop-made-preserved c =
+    let before = c.loop-made.self in
+    let after = c.step.new.self in
+    let kept = c.loop-made.invariant in
+    let counted = c.in_default.ensures.counted in
+    record {
+      walk = λ run program steps.
+          kept.walk run program steps
+          ∙ one_more run c.loop-made.made before.program before.state after.state c.args.thread c.loop-made-test.true (program ∙ sym kept.program)
+          (ap (λ limit. nat_le limit before.state.steps) steps ∙ sym c.is_spent.ensures ∙ c.if-is_spent.false) (sym c.arrival.ensures ∙ c.in-Steps.is) c.in_default.ensures.silence counted;
       program = c.step.ensures.program ∙ kept.program;
-      counts = record {
-        turns = ap (λ (next : State). next.turns) counted ∙ kept.counts.turns;
-        pending = ap (λ (next : State). next.pending) counted ∙ kept.counts.pending;
-        halt = ap (λ (next : State). next.halt) counted ∙ kept.counts.halt;
-      };
-      room = record {
-        turn = c.step.ensures.turn;
-        steps = omega (arith, kept.steps, c.step.ensures.steps, c.loop-made-test.true);
-        passes = omega (arith, kept.room.passes, ap (λ (room : BoardRoom). room.passes) c.step.ensures.room);
-        tasks = omega (arith, kept.room.tasks, ap (λ (room : BoardRoom). room.tasks) c.step.ensures.room);
-        meetings = omega (arith, kept.room.meetings, ap (λ (room : BoardRoom). room.meetings) c.step.ensures.room);
-        regions = omega (arith, kept.room.regions, ap (λ (room : BoardRoom). room.regions) c.step.ensures.room);
-        locks = omega (arith, kept.room.locks, ap (λ (room : BoardRoom). room.locks) c.step.ensures.room);
-      };
+      counts = counts_after c.args.self.now.state before.state after.state counted kept.counts;
+      room = room_behind before.room after.room before.state.world after.state.world c.args.thread kept.room c.step.ensures.room c.step.ensures.turn (omega (arith, kept.steps, c.step.ensures.steps, c.loop-made-test.true));
       steps = omega (arith, kept.steps, c.step.ensures.steps);
       view = c.step.ensures.view;
       numbers = kept.numbers;
