@@ -1,5 +1,6 @@
 -- One more silent step of a walk, or its end.
 use Rattle.std.proofs.Common.{◌⊎◌, inl, inr, ◌≡◌, ℕ, zero, suc, ◌+◌, ◌-◌, ◌<◌, ◌≤◌, ◌∙◌, Bool, true, false, nat_le, Some, None, refl, sym, ap, arith}
+use Rattle.c_syntax.specs.Numbered.{TreeView}
 use Rattle.omp_model.specs.declared.limits.TheConstants.{STEPS, STEPS_OF_A_TURN}
 use Rattle.omp_model.specs.declared.event.Arrival.{Arrival}
 use Rattle.omp_model.specs.declared.event.Arrival.TheVariants.{Waits, Steps, Comes, Meets}
@@ -98,3 +99,7 @@ room_behind before after W V t kept room turn steps = record {
 pub was_stepped : (old new : StateView) (t : ℕ) (was : Bool) → was ≡ true → HasTried old t was new → HasStepped old t new
 was_stepped old new t true so stepped = stepped
 was_stepped old new t false so same = cc
+
+pub was_left : (old new : StateView) (t : ℕ) (was : Bool) → was ≡ false → HasTried old t was new → new ≡ old
+was_left old new t true so stepped = cc
+was_left old new t false so same = same
