@@ -26,12 +26,14 @@ mod Parameters
 pub mod Passing
 mod PrintingNumbers
 mod PrintingText
+pub mod Repeated
 pub mod Replacing
 pub mod Rests
 mod Returning
 mod Sections
 mod Settling
 pub mod Showing
+pub mod SlotsOfNodes
 pub mod Standing
 mod StepNames
 mod Stepping

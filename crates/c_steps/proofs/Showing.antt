@@ -95,6 +95,11 @@ module _ (program : TreeView) (old : Held) (it : Frame) (are : AreFrames program
   past new same is =
       subst (IsSameBy program old) (sym (is ∙ ap (λ (frames : List Frame). record old { frames = next_on_top frames }) whole)) (placed (next_part it) same)
 
+  -- the next part is on top then
+  pub next_top : (new : Held) → new ≡ record old { frames = next_on_top old.frames } → Some (next_part it) ≡ slice_get new.frames 0
+  next_top new is =
+      sym (ap (λ (held : Held). slice_get held.frames 0) is ∙ ap (λ (frames : List Frame). slice_get (next_on_top frames) 0) whole)
+
   -- an item that is the frame of its own stands there
   pub placed_front : (found : Item) → IsInPlaceOf program it (frame.One found) → (new : Held) → new ≡ record old { frames = slice_set old.frames 0 (frame.One found) } → IsFront program new.frames found
   placed_front found same new is =

@@ -10,6 +10,8 @@ use Rattle.c_model.specs.Task.Outcome.{StepsTo, Asks, Occurs, Ends, Traps, Limit
 use Rattle.c_steps.specs.declared.frame.Frame.{Frame}
 use Rattle.c_steps.specs.declared.next.Next.{Next}
 use Rattle.c_steps.specs.declared.next.Next.TheVariants as next
+use Rattle.c_steps.specs.declared.next.Refusal.{Refusal}
+use Rattle.c_steps.specs.declared.next.Refusal.TheVariants as refusal
 use Rattle.c_steps.specs.Items.{begun, calls_at, file_names, todo_at}
 
 -- The frames, the newest first; the names of all functions that were called and haven't ended, the oldest first and without those of the file;
@@ -65,6 +67,12 @@ outcome_at program (next.Limit limit) now = Limits limit
 abbrev pub next_of : Result (Unit {0}) ℕ → Next
 next_of (Ok it) = next.Quiet
 next_of (Err trap) = next.Trap trap
+
+-- the same of a call that begins, or doesn't
+abbrev pub next_of_call : Result (Unit {0}) Refusal → Next
+next_of_call (Ok it) = next.Quiet
+next_of_call (Err (refusal.Trap trap)) = next.Trap trap
+next_of_call (Err (refusal.Limit limit)) = next.Limit limit
 
 -- what the expressions of the function that was called last are evaluated in
 abbrev pub scope_in : TreeView → View → Held → Store → Scope

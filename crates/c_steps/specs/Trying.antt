@@ -1,13 +1,18 @@
 -- A silent step that is tried: it was made, or nothing was done.
-use Rattle.std.specs.Prelude.{◌≡◌, ◌+◌, ◌<◌, Bool, true, false, List, [], ◌∷◌, ℕ, Some, None, drop}
+use Rattle.std.specs.Prelude.{◌≡◌, ◌+◌, ◌<◌, Bool, true, false, List, [], ◌∷◌, ℕ, zero, suc, Some, None, drop, Ok, ℤ}
+use Rattle.c_syntax.specs.declared.node.Setting.{Setting}
 use Rattle.c_syntax.specs.Numbered.{TreeView}
+use Rattle.c_syntax.specs.Tree.{Tree}
 use Rattle.c_model.specs.declared.view.View.{View}
 use Rattle.c_model.specs.declared.upcoming.Upcoming.TheVariants as upcoming
+use Rattle.c_model.specs.Cells.{cell_at}
 use Rattle.c_model.specs.Coming.{sets}
+use Rattle.c_model.specs.Statements.{new_number}
 use Rattle.c_model.specs.Step.{silent}
 use Rattle.c_model.specs.Task.{Here, Item as SeenItem, Outcome, Store}
 use Rattle.c_model.specs.Task.Outcome.{StepsTo}
 use Rattle.c_model.specs.Upcoming.{upcoming_of}
+use Rattle.c_model.specs.Value.{Scope, cell_of}
 use Rattle.c_steps.specs.declared.control.quick.Change.{Change}
 use Rattle.c_steps.specs.declared.frame.Frame.{Frame}
 use Rattle.c_steps.specs.declared.frame.Frame.TheVariants as frame
@@ -44,6 +49,12 @@ pub record IsStepMade (program : TreeView) (view : View) (old : Held) (before : 
 abbrev pub IsTried : TreeView → View → Bool → Held → Store → Held → Store → Type 0
 IsTried program view true old before new after = IsStepMade program view old before new after
 IsTried program view false old before new after = IsUntouched program old before new after
+
+-- so many silent steps were made one after another, the last of them named last; where none was, nothing was done
+abbrev pub HaveStepsMade : TreeView → View → ℕ → Held → Store → Held → Store → Type 0
+HaveStepsMade program view zero old before new after = IsUntouched program old before new after
+HaveStepsMade program view (suc count) old before new after =
+    (between : Held) × (middle : Store) × HaveStepsMade program view count old before between middle × IsStepMade program view between middle new after
 
 -- what stands next by a plain item
 abbrev pub item_of : Plain → Item
@@ -106,3 +117,8 @@ is_quiet other = false
 -- a statement that makes no step but this change of a cell comes to this, whatever stands next behind it
 abbrev pub IsChange : (List SeenItem → Outcome) → Here → Change → Type 0
 IsChange outcome here change = (items : List SeenItem) → outcome items ≡ sets here change.cell change.number items
+
+-- an assignment of a number makes this change
+pub record IsAssignment (scope : Scope) (which : Setting) (place : Tree) (right : ℤ) (change : Change) : Type 0 where
+  pub cell : cell_of scope place ≡ Ok change.cell
+  pub number : new_number which (cell_at scope.cells change.cell) (Ok right) ≡ Ok change.number

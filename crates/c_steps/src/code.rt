@@ -17,6 +17,7 @@ ghost use Rattle.c_steps.specs.Rests.{parts_from, with_part};
 use crate::file::FileNames;
 use crate::functions::Functions;
 use crate::parts::{child_of_part, kind_of_part, name_of_part, next_part, number_of_part};
+use crate::slots::slots;
 use crate::widths::{inner_names, most_of_functions, step_names};
 use c_check::Program;
 use c_model::{Entry, LINE_UNIT};
@@ -30,6 +31,8 @@ pub struct Code {
     program: Program,
     file: FileNames,
     functions: Functions,
+    /// The slot of the name that stands where each node begins.
+    slots: Vec<u32>,
     /// No function has more names in scope beside those of the file.
     width: usize,
     /// No silent step brings more names into scope.
@@ -48,7 +51,7 @@ impl Model for Code {
 
     ghost view = { λ code. code.program };
 
-    ghost invariant = { λ code. IsPrepared code.program code.file code.functions code.width code.step_names };
+    ghost invariant = { λ code. IsPrepared code.program code.file code.functions code.slots.items code.width code.step_names };
 }
 
 impl Code {
@@ -58,6 +61,7 @@ impl Code {
     {
         let file = FileNames::new(alloc, &program)?;
         let functions = Functions::new(alloc, program.tree())?;
+        let slots = slots(alloc, &program)?;
         let inner = inner_names(alloc, &program)?;
         let width = most_of_functions(&program, &inner)?;
         let step_names = step_names(program.tree())?;
@@ -65,6 +69,7 @@ impl Code {
             program,
             file,
             functions,
+            slots,
             width,
             step_names,
         })
@@ -172,12 +177,13 @@ impl Code {
     }
 
     /// The slot of the name that stands where a node begins.
+    #[tactic(auto, using(crate::proofs::SlotsOfNodes::slot_there))]
     #[inline(always)]
     pub fn slot(&self, node: u32) -> u32
         requires { node < length self.now.trees }
         ensures { result ≡ slot_of_name self.now (tree_at self.now.trees node) }
     {
-        self.program.slot(node)
+        self.slots[node as usize]
     }
 
     /// The child of a part at a place, where those from there on are what is left.

@@ -4,11 +4,13 @@
 //! were printed. A [`Control`] is what is left of one task's code. Contracts see it as a `Held` (`specs/Held.antt`): frames, which are nodes of
 //! the tree with how far they have come, names with their cells, and room. `task_at` there says which task of the definitions that is.
 //!
+//! - [`Control::try_steps`] makes silent steps of C's own statements, as many as it can up to a count.
 //! - [`Control::advance`] makes one silent step, or says what stands next: a question, an event, the end, a trap or a limit ([`Next`]).
 //! - [`Control::give`] goes on after an answer, and [`Control::passed`] behind an event.
 //! - [`Control::stands`] tells whether an event or the end stands next.
-//! - [`Control::upcoming`] tells what comes next as far as its form does, and [`Control::is_in_work`], [`Control::is_in_exclusive`] and
-//!   [`Control::is_in_critical`] in which regions of constructs the task is.
+//! - [`Control::upcoming`] tells what comes next as far as its form does, [`Control::upcoming_at_once`] the same where what stands first
+//!   tells it by itself, and [`Control::is_in_work`], [`Control::is_in_exclusive`] and [`Control::is_in_critical`] in which regions of
+//!   constructs the task is.
 //! - [`Control::value`] is the number of an expression where the code stands, and [`Control::returned`] what the last call gave.
 //! - [`Control::asked_count`] and [`Control::asked_sections`] tell how much there is of the work that asks.
 //! - [`Control::main`], [`Control::member`] and [`Control::task`] are how the code of each kind of task begins. [`Control::blank`] and
@@ -17,7 +19,7 @@
 //! Each answers, and leaves control and cells, as the definition of the same name has it. Only what makes a new value and `reserve` take
 //! memory; where they find none, nothing has changed.
 //!
-//! The modules: `code` with `file`, `functions`, `widths`; `parts`, `clauses`, `listed` and `loops`, which read the tree; `scope` with
+//! The modules: `code` with `file`, `functions`, `slots`, `widths`; `parts`, `clauses`, `listed` and `loops`, which read the tree; `scope` with
 //! `numbers`, the numbers of expressions, and `printing`; `names`, `stack` and `cells`, which have room; `item`, `frame` and `look`, what stands
 //! next; `copies`, a construct's own cells; and `control`, with a file for each family of forms, `around` for the regions that a task is in, and
 //! `upcoming` for what comes next. In `specs/` `Items`, `Held`, `Made`, `Passing` and `Advancing` are what contracts of public calls cite; the
@@ -45,6 +47,7 @@ mod parts;
 mod plain;
 mod printing;
 mod scope;
+mod slots;
 mod stack;
 mod widths;
 

@@ -1,7 +1,7 @@
 //! What an advance comes to.
 
 ghost use Rattle.std.specs.Prelude.{◌≡◌};
-ghost use Rattle.c_steps.specs.Held.{next_of};
+ghost use Rattle.c_steps.specs.Held.{next_of, next_of_call};
 ghost use Rattle.c_steps.specs.Trying.{is_quiet};
 
 use c_model::{Ask, Point};
@@ -23,6 +23,15 @@ pub enum Next {
     Limit(u8),
 }
 
+/// Why a call doesn't begin.
+#[derive(Clone, Copy)]
+pub(crate) enum Refusal {
+    /// An argument traps with this number.
+    Trap(u8),
+    /// The call would pass the limit with this number.
+    Limit(u8),
+}
+
 /// The same of a step that asks nothing and comes to no event: it was made, or it traps with this number.
 pub(crate) fn made(step: Result<(), u8>) -> Next
     ensures { result ≡ next_of step }
@@ -30,6 +39,17 @@ pub(crate) fn made(step: Result<(), u8>) -> Next
     match step {
         Ok(()) => Next::Quiet,
         Err(trap) => Next::Trap(trap),
+    }
+}
+
+/// The same of a call that begins, or doesn't.
+pub(crate) fn begun_call(call: Result<(), Refusal>) -> Next
+    ensures { result ≡ next_of_call call }
+{
+    match call {
+        Ok(()) => Next::Quiet,
+        Err(Refusal::Trap(trap)) => Next::Trap(trap),
+        Err(Refusal::Limit(limit)) => Next::Limit(limit),
     }
 }
 

@@ -13,6 +13,9 @@ use std::marker::Model;
 /// How many are taken without memory from the first on.
 pub(crate) const LEAST_ROOM: usize = 4;
 
+/// Where a stack grows it gets room for so many more than are asked for, so that a few that stay on it don't make it grow again.
+const SLACK: usize = 32;
+
 /// A stack, with room kept for more. Contracts see the list of what is on it, the top first, and how many more are taken without memory.
 #[derive(Drop)]
 pub(crate) struct Stack<T: Copy + Drop> {
@@ -117,7 +120,9 @@ impl<T: Copy + Drop> Stack<T> {
         ensures room { OnOk result (self.new ≡ record self.old { free = max self.old.free room }) }
         ensures memory { OnErr result (self.new ≡ self.old) }
     {
-        self.items.reserve(room)?;
+        if self.items.capacity() - self.items.len() < room {
+            self.items.reserve(room.saturating_add(SLACK))?;
+        }
         self.free = self.free.max(room);
         Ok(())
     }

@@ -1,7 +1,7 @@
 -- How tasks stay kept.
-use Rattle.std.proofs.Common.{◌≡◌, ℕ, zero, suc, ◌<◌, ◌≤◌, ◌+◌, ◌++◌, List, [], ◌∷◌, length, slice_set, Option, None, IfSome, sym, ap, ◌∙◌, subst, arith}
+use Rattle.std.proofs.Common.{◌≡◌, ℕ, zero, suc, ◌<◌, ◌≤◌, ◌+◌, ◌-◌, ◌++◌, List, [], ◌∷◌, length, slice_index_or, slice_set, Option, None, Some, IfSome, sym, ap, ◌∙◌, subst, arith}
 use Rattle.std.specs.List.{All}
-use Rattle.std.proofs.lemmas.List.{get_or_append_left, length-append, length-set}
+use Rattle.std.proofs.lemmas.List.{get_or-set_same, get_or_append_left, length-append, length-set}
 use Rattle.std.proofs.lemmas.List.Elements.{All-cons, All-nil, All-push, All-set}
 use Rattle.std.proofs.lemmas.Option.{IfSome_then}
 use Rattle.c_syntax.specs.Numbered.{TreeView}
@@ -56,6 +56,31 @@ module _ (program : TreeView) (tasks : List Task) (capacity : ℕ) (blanks : Lis
         few = omega arith;
         there = omega arith;
         steps = without tasks k room.task task (HasRoomIn room) none kept.steps;
+      }
+
+  -- steps of a task's code were made, for which there was room
+  pub kept_stepped : (k made : ℕ) (task : Task) (control new : Held) → task ≡ slice_index_or tasks k kept_nothing → task.control ≡ Some control → k < length tasks → room.task ≡ k → new.spare + made ≡ control.spare → new.passes ≡ control.passes → IsMadeFor program new →
+      IsKept program (slice_set tasks k (record task { control = Some new })) capacity blanks (record room { steps = room.steps - made })
+  kept_stepped k made task control new found is within of_task spare passes made_for =
+      let changed : Task = record task { control = Some new } in
+      let there = kept.there in
+      let many : length (slice_set tasks k changed) ≡ length tasks = length-set tasks k changed in
+      let slots = kept.slots in
+      let few = kept.few in
+      let before : control_at tasks room.task ≡ Some control = ap (control_at tasks) of_task ∙ sym (ap (λ (task : Task). task.control) found) ∙ is in
+      let after : control_at (slice_set tasks k changed) room.task ≡ Some new =
+      ap (control_at (slice_set tasks k changed)) of_task ∙ ap (λ (task : Task). task.control) (get_or-set_same tasks k changed kept_nothing within) in
+      let has : HasRoomIn room control = subst (λ (control : Option Held). IfSome control (HasRoomIn room)) before kept.steps in
+      let enough = has.steps in
+      let passing = has.passes in
+      record {
+        controls = All-set (IsOfProgram program) tasks k changed made_for kept.controls;
+        blanks_made = kept.blanks_made;
+        spare = kept.spare;
+        slots = omega arith;
+        few = omega arith;
+        there = omega arith;
+        steps = subst (λ (control : Option Held). IfSome control (HasRoomIn (record room { steps = room.steps - made }))) (sym after) (record { steps = omega (arith, enough, spare); passes = omega (arith, passing, passes) });
       }
 
 -- the first two tasks, one of them without code

@@ -1,7 +1,7 @@
 -- What the tasks that are kept are seen as, where one of them is written.
-use Rattle.std.proofs.Common.{◌≡◌, ℕ, ◌<◌, List, length, slice_set, slice_index_or, Some, refl, sym, ap, ◌∙◌, subst}
+use Rattle.std.proofs.Common.{◌≡◌, ℕ, zero, suc, ◌+◌, ◌-◌, ◌<◌, List, [], ◌∷◌, length, slice_set, slice_index_or, Some, refl, sym, ap, ◌∙◌, subst, arith}
 use Rattle.std.proofs.Math.ListN.{get_or-map}
-use Rattle.std.proofs.lemmas.List.{get_or-set_same, map-set, set-get_or}
+use Rattle.std.proofs.lemmas.List.{get_or-set_same, length-set, map-set, set-get_or}
 use Rattle.c_syntax.specs.Numbered.{TreeView}
 use Rattle.c_model.specs.declared.view.View.{View}
 use Rattle.c_model.specs.Step.{settled_moment, silent}
@@ -13,11 +13,11 @@ use Rattle.c_steps.specs.declared.next.Next.{Next}
 use Rattle.c_steps.specs.declared.next.Next.TheVariants as next
 use Rattle.c_steps.specs.Advancing.{IsKept as IsAfterAdvance, IsLeft, IsNamed}
 use Rattle.c_steps.specs.Held.{Held, moment_at, outcome_at, task_at}
-use Rattle.c_steps.specs.Trying.{IsStepMade, IsUntouched}
+use Rattle.c_steps.specs.Trying.{HaveStepsMade, IsStepMade, IsUntouched}
 use Rattle.omp_model.specs.State.{Task as Seen, no_task}
 use Rattle.omp_board.specs.declared.task.Task.{Task}
 use Rattle.omp_board.specs.Keeping.{kept_nothing, seen_task, seen_tasks}
-use Rattle.omp_board.specs.Tasks.{IsNamedIn, IsStill, TaskRoom, TasksView, code_in, code_of, gone_in, moment_in, room_after, task_in, with_code_in, with_task_in}
+use Rattle.omp_board.specs.Tasks.{HasSteppedIn, HaveSteppedIn, IsNamedIn, IsStill, TaskRoom, TasksView, code_in, code_of, gone_in, moment_in, one_step_less, room_after, task_in, with_code_in, with_task_in}
 
 -- what the parts are seen as
 abbrev pub seen : TreeView → List Task → Store → TaskRoom → TasksView
@@ -124,3 +124,49 @@ module _ (program : TreeView) (tasks : List Task) (store : Store) (room : TaskRo
         ap (λ (now : Store). seen program (slice_set tasks k changed) now room) left.store
         ∙ wrote changed (λ (task : Seen). task) (same_task left.task)
         ∙ ap (λ (now : List Seen). record view { tasks = now }) (set-get_or view.tasks k no_task)
+
+-- where one of them is written twice, the first time leaves nothing
+set_twice : (tasks : List Task) (k : ℕ) (first second : Task) → slice_set (slice_set tasks k first) k second ≡ slice_set tasks k second
+set_twice [] k first second = refl
+set_twice (it ∷ tasks) zero first second = refl
+set_twice (it ∷ tasks) (suc k) first second = ap (λ (rest : List Task). it ∷ rest) (set_twice tasks k first second)
+
+-- the room when so many steps were made
+abbrev pub fewer : ℕ → TaskRoom → TaskRoom
+fewer count room = record room { steps = room.steps - count }
+
+-- what a control has left
+pub spare_left : (program : TreeView) (sight : View) (count : ℕ) (old new : Held) (before after : Store) → HaveStepsMade program sight count old before new after → new.spare + count ≡ old.spare
+spare_left program sight zero old new before after left = let same = left.spare in omega (arith, same)
+spare_left program sight (suc count) old new before after (between, middle, so, last) =
+    let earlier = spare_left program sight count old between before middle so in
+    let made = last.kept.spare in
+    omega (arith, earlier, made)
+
+pub passes_left : (program : TreeView) (sight : View) (count : ℕ) (old new : Held) (before after : Store) → HaveStepsMade program sight count old before new after → new.passes ≡ old.passes
+passes_left program sight zero old new before after left = left.passes
+passes_left program sight (suc count) old new before after (between, middle, so, last) = last.kept.passes ∙ passes_left program sight count old between before middle so
+
+-- steps that were made one after another
+module _ (program : TreeView) (tasks : List Task) (store : Store) (room : TaskRoom) (view : TasksView) (is : seen program tasks store room ≡ view) (k : ℕ) (kept : Task) (found : kept ≡ slice_index_or tasks k kept_nothing) (control : Held) (is_kept : kept.control ≡ Some control) (within : k < length tasks) where
+  abbrev held : Held → Task
+  held control = record kept { control = Some control }
+
+  abbrev pub after_steps : ℕ → Held → Store → TasksView
+  after_steps count new after = seen program (slice_set tasks k (held new)) after (fewer count room)
+
+  one_more : (count : ℕ) (between new : Held) (middle after : Store) (sight : View) → IsStepMade program sight between middle new after → HasSteppedIn (after_steps count between middle) sight k (after_steps (suc count) new after)
+  one_more count between new middle after sight last =
+      let list : List Task = slice_set tasks k (held between) in
+      let inside : k < length list = subst (λ (n : ℕ). k < n) (sym (length-set tasks k (held between))) within in
+      let steps : room.steps - suc count ≡ room.steps - count - 1 = omega arith in
+      let so = has_stepped program list middle (fewer count room) (after_steps count between middle) refl k (held between) (sym (get_or-set_same tasks k (held between) kept_nothing within)) between new after refl inside one_step_less (fewer (suc count) room) sight (λ i. record room { steps = steps i }) last in
+      subst (λ (list : List Task). HasSteppedIn (after_steps count between middle) sight k (seen program list after (fewer (suc count) room))) (set_twice tasks k (held between) (held new))
+      (record { step = so.0; upcoming = so.1; rest = so.2 })
+
+  pub have_stepped : (count : ℕ) (new : Held) (after : Store) (sight : View) → HaveStepsMade program sight count control store new after → HaveSteppedIn count view sight k (after_steps count new after)
+  have_stepped zero new after sight left =
+      let none : room.steps - zero ≡ room.steps = omega arith in
+      ap (λ (steps : ℕ). seen program (slice_set tasks k (held new)) after (record room { steps = steps })) none ∙ untouched program tasks store room view is k kept found control new after is_kept left
+  have_stepped (suc count) new after sight (between, middle, so, last) =
+      (after_steps count between middle, (have_stepped count between middle sight so, one_more count between new middle after sight last))

@@ -1,5 +1,5 @@
 -- What a board is seen as: the program, the world, and room for a turn.
-use Rattle.std.specs.Prelude.{ℕ, Bool, true, false, ◌+◌, ◌≡◌, ◌<◌, ◌≤◌, List, Result, Ok, Err, length, refl}
+use Rattle.std.specs.Prelude.{ℕ, zero, suc, false, ◌==◌, ◌+◌, ◌≡◌, ◌<◌, ◌≤◌, List, None, Result, Ok, Err, length, refl}
 use Rattle.std.specs.Coded.{Coded, code_by, coded×, coded_ℕ, coded_list}
 use Rattle.c_syntax.specs.Codes.{tree_view_code}
 use Rattle.c_syntax.specs.Numbered.{TreeView}
@@ -16,11 +16,11 @@ use Rattle.omp_model.specs.contracts.parts.RegionHead as head
 use Rattle.omp_model.specs.declared.parts.RegionHead.{RegionHead}
 use Rattle.omp_model.specs.declared.event.Event.{Event}
 use Rattle.omp_model.specs.declared.event.Halt.{Halt}
-use Rattle.omp_model.specs.State.{Region, Run, Task, Thread, World}
-use Rattle.omp_model.specs.Gates.{arrival, arrival_in}
-use Rattle.omp_model.specs.Members.{code_of, current, current_region, view_of}
+use Rattle.omp_model.specs.declared.parts.ThreadStage.TheVariants as thread_stage
+use Rattle.omp_model.specs.State.{Region, Run, Task, Thread, World, thread_at}
+use Rattle.omp_model.specs.Gates.{arrival}
+use Rattle.omp_model.specs.Members.{current, current_region, view_of}
 use Rattle.omp_model.specs.declared.event.Arrival.TheVariants.{Steps}
-use Rattle.c_model.specs.Upcoming.{upcoming_of}
 use Rattle.omp_model.specs.Silent.{Goes, Stops, silent_step}
 use Rattle.omp_model.specs.Going.{Going, Happens, Halts, going_beside, going_in_code, going_to_point}
 use Rattle.omp_model.specs.Changes.{gone_past}
@@ -156,12 +156,21 @@ IsGoingBeside W t which answer after = IsGoingBy (going_beside W t which) W answ
 abbrev pub run_in : TreeView → ℕ → Run
 run_in program threads = record { program = program; mask = 0; threads = threads; steps = 0 }
 
--- what the thread comes to next is what its current task's code says, which is this task
+-- .. for so many silent steps
+pub record HasStepsAhead (room : BoardRoom) (W : World) (t most : ℕ) : Type 0 where
+  pub turn : HasTurn room W t
+  pub steps : most ≤ room.steps
+
+-- nothing stands before the code of the thread's current task, which is this
 pub record IsFree (W : World) (t task : ℕ) : Type 0 where
   pub of_thread : task ≡ current W t
-  pub arrives : arrival W t ≡ arrival_in W t task (upcoming_of (view_of W t) (code_of W t))
+  pub some : (task == 0) ≡ false
+  pub begun : (thread_at W t).stage ≡ thread_stage.Begun
+  pub uninvited : (thread_at W t).invited ≡ 0
+  pub undetained : (thread_at W t).undeferred ≡ 0
+  pub untaken : (thread_at W t).taken ≡ None
 
--- a silent step of the thread that is tried was made, and is the one that stands next; or nothing was done
+-- a silent step of the thread was made, and stood next
 pub record HasStepped (old : BoardView) (t : ℕ) (new : BoardView) : Type 0 where
   pub arrives : arrival old.world t ≡ Steps
   pub silence : silent_step (run_of old.program) old.world t ≡ Goes new.world
@@ -171,6 +180,7 @@ pub record HasStepped (old : BoardView) (t : ℕ) (new : BoardView) : Type 0 whe
   pub turn : HasTurn new.room new.world t
   pub view : view_of new.world t ≡ view_of old.world t
 
-abbrev pub HasTried : BoardView → ℕ → Bool → BoardView → Type 0
-HasTried old t true new = HasStepped old t new
-HasTried old t false new = new ≡ old
+-- .. so many, one after another
+abbrev pub HaveStepped : ℕ → BoardView → ℕ → BoardView → Type 0
+HaveStepped zero old t new = new ≡ old
+HaveStepped (suc count) old t new = (between : BoardView) × (HaveStepped count old t between × HasStepped between t new)

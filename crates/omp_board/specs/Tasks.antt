@@ -1,5 +1,5 @@
 -- What the tasks of a run are seen as, with the program and the store that their code shares.
-use Rattle.std.specs.Prelude.{ℕ, Bool, true, false, ◌+◌, ◌-◌, ◌≡◌, ◌<◌, ◌≤◌, ◌++◌, List, [], ◌∷◌, Option, Some, None, length, slice_index_or, slice_set, refl}
+use Rattle.std.specs.Prelude.{ℕ, zero, suc, ◌+◌, ◌-◌, ◌≡◌, ◌<◌, ◌≤◌, ◌++◌, List, [], ◌∷◌, Option, Some, None, length, slice_index_or, slice_set, refl}
 use Rattle.std.specs.Coded.{Coded, code_by, coded×, coded_ℕ, coded_list}
 use Rattle.c_syntax.specs.Codes.{tree_view_code}
 use Rattle.c_syntax.specs.Numbered.{TreeView}
@@ -103,10 +103,14 @@ abbrev pub room_after : Next → TaskRoom → TaskRoom
 room_after next.Quiet room = one_step_less room
 room_after other room = room
 
--- there is room for a step of the task's code, and for an event
+-- there is room for a step of the task's code, for so many, and for an event
 pub record HasSteps (room : TaskRoom) (task : ℕ) : Type 0 where
   pub of_task : room.task ≡ task
   pub steps : 0 < room.steps
+
+pub record HasStepsFor (room : TaskRoom) (task most : ℕ) : Type 0 where
+  pub of_task : room.task ≡ task
+  pub steps : most ≤ room.steps
 
 pub record HasPass (room : TaskRoom) (task : ℕ) : Type 0 where
   pub of_task : room.task ≡ task
@@ -142,12 +146,13 @@ cells_around now = record { env = now.task.env; cells = now.store.cells }
 abbrev pub HasCells : TreeView → Moment → Type 0
 HasCells program now = length (with_task_cells program (cells_around now) (created_construct now.task.todo)).cells ≤ CELL_LIMIT
 
--- a step of the task's code that is tried was made, and stands next by its form; or nothing was done
+-- a silent step of the task's code was made, and stood next by its form
 pub record HasSteppedIn (old : TasksView) (view : View) (task : ℕ) (new : TasksView) : Type 0 where
   pub step : silent old.program view (moment_in old task) ≡ StepsTo (moment_in new task)
   pub upcoming : upcoming_of view (code_in old task) ≡ upcoming.Step
   pub rest : new ≡ record (gone_in old task (moment_in new task)) { room = one_step_less old.room }
 
-abbrev pub HasTriedIn : TasksView → View → ℕ → Bool → TasksView → Type 0
-HasTriedIn old view task true new = HasSteppedIn old view task new
-HasTriedIn old view task false new = new ≡ old
+-- .. so many, one after another
+abbrev pub HaveSteppedIn : ℕ → TasksView → View → ℕ → TasksView → Type 0
+HaveSteppedIn zero old view task new = new ≡ old
+HaveSteppedIn (suc count) old view task new = (between : TasksView) × (HaveSteppedIn count old view task between × HasSteppedIn between view task new)

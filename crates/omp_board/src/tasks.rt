@@ -20,7 +20,7 @@ ghost use Rattle.c_steps.specs.Passing.{IsEventOfNext};
 ghost use Rattle.c_steps.specs.Ready.{FitsProgram};
 ghost use Rattle.c_steps.specs.Scopes.{HasNumbers};
 ghost use Rattle.omp_model.specs.Going.{member_code};
-ghost use Rattle.omp_board.specs.Tasks.{HasCells, HasPass, HasSteps, HasTriedIn, IsNamedIn, IsStill, code_in, created_by, first_tasks, gone_in, moment_in, one_pass_less, one_step_less, room_after, task_in, turn_room, with_code_in, with_one_more, with_task_in};
+ghost use Rattle.omp_board.specs.Tasks.{HasCells, HasPass, HasSteps, HasStepsFor, HaveSteppedIn, IsNamedIn, IsStill, code_in, created_by, first_tasks, gone_in, moment_in, one_pass_less, one_step_less, room_after, task_in, turn_room, with_code_in, with_one_more, with_task_in};
 
 use crate::controls::{
     MEMBER_0, begin_explicit, begin_member, control_of, reserve_blank, reserve_code,
@@ -321,24 +321,22 @@ impl Tasks {
         next
     }
 
-    /// Makes the silent step of the task's code that stands next, where it is one of C's own statements and meets no trap and no limit. Otherwise
-    /// nothing is done.
-    #[inline(always)]
-    pub fn try_step(&mut self, task: u32, view: View) -> bool
+    /// Makes silent steps of the task's code one after another, at most so many, as long as each may be made without a look at what else may
+    /// stand next, and answers how many it made.
+    pub fn try_steps(&mut self, task: u32, view: View, most: u32) -> u32
         requires view { HasNumbers view }
-        requires room { HasSteps self.old.room task }
-        ensures { HasTriedIn self.old view task result self.new }
+        requires room { HasStepsFor self.old.room task most }
+        ensures made { HaveSteppedIn result self.old view task self.new }
+        ensures most { result ≤ most }
     {
         let Some(kept) = self.list.get_mut(task as usize) else {
-            return false;
+            return 0;
         };
         let Some(control) = &mut kept.control else {
-            return false;
+            return 0;
         };
-        let made = control.try_step(&self.code, &mut self.cells, view);
-        if made {
-            self.room.steps -= 1;
-        }
+        let made = control.try_steps(&self.code, &mut self.cells, view, most);
+        self.room.steps -= made;
         made
     }
 

@@ -8,14 +8,11 @@ use Rattle.omp_model.specs.contracts.event.Callback as callback
 use Rattle.omp_model.specs.declared.event.Event.{Event}
 use Rattle.omp_model.specs.declared.event.Halt.{Halt}
 use Rattle.omp_model.specs.declared.event.Outcome.TheVariants as outcome
-use Rattle.omp_model.specs.Turn.{Turn, called, counted, stepped}
-use Rattle.omp_model.specs.Gates.{arrival}
-use Rattle.omp_model.specs.Members.{view_of}
-use Rattle.omp_model.specs.Silent.{Goes, silent_step}
-use Rattle.omp_model.specs.declared.event.Arrival.TheVariants.{Steps}
+use Rattle.omp_model.specs.Turn.{Turn, called, counted}
 use Rattle.omp_model.specs.contracts.event.Halt as halt
 use Rattle.omp_model.specs.State.{Run, State, World}
-use Rattle.omp_board.specs.Board.{BoardRoom, HasTurn, room_code, run_of, world_code}
+use Rattle.omp_board.specs.Board.{BoardRoom, BoardView, room_code, world_code}
+use Rattle.omp_board.specs.Board as boards
 use Rattle.omp_machine.specs.declared.settings.Settings.{Settings}
 
 pub record StateView : Type 0 where
@@ -60,17 +57,11 @@ pub record SameCounts (old new : State) : Type 0 where
   pub pending : new.pending ≡ old.pending
   pub halt : new.halt ≡ old.halt
 
--- a silent step of the thread that is tried was made, and is the one that stands next; or nothing was done
-pub record HasStepped (old : StateView) (t : ℕ) (new : StateView) : Type 0 where
-  pub arrives : arrival old.state.world t ≡ Steps
-  pub silence : silent_step (run_of old.program) old.state.world t ≡ Goes new.state.world
-  pub counted : new.state ≡ stepped old.state new.state.world
-  pub program : new.program ≡ old.program
-  pub room : new.room ≡ record old.room { steps = new.room.steps }
-  pub steps : old.room.steps ≤ new.room.steps + 1
-  pub turn : HasTurn new.room new.state.world t
-  pub view : view_of new.state.world t ≡ view_of old.state.world t
+-- the part of a state that its board has
+abbrev pub board_of : StateView → BoardView
+board_of view = record { program = view.program; world = view.state.world; room = view.room }
 
-abbrev pub HasTried : StateView → ℕ → Bool → StateView → Type 0
-HasTried old t true new = HasStepped old t new
-HasTried old t false new = new ≡ old
+-- so many silent steps of the thread were made, one after another, and counted
+pub record HaveStepped (old : StateView) (t count : ℕ) (new : StateView) : Type 0 where
+  pub steps : boards.HaveStepped count (board_of old) t (board_of new)
+  pub counted : new.state ≡ record old.state { world = new.state.world; steps = old.state.steps + count }

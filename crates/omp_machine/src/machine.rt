@@ -125,22 +125,16 @@ impl Machine {
         requires { next ≤ self.now.run.threads }
         ensures { result ≡ first_enabled self.now.run self.now.state next }
     {
-        match self.enabled_among(next, self.settings.threads) {
-            Some(thread) => Some(thread),
-            None => self.enabled_among(0, next),
-        }
+        let ready = self.first_ready(next)?;
+        Some(ready.thread)
     }
 
     /// The first enabled thread from `from` on, before `end`.
     fn enabled_among(&self, from: u8, end: u8) -> Option<u8>
         ensures { result ≡ enabled_among self.now.state from (end - from) }
     {
-        for thread in from..end {
-            if self.enabled(thread) {
-                return Some(thread);
-            }
-        }
-        None
+        let ready = self.ready_among(from, end)?;
+        Some(ready.thread)
     }
 
     /// The first enabled thread from `next` on, round and round, with what it comes to.

@@ -10,11 +10,12 @@ ghost use Rattle.omp_model.specs.Made.{IsMadeWorld};
 ghost use Rattle.omp_model.specs.Members.{view_of};
 ghost use Rattle.omp_model.specs.Turn as turns;
 ghost use Rattle.omp_model.specs.declared.event.Arrival.TheVariants.{Steps};
+ghost use Rattle.omp_model.specs.declared.limits.TheConstants.{STEPS_OF_A_TURN};
 ghost use Rattle.omp_model.specs.Turn.{after_steps, called, enabled, going_past, halted, stepped, turn, unlimited, walk};
 ghost use Rattle.omp_model.specs.Words.{is_made};
-ghost use Rattle.omp_board.specs.Board.{HasEvent, HasStep, HasTurn, IsSilence};
+ghost use Rattle.omp_board.specs.Board.{HasEvent, HasStep, HasStepsAhead, HasTurn, IsSilence};
 ghost use Rattle.omp_board.specs.Tasks.{steps_ahead};
-ghost use Rattle.omp_machine.specs.State.{HasTried, SameCounts, happened, run_in};
+ghost use Rattle.omp_machine.specs.State.{HaveStepped, SameCounts, happened, run_in};
 ghost use Rattle.omp_machine.specs.Standing.{went_after};
 
 use crate::settings::Settings;
@@ -178,6 +179,17 @@ impl State {
         self.steps >= limit
     }
 
+    /// How many silent steps may still be made in a turn that has made so many, where so many may be made in all.
+    fn steps_left(&self, limit: u32, made: u32) -> u32
+        requires within { made < STEPS_OF_A_TURN }
+        requires unspent { self.now.state.steps < limit }
+        ensures some { 0 < result }
+        ensures turn { made + result ≤ STEPS_OF_A_TURN }
+        ensures limit { self.now.state.steps + result ≤ limit }
+    {
+        (STEPS_OF_A_TURN - made).min(limit - self.steps)
+    }
+
     /// What the code of the thread's current task sees.
     fn view(&self, thread: u8) -> View
         ensures view { result ≡ view_of self.now.state.world thread }
@@ -207,20 +219,19 @@ impl State {
         Ok(())
     }
 
-    /// Makes the silent step of the thread that stands next, where it is one of C's own statements, asks nothing, and meets no trap and no limit.
-    /// Otherwise nothing is done.
+    /// Makes silent steps of the thread one after another, at most so many, as long as each may be made without a look at what else the
+    /// thread may come to, and answers how many it made.
     #[inline(always)]
-    fn try_step(&mut self, thread: u8, view: View) -> bool
+    fn try_steps(&mut self, thread: u8, view: View, most: u32) -> u32
         requires view { view ≡ view_of self.old.state.world thread }
         requires numbers { HasNumbers view }
-        requires room { HasStep self.old.room self.old.state.world thread }
-        requires countable { self.old.state.steps + 1 < 2 ^ 32 }
-        ensures { HasTried self.old thread result self.new }
+        requires room { HasStepsAhead self.old.room self.old.state.world thread most }
+        requires countable { self.old.state.steps + most < 2 ^ 32 }
+        ensures made { HaveStepped self.old thread result self.new }
+        ensures most { result ≤ most }
     {
-        let made = self.board.try_step(thread, view);
-        if made {
-            self.steps += 1;
-        }
+        let made = self.board.try_steps(thread, view, most);
+        self.steps += made;
         made
     }
 
@@ -236,11 +247,15 @@ impl State {
         ensures program { self.new.program ≡ self.old.program }
     {
         let view = self.view(thread);
-        for made in 0..STEPS_OF_A_TURN {
+        let mut made = 0;
+        while made < STEPS_OF_A_TURN {
             if self.is_spent(limit) {
                 return self.walk_spent(thread, made);
             }
-            if self.try_step(thread, view) {
+            let most = self.steps_left(limit, made);
+            let more = self.try_steps(thread, view, most);
+            made += more;
+            if more == most {
                 continue;
             }
             match self.arrival(thread) {
@@ -260,6 +275,7 @@ impl State {
                     next: None,
                 };
             }
+            made += 1;
         }
         Walk {
             made: STEPS_OF_A_TURN,

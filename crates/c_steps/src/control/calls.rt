@@ -10,19 +10,20 @@ ghost use Rattle.c_model.specs.Cells.{entry_of};
 ghost use Rattle.c_model.specs.Parts.{parts};
 ghost use Rattle.c_model.specs.Value.{all_values};
 ghost use Rattle.c_steps.specs.Arguments.{without_values};
-ghost use Rattle.c_steps.specs.Held.{env_at, here_at, moment_at, outcome_at, scope_in};
+ghost use Rattle.c_steps.specs.Held.{env_at, here_at, moment_at, next_of_call, outcome_at, scope_in};
 ghost use Rattle.c_steps.specs.Moves.{cells_given, closed, delivered, env_with, given_back, last_call};
 ghost use Rattle.c_steps.specs.Nodes.{IsPart, part_at};
 ghost use Rattle.c_steps.specs.Ready.{AreFrames, FitsProgram, IsSettled, IsStepping};
 ghost use Rattle.c_steps.specs.Rooming.{IsEntry};
 ghost use Rattle.c_steps.specs.Scopes.{HasNumbers};
+ghost use Rattle.c_steps.specs.Trying.{IsAttempt};
 ghost use Rattle.c_steps.specs.Widths.{step_names};
 
 use crate::cells::Cells;
 use crate::code::Code;
 use crate::control::Control;
 use crate::item::Item;
-use crate::next::Next;
+use crate::next::{Next, Refusal, begun_call};
 use crate::parts::part_count;
 use c_model::{CALL_LIMIT, CALLS, CELLS, Entry, LOCK_UNIT, MutexKind, Point, Target, View};
 use c_syntax::{LockCall, NodeKind};
@@ -195,6 +196,7 @@ impl Control {
 
     /// The start of a call: its arguments, from left to right, and then the function's body stands next. A declarator's variable comes into scope
     /// behind it.
+    #[inline(never)]
     fn begin_call(
         &mut self,
         code: &Code,
@@ -213,19 +215,64 @@ impl Control {
         ensures numbers { FitsProgram code.now result }
         ensures frames { AreFrames code.now self.new.frames }
     {
+        begun_call(self.start_call(code, cells, view, call, declared, to))
+    }
+
+    /// A call whose value goes there is tried, if it isn't that of `omp_test_lock`.
+    #[tactic(auto, using(crate::proofs::Trying::call_attempt))]
+    #[inline(always)]
+    pub(super) fn try_call(
+        &mut self,
+        code: &Code,
+        cells: &mut Cells,
+        view: View,
+        call: Option<u32>,
+        to: Target,
+    ) -> bool
+        requires ready { IsStepping code.now self.old }
+        requires call { IsPart code.now.trees call }
+        requires view { HasNumbers view }
+        requires step_names { self.old.step_names ≡ step_names code.now }
+        ensures { IsAttempt code.now (calls.begin_right (kind_of (part_at code.now.trees call)) (here_at code.now view self.old cells.old) (part_at code.now.trees call) (env_at code.now self.old) to) result self.old cells.old self.new cells.new }
+    {
+        match code.kind(call) {
+            NodeKind::TestLock => false,
+            _ => self.start_call(code, cells, view, call, None, to).is_ok(),
+        }
+    }
+
+    /// A call starts, unless an argument traps or a limit would be passed.
+    #[inline(never)]
+    fn start_call(
+        &mut self,
+        code: &Code,
+        cells: &mut Cells,
+        view: View,
+        call: Option<u32>,
+        declared: Option<Entry>,
+        to: Target,
+    ) -> Result<(), Refusal>
+        requires ready { IsStepping code.now self.old }
+        requires call { IsPart code.now.trees call × IfSome declared IsEntry }
+        requires view { HasNumbers view }
+        requires step_names { self.old.step_names ≡ step_names code.now }
+        ensures step { outcome_at code.now (next_of_call result) (moment_at code.now self.new cells.new) ≡ calls.begin_call (here_at code.now view self.old cells.old) (part_at code.now.trees call) (env_with declared (env_at code.now self.old)) to }
+        ensures settled { IsSettled (next_of_call result) self.old cells.old self.new cells.new }
+        ensures frames { AreFrames code.now self.new.frames }
+    {
         match self.check_arguments(code, cells, view, call) {
-            Err(trap) => Next::Trap(trap),
+            Err(trap) => Err(Refusal::Trap(trap)),
             Ok(()) => {
                 let function = code.function(code.name(call));
                 let parameters = part_count(code.tree(), code.child(function, 1));
                 if !cells.has_room(parameters as usize) {
-                    return Next::Limit(CELLS);
+                    return Err(Refusal::Limit(CELLS));
                 }
                 if self.open_calls >= CALL_LIMIT {
-                    return Next::Limit(CALLS);
+                    return Err(Refusal::Limit(CALLS));
                 }
                 self.enter(code, cells, view, call, function, declared, to);
-                Next::Quiet
+                Ok(())
             }
         }
     }

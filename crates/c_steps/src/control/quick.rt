@@ -12,8 +12,8 @@ ghost use Rattle.c_steps.specs.Held.{here_at, scope_in};
 ghost use Rattle.c_steps.specs.Items.{with_file};
 ghost use Rattle.c_steps.specs.Nodes.{IsPart, part_at};
 ghost use Rattle.c_steps.specs.Ready.{IsStepping};
-ghost use Rattle.c_steps.specs.Scopes.{HasNumbers};
-ghost use Rattle.c_steps.specs.Trying.{IsAttempt, IsChange};
+ghost use Rattle.c_steps.specs.Scopes.{HasNumbers, scope_of};
+ghost use Rattle.c_steps.specs.Trying.{IsAssignment, IsAttempt, IsChange};
 ghost use Rattle.c_steps.specs.Widths.{step_names};
 
 use crate::cells::Cells;
@@ -23,7 +23,8 @@ use crate::control::statements::branch_taken;
 use crate::control::steps::setting_of;
 use crate::item::Item;
 use crate::numbers::binary_result;
-use c_model::View;
+use crate::scope::{Scope, number_in};
+use c_model::{Target, View};
 use c_syntax::{BinaryOp, NodeKind, Setting};
 
 /// A cell and the number that it gets.
@@ -183,7 +184,7 @@ impl Control {
         let right = code.child(Some(node), 0);
         match code.kind(right) {
             NodeKind::Call | NodeKind::TestLock => {
-                self.try_call_returned(code, cells, view, node)
+                self.try_call(code, cells, view, right, Target::Return)
             }
             _ => match self.quick_value(code, cells, view, right) {
                 Some(number) => self.try_returns(code, cells, view, number),
@@ -222,37 +223,30 @@ impl Control {
         requires view { HasNumbers view }
         ensures { IfSome result (IsChange (statements.makes_step (kind_of (part_at code.now.trees part)) (here_at code.now view self.now cells.now) (part_at code.now.trees part)) (here_at code.now view self.now cells.now)) }
     {
+        let scope = self.scope(code, cells.items(), view);
         match code.kind(part) {
             NodeKind::Assign(which) => {
-                let right = self.quick_value(code, cells, view, code.child(part, 1))?;
-                self.assignment(code, cells, view, which, code.child(part, 0), right)
+                let right = scope.quick_value(code.child(part, 1))?;
+                assignment(&scope, which, code.child(part, 0), right)
             }
             NodeKind::Bump(which, _) => {
-                self.assignment(code, cells, view, setting_of(which), code.child(part, 0), 1)
+                assignment(&scope, setting_of(which), code.child(part, 0), 1)
             }
             _ => None,
         }
     }
+}
 
-    /// What an assignment of this number changes, if it has no trap.
-    #[inline(always)]
-    fn assignment(
-        &self,
-        code: &Code,
-        cells: &Cells,
-        view: View,
-        which: Setting,
-        place: Option<u32>,
-        right: i32,
-    ) -> Option<Change>
-        requires place { IsPart code.now.trees place }
-        requires view { HasNumbers view }
-        ensures { IfSome result (IsChange (statements.assigns (here_at code.now view self.now cells.now) which (part_at code.now.trees place) (Ok right)) (here_at code.now view self.now cells.now)) }
-    {
-        let cell = self.scope(code, cells.items(), view).quick_place(place)?;
-        let number = changed_number(which, cells.number(cell), right)?;
-        Some(Change { cell, number })
-    }
+/// What an assignment of this number changes, if it has no trap.
+#[inline(always)]
+fn assignment(scope: &Scope, which: Setting, place: Option<u32>, right: i32) -> Option<Change>
+    requires place { IsPart scope.now.tree.now.trees place }
+    requires view { HasNumbers scope.now.view }
+    ensures { IfSome result (IsAssignment (scope_of scope.now) which (part_at scope.now.tree.now.trees place) right) }
+{
+    let cell = scope.quick_place(place)?;
+    let number = changed_number(which, number_in(scope.cells, cell), right)?;
+    Some(Change { cell, number })
 }
 
 /// What an assignment puts into its cell, by what the cell holds and the number of its right side, if that fits.

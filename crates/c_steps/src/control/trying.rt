@@ -1,6 +1,6 @@
 //! A silent step of C's own statements, made without a look at what else may stand next.
 
-ghost use Rattle.std.specs.Prelude.{◌≡◌, ◌<◌, length, slice_set, true, IfSome};
+ghost use Rattle.std.specs.Prelude.{◌≡◌, ◌<◌, ◌≤◌, length, slice_get, slice_set, true, IfSome, Some};
 ghost use Rattle.c_syntax.specs.Tree.{kind_of};
 ghost use Rattle.c_syntax.specs.Numbered.{tree_at};
 ghost use Rattle.c_model.specs.Calls as calls;
@@ -13,8 +13,8 @@ ghost use Rattle.c_steps.specs.Made.{IsMadeFor};
 ghost use Rattle.c_steps.specs.Ready.{AreFrames, IsFront, IsItem, IsStepping};
 ghost use Rattle.c_steps.specs.Scopes.{HasNumbers};
 ghost use Rattle.c_steps.specs.Rooming.{open_calls};
-ghost use Rattle.c_steps.specs.Trying.{HasPartOnTop, IsAttempt, IsTried, item_of, next_on_top};
-ghost use Rattle.c_steps.specs.declared.frame.Frame.TheVariants.{One};
+ghost use Rattle.c_steps.specs.Trying.{HasPartOnTop, HaveStepsMade, IsAttempt, IsTried, item_of, next_on_top};
+ghost use Rattle.c_steps.specs.declared.frame.Frame.TheVariants.{One, Parts};
 ghost use Rattle.c_steps.specs.declared.item.Item.TheVariants.{Leave};
 ghost use Rattle.c_steps.specs.Widths.{step_names};
 
@@ -25,14 +25,33 @@ use crate::frame::Frame;
 use crate::item::Item;
 use crate::next::is_quiet;
 use crate::plain::{Part, Plain, plain_item, shown_part};
-use c_model::View;
+use c_model::{Target, View};
 use c_syntax::NodeKind;
 
 // What makes a large value, as an item or a `Next`, is never inlined here: a function pays at entry for all that it may make.
 impl Control {
-    /// Makes the silent step that stands next, where it is one of C's own statements and meets no trap and no limit. Otherwise nothing is done,
-    /// and `advance` tells what stands next. It takes no memory.
-    pub fn try_step(&mut self, code: &Code, cells: &mut Cells, view: View) -> bool
+    /// Makes silent steps of C's own statements one after another, at most so many, and answers how many it made. `advance` tells what stands
+    /// next then. It takes no memory.
+    #[tactic(auto, using(crate::proofs::Repeated::none_made, crate::proofs::Repeated::made_then_not, crate::proofs::Repeated::made_one_more))]
+    pub fn try_steps(&mut self, code: &Code, cells: &mut Cells, view: View, most: u32) -> u32
+        requires made { IsMadeFor code.now self.old }
+        requires view { HasNumbers view }
+        requires spare { most ≤ self.old.spare }
+        ensures tried { HaveStepsMade code.now view result self.old cells.old self.new cells.new }
+        ensures most { result ≤ most }
+        ensures made { IsMadeFor code.now self.new }
+    {
+        for made in 0..most {
+            if !self.try_step(code, cells, view) {
+                return made;
+            }
+        }
+        most
+    }
+
+    /// May make the silent step that stands next, where it is one of C's own statements. Otherwise nothing is done.
+    #[inline(always)]
+    fn try_step(&mut self, code: &Code, cells: &mut Cells, view: View) -> bool
         requires made { IsMadeFor code.now self.old }
         requires view { HasNumbers view }
         requires spare { 0 < self.old.spare }
@@ -45,46 +64,9 @@ impl Control {
         }
     }
 
-    /// What stands next, where it is plain. Then it stands first.
+    /// What stands next, where it is plain. Then it stands first. Where nothing is left of a part of a block, the next one stands there.
     #[inline(always)]
     fn plain_front(&mut self, code: &Code) -> Option<Plain>
-        requires { AreFrames code.now self.old.frames }
-        ensures frames { AreFrames code.now self.new.frames }
-        ensures rest { self.new ≡ record self.old { frames = self.new.frames } }
-        ensures task { task_at code.now self.new ≡ task_at code.now self.old }
-        ensures found { IfSome result (λ plain. IsFront code.now self.new.frames (item_of plain)) }
-    {
-        self.skip_past(code);
-        self.shown_front(code)
-    }
-
-    /// Where nothing is left of a part of a block, the next one stands there.
-    #[inline(always)]
-    fn skip_past(&mut self, code: &Code)
-        requires { AreFrames code.now self.old.frames }
-        ensures frames { AreFrames code.now self.new.frames }
-        ensures rest { self.new ≡ record self.old { frames = self.new.frames } }
-        ensures task { task_at code.now self.new ≡ task_at code.now self.old }
-    {
-        let Some(
-            Frame::Parts {
-                block,
-                place,
-                at,
-                ..
-            },
-        ) = self.stack.top()
-        else {
-            return;
-        };
-        if let Part::Past = shown_part(code, *block, *place, *at) {
-            self.go_to_next_part();
-        }
-    }
-
-    /// The same, where that is not so.
-    #[inline(always)]
-    fn shown_front(&mut self, code: &Code) -> Option<Plain>
         requires { AreFrames code.now self.old.frames }
         ensures frames { AreFrames code.now self.new.frames }
         ensures rest { self.new ≡ record self.old { frames = self.new.frames } }
@@ -101,10 +83,13 @@ impl Control {
                     names,
                 },
             ) => {
-                let names = *names;
-                match shown_part(code, *block, *place, *at) {
+                let (block, place, names) = (*block, *place, *names);
+                match shown_part(code, block, place, *at) {
                     Part::Next(plain) => Some(plain),
-                    Part::Past => None,
+                    Part::Past => {
+                        self.go_to_next_part();
+                        self.shown_first(code, block, place + 1, names)
+                    }
                     Part::Over => {
                         self.end_parts(names);
                         Some(Plain::Leave(names))
@@ -112,6 +97,26 @@ impl Control {
                 }
             }
             _ => None,
+        }
+    }
+
+    /// The same, where the parts of a block are on top from a place on.
+    #[inline(always)]
+    fn shown_first(&mut self, code: &Code, block: u32, place: u32, names: usize) -> Option<Plain>
+        requires frames { AreFrames code.now self.old.frames }
+        requires top { Some (Parts block place 0 names) ≡ slice_get self.old.frames 0 }
+        ensures frames { AreFrames code.now self.new.frames }
+        ensures rest { self.new ≡ record self.old { frames = self.new.frames } }
+        ensures task { task_at code.now self.new ≡ task_at code.now self.old }
+        ensures found { IfSome result (λ plain. IsFront code.now self.new.frames (item_of plain)) }
+    {
+        match shown_part(code, block, place, 0) {
+            Part::Next(plain) => Some(plain),
+            Part::Past => None,
+            Part::Over => {
+                self.end_parts(names);
+                Some(Plain::Leave(names))
+            }
         }
     }
 
@@ -203,28 +208,7 @@ impl Control {
         is_quiet(next)
     }
 
-    /// `return` of a call.
-    #[tactic(auto, using(crate::proofs::Trying::attempt_of))]
-    #[inline(never)]
-    pub(super) fn try_call_returned(
-        &mut self,
-        code: &Code,
-        cells: &mut Cells,
-        view: View,
-        node: u32,
-    ) -> bool
-        requires ready { IsStepping code.now self.old }
-        requires node { node < length code.now.trees }
-        requires view { HasNumbers view }
-        requires step_names { self.old.step_names ≡ step_names code.now }
-        ensures { IsAttempt code.now (calls.begin_return (here_at code.now view self.old cells.old) (tree_at code.now.trees node)) result self.old cells.old self.new cells.new }
-    {
-        let next = self.begin_return(code, cells, view, node);
-        is_quiet(next)
-    }
-
-    /// An assignment of a call.
-    #[tactic(auto, using(crate::proofs::Trying::attempt_of))]
+    /// An assignment of a call: first the cell, and then the call.
     #[inline(never)]
     fn try_set_call(&mut self, code: &Code, cells: &mut Cells, view: View, node: u32) -> bool
         requires ready { IsStepping code.now self.old }
@@ -233,12 +217,16 @@ impl Control {
         requires step_names { self.old.step_names ≡ step_names code.now }
         ensures { IsAttempt code.now (calls.begin_set_call (here_at code.now view self.old cells.old) (tree_at code.now.trees node)) result self.old cells.old self.new cells.new }
     {
-        let next = self.begin_set_call(code, cells, view, node);
-        is_quiet(next)
+        match self.place_cell(code, cells, view, code.child(Some(node), 0)) {
+            Ok(cell) => {
+                let call = code.child(Some(node), 1);
+                self.try_call(code, cells, view, call, Target::Cell(cell as u32))
+            }
+            Err(_) => false,
+        }
     }
 
     /// A call that is a statement.
-    #[tactic(auto, using(crate::proofs::Trying::attempt_of))]
     #[inline(never)]
     fn try_called(&mut self, code: &Code, cells: &mut Cells, view: View, node: u32) -> bool
         requires ready { IsStepping code.now self.old }
@@ -247,8 +235,8 @@ impl Control {
         requires step_names { self.old.step_names ≡ step_names code.now }
         ensures { IsAttempt code.now (calls.begin_called (here_at code.now view self.old cells.old) (tree_at code.now.trees node)) result self.old cells.old self.new cells.new }
     {
-        let next = self.begin_called(code, cells, view, node);
-        is_quiet(next)
+        let call = code.child(Some(node), 0);
+        self.try_call(code, cells, view, call, Target::Nowhere)
     }
 
     /// A statement that does nothing.

@@ -15,7 +15,7 @@ ghost use Rattle.omp_model.specs.Members.{code_of, current, view_of};
 ghost use Rattle.omp_model.specs.Silent as silence;
 ghost use Rattle.omp_model.specs.State.{task_at};
 ghost use Rattle.omp_board.specs.Answering.{ComesTo, IsSettled, chunk_given, dealt, gone_as, section_given, told_answer};
-ghost use Rattle.omp_board.specs.Board.{HasStep, HasTried, HasTurn, IsFree, IsSilence};
+ghost use Rattle.omp_board.specs.Board.{HasStep, HasStepsAhead, HasTurn, HaveStepped, IsFree, IsSilence};
 ghost use Rattle.omp_board.specs.Tasks.{IsNamedIn, IsStill};
 
 use crate::board::Board;
@@ -49,23 +49,22 @@ impl Board {
         }
     }
 
-    /// Makes the silent step of the thread that stands next, where it is one of C's own statements, asks nothing, and meets no trap and no limit.
-    /// Otherwise nothing is done.
-    #[inline(always)]
-    pub fn try_step(&mut self, thread: u8, view: View) -> bool
+    /// Makes silent steps of the thread one after another, at most so many, as long as each may be made without a look at what else the
+    /// thread may come to, and answers how many it made.
+    pub fn try_steps(&mut self, thread: u8, view: View, most: u32) -> u32
         requires view { view ≡ view_of self.old.world thread }
         requires numbers { HasNumbers view }
-        requires room { HasStep self.old.room self.old.world thread }
-        ensures { HasTried self.old thread result self.new }
+        requires room { HasStepsAhead self.old.room self.old.world thread most }
+        ensures made { HaveStepped result self.old thread self.new }
+        ensures most { result ≤ most }
     {
         match self.free_task(thread) {
-            Some(task) => self.tasks.try_step(task, view),
-            None => false,
+            Some(task) => self.tasks.try_steps(task, view, most),
+            None => 0,
         }
     }
 
-    /// The current task of the thread, where what the thread comes to next is what the task's code says.
-    #[tactic(auto, unfolding(omp_model::specs::Gates::arrival))]
+    /// The current task of the thread, where nothing stands before the task's code.
     #[inline(always)]
     fn free_task(&self, thread: u8) -> Option<u32>
         ensures { IfSome result (IsFree self.now.world thread) }

@@ -7,7 +7,7 @@ use Rattle.c_steps.specs.Moves.{env_with}
 use Rattle.c_steps.specs.Nodes.{part_at}
 use Rattle.c_steps.specs.Rooming.{open_calls}
 use Rattle.c_steps.proofs.BeginCall.{begins_calls, begins_cells, begins_entered, have_no_trap}
-use Rattle.c_steps.proofs.control.Control.begin_call.Goals as goal
+use Rattle.c_steps.proofs.control.Control.start_call.Goals as goal
 
 pub returns-then-not-has_room-clause-step : goal.returns-then-not-has_room-clause-step
 returns-then-not-has_room-clause-step c =
