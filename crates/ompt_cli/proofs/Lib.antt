@@ -1,4 +1,3 @@
-pub mod Decimal
 pub mod Calls
 pub mod Handing
 pub mod Listing

@@ -1,5 +1,7 @@
 -- What a command does: what its words and its text decide, what it reports of its run, and what it writes.
-use Rattle.std.specs.Prelude.{ℕ, ◌≡◌, ⊤, List, [], Option, Some, None}
+use Rattle.std.specs.Prelude.{ℕ, ◌≡◌, ◌≢◌, ◌⊎◌, ⊤, IsSome, IsSomeAnd, List, [], Option, Some, None, string_bytes, true}
+use Rattle.std.specs.declared.string.String.{String}
+use Rattle.std.specs.declared.alloc.Global.{Global}
 use Rattle.omp_model.specs.declared.cause.Cause.{Cause}
 use Rattle.omp_model.specs.declared.cause.Cause.TheVariants as cause
 use Rattle.omp_model.specs.State.{Run}
@@ -7,17 +9,17 @@ use Rattle.omp_model.specs.Records.{records_of, lines_of}
 use Rattle.omp_model.specs.Legal.{after}
 use Rattle.team_run.specs.Program.{run_of_program}
 use Rattle.omp_model.specs.declared.history.Entry.{Entry}
-use Rattle.ompt_cli.specs.declared.words.Command.{Command}
-use Rattle.ompt_cli.specs.declared.words.Command.TheVariants.{List as Listing, Run as Running}
+use Rattle.ompt_words.specs.declared.settings.Command.{Command}
+use Rattle.ompt_words.specs.declared.settings.Command.TheVariants.{List as Listing, Run as Running}
+use Rattle.ompt_words.specs.declared.settings.Settings.{Settings}
 use Rattle.ompt_cli.specs.declared.end.Refusal.{Refusal}
 use Rattle.ompt_cli.specs.declared.end.End.{End}
-use Rattle.ompt_cli.specs.declared.end.End.TheVariants.{Done, Returned, Usage, Refused, Trapped, Deadlock, Limit, ReadFault, WriteFault, Memory}
-use Rattle.ompt_cli.specs.declared.report.TheConstants.{SILENT_STEPS}
+use Rattle.ompt_cli.specs.declared.end.End.TheVariants.{Done, Returned, Shown, Usage, Refused, Trapped, Deadlock, Limit, ReadFault, WriteFault, Memory}
 use Rattle.ompt_cli.specs.declared.report.Report.{Report}
 
 -- the run that a report is of. A guest is a box of a vtable and what lies behind it
 abbrev pub run_of : {Table : Type 0} {Behind : Table → Type 0} → Report Table Behind → Run
-run_of report = run_of_program report.program.tree report.mask report.threads SILENT_STEPS
+run_of report = run_of_program report.program.tree report.mask report.threads report.steps
 
 -- nothing is written of a run that found no memory
 abbrev pub unless_memory : Cause → List ℕ → List ℕ
@@ -33,15 +35,29 @@ abbrev pub written_by : Command → Run → List Entry → List ℕ
 written_by Listing run history = lines_of (records_of run history)
 written_by Running run history = (after run history).world.store.text
 
--- what a command writes, if there was a run
-abbrev pub out_of : {Table : Type 0} {Behind : Table → Type 0} → Option (Report Table Behind) → List ℕ
-out_of None = []
-out_of (Some report) = unless_memory report.cause (written_by report.command (run_of report) report.history)
+-- what a command writes of its run, if there was one
+abbrev pub run_text : {Table : Type 0} {Behind : Table → Type 0} → Option (Report Table Behind) → List ℕ
+run_text None = []
+run_text (Some report) = unless_memory report.cause (written_by report.command (run_of report) report.history)
+
+-- what a command writes: the text that its words ask for, or else what it writes of its run
+abbrev pub out_of : {Table : Type 0} {Behind : Table → Type 0} → Option (String Global) → Option (Report Table Behind) → List ℕ
+out_of None ran = run_text ran
+out_of (Some text) ran = string_bytes text
+
+-- a command has something to write: a text that its words ask for, or what a run gave that found memory
+abbrev pub HasOutput : {Table : Type 0} {Behind : Table → Type 0} → Option (String Global) → Option (Report Table Behind) → Type 0
+HasOutput shown ran = IsSome shown ⊎ IsSomeAnd ran (λ report. report.cause ≢ cause.Memory)
+
+-- the settings with which a report's run was made
+abbrev pub settings_in : {Table : Type 0} {Behind : Table → Type 0} → Report Table Behind → Settings
+settings_in report = record { command = report.command; threads = report.threads; steps = report.steps; serial = true }
 
 -- the end of a command whose text is refused for this: that refusal, or what comes before it
 abbrev pub MayRefuse : Refusal → End → Type 0
 MayRefuse why Done = ⊥
 MayRefuse why (Returned value) = ⊥
+MayRefuse why Shown = ⊥
 MayRefuse why Usage = ⊥
 MayRefuse why (Refused other) = other ≡ why
 MayRefuse why (Trapped number) = ⊥
@@ -55,6 +71,7 @@ MayRefuse why Memory = ⊤
 abbrev pub MayRun : End → Type 0
 MayRun Done = ⊤
 MayRun (Returned value) = ⊤
+MayRun Shown = ⊥
 MayRun Usage = ⊥
 MayRun (Refused why) = ⊥
 MayRun (Trapped number) = ⊤
@@ -64,10 +81,39 @@ MayRun ReadFault = ⊤
 MayRun WriteFault = ⊤
 MayRun Memory = ⊤
 
+-- the end of a command whose words ask for no run: they are refused, or a text is shown
+abbrev pub IsUnread : End → Type 0
+IsUnread Done = ⊥
+IsUnread (Returned value) = ⊥
+IsUnread Shown = ⊤
+IsUnread Usage = ⊤
+IsUnread (Refused why) = ⊥
+IsUnread (Trapped number) = ⊥
+IsUnread Deadlock = ⊥
+IsUnread (Limit number) = ⊥
+IsUnread ReadFault = ⊥
+IsUnread WriteFault = ⊤
+IsUnread Memory = ⊤
+
+-- the end of a command whose words ask for a text: it is shown, unless a write or memory fails
+abbrev pub IsShowing : End → Type 0
+IsShowing Done = ⊥
+IsShowing (Returned value) = ⊥
+IsShowing Shown = ⊤
+IsShowing Usage = ⊥
+IsShowing (Refused why) = ⊥
+IsShowing (Trapped number) = ⊥
+IsShowing Deadlock = ⊥
+IsShowing (Limit number) = ⊥
+IsShowing ReadFault = ⊥
+IsShowing WriteFault = ⊤
+IsShowing Memory = ⊤
+
 -- the end of a command that comes before its run
 abbrev pub IsBeforeRun : End → Type 0
 IsBeforeRun Done = ⊥
 IsBeforeRun (Returned value) = ⊥
+IsBeforeRun Shown = ⊥
 IsBeforeRun Usage = ⊥
 IsBeforeRun (Refused why) = ⊤
 IsBeforeRun (Trapped number) = ⊥
@@ -81,6 +127,7 @@ IsBeforeRun Memory = ⊤
 abbrev pub IsAfterRun : End → Type 0
 IsAfterRun Done = ⊤
 IsAfterRun (Returned value) = ⊤
+IsAfterRun Shown = ⊥
 IsAfterRun Usage = ⊥
 IsAfterRun (Refused why) = ⊥
 IsAfterRun (Trapped number) = ⊤
@@ -94,6 +141,7 @@ IsAfterRun Memory = ⊤
 abbrev pub TellsRun : End → Type 0
 TellsRun Done = ⊤
 TellsRun (Returned value) = ⊤
+TellsRun Shown = ⊥
 TellsRun Usage = ⊥
 TellsRun (Refused why) = ⊥
 TellsRun (Trapped number) = ⊤
@@ -107,6 +155,7 @@ TellsRun Memory = ⊥
 abbrev pub EndsWith : End → End → Type 0
 EndsWith whole Done = whole ≡ Done
 EndsWith whole (Returned value) = whole ≡ Returned value
+EndsWith whole Shown = ⊥
 EndsWith whole Usage = ⊥
 EndsWith whole (Refused why) = ⊥
 EndsWith whole (Trapped number) = whole ≡ Trapped number

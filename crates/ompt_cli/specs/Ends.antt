@@ -1,5 +1,5 @@
 -- The status and the line of each end of a command.
-use Rattle.std.specs.Prelude.{ℕ, if◌then◌else◌, ◌==◌, ◌≡◌, List, [], ◌∷◌, ◌++◌, codes, Option}
+use Rattle.std.specs.Prelude.{ℕ, ◌⊎◌, if◌then◌else◌, ◌==◌, ◌≡◌, List, [], ◌∷◌, ◌++◌, codes, Option}
 use Rattle.std.specs.Io.KnownBytes.{Appends}
 use Rattle.run_edges.specs.Edges.{Rose, AppendsFront}
 use Rattle.ompt_cli.specs.declared.end.Refusal.{Refusal}
@@ -16,11 +16,12 @@ use Rattle.c_check.specs.declared.fault.CheckFault.TheVariants as rule
 use Rattle.c_check.specs.Faults.{fault_number as rule_number, fault_spot as rule_spot}
 use Rattle.std.specs.Fmt.{decimal, signed_decimal}
 use Rattle.ompt_cli.specs.declared.end.End.{End}
-use Rattle.ompt_cli.specs.declared.end.End.TheVariants.{Done, Returned, Usage, Refused, Trapped, Deadlock, Limit, ReadFault, WriteFault, Memory}
+use Rattle.ompt_cli.specs.declared.end.End.TheVariants.{Done, Returned, Shown, Usage, Refused, Trapped, Deadlock, Limit, ReadFault, WriteFault, Memory}
 
 abbrev pub status_of : End → ℕ
 status_of Done = 0
 status_of (Returned value) = 1
+status_of Shown = 0
 status_of Usage = 2
 status_of (Refused why) = 3
 status_of (Trapped number) = 4
@@ -73,7 +74,8 @@ limit_text number =
 abbrev pub line_of_end : End → List ℕ
 line_of_end Done = []
 line_of_end (Returned value) = codes "returned " ++ signed_decimal value ++ 10 ∷ []
-line_of_end Usage = codes "usage: ompt run, list, record, profile, timeline, show, check or gen" ++ 10 ∷ []
+line_of_end Shown = []
+line_of_end Usage = codes "usage: ompt run, list, record, profile, timeline, show, check, gen, migrate, rerun or tasks" ++ 10 ∷ []
 line_of_end (Refused why) = refusal_text why ++ 10 ∷ []
 line_of_end (Trapped number) = codes "trapped " ++ decimal number ++ 10 ∷ []
 line_of_end Deadlock = codes "deadlock" ++ 10 ∷ []
@@ -82,10 +84,15 @@ line_of_end ReadFault = codes "read fault" ++ 10 ∷ []
 line_of_end WriteFault = codes "write fault" ++ 10 ∷ []
 line_of_end Memory = codes "memory" ++ 10 ∷ []
 
+-- the end has status 0, and no line: the run is whole and main returned 0, or a text was shown
+abbrev pub IsQuiet : End → Type 0
+IsQuiet end = (end ≡ Done) ⊎ (end ≡ Shown)
+
 -- the status where the line of an end was lost: a write fault, but want of memory stays
 abbrev pub status_of_lost : End → ℕ
 status_of_lost Done = 9
 status_of_lost (Returned value) = 9
+status_of_lost Shown = 9
 status_of_lost Usage = 9
 status_of_lost (Refused why) = 9
 status_of_lost (Trapped number) = 9

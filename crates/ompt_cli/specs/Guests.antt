@@ -11,8 +11,8 @@ use Rattle.omp_model.specs.Heard.{heard_of}
 use Rattle.team_run.specs.Serving.{Becomes, mask_of, first_record, later_record}
 use Rattle.team_run.specs.Standing.{AreSilent}
 use Rattle.team_run.specs.Unheard.{IsUnheard}
-use Rattle.ompt_cli.specs.declared.words.Command.{Command}
-use Rattle.ompt_cli.specs.declared.words.Command.TheVariants.{List as Listing, Run as Running}
+use Rattle.ompt_words.specs.declared.settings.Command.{Command}
+use Rattle.ompt_words.specs.declared.settings.Command.TheVariants.{List as Listing, Run as Running}
 
 -- guest 0 was started, with this answer and these callbacks registered, called for what thread 0 heard, and finished after all
 -- that where it is active; guest t was called for what thread t heard; those past the threads are as they were. Beside that only

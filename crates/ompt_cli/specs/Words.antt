@@ -1,31 +1,24 @@
--- The form of the words: a command, and then `--serial --threads K`.
-use Rattle.std.specs.Prelude.{ℕ, ◌≡◌, ◌≤◌, List, [], ◌∷◌, map, codes, string_bytes}
-use Rattle.std.specs.Fmt.{decimal}
+-- What the words ask for. Until threads run, a run is asked for with `--serial` alone.
+use Rattle.std.specs.Prelude.{ℕ, ◌≡◌, ◌⊎◌, List, map, string_bytes, true, false}
 use Rattle.std.specs.declared.string.String.{String}
 use Rattle.std.specs.declared.alloc.Global.{Global}
-use Rattle.ompt_cli.specs.declared.words.Command.{Command}
-use Rattle.ompt_cli.specs.declared.words.Command.TheVariants.{List as Listing, Run}
+use Rattle.ompt_words.specs.declared.settings.Settings.{Settings}
+use Rattle.ompt_words.specs.Answers.{AreReadAs, AreWrong}
+use Rattle.ompt_words.specs.Form.{InForm, own_settings}
 
 -- the bytes of each word
 abbrev pub texts : List (String Global) → List (List ℕ)
 texts words = map string_bytes words
 
--- the word of a command
-abbrev pub command_word : Command → List ℕ
-command_word Listing = codes "list"
-command_word Run = codes "run"
+-- the words are read as these settings, and `--serial` is among them
+abbrev pub AreReadSerially : List (List ℕ) → Settings → Type 0
+AreReadSerially words settings = AreReadAs words settings × (settings.serial ≡ true)
 
--- the words of a command with so many threads
-abbrev pub words_of : Command → ℕ → List (List ℕ)
-words_of command threads =
-    command_word command ∷ codes "--serial" ∷ codes "--threads" ∷ decimal threads ∷ []
+-- the words ask for a run: they are in the form and have `--serial`, or clap reads them so
+abbrev pub AskForRun : List (List ℕ) → Type 0
+AskForRun words =
+    ((form : InForm words) × ((own_settings form).serial ≡ true)) ⊎ ((settings : Settings) × AreReadSerially words settings)
 
--- the words are in the form, and are of this command with so many threads
-pub record InFormWith (words : List (List ℕ)) (command : Command) (threads : ℕ) : Type 0 where
-  pub one : 1 ≤ threads
-  pub most : threads ≤ 16
-  pub words_are : words ≡ words_of command threads
-
--- the words are in the form
-abbrev pub InForm : List (List ℕ) → Type 0
-InForm words = (command : Command) × ((threads : ℕ) × InFormWith words command threads)
+-- the words are refused: clap may find a mistake in them, or `--serial` is wanting
+abbrev pub AreRefused : List (List ℕ) → Type 0
+AreRefused words = AreWrong words ⊎ ((settings : Settings) × AreReadAs words settings × (settings.serial ≡ false))

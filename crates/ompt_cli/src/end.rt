@@ -31,7 +31,9 @@ pub enum End {
     Done,
     /// The run is whole, and main returned this other number.
     Returned(i32),
-    /// The words aren't in the form.
+    /// The words ask for help or for the version, which was shown. Nothing ran.
+    Shown,
+    /// The words are refused.
     Usage,
     /// The text is refused.
     Refused(Refusal),
@@ -56,7 +58,7 @@ impl End {
         ensures { result ≡ status_of self }
     {
         match self {
-            End::Done => 0,
+            End::Done | End::Shown => 0,
             End::Returned(_) => 1,
             End::Usage => 2,
             End::Refused(_) => 3,
@@ -69,15 +71,15 @@ impl End {
         }
     }
 
-    /// The line on standard error with its newline, which is empty where the run is whole.
+    /// The line on standard error with its newline, which is empty where the status is 0.
     pub fn line(self) -> ArrayString<160>
         ensures { result.bytes ≡ line_of_end self }
     {
         match self {
-            End::Done => line_of(""),
+            End::Done | End::Shown => line_of(""),
             End::Returned(value) => line_of_returned(value),
             End::Usage => line_of(
-                "usage: ompt run, list, record, profile, timeline, show, check or gen\n",
+                "usage: ompt run, list, record, profile, timeline, show, check, gen, migrate, rerun or tasks\n",
             ),
             End::Refused(why) => why.line(),
             End::Trapped(number) => line_of_trapped(number),

@@ -5,13 +5,15 @@ ghost use Rattle.std.specs.Prelude.{◌≡◌, ◌≤◌};
 use c_check::Program;
 use std::marker::Model;
 
-/// What is to run: a program, with 1 to 16 threads.
+/// What is to run: a program, with 1 to 16 threads and 1 to 30,000,000 silent steps.
 #[derive(Drop)]
 pub(crate) struct Job {
     /// The program.
     pub program: Program,
     /// How many threads there may be.
     pub threads: u8,
+    /// How many silent steps there may be.
+    pub steps: u32,
 }
 
 impl Model for Job {
@@ -22,18 +24,24 @@ impl Model for Job {
 
     ghost coded = { job_view_code };
 
-    ghost view = { λ job. record { program = job.program; threads = job.threads } };
+    ghost view = { λ job. record { program = job.program; threads = job.threads; steps = job.steps } };
 
-    ghost invariant = { λ job. (1 ≤ job.threads) × (job.threads ≤ 16) };
+    ghost invariant = { λ job. (1 ≤ job.threads) × (job.threads ≤ 16) × (1 ≤ job.steps) × (job.steps ≤ 30000000) };
 }
 
 impl Job {
-    /// The program with so many threads.
-    pub fn new(program: Program, threads: u8) -> Job
+    /// The program with so many threads and silent steps.
+    pub fn new(program: Program, threads: u8, steps: u32) -> Job
         requires some { 1 ≤ threads }
         requires few { threads ≤ 16 }
-        ensures { result ≡ record { program = program; threads = threads } }
+        requires steps { 1 ≤ steps }
+        requires bounded { steps ≤ 30000000 }
+        ensures { result ≡ record { program = program; threads = threads; steps = steps } }
     {
-        Job { program, threads }
+        Job {
+            program,
+            threads,
+            steps,
+        }
     }
 }

@@ -8,16 +8,16 @@ ghost use Rattle.omp_model.specs.Cause.{cause_of};
 ghost use Rattle.omp_model.specs.Records.{lines_of};
 ghost use Rattle.run_edges.specs.Edges.{Rose, AppendsFront};
 ghost use Rattle.tool_report.specs.Order.{AreShared};
-ghost use Rattle.ompt_cli.specs.Commands.{EndsAs, EndsWith, IsAfterRun, TellsRun, out_of, run_of, unless_memory};
+ghost use Rattle.ompt_cli.specs.Commands.{EndsAs, EndsWith, IsAfterRun, TellsRun, run_text, run_of, unless_memory};
 
 use crate::end::End;
 use crate::ended::{Ended, without_run};
 use crate::job::Job;
 use crate::program_tree::ProgramTree;
-use crate::report::{Report, SILENT_STEPS};
-use crate::words::Command;
+use crate::report::Report;
 use omp_codes::PROFILE_MASK;
 use omp_model::Cause;
+use ompt_words::Command;
 use run_edges::{Sink, write_all};
 use std::alloc::{AllocError, Global};
 use team_run::run_serial;
@@ -35,7 +35,8 @@ pub(crate) fn list<O: Sink>(
     ensures write { result.end ≡ End.WriteFault → Rose (O.faults out.old) (O.faults out.new) }
     ensures steady { result.end ≢ End.WriteFault → O.faults out.new ≡ O.faults out.old }
     ensures ran { IfSome result.ran (λ report.
-        (report.command ≡ Command.List) × (report.program.tree ≡ job.program) × (report.threads ≡ job.threads)) }
+        (report.command ≡ Command.List) × (report.program.tree ≡ job.program) × (report.threads ≡ job.threads)
+        × (report.steps ≡ job.steps)) }
     ensures guests { IfSome result.ran (λ report. report.guests ≡ guests) }
     ensures mask { IfSome result.ran (λ report. report.mask ≡ PROFILE_MASK) }
     ensures serial { IfSome result.ran (λ report. Serial (run_of report) report.history) }
@@ -56,17 +57,21 @@ pub(crate) fn list<O: Sink>(
     ensures ended { IfSome result.ran (λ report. EndsAs report.cause result.end) }
     ensures begun { IfSome result.ran (λ report. report.cause ≡ Cause.Memory → report.history ≢ []) }
     ensures listed { result.end ≢ End.WriteFault → result.end ≢ End.Memory →
-        Appends (O.held out.old) (O.held out.new) (out_of result.ran) }
+        Appends (O.held out.old) (O.held out.new) (run_text result.ran) }
     ensures part { result.end ≡ End.WriteFault →
-        AppendsFront (O.held out.old) (O.held out.new) (out_of result.ran) }
+        AppendsFront (O.held out.old) (O.held out.new) (run_text result.ran) }
     ensures kept { result.end ≡ End.Memory → Keeps (O.held out.old) (O.held out.new) }
 {
-    let Job { program, threads } = job;
+    let Job {
+        program,
+        threads,
+        steps,
+    } = job;
     let tree = ProgramTree::of(&program);
     let Ok(parts) = listers(alloc, threads) else {
         return without_run(End::Memory);
     };
-    let ran = match run_serial(alloc, program, threads, SILENT_STEPS, parts) {
+    let ran = match run_serial(alloc, program, threads, steps, parts) {
         Ok(ran) => ran,
         Err(_) => return without_run(End::Memory),
     };
@@ -77,6 +82,7 @@ pub(crate) fn list<O: Sink>(
         program: tree,
         mask: ran.mask,
         threads,
+        steps,
         history: ran.history,
         guests,
     };

@@ -2,12 +2,9 @@
 
 use crate::end::End;
 use crate::program_tree::ProgramTree;
-use crate::words::Command;
 use omp_model::{Cause, History};
+use ompt_words::Command;
 use tool_api::GuestTool;
-
-/// How many silent steps a run may have where the words don't say.
-pub const SILENT_STEPS: u32 = 1_000_000;
 
 /// What a command reports of its run.
 #[derive(Drop)]
@@ -22,6 +19,8 @@ pub struct Report {
     pub mask: u64,
     /// How many threads there might be.
     pub threads: u8,
+    /// How many silent steps there might be.
+    pub steps: u32,
     /// The run's entries.
     pub history: History,
     /// The guests that were handed in, in their order.
@@ -36,7 +35,10 @@ pub struct Top {
     /// How the command ended, before its line was told.
     pub end: End,
     /// The report of the run. It is there at the ends `Done`, `Returned`, `Trapped`, `Deadlock`, `Limit` and `WriteFault`, and
-    /// isn't at `Usage`, `Refused` and `ReadFault`. At `Memory` it may be there; where its cause is want of memory, its history
-    /// has an entry.
+    /// isn't at `Usage`, `Shown`, `Refused` and `ReadFault`, nor at a `WriteFault` where a text was to be shown. At `Memory` it may
+    /// be there; where its cause is want of memory, its history has an entry.
     pub ran: Option<Report>,
+    /// The text that the words asked for: help or the version. It is there at the end `Shown`, and at a `WriteFault` where it
+    /// couldn't be written whole.
+    pub shown: Option<String>,
 }

@@ -6,7 +6,7 @@ ghost use Rattle.omp_model.specs.Serial.{Serial, serial};
 ghost use Rattle.omp_model.specs.Cause.{cause_of};
 ghost use Rattle.team_run.specs.Standing.{HearsSilent};
 ghost use Rattle.run_edges.specs.Edges.{Rose, AppendsFront};
-ghost use Rattle.ompt_cli.specs.Commands.{EndsAs, EndsWith, IsAfterRun, TellsRun, out_of, run_of, unless_memory};
+ghost use Rattle.ompt_cli.specs.Commands.{EndsAs, EndsWith, IsAfterRun, TellsRun, run_text, run_of, unless_memory};
 ghost use Rattle.ompt_cli.specs.Guests.{GuestsServe};
 
 use crate::end::End;
@@ -14,9 +14,9 @@ use crate::ended::{Ended, without_run};
 use crate::guests::{hand_out, take_back};
 use crate::job::Job;
 use crate::program_tree::ProgramTree;
-use crate::report::{Report, SILENT_STEPS};
-use crate::words::Command;
+use crate::report::Report;
 use omp_model::Cause;
+use ompt_words::Command;
 use run_edges::{Sink, write_all};
 use std::alloc::Global;
 use team_run::run_serial;
@@ -33,7 +33,8 @@ pub(crate) fn run<O: Sink>(
     ensures write { result.end ≡ End.WriteFault → Rose (O.faults out.old) (O.faults out.new) }
     ensures steady { result.end ≢ End.WriteFault → O.faults out.new ≡ O.faults out.old }
     ensures ran { IfSome result.ran (λ report.
-        (report.command ≡ Command.Run) × (report.program.tree ≡ job.program) × (report.threads ≡ job.threads)) }
+        (report.command ≡ Command.Run) × (report.program.tree ≡ job.program) × (report.threads ≡ job.threads)
+        × (report.steps ≡ job.steps)) }
     ensures guests { IfSome result.ran (λ report.
         GuestsServe (λ guest h. (GuestTool-box guest).stands_for guest.value h) (run_of report) report.cause report.history
         guests.items report.guests.items) }
@@ -56,12 +57,16 @@ pub(crate) fn run<O: Sink>(
     ensures memory { IfSome result.ran (λ report. report.cause ≢ Cause.Memory → result.end ≢ End.Memory) }
     ensures begun { IfSome result.ran (λ report. report.cause ≡ Cause.Memory → report.history ≢ []) }
     ensures listed { result.end ≢ End.WriteFault → result.end ≢ End.Memory →
-        Appends (O.held out.old) (O.held out.new) (out_of result.ran) }
+        Appends (O.held out.old) (O.held out.new) (run_text result.ran) }
     ensures part { result.end ≡ End.WriteFault →
-        AppendsFront (O.held out.old) (O.held out.new) (out_of result.ran) }
+        AppendsFront (O.held out.old) (O.held out.new) (run_text result.ran) }
     ensures kept { result.end ≡ End.Memory → Keeps (O.held out.old) (O.held out.new) }
 {
-    let Job { program, threads } = job;
+    let Job {
+        program,
+        threads,
+        steps,
+    } = job;
     let tree = ProgramTree::of(&program);
     let mut waiting = guests;
     waiting.reverse();
@@ -71,7 +76,7 @@ pub(crate) fn run<O: Sink>(
     let Ok(()) = waiting.reserve(threads as usize) else {
         return without_run(End::Memory);
     };
-    let ran = match run_serial(alloc, program, threads, SILENT_STEPS, parts) {
+    let ran = match run_serial(alloc, program, threads, steps, parts) {
         Ok(ran) => ran,
         Err(_) => return without_run(End::Memory),
     };
@@ -85,6 +90,7 @@ pub(crate) fn run<O: Sink>(
         program: tree,
         mask: ran.mask,
         threads,
+        steps,
         history: ran.history,
         guests: waiting,
     };

@@ -1,17 +1,20 @@
 //! The call that does all: a command from bytes to bytes.
 
-ghost use Rattle.std.specs.Prelude.{ℕ, ℤ, ◌≡◌, ◌≢◌, ◌<◌, IfSome, IsSomeAnd, IsNone, Some, ◌↔◌, ◌⊎◌, []};
+ghost use Rattle.std.specs.Prelude.{ℕ, ℤ, ◌≡◌, ◌≢◌, ◌<◌, IfSome, IsSome, IsSomeAnd, IsNone, Some, ◌↔◌, ◌⊎◌, []};
 ghost use Rattle.std.specs.Io.KnownBytes.{Appends, Keeps};
 ghost use Rattle.omp_model.specs.Serial.{Serial, serial};
 ghost use Rattle.omp_model.specs.Cause.{cause_of};
 ghost use Rattle.run_edges.specs.Edges.{Rose, AppendsFront};
-ghost use Rattle.ompt_cli.specs.Words.{InForm, InFormWith, texts};
+ghost use Rattle.ompt_words.specs.Answers.{AreReadAs, AskForText};
+ghost use Rattle.ompt_words.specs.Form.{AskInForm, InForm, own_settings};
+ghost use Rattle.ompt_cli.specs.Words.{AreRefused, AskForRun, texts};
 ghost use Rattle.ompt_cli.specs.Text.{IsProgram, IsRefused, Spells};
-ghost use Rattle.ompt_cli.specs.Ends.{IsLost, IsTold, status_of_lost};
+ghost use Rattle.ompt_cli.specs.Ends.{IsLost, IsQuiet, IsTold, status_of_lost};
 ghost use Rattle.team_run.specs.Standing.{HearsSilent};
-ghost use Rattle.ompt_cli.specs.Commands.{EndsAs, MayRefuse, MayRun, out_of, run_of};
+ghost use Rattle.ompt_cli.specs.Commands.{EndsAs, HasOutput, IsShowing, IsUnread, MayRefuse, MayRun, out_of, run_of, settings_in};
 ghost use Rattle.ompt_cli.specs.Guests.{GuestsAfter};
 
+use crate::asked::serial_settings;
 use crate::end::{End, Refusal};
 use crate::ended::{Ended, without_run};
 use crate::job::Job;
@@ -19,16 +22,17 @@ use crate::list::list;
 use crate::report::Top;
 use crate::run::run;
 use crate::text::read_program_of;
-use crate::words::{Asked, Command, asked_of};
 use omp_codes::PROFILE_MASK;
 use omp_model::Cause;
+use ompt_words::{Command, Settings, WordsFault};
 use run_edges::{Sink, Source, write_all};
 use std::alloc::Global;
 use tool_api::GuestTool;
 
 /// Does what the words say: it reads the program from `source`, runs it, writes what is defined to `out`, and one line
 /// to `err` where the status isn't 0. For `run`, guest t is the part of thread t, and guest 0 is initialized; for `list`
-/// the guests come back as they were.
+/// the guests come back as they were. Where the words ask for help or for the version, that text is written to `out`, and
+/// nothing is read.
 ///
 /// `words` don't contain the program's own name. `rt` stands for the runtime, of which a serial run takes nothing.
 /// Where nothing ran the guests are dropped.
@@ -44,19 +48,29 @@ pub fn top<R, S: Source, O: Sink, E: Sink>(
     // The line of the end is told and the status is the end's number, unless a write of the line failed.
     ensures told { IsTold result.status result.end (E.held err.old) (E.held err.new)
         ⊎ IsLost result.status result.end (E.held err.old) (E.held err.new) (E.faults err.old) (E.faults err.new) }
-    ensures zero { (result.status ≡ 0) ↔ (result.end ≡ End.Done) }
-    ensures silent { result.end ≡ End.Done → err.new ≡ err.old }
+    ensures zero { (result.status ≡ 0) ↔ IsQuiet result.end }
+    ensures silent { IsQuiet result.end → err.new ≡ err.old }
 
-    // Other words than those of the form are a faulty command line, and nothing else is. Nothing is touched then.
-    ensures usage { result.end ≡ End.Usage → ¬ InForm (texts words.now) }
-    ensures formed { ¬ InForm (texts words.now) → result.end ≡ End.Usage }
+    // Words are refused only where clap may find a mistake in them, or `--serial` is wanting. Nothing is touched then. Words that
+    // ask for a run aren't refused, and a text is read only for them.
+    ensures usage { result.end ≡ End.Usage → AreRefused (texts words.now) }
+    ensures formed { AskForRun (texts words.now) → (result.end ≢ End.Usage) × (result.end ≢ End.Shown) × IsNone result.shown }
     ensures untouched { result.end ≡ End.Usage →
-        (source.new ≡ source.old) × (out.new ≡ out.old) × IsNone result.ran }
+        (source.new ≡ source.old) × (out.new ≡ out.old) × IsNone result.ran × IsNone result.shown }
+    ensures other { ¬ AskForRun (texts words.now) →
+        IsUnread result.end × (source.new ≡ source.old) × IsNone result.ran }
+
+    // A text is shown only where clap may say so, and then nothing is read. Words of the form up to `--help` or `--version` have
+    // theirs shown.
+    ensures shown { IfSome result.shown (λ text.
+        AskForText (texts words.now) × (source.new ≡ source.old) × IsNone result.ran × IsShowing result.end) }
+    ensures displayed { result.end ≡ End.Shown → IsSome result.shown }
+    ensures help { AskInForm (texts words.now) → IsShowing result.end }
 
     // A text is refused for what it is.
     ensures refused { (why : Refusal) → result.end ≡ End.Refused why →
         IfSome (S.left source.old) (IsRefused why) }
-    ensures accepted { InForm (texts words.now) → (why : Refusal) →
+    ensures accepted { AskForRun (texts words.now) → (why : Refusal) →
         IsSomeAnd (S.left source.old) (IsRefused why) → MayRefuse why result.end }
 
     // Each fault was counted, and a count that is greater than before shows in how the command ended.
@@ -66,8 +80,11 @@ pub fn top<R, S: Source, O: Sink, E: Sink>(
     ensures lost { O.faults out.old < O.faults out.new → result.end ≡ End.WriteFault }
     ensures untold { E.faults err.old < E.faults err.new → result.status ≡ status_of_lost result.end }
 
-    // What ran is one serial run of the program, with as many threads as the words ask for.
-    ensures asked { IfSome result.ran (λ report. InFormWith (texts words.now) report.command report.threads) }
+    // What ran is one serial run of the program, with the command, the threads and the steps that the words ask for: where they
+    // are in the form, their own with the defaults.
+    ensures asked { IfSome result.ran (λ report. AreReadAs (texts words.now) (settings_in report)) }
+    ensures own { (form : InForm (texts words.now)) →
+        IfSome result.ran (λ report. settings_in report ≡ own_settings form) }
     ensures spelled { IfSome result.ran (λ report.
         IfSome (S.left source.old) (λ text. Spells text report.program.tree)) }
     ensures mask { IfSome result.ran (λ report. report.command ≡ Command.List → report.mask ≡ PROFILE_MASK) }
@@ -96,45 +113,74 @@ pub fn top<R, S: Source, O: Sink, E: Sink>(
     ensures stuck { result.end ≡ End.Deadlock → IsSomeAnd result.ran (λ report. report.cause ≡ Cause.Deadlock) }
     ensures limit { (number : ℕ) → result.end ≡ End.Limit number →
         IsSomeAnd result.ran (λ report. report.cause ≡ Cause.Limit number) }
-    ensures unwritten { result.end ≡ End.WriteFault →
-        IsSomeAnd result.ran (λ report. report.cause ≢ Cause.Memory) }
+    ensures unwritten { result.end ≡ End.WriteFault → HasOutput result.shown result.ran }
     ensures ended { IfSome result.ran (λ report. EndsAs report.cause result.end) }
     ensures memory { IfSome result.ran (λ report. report.command ≡ Command.Run → report.cause ≢ Cause.Memory →
         result.end ≢ End.Memory) }
     ensures begun { IfSome result.ran (λ report. report.cause ≡ Cause.Memory → report.history ≢ []) }
-    ensures runs { InForm (texts words.now) → IsSomeAnd (S.left source.old) IsProgram → MayRun result.end }
+    ensures runs { AskForRun (texts words.now) → IsSomeAnd (S.left source.old) IsProgram → MayRun result.end }
 
-    // What is written is the run's lines, or what its program printed.
+    // What is written is the text that was asked for, the run's lines, or what its program printed.
     ensures listed { result.end ≢ End.WriteFault → result.end ≢ End.Memory →
-        Appends (O.held out.old) (O.held out.new) (out_of result.ran) }
+        Appends (O.held out.old) (O.held out.new) (out_of result.shown result.ran) }
     ensures part { result.end ≡ End.WriteFault →
-        AppendsFront (O.held out.old) (O.held out.new) (out_of result.ran) }
+        AppendsFront (O.held out.old) (O.held out.new) (out_of result.shown result.ran) }
     ensures kept { result.end ≡ End.Memory → Keeps (O.held out.old) (O.held out.new) }
 {
-    let Some(Asked { command, threads }) = asked_of(words) else {
-        return tell(without_run(End::Usage), err);
+    let settings = match serial_settings(alloc, words) {
+        Ok(settings) => settings,
+        Err(WordsFault::Usage) => return tell(without_run(End::Usage), None, err),
+        Err(WordsFault::Memory) => return tell(without_run(End::Memory), None, err),
+        Err(WordsFault::Shown(text)) => {
+            let end = show(&text, out);
+            return tell(without_run(end), Some(text), err);
+        }
     };
+    let Settings {
+        command,
+        threads,
+        steps,
+        ..
+    } = settings;
     match (read_program_of(alloc, source), command) {
         (Ok(program), Command::List) => tell(
-            list(alloc, Job::new(program, threads), guests, out),
+            list(alloc, Job::new(program, threads, steps), guests, out),
+            None,
             err,
         ),
-        (Ok(program), Command::Run) => {
-            tell(run(alloc, Job::new(program, threads), guests, out), err)
-        }
-        (Err(end), _) => tell(without_run(end), err),
+        (Ok(program), Command::Run) => tell(
+            run(alloc, Job::new(program, threads, steps), guests, out),
+            None,
+            err,
+        ),
+        (Err(end), _) => tell(without_run(end), None, err),
     }
 }
 
-/// Writes the line of the end.
-fn tell<E: Sink>(ended: Ended, err: &mut E) -> Top
+/// Writes the text that the words ask for.
+fn show<O: Sink>(text: &str, out: &mut O) -> End
+    ensures end { (result ≡ End.Shown) ⊎ (result ≡ End.WriteFault) }
+    ensures listed { result ≢ End.WriteFault → Appends (O.held out.old) (O.held out.new) text.now }
+    ensures part { result ≡ End.WriteFault → AppendsFront (O.held out.old) (O.held out.new) text.now }
+    ensures write { result ≡ End.WriteFault → Rose (O.faults out.old) (O.faults out.new) }
+    ensures steady { result ≢ End.WriteFault → O.faults out.new ≡ O.faults out.old }
+{
+    match write_all(out, text.as_bytes()) {
+        Ok(()) => End::Shown,
+        Err(_) => End::WriteFault,
+    }
+}
+
+/// Writes the line of the end. A text that was shown is handed on.
+fn tell<E: Sink>(ended: Ended, shown: Option<String>, err: &mut E) -> Top
     ensures end { result.end ≡ ended.end }
     ensures ran { result.ran ≡ ended.ran }
+    ensures shown { result.shown ≡ shown }
     ensures told { IsTold result.status ended.end (E.held err.old) (E.held err.new)
         ⊎ IsLost result.status ended.end (E.held err.old) (E.held err.new) (E.faults err.old) (E.faults err.new) }
     ensures untold { E.faults err.old < E.faults err.new → result.status ≡ status_of_lost ended.end }
-    ensures zero { (result.status ≡ 0) ↔ (ended.end ≡ End.Done) }
-    ensures silent { ended.end ≡ End.Done → err.new ≡ err.old }
+    ensures zero { (result.status ≡ 0) ↔ IsQuiet ended.end }
+    ensures silent { IsQuiet ended.end → err.new ≡ err.old }
 {
     let Ended { end, ran } = ended;
     let line = end.line();
@@ -143,5 +189,10 @@ fn tell<E: Sink>(ended: Ended, err: &mut E) -> Top
         Err(_) if end == End::Memory => end.status(),
         Err(_) => End::WriteFault.status(),
     };
-    Top { status, end, ran }
+    Top {
+        status,
+        end,
+        ran,
+        shown,
+    }
 }

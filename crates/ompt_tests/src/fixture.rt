@@ -32,6 +32,7 @@ pub(crate) struct Told {
     pub status: u8,
     pub end: End,
     pub ran: Option<Ran>,
+    pub shown: Option<String>,
     pub out: MemSink,
     pub err: MemSink,
 }
@@ -43,6 +44,7 @@ pub(crate) struct Ran {
     pub cause: Cause,
     pub mask: u64,
     pub threads: u8,
+    pub steps: u32,
     pub history: History,
     pub guests: Vec<Answers>,
 }
@@ -86,7 +88,12 @@ pub(crate) fn hand<R: AllocGlobal, S: Source>(
         boxes.push(Box::new(rt.alloc(), guest)?)?;
     }
     let top = top(rt, rt.alloc(), &words, source, &mut out, &mut err, boxes);
-    let Top { status, end, ran } = top;
+    let Top {
+        status,
+        end,
+        ran,
+        shown,
+    } = top;
     let ran = match ran {
         Some(report) => Some(ran_of(rt, report, asked)?),
         None => None,
@@ -95,13 +102,14 @@ pub(crate) fn hand<R: AllocGlobal, S: Source>(
         status,
         end,
         ran,
+        shown,
         out,
         err,
     })
 }
 
 /// The same words, owned.
-fn owned<R: AllocGlobal>(rt: &R, words: &[&str]) -> Result<Vec<String>, Memory> {
+pub(crate) fn owned<R: AllocGlobal>(rt: &R, words: &[&str]) -> Result<Vec<String>, Memory> {
     let mut owned = Vec::new(rt.alloc());
     for word in words {
         owned.push(String::from_str(rt.alloc(), word)?)?;
@@ -121,6 +129,7 @@ fn ran_of<R: AllocGlobal>(rt: &R, report: Report, asked: &[(u32, Call)]) -> Resu
         cause: report.cause,
         mask: report.mask,
         threads: report.threads,
+        steps: report.steps,
         history: report.history,
         guests,
     })

@@ -30,3 +30,5 @@ mod states;
 mod stored_words;
 #[cfg(test)]
 mod tests;
+#[cfg(test)]
+mod words;

@@ -45,16 +45,43 @@ fn has_eight_entries(rt: &impl Abort, told: &Told, threads: u8) {
 
 /// A source and an output that fail at their first call make no difference, and still fail at their first call afterwards.
 #[test]
-fn other_words_touch_neither_source_nor_output(rt: HostRuntime) -> Result<(), Fail> {
+fn wrong_words_touch_neither_source_nor_output(rt: HostRuntime) -> Result<(), Fail> {
     let mut source = MemSource::new(PROGRAM.to_vec(rt.alloc())?, failing(&rt)?);
     let out = MemSink::new(rt.alloc(), 10, failing(&rt)?)?;
-    let words = ["list", "--serial"];
+    let words = ["list", "--threads", "2"];
     let mut told = hand(&rt, &words, &mut source, out, Vec::new(rt.alloc()), &[])?;
     assert!(rt; told.end == End::Usage);
     assert!(rt; told.ran.is_none());
     let left = read_all(rt.alloc(), &mut source, 100);
     assert!(rt; matches!(left, Err(ReadAllFault::ReadFault)));
     assert!(rt; write_all(&mut told.out, b"x") == Err(WriteFault));
+    Ok(())
+}
+
+/// A source that fails at its first call makes no difference, and still fails at its first call afterwards. The output has the text
+/// that is reported.
+#[test]
+fn help_touches_no_source(rt: HostRuntime) -> Result<(), Fail> {
+    let mut source = MemSource::new(PROGRAM.to_vec(rt.alloc())?, failing(&rt)?);
+    let told = tell(&rt, &["run", "--help"], &mut source)?;
+    assert!(rt; told.end == End::Shown);
+    assert!(rt; told.status == 0);
+    assert!(rt; told.ran.is_none());
+    let shown = told.shown.expect(&rt, "a text");
+    assert!(rt; told.out.bytes() == shown.as_bytes());
+    let left = read_all(rt.alloc(), &mut source, 100);
+    assert!(rt; matches!(left, Err(ReadAllFault::ReadFault)));
+    Ok(())
+}
+
+/// What is reported of a run has the command, the threads and the steps of its words.
+#[test]
+fn a_report_has_the_settings_of_its_words(rt: HostRuntime) -> Result<(), Fail> {
+    let mut source = source_of(&rt, PROGRAM)?;
+    let words = ["run", "--steps", "9", "--serial", "--threads", "3"];
+    let told = tell(&rt, &words, &mut source)?;
+    let ran = ran_in(&rt, &told);
+    assert!(rt; (ran.command, ran.threads, ran.steps) == (Command::Run, 3, 9));
     Ok(())
 }
 

@@ -1,13 +1,22 @@
-use Rattle.std.proofs.Common.{ap, ◌∙◌}
+use Rattle.std.proofs.Common.{ap, inr, ◌∙◌}
 use Rattle.ompt_cli.specs.Job.{JobView}
-use Rattle.ompt_cli.proofs.Telling.{in_form-by, spells-as, where_some}
+use Rattle.ompt_cli.specs.Commands.{settings_in}
+use Rattle.ompt_cli.proofs.Telling.{read-as, settings-as, spells-as, where_some}
 use Rattle.ompt_cli.proofs.top_call.top.Goals as goal
 
 pub returns-in-Ok-List-clause-asked : goal.returns-in-Ok-List-clause-asked
 returns-in-Ok-List-clause-asked g c =
     rw c.tell-in-Ok-List.ensures.ran
     (where_some c.list.result.ran c.list.ensures.ran
-    (λ report same. in_form-by _ _ report.command _ report.threads c.in-Some.ensures.asked (let command = same.0 in let is = c.in-Ok-List.is-1 in cc) (same.2 ∙ ap (λ (job : JobView). job.threads) c.new.ensures)))
+    (λ report same. read-as _ c.in-Ok.settings (settings_in report) c.in-Ok.ensures.read.0 (settings-as report c.in-Ok.settings (let command = same.0 in let is = c.in-Ok-List.is-1 in cc) (same.2 ∙ ap (λ (job : JobView). job.threads) c.new.ensures)
+    (same.3 ∙ ap (λ (job : JobView). job.steps) c.new.ensures) c.in-Ok.ensures.read.1)))
+
+pub returns-in-Ok-List-clause-own : goal.returns-in-Ok-List-clause-own
+returns-in-Ok-List-clause-own g c = λ form.
+    rw c.tell-in-Ok-List.ensures.ran
+    (where_some c.list.result.ran c.list.ensures.ran
+    (λ report same. settings-as report c.in-Ok.settings (let command = same.0 in let is = c.in-Ok-List.is-1 in cc) (same.2 ∙ ap (λ (job : JobView). job.threads) c.new.ensures)
+    (same.3 ∙ ap (λ (job : JobView). job.steps) c.new.ensures) c.in-Ok.ensures.read.1 ∙ c.in-Ok.ensures.own form))
 
 pub returns-in-Ok-List-clause-spelled : goal.returns-in-Ok-List-clause-spelled
 returns-in-Ok-List-clause-spelled g c =
@@ -19,13 +28,21 @@ pub returns-in-Ok-List-clause-silent_run : goal.returns-in-Ok-List-clause-silent
 returns-in-Ok-List-clause-silent_run g c = rw c.tell-in-Ok-List.ensures.ran (where_some c.list.result.ran c.list.ensures.whole (λ report whole found silent. whole found))
 
 pub returns-in-Ok-List-clause-part : goal.returns-in-Ok-List-clause-part
-returns-in-Ok-List-clause-part g c = rw (c.tell-in-Ok-List.ensures.end, c.tell-in-Ok-List.ensures.ran) c.list.ensures.part
+returns-in-Ok-List-clause-part g c = rw (c.tell-in-Ok-List.ensures.end, c.tell-in-Ok-List.ensures.ran, c.tell-in-Ok-List.ensures.shown) c.list.ensures.part
 
 pub returns-in-Ok-Run-clause-asked : goal.returns-in-Ok-Run-clause-asked
 returns-in-Ok-Run-clause-asked g c =
     rw c.tell-in-Ok-Run.ensures.ran
     (where_some c.run.result.ran c.run.ensures.ran
-    (λ report same. in_form-by _ _ report.command _ report.threads c.in-Some.ensures.asked (let command = same.0 in let is = c.in-Ok-Run.is-1 in cc) (same.2 ∙ ap (λ (job : JobView). job.threads) c.new-in-Ok-Run.ensures)))
+    (λ report same. read-as _ c.in-Ok.settings (settings_in report) c.in-Ok.ensures.read.0 (settings-as report c.in-Ok.settings (let command = same.0 in let is = c.in-Ok-Run.is-1 in cc) (same.2 ∙ ap (λ (job : JobView). job.threads) c.new-in-Ok-Run.ensures)
+    (same.3 ∙ ap (λ (job : JobView). job.steps) c.new-in-Ok-Run.ensures) c.in-Ok.ensures.read.1)))
+
+pub returns-in-Ok-Run-clause-own : goal.returns-in-Ok-Run-clause-own
+returns-in-Ok-Run-clause-own g c = λ form.
+    rw c.tell-in-Ok-Run.ensures.ran
+    (where_some c.run.result.ran c.run.ensures.ran
+    (λ report same. settings-as report c.in-Ok.settings (let command = same.0 in let is = c.in-Ok-Run.is-1 in cc) (same.2 ∙ ap (λ (job : JobView). job.threads) c.new-in-Ok-Run.ensures)
+    (same.3 ∙ ap (λ (job : JobView). job.steps) c.new-in-Ok-Run.ensures) c.in-Ok.ensures.read.1 ∙ c.in-Ok.ensures.own form))
 
 pub returns-in-Ok-Run-clause-spelled : goal.returns-in-Ok-Run-clause-spelled
 returns-in-Ok-Run-clause-spelled g c =
@@ -40,4 +57,34 @@ pub returns-in-Ok-Run-clause-memory : goal.returns-in-Ok-Run-clause-memory
 returns-in-Ok-Run-clause-memory g c = rw (c.tell-in-Ok-Run.ensures.end, c.tell-in-Ok-Run.ensures.ran) (where_some c.run.result.ran c.run.ensures.memory (λ report kept running found. kept found))
 
 pub returns-in-Ok-Run-clause-part : goal.returns-in-Ok-Run-clause-part
-returns-in-Ok-Run-clause-part g c = rw (c.tell-in-Ok-Run.ensures.end, c.tell-in-Ok-Run.ensures.ran) c.run.ensures.part
+returns-in-Ok-Run-clause-part g c = rw (c.tell-in-Ok-Run.ensures.end, c.tell-in-Ok-Run.ensures.ran, c.tell-in-Ok-Run.ensures.shown) c.run.ensures.part
+
+pub returns-in-Ok-List-clause-other : goal.returns-in-Ok-List-clause-other
+returns-in-Ok-List-clause-other g c = λ not. absurd (not (inr (c.in-Ok.settings, c.in-Ok.ensures.read)))
+
+pub returns-in-Ok-List-clause-cause : goal.returns-in-Ok-List-clause-cause
+returns-in-Ok-List-clause-cause g c = rw c.tell-in-Ok-List.ensures.ran c.list.ensures.cause
+
+pub returns-in-Ok-List-clause-limit : goal.returns-in-Ok-List-clause-limit
+returns-in-Ok-List-clause-limit g c = rw (c.tell-in-Ok-List.ensures.end, c.tell-in-Ok-List.ensures.ran) c.list.ensures.limit
+
+pub returns-in-Ok-List-clause-listed : goal.returns-in-Ok-List-clause-listed
+returns-in-Ok-List-clause-listed g c = rw (c.tell-in-Ok-List.ensures.end, c.tell-in-Ok-List.ensures.ran, c.tell-in-Ok-List.ensures.shown) c.list.ensures.listed
+
+pub returns-in-Ok-List-clause-whole : goal.returns-in-Ok-List-clause-whole
+returns-in-Ok-List-clause-whole g c = rw c.tell-in-Ok-List.ensures.ran (where_some c.list.result.ran c.list.ensures.whole (λ report whole listing found. whole found))
+
+pub returns-in-Ok-Run-clause-other : goal.returns-in-Ok-Run-clause-other
+returns-in-Ok-Run-clause-other g c = λ not. absurd (not (inr (c.in-Ok.settings, c.in-Ok.ensures.read)))
+
+pub returns-in-Ok-Run-clause-cause : goal.returns-in-Ok-Run-clause-cause
+returns-in-Ok-Run-clause-cause g c = rw c.tell-in-Ok-Run.ensures.ran c.run.ensures.cause
+
+pub returns-in-Ok-Run-clause-limit : goal.returns-in-Ok-Run-clause-limit
+returns-in-Ok-Run-clause-limit g c = rw (c.tell-in-Ok-Run.ensures.end, c.tell-in-Ok-Run.ensures.ran) c.run.ensures.limit
+
+pub returns-in-Ok-Run-clause-listed : goal.returns-in-Ok-Run-clause-listed
+returns-in-Ok-Run-clause-listed g c = rw (c.tell-in-Ok-Run.ensures.end, c.tell-in-Ok-Run.ensures.ran, c.tell-in-Ok-Run.ensures.shown) c.run.ensures.listed
+
+pub returns-in-Err-default-clause-other : goal.returns-in-Err-default-clause-other
+returns-in-Err-default-clause-other g c = λ not. absurd (not (inr (c.in-Ok.settings, c.in-Ok.ensures.read)))

@@ -1,0 +1,111 @@
+-- What clap's answer tells of the words.
+use Rattle.std.proofs.Common.{Err, Ok, Result, refl, ap, sym, subst, codes, true, List, Some, [], ◌∷◌, ◌≡◌, ◌∙◌, ◌⊎◌, inl, inr, option_map}
+use Rattle.std.specs.Prelude.{option_and_then}
+use Rattle.clap.specs.Walk.{Row, Text, one_of, rows_of}
+use Rattle.clap.specs.Simple.{App, is_simple, matches_of, subcommand_of, subcommand_rows_of}
+use Rattle.clap.specs.Matches.{found_of, one_text, subcommand_name_of}
+use Rattle.clap.specs.Faults.{fault_of, is_simple_and_free}
+use Rattle.clap.specs.Kinds.{HasKind, IsAmong, Kinds}
+use Rattle.clap.specs.Values.{kind_of}
+use Rattle.clap.specs.declared.error.Error.{Error}
+use Rattle.clap.specs.declared.error.kind.ErrorKind.{ErrorKind}
+use Rattle.clap.specs.declared.error.kind.ErrorKind.TheVariants.{DisplayHelp, DisplayVersion, OutOfMemory}
+use Rattle.clap.specs.declared.parser.matches.ArgMatches.{ArgMatches}
+use Rattle.clap.specs.declared.parser.matches.Found.{Found}
+use Rattle.clap.proofs.WalkLemmas.{one_text-rows}
+use Rattle.ompt_words.specs.CommandLine.{ompt}
+use Rattle.ompt_words.specs.Form.{command_word}
+use Rattle.ompt_words.specs.Answers.{AreWrong, AskForText, IsAnswerTo, IsMistake, IsTextOrMemory, IsWish, matched_text}
+use Rattle.ompt_words.specs.declared.fault.WordsFault.{WordsFault}
+use Rattle.ompt_words.specs.declared.fault.WordsFault.TheVariants.{Memory, Shown, Usage}
+use Rattle.ompt_words.specs.declared.settings.Settings.{Settings}
+use Rattle.ompt_words.specs.declared.settings.Command.{Command}
+use Rattle.ompt_words.specs.declared.settings.Command.TheVariants.{List as Listing, Run}
+use Rattle.ompt_words.proofs.Options.{IsOneWish}
+use Rattle.ompt_words.proofs.Levels.{both_of, name_of_two}
+
+-- ---- an error
+
+simple_and_free : is_simple_and_free ompt ≡ true
+simple_and_free = refl
+
+simple : is_simple ompt ≡ true
+simple = refl
+
+-- clap's exact answer, at the command of the program
+pub exact : (P : Kinds → Type 0) (app : App) (words : List Text) → app ≡ ompt → (is_simple_and_free app ≡ true → P (fault_of app words)) → P (fault_of ompt words)
+exact P app words is answer = subst (λ a. P (fault_of a words)) is (answer (ap is_simple_and_free is ∙ simple_and_free))
+
+abbrev as_result : WordsFault → Result Settings WordsFault
+as_result fault = Err fault
+
+abbrev fault_in : WordsFault → Result Settings WordsFault → WordsFault
+fault_in other (Ok settings) = other
+fault_in other (Err fault) = fault
+
+-- the fault of a result is one
+pub same_fault : (a b : WordsFault) → as_result a ≡ as_result b → a ≡ b
+same_fault a b same = ap (fault_in a) same
+
+pub wrong_words : (words : List Text) (e : Error) → HasKind (fault_of ompt words) e → IsMistake (kind_of e) → AreWrong words
+wrong_words words e (inl memory) mistake = absurd (mistake.2 memory)
+wrong_words words e (inr among) mistake = (kind_of e, among, mistake)
+
+no_memory_wish : (found : ErrorKind) → found ≡ OutOfMemory → IsWish found → ⊥
+no_memory_wish found memory (inl help) = let wrong : OutOfMemory ≡ DisplayHelp = sym memory ∙ help in cc
+no_memory_wish found memory (inr version) = let wrong : OutOfMemory ≡ DisplayVersion = sym memory ∙ version in cc
+
+pub asking_words : (words : List Text) (e : Error) → HasKind (fault_of ompt words) e → IsWish (kind_of e) → AskForText words
+asking_words words e (inl memory) wish = absurd (no_memory_wish (kind_of e) memory wish)
+asking_words words e (inr among) wish = (kind_of e, among, wish)
+
+-- where there is no fault, only memory is wanting
+pub only_memory : (kinds : Kinds) (e : Error) (fault : WordsFault) → kinds ≡ [] → HasKind kinds e → IsAnswerTo (kind_of e) fault → fault ≡ Memory
+only_memory kinds e fault none kind answer = by fault answer (rw none at kind)
+  where
+    by : (fault : WordsFault) → IsAnswerTo (kind_of e) fault → (kind_of e ≡ OutOfMemory) ⊎ IsAmong (kind_of e) [] → fault ≡ Memory
+    by Usage answer (inl memory) = absurd (answer.2 memory)
+    by Usage answer (inr among) = absurd among
+    by (Shown text) answer (inl memory) = absurd (no_memory_wish (kind_of e) memory answer)
+    by (Shown text) answer (inr among) = absurd among
+    by Memory answer kind = refl
+
+no_wish_mistake : (found wish : ErrorKind) → IsWish wish → found ≡ wish → IsMistake found → ⊥
+no_wish_mistake found wish (inl help) is mistake = mistake.0 (is ∙ help)
+no_wish_mistake found wish (inr version) is mistake = mistake.1 (is ∙ version)
+
+-- where there is a wish alone, its text is shown, or memory is wanting
+pub text_or_memory : (kinds : Kinds) (e : Error) (fault : WordsFault) → IsOneWish kinds → HasKind kinds e → IsAnswerTo (kind_of e) fault → IsTextOrMemory fault
+text_or_memory kinds e fault one kind answer = by fault answer (rw one.alone at kind)
+  where
+    by : (fault : WordsFault) → IsAnswerTo (kind_of e) fault → (kind_of e ≡ OutOfMemory) ⊎ IsAmong (kind_of e) (one.wish ∷ []) → IsTextOrMemory fault
+    by Usage answer (inl memory) = answer.2 memory
+    by Usage answer (inr (inl is)) = no_wish_mistake (kind_of e) one.wish one.is is answer
+    by Usage answer (inr (inr none)) = none
+    by (Shown text) answer kind = tt
+    by Memory answer kind = tt
+
+-- a wish is a fault
+pub wish_is_fault : (kinds : Kinds) → kinds ≡ [] → IsOneWish kinds → ⊥
+wish_is_fault kinds none one = let wrong : [] ≡ one.wish ∷ [] = sym none ∙ one.alone in cc
+
+-- ---- matches
+
+-- the command that the matches tell of, with its rows
+pub command_found : (app : App) (words : List Text) (m : ArgMatches) (name : Text) (rows : List Row) → app ≡ ompt
+    → (is_simple app ≡ true → (rows_of (found_of m) ≡ matches_of app words) × (subcommand_rows_of m ≡ subcommand_of app words))
+    → Some name ≡ subcommand_name_of m → Some rows ≡ option_map (λ p. p.1) (subcommand_rows_of m) → subcommand_of ompt words ≡ Some (name, rows)
+command_found app words m name rows is matches is_name is_rows =
+    sym (subst (λ a. subcommand_rows_of m ≡ subcommand_of a words) is (matches (ap is_simple is ∙ simple)).1) ∙ both_of m name rows is_name is_rows
+
+named : (name : Text) (command : Command) → (name ≡ codes "list") ⊎ (name ≡ codes "run") → ((other : Command) → name ≡ command_word other → command ≡ other) → name ≡ command_word command
+named name command (inl is) only = is ∙ ap command_word (sym (only Listing is))
+named name command (inr is) only = is ∙ ap command_word (sym (only Run is))
+
+pub command_read : (words : List Text) (name : Text) (rows : List Row) (command : Command) → subcommand_of ompt words ≡ Some (name, rows)
+    → ((other : Command) → name ≡ command_word other → command ≡ other) → option_map (λ found. found.0) (subcommand_of ompt words) ≡ Some (command_word command)
+command_read words name rows command is only = ap (option_map (λ (found : Text × List Row). found.0)) is ∙ ap (λ (word : Text). Some word) (named name command (name_of_two words name rows is) only)
+
+-- the text of an option that a getter reads is that of the matches
+pub text_matched : (words : List Text) (name : Text) (found : Found) (id : Text) → subcommand_of ompt words ≡ Some (name, rows_of found) → one_text found id ≡ matched_text words id
+text_matched words name found id is = one_text-rows found id ∙ sym (ap (option_and_then (λ (p : Text × List Row). one_of id p.1)) is)

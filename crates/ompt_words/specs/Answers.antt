@@ -1,0 +1,71 @@
+-- What clap's rules find in the words, and what is answered for it.
+use Rattle.std.specs.Prelude.{ℕ, Bool, false, ⊤, ◌≡◌, ◌≢◌, ◌≤◌, ◌⊎◌, List, [], codes, Option, Some, None, option_and_then, option_map, if◌then◌else◌}
+use Rattle.std.specs.Str.{bytes_eq}
+use Rattle.std.specs.Str.Parse.{digits_value, without_leading_plus}
+use Rattle.clap.specs.ValueTests.{is_unsigned_in}
+use Rattle.clap.specs.Walk.{Text, one_of}
+use Rattle.clap.specs.Simple.{subcommand_of}
+use Rattle.clap.specs.Faults.{fault_of}
+use Rattle.clap.specs.Kinds.{IsAmong}
+use Rattle.clap.specs.declared.error.kind.ErrorKind.{ErrorKind}
+use Rattle.clap.specs.declared.error.kind.ErrorKind.TheVariants as kind
+use Rattle.ompt_words.specs.declared.fault.WordsFault.{WordsFault}
+use Rattle.ompt_words.specs.declared.fault.WordsFault.TheVariants.{Usage, Shown, Memory}
+use Rattle.ompt_words.specs.declared.settings.Settings.{Settings}
+use Rattle.ompt_words.specs.CommandLine.{ompt}
+use Rattle.ompt_words.specs.Form.{command_word, default_steps, default_threads}
+
+-- the text of an option in clap's matches, if the command that the words name has one
+abbrev pub matched_text : List Text → Text → Option Text
+matched_text words id = option_and_then (λ found. one_of id found.1) (subcommand_of ompt words)
+
+-- the number that the text of an option writes, where it is from `low` to `high`; else the default
+abbrev pub number_in : ℕ → ℕ → ℕ → Option Text → ℕ
+number_in low high default None = default
+number_in low high default (Some text) =
+    if is_unsigned_in low high text then digits_value 10 (without_leading_plus text) else default
+
+-- whether the text of an option is `true`
+abbrev pub flag_in : Option Text → Bool
+flag_in None = false
+flag_in (Some text) = bytes_eq text (codes "true")
+
+-- clap finds no fault in the words, and these are the settings of its matches
+pub record AreReadAs (words : List Text) (settings : Settings) : Type 0 where
+  pub taken : fault_of ompt words ≡ []
+  pub command : option_map (λ found. found.0) (subcommand_of ompt words) ≡ Some (command_word settings.command)
+  pub threads : settings.threads ≡ number_in 1 16 default_threads (matched_text words (codes "threads"))
+  pub steps : settings.steps ≡ number_in 1 30000000 default_steps (matched_text words (codes "steps"))
+  pub serial : settings.serial ≡ flag_in (matched_text words (codes "serial"))
+  pub some_threads : 1 ≤ settings.threads
+  pub few_threads : settings.threads ≤ 16
+  pub some_steps : 1 ≤ settings.steps
+  pub few_steps : settings.steps ≤ 30000000
+
+-- clap's answer is help or the version
+abbrev pub IsWish : ErrorKind → Type 0
+IsWish found = (found ≡ kind.DisplayHelp) ⊎ (found ≡ kind.DisplayVersion)
+
+-- clap's answer is a mistake in the words, and no want of memory
+abbrev pub IsMistake : ErrorKind → Type 0
+IsMistake found = (found ≢ kind.DisplayHelp) × (found ≢ kind.DisplayVersion) × (found ≢ kind.OutOfMemory)
+
+-- by clap's rules its answer to the words may be a mistake in them
+abbrev pub AreWrong : List Text → Type 0
+AreWrong words = (found : ErrorKind) × IsAmong found (fault_of ompt words) × IsMistake found
+
+-- by clap's rules its answer to the words may be help or the version
+abbrev pub AskForText : List Text → Type 0
+AskForText words = (found : ErrorKind) × IsAmong found (fault_of ompt words) × IsWish found
+
+-- the answer fits clap's
+abbrev pub IsAnswerTo : ErrorKind → WordsFault → Type 0
+IsAnswerTo found Usage = IsMistake found
+IsAnswerTo found (Shown text) = IsWish found
+IsAnswerTo found Memory = ⊤
+
+-- a text is shown, or there was no memory for it
+abbrev pub IsTextOrMemory : WordsFault → Type 0
+IsTextOrMemory Usage = ⊥
+IsTextOrMemory (Shown text) = ⊤
+IsTextOrMemory Memory = ⊤

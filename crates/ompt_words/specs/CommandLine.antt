@@ -1,0 +1,46 @@
+-- The command line, as clap is told of it.
+use Rattle.std.specs.Prelude.{Some, [], ◌∷◌, codes, true, pos}
+use Rattle.clap.specs.Walk.{Rule, Text}
+use Rattle.clap.specs.Simple.{App, Shape, new_app, new_rule, new_shape, with_subcommand}
+use Rattle.clap.specs.declared.builder.action.ArgAction.TheVariants.{SetTrue}
+use Rattle.clap.specs.declared.builder.value_parser.ValueParser.TheVariants.{Signed}
+
+-- `--threads N`, where N is from 1 to 16
+abbrev pub threads_rule : Rule
+threads_rule = record (new_rule (codes "threads")) {
+  long = Some (codes "threads");
+  value_names = 1;
+  parser = Some (Signed (pos 1) (pos 16));
+}
+
+-- `--steps N`, where N is from 1 to 30,000,000
+abbrev pub steps_rule : Rule
+steps_rule = record (new_rule (codes "steps")) {
+  long = Some (codes "steps");
+  value_names = 1;
+  parser = Some (Signed (pos 1) (pos 30000000));
+}
+
+-- `--serial`
+abbrev pub serial_rule : Rule
+serial_rule = record (new_rule (codes "serial")) { long = Some (codes "serial"); action = Some SetTrue }
+
+-- a command that runs a program, with this name
+abbrev pub runner : Text → Shape
+runner name = record (new_shape name) { rules = threads_rule ∷ steps_rule ∷ serial_rule ∷ [] }
+
+-- the program itself: it needs a command, has a version, and `help` is no command of it
+abbrev pub program : App
+program = record (new_app (codes "ompt")) {
+  top = record (new_shape (codes "ompt")) {
+    has_version = true;
+    propagate_version = true;
+    no_binary_name = true;
+    disable_help_subcommand = true;
+    subcommand_required = true;
+  };
+}
+
+-- the program with its commands
+abbrev pub ompt : App
+ompt = with_subcommand (with_subcommand program (runner (codes "list"))) (runner (codes "run"))

@@ -1,0 +1,45 @@
+//! The arguments of the commands, as clap is told of them.
+
+ghost use Rattle.std.specs.Prelude.{◌≡◌, false};
+ghost use Rattle.clap.specs.Words.{rule_of};
+ghost use Rattle.ompt_words.specs.CommandLine.{serial_rule, steps_rule, threads_rule};
+
+use clap::{Arg, ArgAction, value_parser};
+use std::alloc::Global;
+
+/// `--threads N`.
+pub(crate) fn threads<'a>(alloc: Global) -> Arg<'a>
+    ensures rule { rule_of result ≡ threads_rule }
+    ensures local { result.global ≡ false }
+{
+    Arg::new(alloc, "threads")
+        .long("threads")
+        .value_name("N")
+        .value_parser(value_parser!(u8).range(1..=16))
+        .help("How many threads there may be, from 1 to 16 [default: 4]")
+}
+
+/// `--steps N`.
+pub(crate) fn steps<'a>(alloc: Global) -> Arg<'a>
+    ensures rule { rule_of result ≡ steps_rule }
+    ensures local { result.global ≡ false }
+{
+    Arg::new(alloc, "steps")
+        .long("steps")
+        .value_name("N")
+        .value_parser(value_parser!(u32).range(1..=30_000_000))
+        .help(
+            "How many steps without an event the run may have, from 1 to 30000000 [default: 1000000]",
+        )
+}
+
+/// `--serial`.
+pub(crate) fn serial<'a>(alloc: Global) -> Arg<'a>
+    ensures rule { rule_of result ≡ serial_rule }
+    ensures local { result.global ≡ false }
+{
+    Arg::new(alloc, "serial")
+        .long("serial")
+        .action(ArgAction::SetTrue)
+        .help("Takes the turns of all threads one after another [needed today]")
+}

@@ -1,0 +1,80 @@
+//! Words, and what they ask for.
+
+ghost use Rattle.std.specs.Prelude.{◌≡◌, ◌≤◌, IfOk, IsErrAnd, MatchResult, String, codes, string_bytes, map};
+ghost use Rattle.std.specs.declared.alloc.Global.{Global};
+ghost use Rattle.clap.specs.Words.{found_of, one_text};
+ghost use Rattle.ompt_words.specs.Answers.{AreReadAs, AreWrong, AskForText, IsTextOrMemory, flag_in, number_in};
+ghost use Rattle.ompt_words.specs.Form.{AskInForm, InForm, command_word, default_steps, default_threads, own_settings};
+
+use crate::clap_command::ompt_command;
+use crate::fault::{WordsFault, fault_of};
+use crate::settings::{Command, DEFAULT_STEPS, DEFAULT_THREADS, Settings};
+use clap::ArgMatches;
+use std::alloc::Global;
+
+/// What the words ask for. They don't contain the program's own name.
+pub fn settings_of(alloc: Global, words: &[String]) -> Result<Settings, WordsFault>
+    ensures read { IfOk result (AreReadAs (map string_bytes words.now)) }
+    ensures usage { result ≡ Err WordsFault.Usage → AreWrong (map string_bytes words.now) }
+    ensures shown { (text : String Global) → result ≡ Err (WordsFault.Shown text) → AskForText (map string_bytes words.now) }
+    ensures exact { (settings : Settings) → AreReadAs (map string_bytes words.now) settings →
+        MatchResult result (λ given. given ≡ settings) (λ fault. fault ≡ WordsFault.Memory) }
+    ensures form { (form : InForm (map string_bytes words.now)) →
+        MatchResult result (λ settings. settings ≡ own_settings form) (λ fault. fault ≡ WordsFault.Memory) }
+    ensures asked { AskInForm (map string_bytes words.now) → IsErrAnd result IsTextOrMemory }
+{
+    let matches = match ompt_command(alloc)?.try_get_matches_from(words) {
+        Ok(matches) => matches,
+        Err(error) => return Err(fault_of(alloc, &error)),
+    };
+    match matches.subcommand() {
+        Some((name, inner)) => Ok(Settings {
+            command: command_of(name),
+            threads: threads_in(inner),
+            steps: steps_in(inner),
+            serial: serial_in(inner),
+        }),
+        None => Err(WordsFault::Usage),
+    }
+}
+
+/// The command with this name, which is that of one.
+fn command_of(name: &str) -> Command
+    ensures { (command : Command) → name.now ≡ command_word command → result ≡ command }
+{
+    match name.as_bytes() {
+        b"run" => Command::Run,
+        _ => Command::List,
+    }
+}
+
+/// How many threads the matches of a command have.
+fn threads_in(matches: &ArgMatches<'_>) -> u8
+    ensures value { result ≡ number_in 1 16 default_threads (one_text (found_of matches.now) (codes "threads")) }
+    ensures some { 1 ≤ result }
+    ensures few { result ≤ 16 }
+{
+    match matches.get_one::<u8>("threads") {
+        Some(threads) if 1 <= threads && threads <= 16 => threads,
+        _ => DEFAULT_THREADS,
+    }
+}
+
+/// How many silent steps the matches of a command have.
+fn steps_in(matches: &ArgMatches<'_>) -> u32
+    ensures value { result ≡ number_in 1 30000000 default_steps (one_text (found_of matches.now) (codes "steps")) }
+    ensures some { 1 ≤ result }
+    ensures few { result ≤ 30000000 }
+{
+    match matches.get_one::<u32>("steps") {
+        Some(steps) if 1 <= steps && steps <= 30_000_000 => steps,
+        _ => DEFAULT_STEPS,
+    }
+}
+
+/// Whether the matches of a command have `--serial`.
+fn serial_in(matches: &ArgMatches<'_>) -> bool
+    ensures { result ≡ flag_in (one_text (found_of matches.now) (codes "serial")) }
+{
+    matches.get_one::<bool>("serial").unwrap_or(false)
+}
