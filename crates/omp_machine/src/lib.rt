@@ -21,7 +21,7 @@
 //!   stores during the callback. It takes no memory;
 //! - [`Machine::back`], of a thread inside a callback, changes the state as `back` does;
 //! - [`Machine::go_ready`] is `go` where it is known to what the thread comes, and [`Machine::reuse`] changes nothing;
-//! - [`Machine::enabled`], [`Machine::pending`], [`Machine::made`], [`Machine::halted`], [`Machine::whole`],
+//! - [`Machine::threads`], [`Machine::enabled`], [`Machine::ready`], [`Machine::pending`], [`Machine::made`], [`Machine::halted`], [`Machine::whole`],
 //!   [`Machine::stuck`], [`Machine::first_enabled`], [`Machine::first_ready`], [`Machine::cause`], [`Machine::text`] and
 //!   [`Machine::into_text`] answer exactly what the definitions say of the run and the state.
 //!

@@ -82,6 +82,13 @@ impl Machine {
         })
     }
 
+    /// How many threads there may be.
+    pub fn threads(&self) -> u8
+        ensures { result ≡ self.now.run.threads }
+    {
+        self.settings.threads
+    }
+
     /// Whether the thread may begin a turn.
     pub fn enabled(&self, thread: u8) -> bool
         ensures { result ≡ enabled self.now.state thread }
@@ -164,7 +171,7 @@ impl Machine {
     }
 
     /// The thread with what it comes to, where it may begin a turn.
-    fn ready(&self, thread: u8) -> Option<Ready>
+    pub fn ready(&self, thread: u8) -> Option<Ready>
         ensures enabled { is_some result ≡ enabled self.now.state thread }
         ensures thread { IfSome result (λ ready. ready.thread ≡ thread) }
         ensures arrival { IfSome result (λ ready. ready.arrival ≡ arrival self.now.state.world thread) }

@@ -132,12 +132,12 @@ abbrev pub reply_at : ℕ → List Stored → List Entry → List Entry
 reply_at t stores rest = puts_at t stores ++ back_at t ∷ rest
 
 -- they are allowed in turn
-reply-legal : (run : Run) (S : State) (t : ℕ) (stores : List Stored) (rest : List Entry) → MayStore run S t stores → IsSome (pending_at (put_all S t stores) t) → AllowsFrom run (back (put_all S t stores) t) rest → AllowsFrom run S (reply_at t stores rest)
+pub reply-legal : (run : Run) (S : State) (t : ℕ) (stores : List Stored) (rest : List Entry) → MayStore run S t stores → IsSome (pending_at (put_all S t stores) t) → AllowsFrom run (back (put_all S t stores) t) rest → AllowsFrom run S (reply_at t stores rest)
 reply-legal run S t [] rest may inside allows = (inside, allows)
 reply-legal run S t (store ∷ stores) rest may inside allows = (may.0, reply-legal run (put S t store.target store.word) t stores rest may.1 inside allows)
 
 -- they lead to the state after the return
-reply-after : (run : Run) (S : State) (t : ℕ) (stores : List Stored) (rest : List Entry) → after_from run S (reply_at t stores rest) ≡ after_from run (back (put_all S t stores) t) rest
+pub reply-after : (run : Run) (S : State) (t : ℕ) (stores : List Stored) (rest : List Entry) → after_from run S (reply_at t stores rest) ≡ after_from run (back (put_all S t stores) t) rest
 reply-after run S t [] rest = refl
 reply-after run S t (store ∷ stores) rest = reply-after run (put S t store.target store.word) t stores rest
 

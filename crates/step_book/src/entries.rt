@@ -17,7 +17,7 @@ pub(crate) struct Entries {
 
 impl Model for Entries {
     ghost use Rattle.std.specs.Prelude.{◌+◌, ◌≤◌, vec_len, vec_capacity};
-    ghost use Rattle.team_run.specs.Entries.{EntriesView};
+    ghost use Rattle.step_book.specs.Entries.{EntriesView};
 
     ghost Value = { EntriesView };
 
@@ -62,6 +62,13 @@ impl Entries {
         ensures { result ≡ length self.now.entries }
     {
         self.entries.len()
+    }
+
+    /// The entries, in order.
+    pub fn as_slice(&self) -> &[Entry]
+        ensures { result.now ≡ self.now.entries }
+    {
+        self.entries.as_slice()
     }
 
     /// The history of these entries.

@@ -1,0 +1,5 @@
+pub mod Entries
+pub mod Owing
+pub mod Pages
+pub mod Sound
+pub mod Visit

@@ -1,0 +1,273 @@
+//! A book: the history of a run, with a machine that has come to its end.
+
+ghost use Rattle.std.specs.Prelude.{◌≡◌, ◌≤◌, ◌<◌, ◌+◌, ◌++◌, ◌∷◌, [], Option, Some, if◌then◌else◌, IfOk, IfSome, OnOk, OnErr, IsSome, IsTrue, is_some, true};
+ghost use Rattle.std.specs.Option.{option_map};
+ghost use Rattle.ompt_calls.specs.Snapshot.{stored_of, stores_of};
+ghost use Rattle.omp_model.specs.declared.cause.Cause.{Cause};
+ghost use Rattle.omp_model.specs.State.{Run, pending_at};
+ghost use Rattle.omp_model.specs.Cause.{cause_of};
+ghost use Rattle.omp_model.specs.Gates.{arrival};
+ghost use Rattle.omp_model.specs.Legal.{Legal, back};
+ghost use Rattle.omp_model.specs.Serial.{first_enabled};
+ghost use Rattle.omp_model.specs.Storing.{MayStore, back_at, event_reply, put_all, puts_at};
+ghost use Rattle.omp_model.specs.Turn.{enabled};
+ghost use Rattle.step_book.specs.Owing.{OwesAnswer};
+ghost use Rattle.step_book.specs.Pages.{Pages, state_of, with_entries};
+ghost use Rattle.step_book.specs.Visit.{idle_step, is_turn, turn_visit, visit};
+
+use crate::closed::Closed;
+use crate::entries::Entries;
+use crate::step::Step;
+use c_check::Program;
+use omp_machine::{Machine, Memory, Ready, Went};
+use omp_model::{Cause, Entry, What};
+use ompt_calls::{Reply, Snapshot, Store};
+use std::alloc::Global;
+use std::marker::Model;
+
+/// The most entries of a turn with its answer: its Go, three stores and its Back.
+const ENTRIES_OF_A_TURN: usize = 5;
+
+/// The most entries of an answer: three stores and a Back.
+const ENTRIES_OF_AN_ANSWER: usize = 4;
+
+/// The history of a run under way. Contracts see the run, the history so far, and whether the run was ended for want of memory.
+///
+/// A thread owes an answer where it is inside a callback after the history.
+#[derive(Drop)]
+pub struct Book {
+    /// The machine, after the last entry.
+    machine: Machine,
+    /// The entries so far, with room for each answer that is owed.
+    entries: Entries,
+    /// How many answers are owed.
+    owing: usize,
+    /// Whether the run was ended for want of memory.
+    ended: bool,
+}
+
+impl Model for Book {
+    ghost use Rattle.step_book.specs.Pages.{Pages};
+    ghost use Rattle.step_book.specs.Sound.{IsBook};
+
+    ghost Value = { Pages };
+
+    ghost view = { λ book. record { run = book.machine.run; history = book.entries.entries; ended = book.ended } };
+
+    ghost invariant = { λ book. IsBook book.machine.run book.machine.state book.entries book.owing };
+}
+
+impl Book {
+    /// The book of a run before its first entry: the program with the callbacks of the mask registered (bit n for number n), so many threads and so
+    /// many silent steps.
+    pub fn start(
+        alloc: Global,
+        program: Program,
+        mask: u64,
+        threads: u8,
+        steps: u32,
+    ) -> Result<Book, Memory>
+        requires some { 1 ≤ threads }
+        requires few { threads ≤ 16 }
+        requires steps { 1 ≤ steps }
+        requires bounded { steps ≤ 30000000 }
+        ensures { IfOk result (λ book. book ≡ (let run : Run = record { program = program; mask = mask; threads = threads; steps = steps } in record { run = run; history = []; ended = false })) }
+    {
+        let machine = Machine::new(alloc, program, mask, threads, steps)?;
+        Ok(Book {
+            machine,
+            entries: Entries::new(alloc),
+            owing: 0,
+            ended: false,
+        })
+    }
+
+    /// A visit of the thread: it takes a turn, where it may and the run hasn't ended.
+    ///
+    /// Where there is no memory nothing has changed.
+    pub fn go(&mut self, thread: u8) -> Result<Step, Memory>
+        requires { thread < self.old.run.threads }
+        ensures step { IfOk result (λ step. step ≡ (visit self.old thread).step) }
+        ensures added { OnOk result (self.new ≡ with_entries self.old (visit self.old thread).added) }
+        ensures memory { OnErr result (self.new ≡ self.old) }
+    {
+        match self.ready(thread) {
+            Some(ready) => self.go_ready(ready),
+            None => Ok(self.idle_step()),
+        }
+    }
+
+    /// The thread with what it comes to, where its visit is a turn.
+    fn ready(&self, thread: u8) -> Option<Ready>
+        requires { thread < self.now.run.threads }
+        ensures turn { is_some result ≡ is_turn self.now thread }
+        ensures thread { IfSome result (λ ready. ready.thread ≡ thread) }
+        ensures arrival { IfSome result (λ ready. ready.arrival ≡ arrival (state_of self.now).world thread) }
+    {
+        if self.ended || self.machine.whole().is_some() {
+            return None;
+        }
+        self.machine.ready(thread)
+    }
+
+    /// What a thread is told whose visit is no turn.
+    fn idle_step(&self) -> Step
+        ensures { result ≡ idle_step self.now }
+    {
+        if self.ended {
+            return Step::Ended(Cause::Memory);
+        }
+        match self.machine.cause() {
+            Some(cause) => Step::Ended(cause),
+            None => Step::NotYet,
+        }
+    }
+
+    /// The first enabled thread from `next` on, round and round, with what it comes to.
+    pub fn first_ready(&self, next: u8) -> Option<Ready>
+        requires { next ≤ self.now.run.threads }
+        ensures thread { option_map (λ (ready : Ready). ready.thread) result ≡ first_enabled self.now.run (state_of self.now) next }
+        ensures arrival { IfSome result (λ ready. ready.arrival ≡ arrival (state_of self.now).world ready.thread) }
+    {
+        self.machine.first_ready(next)
+    }
+
+    /// A turn of an enabled thread, where it is known to what it comes.
+    ///
+    /// Where there is no memory nothing has changed.
+    pub fn go_ready(&mut self, ready: Ready) -> Result<Step, Memory>
+        requires enabled { IsTrue (enabled (state_of self.old) ready.thread) }
+        requires arrival { ready.arrival ≡ arrival (state_of self.old).world ready.thread }
+        ensures step { IfOk result (λ step. step ≡ (turn_visit self.old ready.thread).step) }
+        ensures added { OnOk result (self.new ≡ with_entries self.old (turn_visit self.old ready.thread).added) }
+        ensures memory { OnErr result (self.new ≡ self.old) }
+    {
+        let answers = ENTRIES_OF_AN_ANSWER * self.owing;
+        self.entries.reserve(ENTRIES_OF_A_TURN + answers)?;
+        let seq = self.entries.len() as u32;
+        let thread = ready.thread;
+        let went = self.machine.go_ready(ready)?;
+        self.entries.push(Entry {
+            thread,
+            what: What::Go,
+        });
+        match went {
+            Went::Told(call, snapshot) => {
+                self.owing += 1;
+                Ok(Step::Told(seq, call, snapshot))
+            }
+            Went::Untold => {
+                put_back(&mut self.machine, &mut self.entries, thread);
+                Ok(Step::Quiet)
+            }
+            Went::Quiet => Ok(Step::Quiet),
+            Went::Trapped(number) => Ok(Step::Ended(Cause::Trapped(number))),
+            Went::Limit(number) => Ok(Step::Ended(Cause::Limit(number))),
+        }
+    }
+
+    /// The answer of the thread's tool: what it stores, where it takes effect, and the return of its callback. No memory is taken.
+    pub fn answer(&mut self, thread: u8, reply: &Reply, snapshot: &Snapshot)
+        requires { OwesAnswer self.old thread snapshot.now }
+        ensures { self.new ≡ with_entries self.old (event_reply thread (stores_of reply.now snapshot.now)) }
+    {
+        let Book {
+            machine, entries, ..
+        } = self;
+        put_store(machine, entries, thread, reply.first, snapshot);
+        put_store(machine, entries, thread, reply.second, snapshot);
+        put_store(machine, entries, thread, reply.third, snapshot);
+        put_back(machine, entries, thread);
+        self.owing -= 1;
+    }
+
+    /// The snapshot isn't used any more. The next one takes its place in memory.
+    pub fn reuse(&mut self, snapshot: Snapshot)
+        ensures { self.new ≡ self.old }
+    {
+        self.machine.reuse(snapshot);
+    }
+
+    /// The run ends for want of memory. The history stays as it is, and no memory is taken.
+    pub fn end_memory(&mut self)
+        ensures { self.new ≡ record self.old { ended = true } }
+    {
+        self.ended = true;
+    }
+
+    /// The cause in which the history ends, if it does.
+    pub fn cause(&self) -> Option<Cause>
+        ensures { result ≡ cause_of self.now.run self.now.history }
+    {
+        self.machine.cause()
+    }
+
+    /// The entries so far.
+    pub fn entries(&self) -> &[Entry]
+        ensures { result.now ≡ self.now.history }
+    {
+        self.entries.as_slice()
+    }
+
+    /// The history is legal.
+    pub fn legal(&self)
+        ensures { Legal self.now.run self.now.history }
+    {
+        let _opened = self.ended;
+    }
+
+    /// What the book has come to. No memory is taken.
+    pub fn close(self) -> Closed
+        ensures history { result.history ≡ self.history }
+        ensures text { result.text.items ≡ (state_of self).world.store.text }
+        ensures cause { result.cause ≡ (if self.ended then Some Cause.Memory else cause_of self.run self.history) }
+    {
+        let cause = if self.ended {
+            Some(Cause::Memory)
+        } else {
+            self.machine.cause()
+        };
+        Closed {
+            history: self.entries.into_history(),
+            text: self.machine.into_text(),
+            cause,
+        }
+    }
+}
+
+/// The tool of the thread's event stores this, where it takes effect.
+#[inline(always)]
+fn put_store(machine: &mut Machine, entries: &mut Entries, thread: u8, store: Option<Store>, snapshot: &Snapshot)
+    requires room { 0 < entries.old.room }
+    requires may { MayStore machine.old.run machine.old.state thread (stored_of snapshot.now store) }
+    ensures machine { machine.new ≡ record machine.old { state = put_all machine.old.state thread (stored_of snapshot.now store) } }
+    ensures entries { entries.new.entries ≡ entries.old.entries ++ puts_at thread (stored_of snapshot.now store) }
+    ensures room { entries.old.room ≤ entries.new.room + 1 }
+{
+    let Some(store) = store else {
+        return;
+    };
+    let Some(target) = snapshot.target(store.place) else {
+        return;
+    };
+    machine.put(thread, target, store.word);
+    entries.push(Entry {
+        thread,
+        what: What::Put(target, store.word),
+    });
+}
+
+/// The callback of the thread's event has returned.
+fn put_back(machine: &mut Machine, entries: &mut Entries, thread: u8)
+    requires room { 0 < entries.old.room }
+    requires inside { IsSome (pending_at machine.old.state thread) }
+    ensures machine { machine.new ≡ record machine.old { state = back machine.old.state thread } }
+    ensures entries { entries.new.entries ≡ entries.old.entries ++ back_at thread ∷ [] }
+    ensures room { entries.old.room ≤ entries.new.room + 1 }
+{
+    machine.back(thread);
+    entries.push(Entry {
+        thread,
+        what: What::Back,
+    });
+}
