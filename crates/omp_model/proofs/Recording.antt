@@ -123,7 +123,7 @@ pub put_all-turns : (S : State) (t : ℕ) (stores : List Stored) → (put_all S 
 put_all-turns S t [] = refl
 put_all-turns S t (store ∷ rest) = put_all-turns (put S t store.target store.word) t rest ∙ (put_from-keeps S t store.target store.word (pending_at S t)).0
 
-put_all-halt : (S : State) (t : ℕ) (stores : List Stored) → (put_all S t stores).halt ≡ S.halt
+pub put_all-halt : (S : State) (t : ℕ) (stores : List Stored) → (put_all S t stores).halt ≡ S.halt
 put_all-halt S t [] = refl
 put_all-halt S t (store ∷ rest) = put_all-halt (put S t store.target store.word) t rest ∙ (put_from-keeps S t store.target store.word (pending_at S t)).1
 

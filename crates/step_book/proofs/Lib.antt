@@ -1,0 +1,5 @@
+mod Counting
+mod Histories
+mod Storing
+pub mod Telling
+pub mod Visiting

@@ -11,7 +11,7 @@ ghost use Rattle.omp_model.specs.Legal.{Legal, back};
 ghost use Rattle.omp_model.specs.Serial.{first_enabled};
 ghost use Rattle.omp_model.specs.Storing.{MayStore, back_at, event_reply, put_all, puts_at};
 ghost use Rattle.omp_model.specs.Turn.{enabled};
-ghost use Rattle.step_book.specs.Owing.{OwesAnswer};
+ghost use Rattle.step_book.specs.Owing.{OwesAnswer, OwesStep};
 ghost use Rattle.step_book.specs.Pages.{Pages, state_of, with_entries};
 ghost use Rattle.step_book.specs.Visit.{idle_step, is_turn, turn_visit, visit};
 
@@ -47,10 +47,12 @@ pub struct Book {
 }
 
 impl Model for Book {
-    ghost use Rattle.step_book.specs.Pages.{Pages};
+    ghost use Rattle.step_book.specs.Pages.{Pages, pages_code};
     ghost use Rattle.step_book.specs.Sound.{IsBook};
 
     ghost Value = { Pages };
+
+    ghost coded = { pages_code };
 
     ghost view = { λ book. record { run = book.machine.run; history = book.entries.entries; ended = book.ended } };
 
@@ -89,6 +91,7 @@ impl Book {
         requires { thread < self.old.run.threads }
         ensures step { IfOk result (λ step. step ≡ (visit self.old thread).step) }
         ensures added { OnOk result (self.new ≡ with_entries self.old (visit self.old thread).added) }
+        ensures owes { IfOk result (λ step. OwesStep self.new thread step) }
         ensures memory { OnErr result (self.new ≡ self.old) }
     {
         match self.ready(thread) {
@@ -136,10 +139,12 @@ impl Book {
     ///
     /// Where there is no memory nothing has changed.
     pub fn go_ready(&mut self, ready: Ready) -> Result<Step, Memory>
+        requires thread { ready.thread < self.old.run.threads }
         requires enabled { IsTrue (enabled (state_of self.old) ready.thread) }
         requires arrival { ready.arrival ≡ arrival (state_of self.old).world ready.thread }
         ensures step { IfOk result (λ step. step ≡ (turn_visit self.old ready.thread).step) }
         ensures added { OnOk result (self.new ≡ with_entries self.old (turn_visit self.old ready.thread).added) }
+        ensures owes { IfOk result (λ step. OwesStep self.new ready.thread step) }
         ensures memory { OnErr result (self.new ≡ self.old) }
     {
         let answers = ENTRIES_OF_AN_ANSWER * self.owing;

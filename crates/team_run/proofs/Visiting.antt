@@ -32,7 +32,8 @@ use Rattle.omp_model.proofs.Replies.{may-store}
 use Rattle.omp_model.proofs.Recording.{HasRun-start, HasRun-after, HasRun-alone, HasRun-event, HasRun-serial, HasRun-pending, heard-alone, heard-event, heard-pending, event_at, first_enabled-below, first_enabled-enabled, first_enabled-none, put_all-turns, StoresNothing-append}
 use Rattle.team_run.specs.Standing.{AreSilent, StandsAt, StopsAt}
 use Rattle.omp_machine.proofs.Storing.{Inside, inside-put}
-use Rattle.omp_machine.proofs.Telling.{IsTold}
+use Rattle.omp_machine.proofs.Telling.{IsTold, IsUntold}
+use Rattle.step_book.proofs.Visiting.{inside-told}
 use Rattle.tool_api.specs.Record.{Record}
 use Rattle.team_run.specs.Serving.{Serves, ServesTo, OnlyUnheard, Answers}
 use Rattle.team_run.specs.Unheard.{IsUnheard}
@@ -279,96 +280,111 @@ module _ (run : Run) (S : State) (from : ℕ) (H K : List Entry) (stands : Stand
   serves-all served =
       subst (λ unheard. Serves stands_for run parts H unheard others K) (unheard-none run S from K served.unheard stands served.is_unheard) served.serves
 
--- after a turn whose event was told, answered and returned from
-pub record Visited {P : Type 0} (stands_for : P → Record → Type 0) (run : Run) (S : State) (H : List Entry) (t : ℕ) (parts : List P) (after : State) (others : List P) (longer : List Entry) : Type 0 where
+-- after a turn, with the calls and the return of its event
+pub record Visited {P : Type 0} (stands_for : P → Record → Type 0) (run : Run) (H : List Entry) (t : ℕ) (parts others : List P) (longer : List Entry) : Type 0 where
   pub serves : Serves stands_for run parts H None others longer
-  pub stands : StandsAt run after (t + 1) longer
-  pub turns : after.turns ≡ S.turns + 1
+  pub stands : StandsAt run (after run longer) (t + 1) longer
+  pub turns : (after run longer).turns ≡ (after run H).turns + 1
 
-module _ (run : Run) (S : State) (from : ℕ) (H : List Entry) (t : ℕ) (stands : StandsAt run S from H) (turns : first_enabled run S from ≡ Some t) (e : Event) (happens : (turn run S t).outcome ≡ Happens e) (waits : IsSome (pending_at (turn run S t).state t)) {P : Type 0} (stands_for : P → Record → Type 0) (parts : List P) where
-  abbrev inner : State
-  inner = (turn run S t).state
+-- a run stands at the state to which its history leads
+pub stands-after : (run : Run) (S : State) (from : ℕ) (H : List Entry) → StandsAt run S from H → StandsAt run (after run H) from H
+stands-after run S from H stands = subst (λ (S : State). StandsAt run S from H) (sym (HasRun-after stands.has_run)) stands
 
-  rises : inner.turns ≡ S.turns + 1
-  rises = turns-rise run S t (first_enabled-enabled run S from t turns)
-
-  -- with the answer of the thread's part
-  pub visited-told : is_registered run.mask (callback_of e) ≡ true → (after : State) (others : List P) (longer : List Entry) → Answers stands_for (length H) t (call_of inner.world t e) (snap_of inner.world t e) inner parts (H ++ go_at t ∷ []) after others longer → Visited stands_for run S H t parts after others longer
-  visited-told registered after others longer answers =
-      let stores : List Stored = stores_of answers.reply (snap_of inner.world t e) in
-      let history : longer ≡ H ++ event_at t stores = answers.history_is ∙ append_assoc H (go_at t ∷ []) (event_reply t stores) in
-      let more : heard run longer ≡ heard run H ++ item_with run S from H t stands turns e happens waits stores ∷ [] = ap (heard run) history ∙ told-heard run S from H t stands turns e happens waits registered stores in
-      record {
-        serves = serves-told stands_for run parts others H longer t (item_with run S from H t stands turns e happens waits stores) refl more answers.as_many answers.each;
-        stands = rw (answers.state_is, history) (stands-told run S from H t stands turns e happens waits registered stores (stores-few answers.reply (snap_of inner.world t e)) (may-reply run S from H t stands turns e happens waits registered answers.reply));
-        turns = rw answers.state_is (back-turns (put_all inner t stores) t ∙ put_all-turns inner t stores ∙ rises);
-      }
-
-  -- without a part's answer, where the callback isn't registered
-  pub visited-untold : is_registered run.mask (callback_of e) ≡ false → Visited stands_for run S H t parts (back inner t) parts (H ++ event_at t [])
-  visited-untold unregistered =
-      record {
-        serves = serves-unheard stands_for run parts parts H (H ++ event_at t []) None (untold-heard run S from H t stands turns e happens waits unregistered) (record { as_many = refl; each = λ k below d h stands. stands });
-        stands = stands-untold run S from H t stands turns e happens waits unregistered;
-        turns = back-turns inner t ∙ rises;
-      }
-
-  -- where the part found no memory, nothing more was heard, and the history ends inside its callback
-  pub serves-inside : is_registered run.mask (callback_of e) ≡ true → (others : List P) → OnlyUnheard stands_for (Some t) parts others → ServesTo stands_for run parts H others (H ++ go_at t ∷ [])
-  serves-inside registered others kept =
-      let reached : after run (H ++ go_at t ∷ []) ≡ inner = stands.has_run.reached (go_at t ∷ []) in
-      record {
-        unheard = Some t;
-        is_unheard =
-            record {
-              before = H;
-              last = refl;
-              callback = called e;
-              inside = ap (λ (S : State). pending_at S t) reached ∙ inside-event run S from H t stands turns e happens waits;
-              registered = registered;
-            };
-        serves = serves-unheard stands_for run parts others H (H ++ go_at t ∷ []) (Some t) (heard-pending t e stands.has_run happens) kept;
-      }
+-- and may stop there
+pub stops-after : (run : Run) (S : State) (H : List Entry) → StopsAt run S H → StopsAt run (after run H) H
+stops-after run S H stops = record { serial = stops.serial; own = stops.own; reached = refl }
 
 module _ (run : Run) (S : State) (from : ℕ) (H : List Entry) (t : ℕ) (stands : StandsAt run S from H) (turns : first_enabled run S from ≡ Some t) {P : Type 0} (stands_for : P → Record → Type 0) (parts : List P) where
-  -- after a turn with no event
-  pub visited-alone : inside_after (turn run S t).outcome t ≡ None → Visited stands_for run S H t parts (turn run S t).state parts (H ++ go_at t ∷ [])
-  visited-alone none =
+  visited-at : (next : State) (others : List P) (longer : List Entry) → Serves stands_for run parts H None others longer → StandsAt run next (t + 1) longer → next.turns ≡ S.turns + 1 → Visited stands_for run H t parts others longer
+  visited-at next others longer serves there turned =
       record {
-        serves = serves-unheard stands_for run parts parts H (H ++ go_at t ∷ []) None (heard-alone t stands.has_run none) (record { as_many = refl; each = λ k below d h stands. stands });
-        stands = stands-alone run S from H t stands turns none;
-        turns = turns-rise run S t (first_enabled-enabled run S from t turns);
+        serves = serves;
+        stands = stands-after run next (t + 1) longer there;
+        turns = ap (λ (S : State). S.turns) (HasRun-after there.has_run) ∙ turned ∙ ap (λ (S : State). S.turns + 1) (sym (HasRun-after stands.has_run));
       }
 
-module _ (run : Run) (S : State) (from : ℕ) (H : List Entry) (t : ℕ) (stands : StandsAt run S from H) (turns : first_enabled run S from ≡ Some t) (waits : IsSome (pending_at (turn run S t).state t)) (call : Call) (snapshot : Snapshot) (said : IsTold run (turn run S t).state t (turn run S t).outcome call snapshot) where
-  -- the stores of any reply to what was told may stand next
-  pub may-said : (reply : Reply) → MayStore run (turn run S t).state t (stores_of reply snapshot)
-  may-said reply =
-      subst (λ (snapshot : Snapshot). MayStore run (turn run S t).state t (stores_of reply snapshot)) said.snapshot_is (may-reply run S from H t stands turns said.event said.happens waits said.registered reply)
+  rises : (turn run S t).state.turns ≡ S.turns + 1
+  rises = turns-rise run S t (first_enabled-enabled run S from t turns)
 
-  pub inside-said : (stores : List Stored) → IsSome (pending_at (put_all (turn run S t).state t stores) t)
-  inside-said stores = inside-still run S from H t stands turns said.event said.happens waits said.registered stores
+  -- after a turn with no event
+  pub visited-alone : inside_after (turn run S t).outcome t ≡ None → Visited stands_for run H t parts parts (H ++ go_at t ∷ [])
+  visited-alone none =
+      visited-at (turn run S t).state parts (H ++ go_at t ∷ [])
+      (serves-unheard stands_for run parts parts H (H ++ go_at t ∷ []) None (heard-alone t stands.has_run none) (record { as_many = refl; each = λ k below d h stands. stands }))
+      (stands-alone run S from H t stands turns none) rises
+
+  module _ (e : Event) (happens : (turn run S t).outcome ≡ Happens e) (waits : IsSome (pending_at (turn run S t).state t)) where
+    abbrev inner : State
+    inner = (turn run S t).state
+
+    -- with the answer of the thread's part
+    pub visited-told : is_registered run.mask (callback_of e) ≡ true → (others : List P) (longer : List Entry) → Answers stands_for (length H) t (call_of inner.world t e) (snap_of inner.world t e) parts (H ++ go_at t ∷ []) others longer → Visited stands_for run H t parts others longer
+    visited-told registered others longer answers =
+        let stores : List Stored = stores_of answers.reply (snap_of inner.world t e) in
+        let history : longer ≡ H ++ event_at t stores = answers.history_is ∙ append_assoc H (go_at t ∷ []) (event_reply t stores) in
+        let more : heard run longer ≡ heard run H ++ item_with run S from H t stands turns e happens waits stores ∷ [] = ap (heard run) history ∙ told-heard run S from H t stands turns e happens waits registered stores in
+        let may = may-reply run S from H t stands turns e happens waits registered answers.reply in
+        visited-at (back (put_all inner t stores) t) others longer
+        (serves-told stands_for run parts others H longer t (item_with run S from H t stands turns e happens waits stores) refl more answers.as_many answers.each)
+        (rw history (stands-told run S from H t stands turns e happens waits registered stores (stores-few answers.reply (snap_of inner.world t e)) may))
+        (back-turns (put_all inner t stores) t ∙ put_all-turns inner t stores ∙ rises)
+
+    -- without a part's answer, where the callback isn't registered
+    pub visited-untold : is_registered run.mask (callback_of e) ≡ false → Visited stands_for run H t parts parts (H ++ event_at t [])
+    visited-untold unregistered =
+        visited-at (back inner t) parts (H ++ event_at t [])
+        (serves-unheard stands_for run parts parts H (H ++ event_at t []) None (untold-heard run S from H t stands turns e happens waits unregistered) (record { as_many = refl; each = λ k below d h stands. stands }))
+        (stands-untold run S from H t stands turns e happens waits unregistered) (back-turns inner t ∙ rises)
+
+    -- where the part found no memory, nothing more was heard, and the history ends inside its callback
+    pub serves-inside : is_registered run.mask (callback_of e) ≡ true → (others : List P) → OnlyUnheard stands_for (Some t) parts others → ServesTo stands_for run parts H others (H ++ go_at t ∷ [])
+    serves-inside registered others kept =
+        let reached : after run (H ++ go_at t ∷ []) ≡ inner = stands.has_run.reached (go_at t ∷ []) in
+        record {
+          unheard = Some t;
+          is_unheard =
+              record {
+                before = H;
+                last = refl;
+                callback = called e;
+                inside = ap (λ (S : State). pending_at S t) reached ∙ inside-event run S from H t stands turns e happens waits;
+                registered = registered;
+              };
+          serves = serves-unheard stands_for run parts others H (H ++ go_at t ∷ []) (Some t) (heard-pending t e stands.has_run happens) kept;
+        }
+
+-- Where an event was told.
+module _ (run : Run) (from : ℕ) (H : List Entry) (t : ℕ) (stands : StandsAt run (after run H) from H) (turns : first_enabled run (after run H) from ≡ Some t) (call : Call) (snapshot : Snapshot) (said : IsTold run (turn run (after run H) t).state t (turn run (after run H) t).outcome call snapshot) where
+  waits : IsSome (pending_at (turn run (after run H) t).state t)
+  waits =
+      rw (inside-told run H t said.event stands.some (first_enabled-below run (after run H) from t stands.within turns) said.happens) refl
 
   -- the history at which the run stops where the part found no memory
-  pub stops-said : StopsAt run (turn run S t).state (H ++ go_at t ∷ [])
-  stops-said = stops-inside run S from H t stands turns said.event said.happens
+  pub stops-said : StopsAt run (after run (H ++ go_at t ∷ [])) (H ++ go_at t ∷ [])
+  stops-said =
+      stops-after run (turn run (after run H) t).state (H ++ go_at t ∷ []) (stops-inside run (after run H) from H t stands turns said.event said.happens)
 
   module _ {P : Type 0} (stands_for : P → Record → Type 0) (parts others : List P) where
     -- after the part's answer
-    pub visited-said :
-        (seq : ℕ) (state : State) (before : List Entry) → seq ≡ length H → state ≡ (turn run S t).state → before ≡ H ++ go_at t ∷ []
-        → (after : State) (longer : List Entry) → Answers stands_for seq t call snapshot state parts before after others longer → Visited stands_for run S H t parts after others longer
-    visited-said seq state before seq_is state_is before_is after longer answers =
-        let one = subst (λ seq. Answers stands_for seq t call snapshot state parts before after others longer) seq_is answers in
-        let two = subst (λ (state : State). Answers stands_for (length H) t call snapshot state parts before after others longer) state_is one in
-        let three = subst (λ (before : List Entry). Answers stands_for (length H) t call snapshot (turn run S t).state parts before after others longer) before_is two in
-        let four = subst (λ (call : Call). Answers stands_for (length H) t call snapshot (turn run S t).state parts (H ++ go_at t ∷ []) after others longer) (sym said.call_is) three in
-        let five = subst (λ (snapshot : Snapshot). Answers stands_for (length H) t (call_of (turn run S t).state.world t said.event) snapshot (turn run S t).state parts (H ++ go_at t ∷ []) after others longer) (sym said.snapshot_is) four in
-        visited-told run S from H t stands turns said.event said.happens waits stands_for parts said.registered after others longer five
+    pub visited-said : (seq : ℕ) → seq ≡ length H → (longer : List Entry) → Answers stands_for seq t call snapshot parts (H ++ go_at t ∷ []) others longer → Visited stands_for run H t parts others longer
+    visited-said seq seq_is longer answers =
+        let one = subst (λ seq. Answers stands_for seq t call snapshot parts (H ++ go_at t ∷ []) others longer) seq_is answers in
+        let two = subst (λ (call : Call). Answers stands_for (length H) t call snapshot parts (H ++ go_at t ∷ []) others longer) (sym said.call_is) one in
+        let three = subst (λ (snapshot : Snapshot). Answers stands_for (length H) t (call_of (turn run (after run H) t).state.world t said.event) snapshot parts (H ++ go_at t ∷ []) others longer) (sym said.snapshot_is) two in
+        visited-told run (after run H) from H t stands turns stands_for parts said.event said.happens waits said.registered others longer three
 
     -- where it found no memory
     pub serves-said : OnlyUnheard stands_for (Some t) parts others → ServesTo stands_for run parts H others (H ++ go_at t ∷ [])
-    serves-said kept = serves-inside run S from H t stands turns said.event said.happens waits stands_for parts said.registered others kept
+    serves-said kept =
+        serves-inside run (after run H) from H t stands turns stands_for parts said.event said.happens waits said.registered others kept
+
+-- where an event wasn't
+pub visited-unsaid :
+    (run : Run) (from : ℕ) (H : List Entry) (t : ℕ) (stands : StandsAt run (after run H) from H) (turns : first_enabled run (after run H) from ≡ Some t) → IsUntold run (turn run (after run H) t).outcome → {P : Type 0} (stands_for : P → Record → Type 0) (parts : List P)
+    → Visited stands_for run H t parts parts (H ++ event_at t [])
+visited-unsaid run from H t stands turns unsaid stands_for parts =
+    let waits : IsSome (pending_at (turn run (after run H) t).state t) = rw (inside-told run H t unsaid.event stands.some (first_enabled-below run (after run H) from t stands.within turns) unsaid.happens) refl in
+    visited-untold run (after run H) from H t stands turns stands_for parts unsaid.event unsaid.happens waits unsaid.unregistered
 
 -- what follows from either answer
 pub from_either : {X E : Type 0} (r : Result X E) {A B C : Type 0} → OnOk r A → OnErr r B → (A → C) → (B → C) → C

@@ -1,4 +1,3 @@
-pub mod Entries
 pub mod Program
 pub mod Serving
 pub mod Standing

@@ -10,11 +10,10 @@ use Rattle.tool_api.specs.Record.{Record, initialized, told, finalized}
 use Rattle.omp_model.specs.declared.cause.Cause.{Cause}
 use Rattle.omp_model.specs.declared.cause.Cause.TheVariants as causes
 use Rattle.omp_model.specs.declared.history.Entry.{Entry}
-use Rattle.omp_model.specs.State.{Run, State}
-use Rattle.omp_model.specs.Legal.{back}
+use Rattle.omp_model.specs.State.{Run}
 use Rattle.omp_model.specs.Heard.{heard_of}
 use Rattle.team_run.specs.Unheard.{IsUnheard, unheard_on}
-use Rattle.omp_model.specs.Storing.{put_all, event_reply}
+use Rattle.omp_model.specs.Storing.{event_reply}
 
 -- part k, whatever it stood for before, stands afterwards for what this makes of it
 abbrev pub Becomes : {P : Type 0} → (P → Record → Type 0) → List P → List P → ℕ → (Record → Record) → Type 0
@@ -46,9 +45,8 @@ abbrev pub told_on : ℕ → ℕ → Item → Record → Record
 told_on t k item h = if t == k then told h item else h
 
 -- the callback of thread t's event was answered with this reply: its stores, the return, and the call of the thread's part
-pub record Answers {P : Type 0} (stands_for : P → Record → Type 0) (seq t : ℕ) (call : Call) (snapshot : Snapshot) (state : State) (parts : List P) (history : List Entry) (after : State) (others : List P) (longer : List Entry) : Type 0 where
+pub record Answers {P : Type 0} (stands_for : P → Record → Type 0) (seq t : ℕ) (call : Call) (snapshot : Snapshot) (parts : List P) (history : List Entry) (others : List P) (longer : List Entry) : Type 0 where
   pub reply : Reply
-  pub state_is : after ≡ back (put_all state t (stores_of reply snapshot)) t
   pub history_is : longer ≡ history ++ event_reply t (stores_of reply snapshot)
   pub as_many : length others ≡ length parts
   pub each : (k : ℕ) → k < length parts → Becomes stands_for parts others k (told_on t k (item_of seq t call snapshot reply))

@@ -1,6 +1,6 @@
 //! Runs of a program, with the parts of a tool.
 //!
-//! [`run_serial`] runs a checked program on the machine of `omp_machine`, in the serial order: threads take turns round and
+//! [`run_serial`] runs a checked program over a book of `step_book`, in the serial order: threads take turns round and
 //! round, and the callback of an event comes directly after its Go. It is handed a part of a tool for each thread, a
 //! [`ToolPart`](tool_api::ToolPart), and calls part t for the events of thread t.
 //!
@@ -12,8 +12,7 @@
 //! The stores of the reply take effect in their order, each with an entry, and the Back follows. A store at a place that
 //! isn't there is passed over. Where the part finds no memory the run ends, with the event's Go as its last entry.
 //!
-//! The parts of the crate are private. A run under way has the machine, the entries so far and the parts of the tool. It
-//! makes room for all entries of a turn before the turn, so that what the machine did always gets its entry.
+//! The parts of the crate are private. A run under way has the book with the entries so far, and the parts of the tool.
 //!
 //! Proved by the contracts of [`run_serial`], for every kind of part, over the definitions of `omp_model` and of `specs/`.
 //! They hold of each [`Ran`] that it answers; "the run" is that of the program, the threads and the silent steps that it
@@ -53,7 +52,6 @@
 //! The must-fail edits try wrong bodies.
 #![tactic(auto)]
 
-mod entries;
 mod ran;
 mod serial;
 mod serial_run;

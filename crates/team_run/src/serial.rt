@@ -14,6 +14,7 @@ use crate::serial_run::SerialRun;
 use c_check::Program;
 use omp_model::Cause;
 use std::alloc::{AllocError, Global};
+use step_book::Closed;
 use tool_api::{Registrar, ToolPart};
 
 /// Runs the program serially, with so many threads, and so many silent steps at most. Part t is called for the events of
@@ -56,21 +57,18 @@ pub fn run_serial<P: ToolPart>(
     let mask = mask_of(start);
     let mut run = SerialRun::new(alloc, program, mask, threads, steps, parts)?;
     let cause = run.finish();
-    if cause == Cause::Memory && run.history.len() == 0 {
+    if cause == Cause::Memory && run.book.entries().is_empty() {
         return Err(AllocError);
     }
     let SerialRun {
-        machine,
-        history,
-        mut parts,
-        ..
+        book, mut parts, ..
     } = run;
     finalize_first(start, &mut parts);
-    let text = machine.into_text();
+    let Closed { history, text, .. } = book.close();
     Ok(Ran {
         cause,
         mask,
-        history: history.into_history(),
+        history,
         text,
         parts,
     })

@@ -6,6 +6,7 @@ use Rattle.omp_model.specs.State.{Run}
 use Rattle.omp_machine.specs.declared.ready.Ready.{Ready}
 use Rattle.omp_model.proofs.Turns.{turn-goes}
 use Rattle.omp_model.proofs.Recording.{first_enabled-enabled}
+use Rattle.step_book.specs.Pages.{state_of}
 use Rattle.team_run.specs.Standing.{StandsAt, StopsAt}
 use Rattle.team_run.specs.Serving.{Serves}
 use Rattle.team_run.proofs.Serving.{serves-then, kinds-then}
@@ -18,8 +19,8 @@ thread_of found = option_map (λ (ready : Ready). ready.thread) found
 
 pub loop-ready-smaller : goal.loop-ready-smaller
 loop-ready-smaller g c =
-    let on = first_enabled-enabled c.loop-ready.self.machine.run c.loop-ready.self.machine.state _ _ (sym c.first_ready.ensures.thread ∙ ap thread_of c.in-Some.is) in
-    let turns : c.loop-ready.self.machine.state.turns < TURN_LIMIT = c.loop-ready.invariant.stands.has_run.running (turn-goes _ _ on).halt in
+    let on = first_enabled-enabled c.loop-ready.self.book.run (state_of c.loop-ready.self.book) _ _ (sym c.first_ready.ensures.thread ∙ ap thread_of c.in-Some.is) in
+    let turns : (state_of c.loop-ready.self.book).turns < TURN_LIMIT = c.loop-ready.invariant.stands.has_run.running (turn-goes _ _ on).halt in
     omega (arith, c.in-Ok.ensures.turns)
 
 pub loop-ready-preserved : goal.loop-ready-preserved
@@ -28,20 +29,20 @@ loop-ready-preserved g c =
     let before = c.loop-ready.self in
     let after = c.visit.new.self in
     let kept = c.loop-ready.invariant in
-    let served : Serves stands_for before.machine.run before.parts.items before.history.entries None after.parts.items after.history.entries =
-    serves-all _ _ _ _ _ (subst (λ (run : Run). StandsAt run after.machine.state after.next after.history.entries) c.in-Ok.ensures.run c.in-Ok.ensures.stands) stands_for _ _ c.in-Ok.ensures.serves in
-    let of_run = subst (λ (run : Run). Serves stands_for run before.parts.items before.history.entries None after.parts.items after.history.entries) kept.run served in
+    let served : Serves stands_for before.book.run before.parts.items before.book.history None after.parts.items after.book.history =
+    serves-all _ _ _ _ _ (subst (λ (run : Run). StandsAt run (state_of after.book) after.next after.book.history) c.in-Ok.ensures.run c.in-Ok.ensures.stands) stands_for _ _ c.in-Ok.ensures.serves in
+    let of_run = subst (λ (run : Run). Serves stands_for run before.parts.items before.book.history None after.parts.items after.book.history) kept.run served in
     record {
       run = c.in-Ok.ensures.run ∙ kept.run;
       stands = c.in-Ok.ensures.stands;
-      serves = serves-then stands_for c.args.self.now.machine.run _ _ _ _ _ _ None kept.serves of_run;
+      serves = serves-then stands_for c.args.self.now.book.run _ _ _ _ _ _ None kept.serves of_run;
       kinds = kinds-then g.P.ToolPart.kind _ _ _ kept.serves.as_many kept.kinds c.in-Ok.ensures.kinds;
     }
 
 pub returns-clause-serves : goal.returns-clause-serves
 returns-clause-serves g c =
     let kept = c.loop-ready.invariant in
-    serves-to _ _ _ _ _ (subst (λ (run : Run). StandsAt run c.loop-ready.self.machine.state c.loop-ready.self.next c.loop-ready.self.history.entries) kept.run kept.stands) g.P.ToolPart.stands_for _ _ kept.serves
+    serves-to _ _ _ _ _ (subst (λ (run : Run). StandsAt run (state_of c.loop-ready.self.book) c.loop-ready.self.next c.loop-ready.self.book.history) kept.run kept.stands) g.P.ToolPart.stands_for _ _ kept.serves
 
 pub unreachable-requires : goal.unreachable-requires
 unreachable-requires g c =
@@ -49,11 +50,11 @@ unreachable-requires g c =
 
 pub returns-clause-stops : goal.returns-clause-stops
 returns-clause-stops g c =
-    subst (λ (run : Run). StopsAt run c.loop-ready.self.machine.state c.loop-ready.self.history.entries) c.loop-ready.invariant.run (stops-here _ _ _ _ c.loop-ready.invariant.stands)
+    subst (λ (run : Run). StopsAt run (state_of c.loop-ready.self.book) c.loop-ready.self.book.history) c.loop-ready.invariant.run (stops-here _ _ _ _ c.loop-ready.invariant.stands)
 
 pub visit-requires-clause-turn : goal.visit-requires-clause-turn
 visit-requires-clause-turn g c κs within = sym c.first_ready.ensures.thread ∙ ap thread_of c.in-Some.is
 
 pub visit-requires-clause-arrival : goal.visit-requires-clause-arrival
 visit-requires-clause-arrival g c κs within =
-    subst (λ (found : Option Ready). IfSome found (λ (ready : Ready). ready.arrival ≡ arrival c.loop-ready.self.machine.state.world ready.thread)) c.in-Some.is c.first_ready.ensures.arrival
+    subst (λ (found : Option Ready). IfSome found (λ (ready : Ready). ready.arrival ≡ arrival (state_of c.loop-ready.self.book).world ready.thread)) c.in-Some.is c.first_ready.ensures.arrival

@@ -1,5 +1,6 @@
 use Rattle.std.proofs.Common.{◌≡◌, ◌-◌, None}
 use Rattle.omp_model.specs.declared.limits.TheConstants.{TURN_LIMIT}
+use Rattle.step_book.specs.Pages.{state_of}
 use Rattle.team_run.specs.Serving.{Serves, SameKinds}
 use Rattle.team_run.specs.Standing.{StandsAt}
 use Rattle.team_run.proofs.serial_run.SerialRun.finish.Given as goal
@@ -8,12 +9,12 @@ use Rattle.team_run.proofs.serial_run.SerialRun.finish.Given as goal
 abbrev pub invariant-loop-ready : goal.invariant-loop-ready
 invariant-loop-ready g l =
     record {
-      run : l.self.machine.run ≡ l.initial.self.machine.run;
-      stands : StandsAt l.self.machine.run l.self.machine.state l.self.next l.self.history.entries;
-      serves : Serves g.P.ToolPart.stands_for l.initial.self.machine.run l.initial.self.parts.items l.initial.self.history.entries None l.self.parts.items l.self.history.entries;
+      run : l.self.book.run ≡ l.initial.self.book.run;
+      stands : StandsAt l.self.book.run (state_of l.self.book) l.self.next l.self.book.history;
+      serves : Serves g.P.ToolPart.stands_for l.initial.self.book.run l.initial.self.parts.items l.initial.self.book.history None l.self.parts.items l.self.book.history;
       kinds : SameKinds g.P.ToolPart.kind l.initial.self.parts.items l.self.parts.items;
     }
 
 -- the turns that are left
 abbrev pub decreases-loop-ready : goal.decreases-loop-ready
-decreases-loop-ready g l = TURN_LIMIT - l.self.machine.state.turns
+decreases-loop-ready g l = TURN_LIMIT - (state_of l.self.book).turns
