@@ -58,17 +58,19 @@ put-made run S place (Some callback) may =
 stores-made : (run : Run) (S : State) (t : ℕ) (stores : List Stored) → MayStore run S t stores → AreMade S.world stores
 stores-made run S t [] may = tt
 stores-made run S t (store ∷ rest) may =
-    let next = put S t store.target store.word in
-    (put-made run S store.target (pending_at S t) may.0,
-    made-there next.world S.world rest (λ place made. sym (made-put S t store.target place store.word) ∙ made) (stores-made run next t rest may.1))
+    let next = put S t store.target store.word in (
+      put-made run S store.target (pending_at S t) may.0,
+      made-there next.world S.world rest (λ place made. sym (made-put S t store.target place store.word) ∙ made) (stores-made run next t rest may.1),
+    )
 
 -- stores may stand next where they are few and go to what was made
 made-may : (run : Run) (S : State) (t : ℕ) (event : Event) (done : ℕ) (stores : List Stored) → Inside run S t event done → done + length stores ≤ STORE_LIMIT → AreMade S.world stores → MayStore run S t stores
 made-may run S t event done [] inside few made = tt
 made-may run S t event done (store ∷ rest) inside few made =
-    let next = put S t store.target store.word in
-    (inside-may run S t event done store.target store.word inside (omega (arith, few)) made.0,
-    made-may run next t event (done + 1) rest (inside-put run S t event done store.target store.word inside) (omega (arith, few)) (made-there S.world next.world rest (λ place there. made-put S t store.target place store.word ∙ there) made.1))
+    let next = put S t store.target store.word in (
+      inside-may run S t event done store.target store.word inside (omega (arith, few)) made.0,
+      made-may run next t event (done + 1) rest (inside-put run S t event done store.target store.word inside) (omega (arith, few)) (made-there S.world next.world rest (λ place there. made-put S t store.target place store.word ∙ there) made.1),
+    )
 
 -- some stores of more
 pub may-front : (run : Run) (S : State) (t : ℕ) (xs ys : List Stored) → MayStore run S t (xs ++ ys) → MayStore run S t xs

@@ -222,4 +222,3 @@ owes-told book t seq call snapshot some below told =
       snapshot_is = sym told.is_told.snapshot_is;
       inside = ap (λ (S : State). pending_at S t) reached ∙ inside-told run book.history t told.is_told.event some below told.is_told.happens;
     })
-

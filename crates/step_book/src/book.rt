@@ -177,7 +177,9 @@ impl Book {
         ensures { self.new ≡ with_entries self.old (event_reply thread (stores_of reply.now snapshot.now)) }
     {
         let Book {
-            machine, entries, ..
+            machine,
+            entries,
+            ..
         } = self;
         put_store(machine, entries, thread, reply.first, snapshot);
         put_store(machine, entries, thread, reply.second, snapshot);
@@ -242,7 +244,13 @@ impl Book {
 
 /// The tool of the thread's event stores this, where it takes effect.
 #[inline(always)]
-fn put_store(machine: &mut Machine, entries: &mut Entries, thread: u8, store: Option<Store>, snapshot: &Snapshot)
+fn put_store(
+    machine: &mut Machine,
+    entries: &mut Entries,
+    thread: u8,
+    store: Option<Store>,
+    snapshot: &Snapshot,
+)
     requires room { 0 < entries.old.room }
     requires may { MayStore machine.old.run machine.old.state thread (stored_of snapshot.now store) }
     ensures machine { machine.new ≡ record machine.old { state = put_all machine.old.state thread (stored_of snapshot.now store) } }

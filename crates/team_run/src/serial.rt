@@ -61,7 +61,9 @@ pub fn run_serial<P: ToolPart>(
         return Err(AllocError);
     }
     let SerialRun {
-        book, mut parts, ..
+        book,
+        mut parts,
+        ..
     } = run;
     finalize_first(start, &mut parts);
     let Closed { history, text, .. } = book.close();
