@@ -1,5 +1,5 @@
 -- Histories with more entries, and what stays made in them.
-use Rattle.std.proofs.Common.{◌≡◌, ℕ, ◌+◌, ◌≤◌, ◌<◌, ◌&&◌, true, nat_lt, List, [], ◌∷◌, ◌++◌, length, Option, Some, None, refl, sym, ap, subst, ◌∙◌, ltb-true, lt-ltb, arith}
+use Rattle.std.proofs.Common.{◌≡◌, ℕ, ◌≤◌, true, nat_lt, List, [], ◌∷◌, ◌++◌, Option, Some, None, refl, ltb-true, lt-ltb, arith}
 use Rattle.std.proofs.lemmas.Bool.{and_parts}
 use Rattle.ompt_calls.specs.declared.snapshot.Target.{Target}
 use Rattle.ompt_calls.specs.declared.snapshot.Target.TheVariants as target
@@ -11,7 +11,7 @@ use Rattle.omp_model.specs.declared.history.What.{What}
 use Rattle.omp_model.specs.declared.history.What.TheVariants.{Go, Put, Back}
 use Rattle.omp_model.specs.State.{Run, State, World, pending_at}
 use Rattle.omp_model.specs.Legal.{AllowsFrom, after_from, back_from, does, entered, put_from}
-use Rattle.omp_model.specs.Made.{IsMadeState, IsMadeWorld, MadePending}
+use Rattle.omp_model.specs.Made.{IsMadeState, MadePending}
 use Rattle.omp_model.specs.Turn.{turn}
 use Rattle.omp_model.specs.Words.{is_made, is_made_identity}
 use Rattle.omp_model.proofs.Later.{Later}

@@ -1,6 +1,7 @@
 -- The stores of the answer that a thread owes: each may stand next, whatever other threads have done since the event.
 use Rattle.std.proofs.Common.{◌≡◌, ℕ, ◌+◌, ◌≤◌, ◌&&◌, true, nat_lt, List, [], ◌∷◌, ◌++◌, length, length-append, Option, Some, None, IsSome, refl, sym, ap, subst, ◌∙◌, append_assoc, arith}
 use Rattle.std.proofs.lemmas.Bool.{and_parts}
+use Rattle.std.proofs.lemmas.List.{map-append}
 use Rattle.ompt_calls.specs.declared.call.Call.{Call}
 use Rattle.ompt_calls.specs.declared.reply.Reply.{Reply}
 use Rattle.ompt_calls.specs.declared.reply.Store.{Store}
@@ -14,8 +15,7 @@ use Rattle.omp_model.specs.declared.limits.TheConstants.{STORE_LIMIT}
 use Rattle.omp_model.specs.State.{Run, State, World, first, pending_at}
 use Rattle.omp_model.specs.Legal.{after, after_from, is_told, may_put, put}
 use Rattle.omp_model.specs.Made.{IsMadeState}
-use Rattle.omp_model.specs.Snapshots.{snap_of}
-use Rattle.omp_model.specs.Storing.{MayStore, go_at, put_all}
+use Rattle.omp_model.specs.Storing.{MayStore, back_at, event_reply, go_at, put_all, put_at, puts_at}
 use Rattle.omp_model.specs.Turn.{turn}
 use Rattle.omp_model.specs.Words.{is_made}
 use Rattle.omp_model.proofs.MadeRuns.{made-after}
@@ -85,6 +85,41 @@ pub put_all-append : (S : State) (t : ℕ) (xs ys : List Stored) → put_all S t
 put_all-append S t [] ys = refl
 put_all-append S t (store ∷ xs) ys = put_all-append (put S t store.target store.word) t xs ys
 
+-- the state after the stores of a reply
+pub reply-state : (S : State) (t : ℕ) (xs ys zs : List Stored) → put_all (put_all (put_all S t xs) t ys) t zs ≡ put_all S t (xs ++ ys ++ zs)
+reply-state S t xs ys zs =
+    ap (λ between. put_all between t zs) (sym (put_all-append S t xs ys)) ∙ sym (put_all-append S t (xs ++ ys) zs)
+
+-- and the entries after them and the return
+pub reply-history : (H : List Entry) (t : ℕ) (xs ys zs : List Stored) → H ++ puts_at t xs ++ puts_at t ys ++ puts_at t zs ++ back_at t ∷ [] ≡ H ++ event_reply t (xs ++ ys ++ zs)
+reply-history H t xs ys zs =
+    ap (λ more. more ++ puts_at t zs ++ back_at t ∷ []) (append_assoc H (puts_at t xs) (puts_at t ys) ∙ ap (λ more. H ++ more) (sym (map-append (put_at t) xs ys)))
+    ∙ ap (λ more. more ++ back_at t ∷ []) (append_assoc H (puts_at t (xs ++ ys)) (puts_at t zs) ∙ ap (λ more. H ++ more) (sym (map-append (put_at t) (xs ++ ys) zs)))
+    ∙ append_assoc H (puts_at t (xs ++ ys ++ zs)) (back_at t ∷ [])
+
+-- each of the three stores may stand next after those before it, and after them all the thread is inside its callback
+pub record MayEach (run : Run) (S : State) (t : ℕ) (xs ys zs : List Stored) : Type 0 where
+  pub first : MayStore run S t xs
+  pub second : MayStore run (put_all S t xs) t ys
+  pub third : MayStore run (put_all (put_all S t xs) t ys) t zs
+  pub inside : IsSome (pending_at (put_all (put_all (put_all S t xs) t ys) t zs) t)
+
+pub may-each : (run : Run) (S : State) (t : ℕ) (xs ys zs : List Stored) → MayStore run S t (xs ++ ys ++ zs) → IsSome (pending_at (put_all S t (xs ++ ys ++ zs)) t) → MayEach run S t xs ys zs
+may-each run S t xs ys zs may inside =
+    let both = may-front run S t (xs ++ ys) zs may in
+    record {
+      first = may-front run S t xs ys both;
+      second = may-back run S t xs ys both;
+      third = subst (λ (S : State). MayStore run S t zs) (put_all-append S t xs ys) (may-back run S t (xs ++ ys) zs may);
+      inside = subst (λ (S : State). IsSome (pending_at S t)) (sym (reply-state S t xs ys zs)) inside;
+    }
+
+-- the thread is still inside the callback after stores
+pub inside-all : (run : Run) (S : State) (t : ℕ) (event : Event) (done : ℕ) (stores : List Stored) → Inside run S t event done → IsSome (pending_at (put_all S t stores) t)
+inside-all run S t event done [] inside = rw inside.pending refl
+inside-all run S t event done (store ∷ rest) inside =
+    inside-all run (put S t store.target store.word) t event (done + 1) rest (inside-put run S t event done store.target store.word inside)
+
 module _ (run : Run) (history : List Entry) (t seq : ℕ) (call : Call) (snapshot : Snapshot) (some : 1 ≤ run.threads) (owes : Owes run history t seq call snapshot) where
   -- the state right after the Go, and the one after the entries since
   abbrev at_go : State
@@ -109,8 +144,19 @@ module _ (run : Run) (history : List Entry) (t seq : ℕ) (call : Call) (snapsho
       let made : AreMade (after run history).world stores = made-there at_go.world (after run history).world stores (rw since-go (entries-stay run at_go owes.since go-made)) (stores-made run at_go t stores at) in
       made-may run (after run history) t owes.event 0 stores inside-owed (omega (arith, stores-few reply snapshot)) made
 
--- the thread is still inside the callback after stores
-pub inside-all : (run : Run) (S : State) (t : ℕ) (event : Event) (done : ℕ) (stores : List Stored) → Inside run S t event done → IsSome (pending_at (put_all S t stores) t)
-inside-all run S t event done [] inside = rw inside.pending refl
-inside-all run S t event done (store ∷ rest) inside =
-    inside-all run (put S t store.target store.word) t event (done + 1) rest (inside-put run S t event done store.target store.word inside)
+  -- and the thread is inside its callback after them
+  pub inside-answer : (reply : Reply) → IsSome (pending_at (put_all (after run history) t (stores_of reply snapshot)) t)
+  inside-answer reply = inside-all run (after run history) t owes.event 0 (stores_of reply snapshot) inside-owed
+
+  -- all that an answer needs, in the state to which the history leads
+  pub may-answer-at : (S : State) (reply : Reply) → after run history ≡ S → MayEach run S t (stored_of snapshot reply.first) (stored_of snapshot reply.second) (stored_of snapshot reply.third)
+  may-answer-at S reply reached =
+      subst (λ (S : State). MayEach run S t (stored_of snapshot reply.first) (stored_of snapshot reply.second) (stored_of snapshot reply.third)) reached (may-each run (after run history) t (stored_of snapshot reply.first) (stored_of snapshot reply.second) (stored_of snapshot reply.third) (may-answer reply) (inside-answer reply))
+
+  pub stores-at : (S : State) (reply : Reply) → after run history ≡ S → MayStore run S t (stores_of reply snapshot)
+  stores-at S reply reached =
+      subst (λ (S : State). MayStore run S t (stores_of reply snapshot)) reached (may-answer reply)
+
+  pub inside-at : (S : State) (reply : Reply) → after run history ≡ S → IsSome (pending_at (put_all S t (stores_of reply snapshot)) t)
+  inside-at S reply reached =
+      subst (λ (S : State). IsSome (pending_at (put_all S t (stores_of reply snapshot)) t)) reached (inside-answer reply)

@@ -1,5 +1,5 @@
 -- What a visit's answer says of the turn.
-use Rattle.std.proofs.Common.{◌≡◌, ℕ, if◌then◌else◌, true, false, List, [], ◌∷◌, length, None, refl, sym, ap, ◌∙◌, inl, inr, ◌⊎◌}
+use Rattle.std.proofs.Common.{◌≡◌, ℕ, if◌then◌else◌, true, false, [], ◌∷◌, length, None, refl, sym, ap, ◌∙◌, inl, inr, ◌⊎◌}
 use Rattle.ompt_calls.specs.declared.call.Call.{Call}
 use Rattle.ompt_calls.specs.declared.snapshot.Snapshot.{Snapshot}
 use Rattle.ompt_calls.specs.Number.{is_registered}
@@ -8,7 +8,6 @@ use Rattle.omp_model.specs.declared.cause.Cause.TheVariants as cause
 use Rattle.omp_model.specs.declared.event.Halt.TheVariants.{Trap, Limit}
 use Rattle.omp_model.specs.declared.event.Outcome.{Outcome}
 use Rattle.omp_model.specs.declared.event.Outcome.TheVariants as outcome
-use Rattle.omp_model.specs.declared.history.Entry.{Entry}
 use Rattle.omp_model.specs.State.{Run, State}
 use Rattle.omp_model.specs.Calls.{call_of, callback_of}
 use Rattle.omp_model.specs.Legal.{after}
@@ -20,7 +19,6 @@ use Rattle.omp_machine.specs.declared.went.Went.{Went}
 use Rattle.omp_machine.specs.declared.went.Went.TheVariants as went
 use Rattle.omp_machine.specs.Standing.{is_call, went_after, went_of}
 use Rattle.omp_machine.proofs.Telling.{IsTold, IsUntold, alone-by, told-by, untold-by}
-use Rattle.step_book.specs.declared.step.Step.{Step}
 use Rattle.step_book.specs.declared.step.Step.TheVariants.{Told, Quiet, NotYet, Ended}
 use Rattle.step_book.specs.Pages.{Pages, state_of}
 use Rattle.step_book.specs.Visit.{Visit, turn_visit, visit_of_outcome}

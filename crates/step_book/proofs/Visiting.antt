@@ -1,43 +1,40 @@
 -- A book after a visit, and after an answer.
-use Rattle.std.proofs.Common.{◌≡◌, ℕ, ℤ, zero, suc, ◌+◌, ◌-◌, ◌*◌, ◌<◌, ◌≤◌, Bool, true, false, not, ◌&&◌, if◌then◌else◌, List, [], ◌∷◌, ◌++◌, length, length-append, Option, Some, None, IsSome, is_none, is_some, replicate, slice_index_or, slice_set, get_or-set_same, refl, sym, ap, subst, ◌∙◌, append_assoc, append-nil, inl, inr, arith}
-use Rattle.std.proofs.lemmas.Bool.{true≢false, and_parts, cases_eq}
+use Rattle.std.proofs.Common.{◌≡◌, ℕ, ℤ, zero, suc, ◌+◌, ◌*◌, ◌<◌, ◌≤◌, Bool, true, false, not, ◌&&◌, if◌then◌else◌, List, [], ◌∷◌, ◌++◌, length, length-append, Option, Some, None, IsSome, is_none, is_some, slice_index_or, get_or-set_same, refl, sym, ap, subst, ◌∙◌, inl, inr, arith}
+use Rattle.std.proofs.lemmas.Bool.{true≢false, cases_eq}
 use Rattle.std.proofs.lemmas.List.{length-map}
 use Rattle.ompt_calls.specs.declared.call.Call.{Call}
-use Rattle.ompt_calls.specs.declared.reply.Reply.{Reply}
 use Rattle.ompt_calls.specs.declared.snapshot.Snapshot.{Snapshot}
 use Rattle.ompt_calls.specs.declared.snapshot.Target.{Target}
-use Rattle.ompt_calls.specs.Number.{is_registered}
-use Rattle.ompt_calls.specs.Snapshot.{Stored, stores_of}
+use Rattle.ompt_calls.specs.Snapshot.{Stored}
 use Rattle.omp_model.specs.declared.cause.Cause.{Cause}
 use Rattle.omp_model.specs.declared.cause.Cause.TheVariants as cause
 use Rattle.omp_model.specs.declared.event.Callback.{Callback}
 use Rattle.omp_model.specs.declared.event.Event.{Event}
 use Rattle.omp_model.specs.declared.event.Halt.{Halt}
-use Rattle.omp_model.specs.declared.event.Halt.TheVariants.{Trap, Limit}
 use Rattle.omp_model.specs.declared.event.Outcome.{Outcome}
 use Rattle.omp_model.specs.declared.event.Outcome.TheVariants as outcome
 use Rattle.omp_model.specs.declared.history.Entry.{Entry}
 use Rattle.omp_model.specs.declared.limits.TheConstants.{TURN_LIMIT}
-use Rattle.omp_model.specs.State.{Run, State, World, first, pending_at}
-use Rattle.omp_model.specs.Calls.{call_of, callback_of}
-use Rattle.omp_model.specs.Cause.{cause_by_halt, cause_in, cause_of, cause_of_whole, is_stuck, none_pending, whole_value}
-use Rattle.omp_model.specs.Legal.{Legal, after, after_from, back, back_from, put, put_from}
+use Rattle.omp_model.specs.State.{Run, State, first, pending_at}
+use Rattle.omp_model.specs.Cause.{cause_by_halt, cause_in, cause_of, cause_of_whole, is_stuck, whole_value}
+use Rattle.omp_model.specs.Legal.{after, after_from, back, back_from, put, put_from}
 use Rattle.omp_model.specs.Serial.{enabled_among, inside_after}
-use Rattle.omp_model.specs.Snapshots.{snap_of}
 use Rattle.omp_model.specs.Storing.{MayStore, back_at, event_reply, go_at, put_all, put_at, puts_at}
 use Rattle.omp_model.specs.Turn.{called, enabled, turn}
 use Rattle.omp_model.proofs.Recording.{put_all-halt, put_all-turns, reply-after, reply-legal}
 use Rattle.omp_model.proofs.MadeRuns.{made-after}
 use Rattle.omp_model.proofs.Turns.{Leaves, back-halt, back-turns, leaves-turn, turn-below, turn-goes, turn-pending, turns-rise}
+use Rattle.omp_machine.specs.declared.went.Went.TheVariants as went
+use Rattle.omp_machine.specs.Standing.{went_of}
 use Rattle.step_book.specs.Entries.{EntriesView}
-use Rattle.step_book.specs.declared.step.Step.TheVariants.{Told, Quiet, NotYet, Ended}
-use Rattle.step_book.specs.Owing.{Owes, count_pending}
+use Rattle.step_book.specs.declared.step.Step.TheVariants.{Told, Ended}
+use Rattle.step_book.specs.Owing.{Owes, OwesAnswer, count_pending}
 use Rattle.step_book.specs.Pages.{Pages, state_of}
 use Rattle.step_book.specs.Sound.{IsBook}
-use Rattle.step_book.specs.Visit.{Visit, idle_by, idle_step, is_turn, turn_visit, visit, visit_by, visit_of_outcome, without_entry}
+use Rattle.step_book.specs.Visit.{Visit, idle_by, idle_step, is_turn, turn_visit, visit, visit_by, without_entry}
 use Rattle.step_book.proofs.Counting.{count-in, count-none, count-out, count-same}
 use Rattle.step_book.proofs.Histories.{after-append, legal-append}
-use Rattle.step_book.proofs.Telling.{HasTold}
+use Rattle.step_book.proofs.Telling.{HasTold, told-step, turn-went}
 
 -- A visit that is a turn, and one that isn't.
 
@@ -64,6 +61,10 @@ visit-idle book t is =
     ] is
 
 -- An enabled thread's run has no cause, unless it is whole.
+
+and-false : (b : Bool) → (b && false) ≡ false
+and-false true = refl
+and-false false = refl
 
 -- an enabled thread is found
 found-enabled : (S : State) (t from count : ℕ) → from ≤ t → t < from + count → enabled S t ≡ true → enabled_among S from count ≡ None → ⊥
@@ -102,7 +103,15 @@ pub open-cause : (run : Run) (S : State) (t : ℕ) → t < run.threads → enabl
 open-cause run S t below on unfinished =
     ap (cause_by_halt run S) (turn-goes S t on).halt ∙ ap (cause_of_whole run S) unfinished ∙ not-deadlock (is_stuck run S) (not-stuck run S t below on)
 
--- where the history has a cause, but isn't whole, no thread is enabled; and where it is whole, it has a cause
+-- so a visit to a run that isn't whole, nor ended for want of memory, is a turn exactly where the thread is enabled
+pub turn-open : (book : Pages) (t : ℕ) → book.ended ≡ false → whole_value (state_of book).world ≡ None → t < book.run.threads → is_turn book t ≡ enabled (state_of book) t
+turn-open book t open_still unfinished below = by-enabled (enabled (state_of book) t) refl
+  where
+    by-enabled : (b : Bool) → enabled (state_of book) t ≡ b → (not book.ended && is_none (cause_of book.run book.history) && b) ≡ b
+    by-enabled true on = rw (open_still, open-cause book.run (state_of book) t below on unfinished) refl
+    by-enabled false off = and-false (not book.ended && is_none (cause_of book.run book.history))
+
+-- where it is whole, it has a cause
 pub whole-cause : (run : Run) (S : State) (value : ℤ) → whole_value S.world ≡ Some value → is_none (cause_in run S) ≡ false
 whole-cause run S value whole = by-halt S.halt
   where
@@ -180,8 +189,8 @@ back_from-count S t (Some callback) is some = count-out S.pending t callback is
 -- after the stores and the return of a callback, where they may stand next
 pub book-returned :
     (run : Run) (S : State) (E : EntriesView) (owing : ℕ) → IsBook run S E owing → (t : ℕ) (stores : List Stored) → length stores ≤ 3 → MayStore run S t stores → IsSome (pending_at (put_all S t stores) t)
-    → (later : EntriesView) → later.entries ≡ E.entries ++ event_reply t stores → 4 * owing ≤ later.room + 4 → IsBook run (back (put_all S t stores) t) later (owing - 1)
-book-returned run S E owing book t stores few may inside later entries room =
+    → (later : EntriesView) → later.entries ≡ E.entries ++ event_reply t stores → (fewer_owing : ℕ) → owing ≡ fewer_owing + 1 → 4 * fewer_owing ≤ later.room → IsBook run (back (put_all S t stores) t) later fewer_owing
+book-returned run S E owing book t stores few may inside later entries fewer_owing one room =
     let between = put_all S t stores in
     let fewer : count_pending (back between t).pending + 1 ≡ count_pending S.pending = back_from-count between t (pending_at between t) refl inside ∙ put_all-count S t stores in
     record {
@@ -189,10 +198,50 @@ book-returned run S E owing book t stores few may inside later entries room =
       legal = rw entries (legal-append run (first run) E.entries (event_reply t stores) book.legal (rw book.reached (reply-legal run S t stores [] may inside tt)));
       reached = rw entries (after-append run (first run) E.entries (event_reply t stores) ∙ ap (λ (S : State). after_from run S (event_reply t stores)) book.reached ∙ reply-after run S t stores []);
       running = λ on. rw (back-turns between t, put_all-turns S t stores) (book.running (sym (put_all-halt S t stores) ∙ sym (back-halt between t) ∙ on));
-      short = omega (arith, book.short, book.pending, fewer, few, back-turns between t, put_all-turns S t stores, ap length entries, length-append E.entries (event_reply t stores), length-append (puts_at t stores) (back_at t ∷ []), length-map stores (put_at t));
-      pending = omega (arith, book.pending, fewer);
-      room = omega (arith, room);
+      short = omega (arith, book.short, book.pending, fewer, one, few, back-turns between t, put_all-turns S t stores, ap length entries, length-append E.entries (event_reply t stores), length-append (puts_at t stores) (back_at t ∷ []), length-map stores (put_at t));
+      pending = omega (arith, book.pending, fewer, one);
+      room = room;
     }
+
+-- What is known of a book's parts, where it is seen as these pages.
+module _ (run : Run) (S : State) (E : EntriesView) (owing : ℕ) (ended : Bool) (book : Pages) (view : record { run = run; history = E.entries; ended = ended } ≡ book) (so : IsBook run S E owing) where
+  pub same-run : book.run ≡ run
+  same-run = ap (λ (book : Pages). book.run) (sym view)
+
+  pub same-history : book.history ≡ E.entries
+  same-history = ap (λ (book : Pages). book.history) (sym view)
+
+  pub same-state : state_of book ≡ S
+  same-state = subst (λ (book : Pages). state_of book ≡ S) view so.reached
+
+  pub enabled-here : (t : ℕ) → enabled (state_of book) t ≡ true → enabled S t ≡ true
+  enabled-here t on = subst (λ (S : State). enabled S t ≡ true) same-state on
+
+  -- an answer that is owed, said of the parts
+  pub owes-here : (t : ℕ) (snapshot : Snapshot) → OwesAnswer book t snapshot → OwesAnswer (record { run = run; history = E.entries; ended = ended }) t snapshot
+  owes-here t snapshot owes = subst (λ (book : Pages). OwesAnswer book t snapshot) (sym view) owes
+
+none-of : {A : Type 0} (o : Option A) → is_some o ≡ false → o ≡ None
+none-of None none = refl
+none-of (Some x) none = absurd (true≢false none)
+
+-- the visit to a book that may go on is a turn exactly where the thread is enabled
+pub turn-here : (run : Run) (S : State) (E : EntriesView) (owing : ℕ) (ended : Bool) (book : Pages) → record { run = run; history = E.entries; ended = ended } ≡ book → IsBook run S E owing → (t : ℕ) → ended ≡ false → is_some (whole_value S.world) ≡ false → t < book.run.threads → enabled S t ≡ is_turn book t
+turn-here run S E owing ended book view so t undone unfinished below =
+    let parts : Pages = record { run = run; history = E.entries; ended = ended } in
+    let within : t < run.threads = subst (λ (book : Pages). t < book.run.threads) (sym view) below in
+    let whole : whole_value (state_of parts).world ≡ None = ap (λ (S : State). whole_value S.world) so.reached ∙ none-of (whole_value S.world) unfinished in
+    subst (λ (book : Pages). enabled S t ≡ is_turn book t) view (sym (turn-open parts t undone whole within ∙ ap (λ (S : State). enabled S t) so.reached))
+
+-- a thread that owes an answer is counted
+pub owing-some : (run : Run) (S : State) (E : EntriesView) (owing : ℕ) (ended : Bool) (t : ℕ) (snapshot : Snapshot) → IsBook run S E owing → OwesAnswer (record { run = run; history = E.entries; ended = ended }) t snapshot → 1 ≤ owing
+owing-some run S E owing ended t snapshot so owes =
+    let inside : pending_at S t ≡ Some (called owes.owes.event) = ap (λ (S : State). pending_at S t) (sym so.reached) ∙ owes.owes.inside in
+    omega (arith, so.pending, count-out S.pending t (called owes.owes.event) inside)
+
+-- how long a history may get
+pub short-history : (run : Run) (S : State) (E : EntriesView) (owing t : ℕ) → IsBook run S E owing → enabled S t ≡ true → length E.entries + 4 * owing < 5 * TURN_LIMIT
+short-history run S E owing t so on = let turns : S.turns < TURN_LIMIT = so.running (turn-goes S t on).halt in omega (arith, so.short)
 
 -- A thread whose event has just been told owes its answer.
 
@@ -222,3 +271,14 @@ owes-told book t seq call snapshot some below told =
       snapshot_is = sym told.is_told.snapshot_is;
       inside = ap (λ (S : State). pending_at S t) reached ∙ inside-told run book.history t told.is_told.event some below told.is_told.happens;
     })
+
+-- said of a book's parts
+pub owes-turned :
+    (run : Run) (S : State) (E : EntriesView) (owing : ℕ) (ended : Bool) → IsBook run S E owing → (t seq : ℕ) (call : Call) (snapshot : Snapshot) → t < run.threads → went.Told call snapshot ≡ went_of run S t → seq ≡ length E.entries
+    → (later : List Entry) → later ≡ E.entries ++ go_at t ∷ [] → Owes run later t seq call snapshot
+owes-turned run S E owing ended so t seq call snapshot below said place later is =
+    let parts : Pages = record { run = run; history = E.entries; ended = ended } in
+    let visit_is = turn-went parts S t (went.Told call snapshot) so.reached said in
+    let told : HasTold parts t seq call snapshot = told-step parts t seq call snapshot (ap (λ (visit : Visit). visit.step) visit_is ∙ ap (λ seq. Told seq call snapshot) (sym place)) in
+    let owes = owes-told parts t seq call snapshot so.some below told in
+    subst (λ history. Owes run history t seq call snapshot) (ap (λ added. E.entries ++ added) told.added_is ∙ sym is) owes

@@ -1,6 +1,6 @@
 //! A book: the history of a run, with a machine that has come to its end.
 
-ghost use Rattle.std.specs.Prelude.{◌≡◌, ◌≤◌, ◌<◌, ◌+◌, ◌++◌, ◌∷◌, [], Option, Some, if◌then◌else◌, IfOk, IfSome, OnOk, OnErr, IsSome, IsTrue, is_some, true};
+ghost use Rattle.std.specs.Prelude.{◌≡◌, ◌≤◌, ◌<◌, ◌+◌, ◌++◌, ◌∷◌, [], Option, Some, if◌then◌else◌, IfOk, IfSome, OnOk, OnErr, IsSome, IsTrue, is_some, true, false};
 ghost use Rattle.std.specs.Option.{option_map};
 ghost use Rattle.ompt_calls.specs.Snapshot.{stored_of, stores_of};
 ghost use Rattle.omp_model.specs.declared.cause.Cause.{Cause};

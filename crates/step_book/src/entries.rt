@@ -1,6 +1,6 @@
 //! The entries of a run under way.
 
-ghost use Rattle.std.specs.Prelude.{◌≡◌, ◌≤◌, ◌<◌, ◌+◌, ◌++◌, ◌∷◌, [], ◌==◌, length, OnOk};
+ghost use Rattle.std.specs.Prelude.{◌≡◌, ◌≤◌, ◌<◌, ◌+◌, ◌++◌, ◌∷◌, [], ◌==◌, length, OnOk, OnErr};
 
 use omp_model::{Entry, History};
 use std::alloc::{AllocError, Global};
@@ -41,6 +41,7 @@ impl Entries {
     pub fn reserve(&mut self, more: usize) -> Result<(), AllocError>
         ensures entries { self.new.entries ≡ self.old.entries }
         ensures room { OnOk result (self.new.room ≡ more) }
+        ensures memory { OnErr result (self.new ≡ self.old) }
     {
         self.entries.reserve(more)?;
         self.room = more;
