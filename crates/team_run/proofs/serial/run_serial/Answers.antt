@@ -4,6 +4,7 @@ use Rattle.omp_model.specs.State.{Run, State}
 use Rattle.omp_model.specs.Legal.{after}
 use Rattle.omp_model.specs.Cause.{cause_in, cause_of}
 use Rattle.omp_model.specs.Serial.{serial}
+use Rattle.step_book.specs.Pages.{state_of}
 use Rattle.team_run.specs.Program.{run_of_program}
 use Rattle.omp_model.proofs.Recording.{HasRun-after, HasRun-whole}
 use Rattle.omp_model.proofs.SerialLaws.{serial-whole}
@@ -26,36 +27,36 @@ returns-clause-parts g c =
     let after = c.finalize_first.new.parts in
     let started_is : begun.parts.items ≡ started =
     ap (λ parts. parts.items) c.in_ok-run.ensures.parts ∙ written-back started c.args.parts.items c.args.parts.len (c.initialize_first-start.ensures.as_many ∙ ap length c.deref_mut.ensures.value) (sym c.args.parts.ok.0) in
-    let from_nothing : ServesTo stands_for begun.machine.run begun.parts.items [] ended.parts.items ended.history.entries =
-    subst (λ history. ServesTo stands_for begun.machine.run begun.parts.items history ended.parts.items ended.history.entries) c.in_ok-run.ensures.fresh c.finish-cause.ensures.serves in
-    let from_start : ServesTo stands_for begun.machine.run started [] ended.parts.items ended.history.entries =
-    subst (λ started. ServesTo stands_for begun.machine.run started [] ended.parts.items ended.history.entries) started_is from_nothing in
-    let serves : ServesTo stands_for begun.machine.run started [] between ended.history.entries =
-    subst (λ between. ServesTo stands_for begun.machine.run started [] between ended.history.entries) (sym c.deref_mut-2.ensures.value) from_start in
-    let stands : cause ≢ causes.Memory → StandsAt begun.machine.run ended.machine.state ended.next ended.history.entries =
-    λ found. subst (λ (run : Run). StandsAt run ended.machine.state ended.next ended.history.entries) c.finish-cause.ensures.run (c.finish-cause.ensures.stands found) in
-    let whole : RunsFor stands_for begun.machine.run cause ended.history.entries parts after =
-    runs-whole stands_for begun.machine.run cause ended.history.entries parts started between after first.answer first.registered (ap (λ (run : Run). run.mask) c.in_ok-run.ensures.run ∙ c.mask_of-mask.ensures) (omega (arith, c.requires.some, c.requires.parts, ap length c.deref_mut.ensures.value)) c.initialize_first-start.ensures.as_many c.initialize_first-start.ensures.first c.initialize_first-start.ensures.others serves (λ found. unheard-none begun.machine.run _ _ _ serves.unheard (stands found) serves.is_unheard) c.finalize_first.ensures.as_many c.finalize_first.ensures.first c.finalize_first.ensures.others in
-    let of_items : RunsFor stands_for begun.machine.run cause ended.history.entries c.args.parts.items after =
-    subst (λ parts. RunsFor stands_for begun.machine.run cause ended.history.entries parts after) c.deref_mut.ensures.value whole in
-    let of_run : RunsFor stands_for (run_of_program c.args.program c.mask_of-mask.result c.args.threads c.args.steps) cause ended.history.entries c.args.parts.items after =
-    subst (λ (run : Run). RunsFor stands_for run cause ended.history.entries c.args.parts.items after) c.in_ok-run.ensures.run of_items in
-    let of_history : RunsFor stands_for (run_of_program c.args.program c.mask_of-mask.result c.args.threads c.args.steps) cause c.into_history.result c.args.parts.items after =
-    subst (λ history. RunsFor stands_for (run_of_program c.args.program c.mask_of-mask.result c.args.threads c.args.steps) cause history c.args.parts.items after) (sym c.into_history.ensures) of_run in
-    subst (λ after. RunsFor stands_for (run_of_program c.args.program c.mask_of-mask.result c.args.threads c.args.steps) cause c.into_history.result c.args.parts.items after) (sym (written-back after ended.parts.items ended.parts.len (c.finalize_first.ensures.as_many ∙ ap length c.deref_mut-2.ensures.value) (sym ended.parts.ok.0))) of_history
+    let from_nothing : ServesTo stands_for begun.book.run begun.parts.items [] ended.parts.items ended.book.history =
+    subst (λ history. ServesTo stands_for begun.book.run begun.parts.items history ended.parts.items ended.book.history) c.in_ok-run.ensures.fresh c.finish-cause.ensures.serves in
+    let from_start : ServesTo stands_for begun.book.run started [] ended.parts.items ended.book.history =
+    subst (λ started. ServesTo stands_for begun.book.run started [] ended.parts.items ended.book.history) started_is from_nothing in
+    let serves : ServesTo stands_for begun.book.run started [] between ended.book.history =
+    subst (λ between. ServesTo stands_for begun.book.run started [] between ended.book.history) (sym c.deref_mut-2.ensures.value) from_start in
+    let stands : cause ≢ causes.Memory → StandsAt begun.book.run (state_of ended.book) ended.next ended.book.history =
+    λ found. subst (λ (run : Run). StandsAt run (state_of ended.book) ended.next ended.book.history) c.finish-cause.ensures.run (c.finish-cause.ensures.stands found) in
+    let whole : RunsFor stands_for begun.book.run cause ended.book.history parts after =
+    runs-whole stands_for begun.book.run cause ended.book.history parts started between after first.answer first.registered (ap (λ (run : Run). run.mask) c.in_ok-run.ensures.run ∙ c.mask_of-mask.ensures) (omega (arith, c.requires.some, c.requires.parts, ap length c.deref_mut.ensures.value)) c.initialize_first-start.ensures.as_many c.initialize_first-start.ensures.first c.initialize_first-start.ensures.others serves (λ found. unheard-none begun.book.run _ _ _ serves.unheard (stands found) serves.is_unheard) c.finalize_first.ensures.as_many c.finalize_first.ensures.first c.finalize_first.ensures.others in
+    let of_items : RunsFor stands_for begun.book.run cause ended.book.history c.args.parts.items after =
+    subst (λ parts. RunsFor stands_for begun.book.run cause ended.book.history parts after) c.deref_mut.ensures.value whole in
+    let of_run : RunsFor stands_for (run_of_program c.args.program c.mask_of-mask.result c.args.threads c.args.steps) cause ended.book.history c.args.parts.items after =
+    subst (λ (run : Run). RunsFor stands_for run cause ended.book.history c.args.parts.items after) c.in_ok-run.ensures.run of_items in
+    let of_history : RunsFor stands_for (run_of_program c.args.program c.mask_of-mask.result c.args.threads c.args.steps) cause c.close-history.result.history c.args.parts.items after =
+    subst (λ history. RunsFor stands_for (run_of_program c.args.program c.mask_of-mask.result c.args.threads c.args.steps) cause history c.args.parts.items after) (sym c.close-history.ensures.history) of_run in
+    subst (λ after. RunsFor stands_for (run_of_program c.args.program c.mask_of-mask.result c.args.threads c.args.steps) cause c.close-history.result.history c.args.parts.items after) (sym (written-back after ended.parts.items ended.parts.len (c.finalize_first.ensures.as_many ∙ ap length c.deref_mut-2.ensures.value) (sym ended.parts.ok.0))) of_history
 
 pub returns-clause-cause : goal.returns-clause-cause
 returns-clause-cause g c = λ found.
-    let same : c.finish-cause.new.self.machine.run ≡ run_of_program c.args.program c.mask_of-mask.result c.args.threads c.args.steps = c.finish-cause.ensures.run ∙ c.in_ok-run.ensures.run in
+    let same : c.finish-cause.new.self.book.run ≡ run_of_program c.args.program c.mask_of-mask.result c.args.threads c.args.steps = c.finish-cause.ensures.run ∙ c.in_ok-run.ensures.run in
     let stands = c.finish-cause.ensures.stands found in
-    subst (λ history. cause_of (run_of_program c.args.program c.mask_of-mask.result c.args.threads c.args.steps) history ≡ Some c.finish-cause.result) (sym c.into_history.ensures) (subst (λ (run : Run). cause_of run c.finish-cause.new.self.history.entries ≡ Some c.finish-cause.result) same (ap (cause_in c.finish-cause.new.self.machine.run) (HasRun-after stands.has_run) ∙ c.finish-cause.ensures.cause found))
+    subst (λ history. cause_of (run_of_program c.args.program c.mask_of-mask.result c.args.threads c.args.steps) history ≡ Some c.finish-cause.result) (sym c.close-history.ensures.history) (subst (λ (run : Run). cause_of run c.finish-cause.new.self.book.history ≡ Some c.finish-cause.result) same (ap (cause_in c.finish-cause.new.self.book.run) (HasRun-after stands.has_run) ∙ c.finish-cause.ensures.cause found))
 
 pub returns-clause-whole : goal.returns-clause-whole
 returns-clause-whole g c = λ found silent.
-    let same : c.finish-cause.new.self.machine.run ≡ run_of_program c.args.program c.mask_of-mask.result c.args.threads c.args.steps = c.finish-cause.ensures.run ∙ c.in_ok-run.ensures.run in
+    let same : c.finish-cause.new.self.book.run ≡ run_of_program c.args.program c.mask_of-mask.result c.args.threads c.args.steps = c.finish-cause.ensures.run ∙ c.in_ok-run.ensures.run in
     let stands = c.finish-cause.ensures.stands found in
-    let quiet : HearsSilent (run_of_program c.args.program c.mask_of-mask.result c.args.threads c.args.steps) c.finish-cause.new.self.history.entries = rw (← c.into_history.ensures) silent in
-    rw c.into_history.ensures (subst (λ (run : Run). c.finish-cause.new.self.history.entries ≡ serial run) same (sym (serial-whole c.finish-cause.new.self.machine.run c.finish-cause.new.self.history.entries (HasRun-whole stands.has_run (c.finish-cause.ensures.over found)) (stands.silent (subst (λ (run : Run). HearsSilent run c.finish-cause.new.self.history.entries) (sym same) quiet)))))
+    let quiet : HearsSilent (run_of_program c.args.program c.mask_of-mask.result c.args.threads c.args.steps) c.finish-cause.new.self.book.history = rw (← c.close-history.ensures.history) silent in
+    rw c.close-history.ensures.history (subst (λ (run : Run). c.finish-cause.new.self.book.history ≡ serial run) same (sym (serial-whole c.finish-cause.new.self.book.run c.finish-cause.new.self.book.history (HasRun-whole stands.has_run (c.finish-cause.ensures.over found)) (stands.silent (subst (λ (run : Run). HearsSilent run c.finish-cause.new.self.book.history) (sym same) quiet)))))
 
 pub returns-clause-kinds : goal.returns-clause-kinds
 returns-clause-kinds g c =
@@ -77,15 +78,15 @@ returns-clause-kinds g c =
 pub returns-clause-own : goal.returns-clause-own
 returns-clause-own g c =
     let run : Run = run_of_program c.args.program c.mask_of-mask.result c.args.threads c.args.steps in
-    let own : HearsOwn run c.finish-cause.new.self.history.entries = subst (λ (run : Run). HearsOwn run c.finish-cause.new.self.history.entries) c.in_ok-run.ensures.run c.finish-cause.ensures.stops.own in
-    subst (λ history. HearsOwn run history) (sym c.into_history.ensures) own
+    let own : HearsOwn run c.finish-cause.new.self.book.history = subst (λ (run : Run). HearsOwn run c.finish-cause.new.self.book.history) c.in_ok-run.ensures.run c.finish-cause.ensures.stops.own in
+    subst (λ history. HearsOwn run history) (sym c.close-history.ensures.history) own
 
 pub returns-clause-text : goal.returns-clause-text
 returns-clause-text g c =
     let ended = c.finish-cause.new.self in
-    let reached : after c.in_ok-run.run'.machine.run ended.history.entries ≡ ended.machine.state = c.finish-cause.ensures.stops.reached in
-    let of_run : after (run_of_program c.args.program c.mask_of-mask.result c.args.threads c.args.steps) ended.history.entries ≡ ended.machine.state =
-    subst (λ (run : Run). after run ended.history.entries ≡ ended.machine.state) c.in_ok-run.ensures.run reached in
-    let of_history : after (run_of_program c.args.program c.mask_of-mask.result c.args.threads c.args.steps) c.into_history.result ≡ ended.machine.state =
-    subst (λ history. after (run_of_program c.args.program c.mask_of-mask.result c.args.threads c.args.steps) history ≡ ended.machine.state) (sym c.into_history.ensures) of_run in
-    c.into_text-text.ensures ∙ ap (λ (S : State). S.world.store.text) (sym of_history)
+    let reached : after c.in_ok-run.run'.book.run ended.book.history ≡ (state_of ended.book) = c.finish-cause.ensures.stops.reached in
+    let of_run : after (run_of_program c.args.program c.mask_of-mask.result c.args.threads c.args.steps) ended.book.history ≡ (state_of ended.book) =
+    subst (λ (run : Run). after run ended.book.history ≡ (state_of ended.book)) c.in_ok-run.ensures.run reached in
+    let of_history : after (run_of_program c.args.program c.mask_of-mask.result c.args.threads c.args.steps) c.close-history.result.history ≡ (state_of ended.book) =
+    subst (λ history. after (run_of_program c.args.program c.mask_of-mask.result c.args.threads c.args.steps) history ≡ (state_of ended.book)) (sym c.close-history.ensures.history) of_run in
+    c.close-history.ensures.text ∙ ap (λ (S : State). S.world.store.text) (sym of_history)

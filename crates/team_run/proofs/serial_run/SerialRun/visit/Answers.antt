@@ -1,11 +1,101 @@
-use Rattle.std.proofs.Common.{◌≡◌, ◌<◌, ◌∙◌, sym, refl, ap, subst, arith, length, inl, inr, ◌∷◌, [], ◌++◌, List, append_assoc}
-use Rattle.omp_model.specs.declared.history.Entry.{Entry}
-use Rattle.omp_model.specs.Storing.{go_at, back_at}
-use Rattle.omp_model.proofs.Recording.{first_enabled-enabled, first_enabled-below, event_at}
-use Rattle.step_book.specs.Owing.{OwesStep}
-use Rattle.step_book.specs.Pages.{Pages, state_of}
-use Rattle.step_book.specs.Visit.{turn_visit}
-use Rattle.step_book.proofs.Telling.{HasTold, HasUntold, IsAlone, told-step, quiet-step, ended-step, not_yet-step}
-use Rattle.team_run.proofs.Serving.{kinds-same, serves-same}
-use Rattle.team_run.proofs.Visiting.{stops-here, stops-said, visited-said, serves-said, serves-to, visited-unsaid, visited-alone, from_either, from_ok}
+use Rattle.std.proofs.Common.{◌≡◌, ◌∙◌, refl, sym, ap, subst, arith, inl, inr, ◌∷◌, []}
+use Rattle.omp_model.specs.Storing.{go_at}
+use Rattle.omp_model.proofs.Recording.{first_enabled-enabled, first_enabled-below}
+use Rattle.step_book.specs.Pages.{Pages, state_of, with_entries}
+use Rattle.step_book.proofs.Telling.{told-step, quiet-step, ended-step, not_yet-step}
+use Rattle.team_run.specs.Serving.{Answers}
+use Rattle.team_run.proofs.Serving.{kinds-same}
+use Rattle.team_run.proofs.Visiting.{QuietVisit, alone-visit, stops-here, stops-said, untold-visit, visited-said, serves-said, serves-to, from_either, from_ok}
 use Rattle.team_run.proofs.serial_run.SerialRun.visit.Goals as goal
+
+pub go_ready-requires-clause-thread : goal.go_ready-requires-clause-thread
+go_ready-requires-clause-thread g c = first_enabled-below c.args.self.now.book.run _ _ _ c.requires.stands.within c.requires.turn
+
+pub go_ready-requires-clause-enabled : goal.go_ready-requires-clause-enabled
+go_ready-requires-clause-enabled g c = first_enabled-enabled c.args.self.now.book.run _ _ _ c.requires.turn
+
+pub returns-in_err-step-clause-stops : goal.returns-in_err-step-clause-stops
+returns-in_err-step-clause-stops g c = rw c.in_err-step.ensures.memory (stops-here _ _ _ _ c.requires.stands)
+
+pub overflow_add-self : goal.overflow_add-self
+overflow_add-self g c =
+    omega (arith, first_enabled-below c.args.self.now.book.run (state_of c.args.self.now.book) _ _ c.requires.stands.within c.requires.turn, c.requires.stands.few)
+
+pub serve-requires-clause-part : goal.serve-requires-clause-part
+serve-requires-clause-part g c κs within =
+    omega (arith, first_enabled-below c.args.self.now.book.run (state_of c.args.self.now.book) _ _ c.requires.stands.within c.requires.turn, c.requires.parts)
+
+pub returns-in-Told-clause-serves : goal.returns-in-Told-clause-serves
+returns-in-Told-clause-serves g c =
+    let stands_for = g.P.ToolPart.stands_for in
+    let book : Pages = c.args.self.now.book in
+    let t = c.args.ready.thread in
+    let parts = c.args.self.now.parts.items in
+    let told = told-step book t c.in-Told.seq c.in-Told.call c.in-Told.snapshot (sym c.in_ok-step.ensures.step ∙ c.in-Told.is) in
+    let whole : c.go_ready.new.self ≡ with_entries book (go_at t ∷ []) = c.in_ok-step.ensures.added ∙ ap (with_entries book) told.added_is in
+    let visited = visited-said book.run _ book.history t c.requires.stands c.requires.turn _ _ told.is_told stands_for parts c.serve.new.self.parts.items c.in-Told.seq told.place c.serve.new.self.book.history in
+    from_either c.serve.result c.serve.ensures.answers c.serve.ensures.memory
+    (λ answered. let v = visited (subst (λ (next : Pages). Answers stands_for c.in-Told.seq t c.in-Told.call c.in-Told.snapshot parts next.history c.serve.new.self.parts.items c.serve.new.self.book.history) whole answered) in serves-to _ _ _ _ _ v.stands stands_for _ _ v.serves)
+    (λ kept. rw (kept.0, whole) (serves-said book.run _ book.history t c.requires.stands c.requires.turn _ _ told.is_told stands_for parts _ kept.1))
+
+pub returns-in-Told-clause-stops : goal.returns-in-Told-clause-stops
+returns-in-Told-clause-stops g c =
+    let stands_for = g.P.ToolPart.stands_for in
+    let book : Pages = c.args.self.now.book in
+    let t = c.args.ready.thread in
+    let parts = c.args.self.now.parts.items in
+    let told = told-step book t c.in-Told.seq c.in-Told.call c.in-Told.snapshot (sym c.in_ok-step.ensures.step ∙ c.in-Told.is) in
+    let whole : c.go_ready.new.self ≡ with_entries book (go_at t ∷ []) = c.in_ok-step.ensures.added ∙ ap (with_entries book) told.added_is in
+    let same : c.serve.new.self.book.run ≡ book.run = c.serve.ensures.run ∙ ap (λ (next : Pages). next.run) whole in
+    let visited = visited-said book.run _ book.history t c.requires.stands c.requires.turn _ _ told.is_told stands_for parts c.serve.new.self.parts.items c.in-Told.seq told.place c.serve.new.self.book.history in
+    from_either c.serve.result c.serve.ensures.answers c.serve.ensures.memory
+    (λ answered. let v = visited (subst (λ (next : Pages). Answers stands_for c.in-Told.seq t c.in-Told.call c.in-Told.snapshot parts next.history c.serve.new.self.parts.items c.serve.new.self.book.history) whole answered) in rw same (stops-here _ _ _ _ v.stands))
+    (λ kept. rw (kept.0, whole) (stops-said book.run _ book.history t c.requires.stands c.requires.turn _ _ told.is_told))
+
+pub returns-in-Told-clause-stands : goal.returns-in-Told-clause-stands
+returns-in-Told-clause-stands g c =
+    let stands_for = g.P.ToolPart.stands_for in
+    let book : Pages = c.args.self.now.book in
+    let t = c.args.ready.thread in
+    let parts = c.args.self.now.parts.items in
+    let told = told-step book t c.in-Told.seq c.in-Told.call c.in-Told.snapshot (sym c.in_ok-step.ensures.step ∙ c.in-Told.is) in
+    let whole : c.go_ready.new.self ≡ with_entries book (go_at t ∷ []) = c.in_ok-step.ensures.added ∙ ap (with_entries book) told.added_is in
+    let same : c.serve.new.self.book.run ≡ book.run = c.serve.ensures.run ∙ ap (λ (next : Pages). next.run) whole in
+    let visited = visited-said book.run _ book.history t c.requires.stands c.requires.turn _ _ told.is_told stands_for parts c.serve.new.self.parts.items c.in-Told.seq told.place c.serve.new.self.book.history in
+    from_ok c.serve.result c.serve.ensures.answers
+    (λ answered. let v = visited (subst (λ (next : Pages). Answers stands_for c.in-Told.seq t c.in-Told.call c.in-Told.snapshot parts next.history c.serve.new.self.parts.items c.serve.new.self.book.history) whole answered) in rw (same, c.serve.ensures.next) v.stands)
+
+pub returns-in-Told-clause-turns : goal.returns-in-Told-clause-turns
+returns-in-Told-clause-turns g c =
+    let stands_for = g.P.ToolPart.stands_for in
+    let book : Pages = c.args.self.now.book in
+    let t = c.args.ready.thread in
+    let parts = c.args.self.now.parts.items in
+    let told = told-step book t c.in-Told.seq c.in-Told.call c.in-Told.snapshot (sym c.in_ok-step.ensures.step ∙ c.in-Told.is) in
+    let whole : c.go_ready.new.self ≡ with_entries book (go_at t ∷ []) = c.in_ok-step.ensures.added ∙ ap (with_entries book) told.added_is in
+    let same : c.serve.new.self.book.run ≡ book.run = c.serve.ensures.run ∙ ap (λ (next : Pages). next.run) whole in
+    let visited = visited-said book.run _ book.history t c.requires.stands c.requires.turn _ _ told.is_told stands_for parts c.serve.new.self.parts.items c.in-Told.seq told.place c.serve.new.self.book.history in
+    from_ok c.serve.result c.serve.ensures.answers
+    (λ answered. let v = visited (subst (λ (next : Pages). Answers stands_for c.in-Told.seq t c.in-Told.call c.in-Told.snapshot parts next.history c.serve.new.self.parts.items c.serve.new.self.book.history) whole answered) in rw same v.turns)
+
+pub returns-in-Quiet : goal.returns-in-Quiet
+returns-in-Quiet g c =
+    let stands_for = g.P.ToolPart.stands_for in
+    let book : Pages = c.args.self.now.book in
+    let t = c.args.ready.thread in
+    let parts = c.args.self.now.parts.items in
+    let step = sym c.in_ok-step.ensures.step in
+    let alone = alone-visit book c.go_ready.new.self _ t c.requires.stands c.requires.turn c.in_ok-step.ensures.added stands_for parts in
+    let untold = untold-visit book c.go_ready.new.self _ t c.requires.stands c.requires.turn c.in_ok-step.ensures.added stands_for parts in
+    let quiet : QuietVisit stands_for book c.go_ready.new.self t parts = elim c.in-Quiet.is [
+      | inl is ↦ elim (quiet-step book t (step ∙ is)) [ inl none ↦ alone none | inr some ↦ untold some ]
+      | inr other ↦ elim other [ inl not_yet ↦ absurd (not_yet-step book t (step ∙ not_yet)) | inr ended ↦ alone (ended-step book t ended.0 (step ∙ ended.1)) ]
+    ] in
+    record {
+      run = rw quiet.whole refl;
+      serves = rw quiet.whole (serves-to _ _ _ _ _ quiet.visited.stands stands_for _ _ quiet.visited.serves);
+      kinds = kinds-same g.P.ToolPart.kind parts;
+      stops = rw quiet.whole (stops-here _ _ _ _ quiet.visited.stands);
+      stands = rw quiet.whole quiet.visited.stands;
+      turns = rw quiet.whole quiet.visited.turns;
+    }
