@@ -3,3 +3,7 @@ mod Histories
 mod Storing
 pub mod Telling
 pub mod Visiting
+pub mod Lists
+pub mod Seated
+pub mod Steps
+pub mod Longest

@@ -3,3 +3,5 @@ pub mod Owing
 pub mod Pages
 pub mod Sound
 pub mod Visit
+pub mod Rule
+pub mod Steps
