@@ -3,9 +3,9 @@
 //! [`Profiler`] is the tool. Each thread has one as its guest, and all of them add to one [`Profile`], which `main` writes behind what the
 //! program printed. For `list` nothing is heard, and nothing is reported.
 //!
-//! Proved is that it is safe, that a callback returns unless it waits for the lock, and what [`ended`], `Profile::add_region` and
-//! `Profile::add_wait` say. That the profile has all that was heard, and that the report is as it should be, is only tested: by the run of
-//! `stdin`, which has to write `stdout`.
+//! Proved is that it is safe, that it ends unless it waits for the lock, and what [`ended`], `Profile::add_region` and `Profile::add_wait`
+//! say. That the profile has all that was heard, and that the report is as it should be, is only tested: by the run of `stdin`, which has
+//! to write `stdout`.
 #![tactic(auto)]
 
 ghost use Rattle.std.specs.Prelude.{◌≡◌};
