@@ -1,0 +1,138 @@
+//! The tool: it hears of parallel regions, of tasks, and of waits at barriers.
+
+use crate::profile::{Barrier, BarrierWait, Profile, Region};
+use omp_codes::callbacks;
+use ompt_calls::{Call, Reply, Snapshot, Store, WordAt};
+use std::sync::{Arc, Mutex, Wait};
+use tool_api::{GuestTool, Memory, Registrar};
+
+/// An answer to `initialize` that makes the tool active.
+const ACTIVE: u32 = 1;
+
+/// `ompt_scope_begin`, an endpoint (OpenMP 5.2, 19.4.4, as all that follow).
+const SCOPE_BEGIN: u32 = 1;
+
+/// `ompt_task_implicit`, a flag of tasks.
+const TASK_IMPLICIT: u32 = 2;
+
+/// `ompt_task_switch`: here an explicit task begins, and the prior one hasn't ended.
+const TASK_SWITCH: u32 = 7;
+
+/// `ompt_sync_region_barrier_explicit`, a kind of synchronization region.
+const BARRIER_EXPLICIT: u32 = 3;
+
+/// `ompt_sync_region_barrier_implicit_workshare`.
+const BARRIER_IMPLICIT_WORKSHARE: u32 = 8;
+
+/// `ompt_sync_region_barrier_implicit_parallel`.
+const BARRIER_IMPLICIT_PARALLEL: u32 = 9;
+
+/// The guest of one thread. The guests of all threads add to one profile. Nothing is promised of what it has then, so `stands_for` holds
+/// of each record.
+#[derive(Drop)]
+pub(crate) struct Profiler<R> {
+    runtime: R,
+    profile: Arc<Mutex<Profile>>,
+}
+
+impl<R> Profiler<R> {
+    /// A guest that adds to this profile. The runtime is there for the lock.
+    pub fn new(runtime: R, profile: Arc<Mutex<Profile>>) -> Profiler<R> {
+        Profiler { runtime, profile }
+    }
+}
+
+impl<R: Wait + Copy + Send> GuestTool for Profiler<R> {
+    ghost use Rattle.std.specs.Prelude.{⊤};
+
+    ghost stands_for = { λ profiler h. ⊤ };
+
+    fn initialize(&mut self, registrar: &mut Registrar) -> u32 {
+        registrar.set(callbacks::PARALLEL_BEGIN);
+        registrar.set(callbacks::IMPLICIT_TASK);
+        registrar.set(callbacks::TASK_SCHEDULE);
+        registrar.set(callbacks::SYNC_REGION_WAIT);
+        ACTIVE
+    }
+
+    fn callback(
+        &mut self,
+        _seq: u32,
+        thread: u8,
+        call: &Call,
+        _snapshot: &Snapshot,
+    ) -> Result<Reply, Memory> {
+        add(&mut self.profile.lock(&self.runtime), thread, call)?;
+        Ok(reply_to(call))
+    }
+
+    fn finalize(&mut self) {}
+}
+
+/// Adds to the profile what this call of the thread tells.
+fn add(profile: &mut Profile, thread: u8, call: &Call) -> Result<(), Memory> {
+    match *call {
+        // The team's first thread begins, and the region's word has the place of the construct.
+        Call::ImplicitTask {
+            endpoint: SCOPE_BEGIN,
+            region,
+            actual,
+            index: 0,
+            flags: TASK_IMPLICIT,
+            ..
+        } => profile.add_region(Region {
+            number: region.identity,
+            line: line_of(region.value),
+            team: actual,
+        }),
+        Call::TaskSchedule {
+            status: TASK_SWITCH,
+            ..
+        } => profile.count_task(thread),
+        Call::SyncRegionWait {
+            kind,
+            endpoint: SCOPE_BEGIN,
+            codeptr,
+            ..
+        } => match barrier_of(kind) {
+            Some(barrier) => profile.add_wait(BarrierWait {
+                thread,
+                barrier,
+                line: line_of(codeptr),
+            }),
+            None => Ok(()),
+        },
+        _ => Ok(()),
+    }
+}
+
+/// Stores the place of a new region's construct in the data word of the region.
+fn reply_to(call: &Call) -> Reply {
+    let first = match *call {
+        Call::ParallelBegin { codeptr, .. } => Some(Store {
+            place: WordAt::Fresh,
+            word: codeptr,
+        }),
+        _ => None,
+    };
+    Reply {
+        first,
+        second: None,
+        third: None,
+    }
+}
+
+/// The line of a place, which is told as line × 65536 + column.
+fn line_of(codeptr: u64) -> u64 {
+    codeptr / 65_536
+}
+
+/// The barrier of this kind of synchronization region. A `taskwait` is none.
+fn barrier_of(kind: u32) -> Option<Barrier> {
+    match kind {
+        BARRIER_EXPLICIT => Some(Barrier::Explicit),
+        BARRIER_IMPLICIT_WORKSHARE => Some(Barrier::Worksharing),
+        BARRIER_IMPLICIT_PARALLEL => Some(Barrier::Parallel),
+        _ => None,
+    }
+}
