@@ -1,7 +1,7 @@
 //! A book, by visits of two threads. What each of them comes to is a clause; that it is this is shown here.
 
 use crate::fixture::{REGION_OF_TWO, program_of};
-use omp_codes::PARALLEL_BEGIN;
+use omp_codes::callbacks::PARALLEL_BEGIN;
 use omp_model::{Entry, What};
 use ompt_calls::Reply;
 use std::process::Abort;
