@@ -7,3 +7,6 @@ pub mod Lists
 pub mod Seated
 pub mod Steps
 pub mod Longest
+pub mod Others
+pub mod Desking
+pub mod Closing

@@ -5,3 +5,5 @@ pub mod Sound
 pub mod Visit
 pub mod Rule
 pub mod Steps
+pub mod Named
+pub mod Sharing

@@ -209,6 +209,13 @@ impl Book {
         self.machine.cause()
     }
 
+    /// How many threads there may be.
+    pub fn threads(&self) -> u8
+        ensures { result ≡ self.now.run.threads }
+    {
+        self.machine.threads()
+    }
+
     /// The entries so far.
     pub fn entries(&self) -> &[Entry]
         ensures { result.now ≡ self.now.history }

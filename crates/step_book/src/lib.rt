@@ -40,16 +40,25 @@
 //! `src/seats.rt` has these steps as functions over the book's seat and the badges of the passes.
 #![tactic(auto)]
 
+mod blank;
 mod book;
 mod closed;
+mod desk;
 mod entries;
 mod hold;
+mod name;
+mod pass;
 mod rule;
 mod seats;
+mod shared;
 mod step;
 mod view;
 
+pub use blank::Blank;
 pub use book::Book;
 pub use closed::Closed;
 pub use hold::Hold;
+pub use name::BookName;
+pub use pass::Pass;
+pub use shared::SharedBook;
 pub use step::Step;

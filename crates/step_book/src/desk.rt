@@ -1,0 +1,142 @@
+//! The book as it lies behind the lock.
+
+ghost use Rattle.std.specs.Prelude.{◌≡◌, ◌<◌, [], true, if◌then◌else◌, Some, IfOk, OnErr};
+ghost use Rattle.ompt_calls.specs.Snapshot.{stores_of};
+ghost use Rattle.omp_model.specs.declared.cause.Cause.{Cause};
+ghost use Rattle.omp_model.specs.Cause.{cause_of};
+ghost use Rattle.omp_model.specs.Legal.{Legal, after};
+ghost use Rattle.omp_model.specs.Storing.{event_reply};
+ghost use Rattle.step_book.specs.Owing.{OwesAnswer, OwesStep};
+ghost use Rattle.step_book.specs.Rule.{AllBelow, Begins, entries_of};
+ghost use Rattle.step_book.specs.Sharing.{AreOwn, Goes, Grows, pages_of};
+
+use crate::book::Book;
+use crate::closed::Closed;
+use crate::name::BookName;
+use crate::pass::Pass;
+use crate::seats::{BookSeat, SharedCount, add_hold, give_pass, take_pass};
+use crate::step::Step;
+use omp_machine::Memory;
+use omp_model::Cause;
+use ompt_calls::{Reply, Snapshot};
+use std::marker::{Model, PhantomData};
+
+/// A book with its seat at the table of its name. Contracts see the holds.
+#[derive(Drop)]
+pub(crate) struct Desk<K: BookName> {
+    /// The book.
+    pub book: Book,
+    /// Its seat.
+    pub seat: BookSeat,
+    /// Its name.
+    pub of: PhantomData<K>,
+}
+
+impl<K: BookName> Model for Desk<K> {
+    ghost use Rattle.std.specs.Prelude.{List};
+    ghost use Rattle.step_book.specs.declared.hold.Hold.{Hold};
+    ghost use Rattle.step_book.specs.Sharing.{IsDesk, holds_in};
+
+    ghost Value = { List Hold };
+
+    ghost view = { λ desk. holds_in desk.seat.me.0 };
+
+    ghost invariant = { λ desk. IsDesk K.table desk.seat.table_id K.run desk.seat.me desk.book };
+}
+
+impl<K: BookName> Desk<K> {
+    /// A visit of the pass's thread, as one hold.
+    pub fn go(&mut self, count: &SharedCount, pass: &mut Pass<K>) -> Result<Step, Memory>
+        requires table { count.now.table_id ≡ K.table }
+        requires word { 0 < K.table.words }
+        ensures ok { IfOk result (λ step. Goes K.run pass.old step pass.new) }
+        ensures owes { IfOk result (λ step. OwesStep (pages_of K.run pass.new.seen pass.new.ended) pass.new.thread step) }
+        ensures memory { OnErr result (Grows pass.old pass.new []) }
+        ensures ended { pass.new.ended ≡ pass.old.ended }
+        ensures whole { self.new ≡ pass.new.seen }
+    {
+        take_pass(count, &mut self.seat, &mut pass.badge);
+        let before = self.book.entries().len();
+        let result = self.book.go(pass.thread);
+        add_hold(count, &mut self.seat, &self.book.entries()[before..]);
+        self.book.legal();
+        give_pass(count, &mut self.seat, &mut pass.badge);
+        result
+    }
+
+    /// The answer of the tool of the pass's thread, as one hold.
+    pub fn answer(
+        &mut self,
+        count: &SharedCount,
+        pass: &mut Pass<K>,
+        reply: &Reply,
+        snapshot: &Snapshot,
+    )
+        requires table { count.now.table_id ≡ K.table }
+        requires word { 0 < K.table.words }
+        requires owes { OwesAnswer (pages_of K.run pass.old.seen pass.old.ended) pass.old.thread snapshot.now }
+        ensures seen { Grows pass.old pass.new (event_reply pass.old.thread (stores_of reply.now snapshot.now)) }
+        ensures ended { pass.new.ended ≡ pass.old.ended }
+        ensures whole { self.new ≡ pass.new.seen }
+    {
+        take_pass(count, &mut self.seat, &mut pass.badge);
+        let before = self.book.entries().len();
+        self.book.answer(pass.thread, reply, snapshot);
+        add_hold(count, &mut self.seat, &self.book.entries()[before..]);
+        self.book.legal();
+        give_pass(count, &mut self.seat, &mut pass.badge);
+    }
+
+    /// The pass ends the run for want of memory, as one hold.
+    pub fn end_memory(&mut self, count: &SharedCount, pass: &mut Pass<K>)
+        requires table { count.now.table_id ≡ K.table }
+        requires word { 0 < K.table.words }
+        ensures seen { Grows pass.old pass.new [] }
+        ensures ended { pass.new.ended ≡ true }
+        ensures whole { self.new ≡ pass.new.seen }
+    {
+        take_pass(count, &mut self.seat, &mut pass.badge);
+        self.book.end_memory();
+        let entries = self.book.entries();
+        add_hold(count, &mut self.seat, &entries[entries.len()..]);
+        self.book.legal();
+        give_pass(count, &mut self.seat, &mut pass.badge);
+        pass.ended = true;
+    }
+
+    /// Compares what the pass has seen with all holds.
+    pub fn check(&mut self, count: &SharedCount, pass: &mut Pass<K>)
+        requires table { count.now.table_id ≡ K.table }
+        requires word { 0 < K.table.words }
+        ensures book { self.new ≡ self.old }
+        ensures pass { pass.new ≡ pass.old }
+        ensures begins { Begins pass.old.thread pass.old.seen self.old }
+        ensures below { AllBelow K.run.threads self.old }
+    {
+        take_pass(count, &mut self.seat, &mut pass.badge);
+        give_pass(count, &mut self.seat, &mut pass.badge);
+    }
+
+    /// What the book has come to, where a pass has ended the run for want of memory, or none has.
+    pub fn close(self, ended: bool) -> Closed
+        ensures history { result.history ≡ entries_of self }
+        ensures legal { Legal K.run result.history }
+        ensures own { AreOwn self }
+        ensures text { result.text.items ≡ (after K.run result.history).world.store.text }
+        ensures cause { result.cause ≡ (if ended then Some Cause.Memory else cause_of K.run result.history) }
+    {
+        let Desk { book, .. } = self;
+        book.legal();
+        let cause = if ended {
+            Some(Cause::Memory)
+        } else {
+            book.cause()
+        };
+        let Closed { history, text, .. } = book.close();
+        Closed {
+            history,
+            text,
+            cause,
+        }
+    }
+}

@@ -1,0 +1,58 @@
+//! What a thread has seen of a shared book.
+
+ghost use Rattle.std.specs.Prelude.{◌≡◌};
+ghost use Rattle.omp_model.specs.Legal.{Legal};
+ghost use Rattle.step_book.specs.Rule.{entries_of};
+
+use crate::name::BookName;
+use crate::view::View;
+use atomic_table::Badge;
+use std::marker::{Model, PhantomData};
+
+/// The pass of a thread to the book of this name. Contracts see the thread, the holds that it has seen, and whether it has ended the run for
+/// want of memory.
+#[derive(Drop)]
+pub struct Pass<K: BookName> {
+    /// Its seat at the table, while no call is under way.
+    pub(crate) badge: Badge<View>,
+    /// The thread's number, from 0.
+    pub(crate) thread: u8,
+    /// Whether it has ended the run for want of memory.
+    pub(crate) ended: bool,
+    /// The book that it is of.
+    pub(crate) of: PhantomData<K>,
+}
+
+impl<K: BookName> Model for Pass<K> {
+    ghost use Rattle.step_book.specs.Sharing.{IsPassOf, Sight, seen_in};
+    ghost use Rattle.step_book.specs.Steps.{view_in};
+
+    ghost Value = { Sight };
+
+    ghost view = { λ pass. record { thread = pass.thread; seen = seen_in (view_in pass.badge.views); ended = pass.ended } };
+
+    ghost invariant = { λ pass. IsPassOf K.table pass.badge.table_id K.run pass.badge.views pass.thread };
+}
+
+impl<K: BookName> Pass<K> {
+    /// The number of its thread.
+    pub fn thread(&self) -> u8
+        ensures { result ≡ self.now.thread }
+    {
+        self.thread
+    }
+
+    /// Whether it has ended the run for want of memory.
+    pub fn ended(&self) -> bool
+        ensures { result ≡ self.now.ended }
+    {
+        self.ended
+    }
+
+    /// What it has seen is a legal history.
+    pub fn legal(&self)
+        ensures { Legal K.run (entries_of self.now.seen) }
+    {
+        let _opened = self.ended;
+    }
+}

@@ -1,0 +1,159 @@
+//! A book that threads share.
+
+ghost use Rattle.std.specs.Prelude.{◌≡◌, ◌<◌, ℕ, [], true, false, if◌then◌else◌, None, Some, IfOk, OnErr, OnOk, length, get_or};
+ghost use Rattle.std.specs.Result.{IsOk};
+ghost use Rattle.ompt_calls.specs.Snapshot.{stores_of};
+ghost use Rattle.omp_model.specs.declared.cause.Cause.{Cause};
+ghost use Rattle.omp_model.specs.Cause.{cause_of};
+ghost use Rattle.omp_model.specs.Legal.{after};
+ghost use Rattle.omp_model.specs.Storing.{event_reply};
+ghost use Rattle.step_book.specs.declared.step.Step.{Step};
+ghost use Rattle.step_book.specs.declared.view.View.TheVariants.{OfBook};
+ghost use Rattle.step_book.specs.Owing.{OwesAnswer, OwesStep};
+ghost use Rattle.step_book.specs.Sharing.{Goes, Grows, IsClosed, Sight, any_ended, fresh_pass, pages_of};
+
+use crate::blank::Blank;
+use crate::closed::Closed;
+use crate::desk::Desk;
+use crate::name::BookName;
+use crate::pass::Pass;
+use crate::seats::{BookSeat, CountTable, SharedCount, new_pass};
+use crate::step::Step;
+use omp_machine::Memory;
+use omp_model::Cause;
+use ompt_calls::{Reply, Snapshot};
+use std::alloc::Global;
+use std::marker::PhantomData;
+use std::sync::{Mutex, Wait};
+
+/// The book of this name, behind a lock. Each thread has a [`Pass`] to it.
+///
+/// Each call takes the lock for one hold. What it adds and answers is what the book says after all holds before it: those that the pass had
+/// seen, and then other threads' alone. No tool is called under the lock.
+#[derive(Drop)]
+pub struct SharedBook<K: BookName> {
+    /// The table of the word that counts the entries.
+    words: CountTable,
+    /// The book with its seat.
+    desk: Mutex<Desk<K>>,
+    ghost named: { words.shared.table_id ≡ K.table },
+    ghost some: { 0 < K.table.words },
+}
+
+impl<K: BookName> SharedBook<K> {
+    /// Shares the book of this name, and gives a pass for each thread, in order, which has seen nothing.
+    pub fn start(alloc: Global, blank: Blank) -> Result<(SharedBook<K>, Vec<Pass<K>>), Memory>
+        requires table { blank.table ≡ K.table }
+        requires run { blank.run ≡ K.run }
+        ensures count { IfOk result (λ made. length made.1.items ≡ K.run.threads) }
+        ensures passes { IfOk result (λ made. (k : ℕ) (d : Sight) → k < K.run.threads → get_or made.1.items k d ≡ fresh_pass k) }
+    {
+        let Blank {
+            words,
+            mut seat,
+            book,
+        } = blank;
+        let passes = make_passes(alloc, &words.shared, &mut seat, book.threads())?;
+        let desk = Mutex::new(Desk {
+            book,
+            seat,
+            of: PhantomData,
+        });
+        Ok((SharedBook { words, desk }, passes))
+    }
+
+    /// A visit of the pass's thread: it takes a turn, where it may and the run hasn't ended.
+    ///
+    /// A pass that has ended the run for want of memory is told so, and has no hold. That another one has ended it is told as `Ended(Memory)`
+    /// too. Where there is no memory the hold has no entry.
+    pub fn go(&self, rt: &impl Wait, pass: &mut Pass<K>) -> Result<Step, Memory>
+        ensures over { pass.old.ended ≡ true → (pass.new ≡ pass.old) × IsOk result × IfOk result (λ step. step ≡ Step.Ended Cause.Memory) }
+        ensures ok { pass.old.ended ≡ false → IfOk result (λ step. Goes K.run pass.old step pass.new) }
+        ensures owes { IfOk result (λ step. OwesStep (pages_of K.run pass.new.seen pass.new.ended) pass.new.thread step) }
+        ensures memory { OnErr result (Grows pass.old pass.new []) }
+        ensures ended { pass.new.ended ≡ pass.old.ended }
+    {
+        if pass.ended() {
+            return Ok(Step::Ended(Cause::Memory));
+        }
+        self.desk.lock(rt).go(&self.words.shared, pass)
+    }
+
+    /// The answer of the tool of the pass's thread, where it is owed. No memory is taken.
+    pub fn answer(&self, rt: &impl Wait, pass: &mut Pass<K>, reply: &Reply, snapshot: &Snapshot)
+        requires { OwesAnswer (pages_of K.run pass.old.seen pass.old.ended) pass.old.thread snapshot.now }
+        ensures seen { Grows pass.old pass.new (event_reply pass.old.thread (stores_of reply.now snapshot.now)) }
+        ensures ended { pass.new.ended ≡ pass.old.ended }
+    {
+        self.desk
+            .lock(rt)
+            .answer(&self.words.shared, pass, reply, snapshot);
+    }
+
+    /// The pass ends the run for want of memory. No memory is taken.
+    pub fn end_memory(&self, rt: &impl Wait, pass: &mut Pass<K>)
+        ensures seen { Grows pass.old pass.new [] }
+        ensures ended { pass.new.ended ≡ true }
+    {
+        self.desk.lock(rt).end_memory(&self.words.shared, pass);
+    }
+
+    /// What the book has come to, with the passes of all threads, in order.
+    pub fn close(self, mut passes: Vec<Pass<K>>) -> Closed
+        requires some { 0 < K.run.threads }
+        requires count { length passes.items ≡ K.run.threads }
+        requires order { (k : ℕ) (d : Sight) → k < K.run.threads → (get_or passes.items k d).thread ≡ k }
+        ensures closed { IsClosed K.run passes.items result.history }
+        ensures text { result.text.items ≡ (after K.run result.history).world.store.text }
+        ensures cause { result.cause ≡ (if any_ended passes.items then Some Cause.Memory else cause_of K.run result.history) }
+    {
+        let SharedBook { words, desk } = self;
+        let mut desk = desk.into_inner();
+        for place in 0..passes.len() {
+            desk.check(&words.shared, &mut passes[place]);
+        }
+        let ended = any_ended(&passes);
+        desk.close(ended)
+    }
+}
+
+/// Makes a pass for each thread, in order.
+fn make_passes<K: BookName>(
+    alloc: Global,
+    count: &SharedCount,
+    seat: &mut BookSeat,
+    threads: u8,
+) -> Result<Vec<Pass<K>>, Memory>
+    requires word { 0 < count.now.table_id.words }
+    requires table { count.now.table_id ≡ K.table }
+    requires threads { threads ≡ K.run.threads }
+    requires seat { seat.old.table_id ≡ count.now.table_id }
+    requires view { seat.old.me ≡ (OfBook [] 0 None, []) }
+    ensures seat { seat.new.table_id ≡ count.now.table_id }
+    ensures view { OnOk result (seat.new.me ≡ (OfBook [] threads None, [])) }
+    ensures count { IfOk result (λ passes. length passes.items ≡ threads) }
+    ensures passes { IfOk result (λ passes. (k : ℕ) (d : Sight) → k < threads → get_or passes.items k d ≡ fresh_pass k) }
+{
+    let mut passes = Vec::new(alloc);
+    for thread in 0..threads {
+        let badge = new_pass(count, seat);
+        passes.push(Pass {
+            badge,
+            thread,
+            ended: false,
+            of: PhantomData,
+        })?;
+    }
+    Ok(passes)
+}
+
+/// Whether a pass has ended the run for want of memory.
+fn any_ended<K: BookName>(passes: &[Pass<K>]) -> bool
+    ensures { result ≡ any_ended passes.now }
+{
+    let mut ended = false;
+    for pass in passes {
+        ended = ended || pass.ended();
+    }
+    ended
+}
