@@ -34,8 +34,8 @@ impl Model for Blank {
 }
 
 impl Blank {
-    /// The book of a run before its first entry: the program with the callbacks of the mask registered (bit n for number n), so many threads and so
-    /// many silent steps.
+    /// The book of a run before its first entry: the program with the callbacks of the mask registered (bit n for number n),
+    /// so many threads and so many silent steps.
     pub fn new(
         alloc: Global,
         program: Program,

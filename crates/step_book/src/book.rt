@@ -60,8 +60,8 @@ impl Model for Book {
 }
 
 impl Book {
-    /// The book of a run before its first entry: the program with the callbacks of the mask registered (bit n for number n), so many threads and so
-    /// many silent steps.
+    /// The book of a run before its first entry: the program with the callbacks of the mask registered (bit n for number n),
+    /// so many threads and so many silent steps.
     pub fn start(
         alloc: Global,
         program: Program,

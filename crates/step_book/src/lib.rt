@@ -10,13 +10,22 @@
 //! Room for the answers that are owed is always there, so `answer` takes no memory. A serial run asks for the first
 //! enabled thread with `first_ready` and lets it take its turn with `go_ready`.
 //!
-//! # Holds
+//! # A book that threads share
 //!
-//! This is what threads that share a book will know of its history. No call of today uses it.
+//! A [`SharedBook`] is a book behind a lock. It takes its name from a [`BookName`], and is made of a [`Blank`], with a
+//! [`Pass`] for each thread. A thread has the lock for one hold after another. A [`Hold`] is the number of the thread
+//! with the entries that it added to the history, which may be none. The history is the entries of all holds, in order.
+//! The locked book knows all holds, and each pass those that it has seen.
 //!
-//! A thread has the lock of the book for one hold after another. A [`Hold`] is the number of the thread with the entries
-//! that it added to the history, which may be none. The history is the entries of all holds, in order. The locked book
-//! knows all holds, and each thread has a pass, which knows those that it has seen.
+//! Each call of a pass is one hold, but `go` of a pass that has ended the run itself. The hold is then the last that the
+//! pass has seen, and between it and those that it had seen stand other threads' holds alone. What `go` adds and answers
+//! is what a visit to the book comes to after all holds before this one ([`SharedBook::go`], `Goes` in
+//! `specs/Sharing.antt`). `close` takes the passes in: each has seen a beginning of the list of all holds, beyond which
+//! no hold is of its thread, and one has seen all.
+//!
+//! No tool is called under the lock. That a wait for it ends isn't proved.
+//!
+//! # The rule
 //!
 //! Beside the locked book all threads share a table of one word, the number of entries, which changes under a rule
 //! (`specs/Rule.antt`). These are its parts, of which a view that is spent is excepted:
@@ -37,7 +46,8 @@
 //! - a hold of the pass's thread is put last, with the entries that it added, and the pass has seen all;
 //! - the book gives the pass back.
 //!
-//! `src/seats.rt` has these steps as functions over the book's seat and the badges of the passes.
+//! `src/seats.rt` has these steps as functions over the book's seat and the badges of the passes, and `src/desk.rt` makes
+//! the calls of a pass of them.
 #![tactic(auto)]
 
 mod blank;
