@@ -3,8 +3,6 @@
 #![tactic(auto)]
 
 #[cfg(test)]
-mod book;
-#[cfg(test)]
 mod calls;
 #[cfg(test)]
 mod codes;
