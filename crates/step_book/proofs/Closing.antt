@@ -22,6 +22,7 @@ closing run passes all history some count order entries legal own begins below =
       entries = entries;
       legal = legal;
       own = own;
+      below = below;
       begins = each;
       longest = (whole.0, whole.1, λ d. ap (λ (pass : Sight). pass.seen) (get_or_default passes whole.0 d none (omega (arith, whole.1, count))) ∙ whole.2);
     }

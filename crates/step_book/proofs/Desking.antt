@@ -67,7 +67,7 @@ hold-made holds seen thread threads me views entries made own ended later before
     let sees : seen_in (view_in views) ≡ with_last holds thread entries = ap (λ views. seen_in (view_in views)) made.badge in
     subst (λ (before : Sight). IsHold before (record { thread = thread; seen = seen_in (view_in views); ended = later }) rest entries) view (record {
       others = made.begins.others;
-      unheard = holds-others thread rest (own-back seen rest (subst AreOwn made.begins.whole own)) made.begins.others;
+      not_by = holds-others thread rest (own-back seen rest (subst AreOwn made.begins.whole own)) made.begins.others;
       seen = sees ∙ ap (λ holds. with_last holds thread entries) made.begins.whole;
       thread = refl;
     })

@@ -1,5 +1,5 @@
 mod Counting
-mod Histories
+pub mod Histories
 mod Storing
 pub mod Telling
 pub mod Visiting

@@ -54,12 +54,12 @@ does-others run S u t Go other = turn-others S (turn run S u).state u t (turn ru
 does-others run S u t (Put place word) other = put-others S u t place word (pending_at S u) other
 does-others run S u t Back other = back-others S u t (pending_at S u) other
 
-entries-others : (run : Run) (S : State) (t : ℕ) (entries : List Entry) → NotBy t entries → pending_at (after_from run S entries) t ≡ pending_at S t
+pub entries-others : (run : Run) (S : State) (t : ℕ) (entries : List Entry) → NotBy t entries → pending_at (after_from run S entries) t ≡ pending_at S t
 entries-others run S t [] none = refl
 entries-others run S t (entry ∷ rest) none =
     entries-others run (entered run S entry) t rest none.1 ∙ does-others run S entry.thread t entry.what none.0
 
-not_by-append : (t : ℕ) (xs ys : List Entry) → NotBy t xs → NotBy t ys → NotBy t (xs ++ ys)
+pub not_by-append : (t : ℕ) (xs ys : List Entry) → NotBy t xs → NotBy t ys → NotBy t (xs ++ ys)
 not_by-append t [] ys first next = next
 not_by-append t (entry ∷ xs) ys first next = (first.0, not_by-append t xs ys first.1 next)
 

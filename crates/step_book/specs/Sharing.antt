@@ -14,7 +14,7 @@ use Rattle.step_book.specs.declared.view.View.{View}
 use Rattle.step_book.specs.declared.view.View.TheVariants.{Spent, OfPass, OfBook}
 use Rattle.step_book.specs.Owing.{NotBy}
 use Rattle.step_book.specs.Pages.{Pages}
-use Rattle.step_book.specs.Rule.{Begins, NoneBy, entries_of}
+use Rattle.step_book.specs.Rule.{AllBelow, Begins, NoneBy, entries_of}
 use Rattle.step_book.specs.Steps.{hold_by, view_in}
 use Rattle.step_book.specs.Visit.{visit}
 
@@ -53,7 +53,7 @@ pages_of run holds ended = record { run = run; history = entries_of holds; ended
 -- threads' holds.
 pub record IsHold (before after : Sight) (between : List Hold) (entries : List Entry) : Type 0 where
   pub others : NoneBy before.thread between
-  pub unheard : NotBy before.thread (entries_of between)
+  pub not_by : NotBy before.thread (entries_of between)
   pub seen : after.seen ≡ (before.seen ++ between) ++ hold_by before.thread entries ∷ []
   pub thread : after.thread ≡ before.thread
 
@@ -116,5 +116,6 @@ pub record IsClosed (run : Run) (passes : List Sight) (history : List Entry) : T
   pub entries : history ≡ entries_of all
   pub legal : Legal run history
   pub own : AreOwn all
+  pub below : AllBelow run.threads all
   pub begins : (k : ℕ) (d : Sight) → k < run.threads → Begins k (get_or passes k d).seen all
   pub longest : (k : ℕ) × (k < run.threads) × ((d : Sight) → (get_or passes k d).seen ≡ all)

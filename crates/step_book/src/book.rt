@@ -209,6 +209,11 @@ impl Book {
         self.machine.cause()
     }
 
+    /// Whether a visit of the thread would be a turn, or tell it that the run has ended. No clause says so.
+    pub(crate) fn has_news(&self, thread: u8) -> bool {
+        self.ended || self.machine.enabled(thread) || self.machine.cause().is_some()
+    }
+
     /// How many threads there may be.
     pub fn threads(&self) -> u8
         ensures { result ≡ self.now.run.threads }

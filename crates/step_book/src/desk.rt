@@ -8,13 +8,14 @@ ghost use Rattle.omp_model.specs.Legal.{Legal, after};
 ghost use Rattle.omp_model.specs.Storing.{event_reply};
 ghost use Rattle.step_book.specs.Owing.{OwesAnswer, OwesStep};
 ghost use Rattle.step_book.specs.Rule.{AllBelow, Begins, entries_of};
-ghost use Rattle.step_book.specs.Sharing.{AreOwn, Goes, Grows, pages_of};
+ghost use Rattle.step_book.specs.Sharing.{AreOwn, Goes, Grows, IsDesk, holds_in, pages_of};
 
 use crate::book::Book;
 use crate::closed::Closed;
 use crate::name::BookName;
 use crate::pass::Pass;
 use crate::seats::{BookSeat, SharedCount, add_hold, give_pass, take_pass};
+use crate::sleepers::{Sleepers, Woken};
 use crate::step::Step;
 use omp_machine::Memory;
 use omp_model::Cause;
@@ -28,6 +29,8 @@ pub(crate) struct Desk<K: BookName> {
     pub book: Book,
     /// Its seat.
     pub seat: BookSeat,
+    /// The threads that sleep.
+    pub sleepers: Sleepers,
     /// Its name.
     pub of: PhantomData<K>,
 }
@@ -45,6 +48,19 @@ impl<K: BookName> Model for Desk<K> {
 }
 
 impl<K: BookName> Desk<K> {
+    /// The book with its seat, before any thread sleeps.
+    pub fn new(book: Book, seat: BookSeat) -> Desk<K>
+        requires { IsDesk K.table seat.table_id K.run seat.me book }
+        ensures { result ≡ holds_in seat.me.0 }
+    {
+        Desk {
+            book,
+            seat,
+            sleepers: Sleepers::new(),
+            of: PhantomData,
+        }
+    }
+
     /// A visit of the pass's thread, as one hold.
     pub fn go(&mut self, count: &SharedCount, pass: &mut Pass<K>) -> Result<Step, Memory>
         requires table { count.now.table_id ≡ K.table }
@@ -52,6 +68,7 @@ impl<K: BookName> Desk<K> {
         ensures ok { IfOk result (λ step. Goes K.run pass.old step pass.new) }
         ensures owes { IfOk result (λ step. OwesStep (pages_of K.run pass.new.seen pass.new.ended) pass.new.thread step) }
         ensures memory { OnErr result (Grows pass.old pass.new []) }
+        ensures thread { pass.new.thread ≡ pass.old.thread }
         ensures ended { pass.new.ended ≡ pass.old.ended }
         ensures whole { self.new ≡ pass.new.seen }
     {
@@ -76,6 +93,7 @@ impl<K: BookName> Desk<K> {
         requires word { 0 < K.table.words }
         requires owes { OwesAnswer (pages_of K.run pass.old.seen pass.old.ended) pass.old.thread snapshot.now }
         ensures seen { Grows pass.old pass.new (event_reply pass.old.thread (stores_of reply.now snapshot.now)) }
+        ensures thread { pass.new.thread ≡ pass.old.thread }
         ensures ended { pass.new.ended ≡ pass.old.ended }
         ensures whole { self.new ≡ pass.new.seen }
     {
@@ -92,6 +110,7 @@ impl<K: BookName> Desk<K> {
         requires table { count.now.table_id ≡ K.table }
         requires word { 0 < K.table.words }
         ensures seen { Grows pass.old pass.new [] }
+        ensures thread { pass.new.thread ≡ pass.old.thread }
         ensures ended { pass.new.ended ≡ true }
         ensures whole { self.new ≡ pass.new.seen }
     {
@@ -102,6 +121,14 @@ impl<K: BookName> Desk<K> {
         self.book.legal();
         give_pass(count, &mut self.seat, &mut pass.badge);
         pass.ended = true;
+    }
+
+    /// The end of a hold of the thread, which is to sleep or isn't. It answers which threads wake.
+    pub fn wake(&mut self, thread: u8, sleeps: bool) -> Woken
+        ensures { self.new ≡ self.old }
+    {
+        let Desk { book, sleepers, .. } = self;
+        sleepers.wake(book, thread, sleeps)
     }
 
     /// Compares what the pass has seen with all holds.

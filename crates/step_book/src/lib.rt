@@ -23,7 +23,9 @@
 //! `specs/Sharing.antt`). `close` takes the passes in: each has seen a beginning of the list of all holds, beyond which
 //! no hold is of its thread, and one has seen all.
 //!
-//! No tool is called under the lock. That a wait for it ends isn't proved.
+//! No tool is called under the lock. That a wait for it ends isn't proved. A thread that is told not yet may sleep
+//! ([`SharedBook::sleep`]): the locked book notes who sleeps, and a hold wakes those that may go on after it, and all of
+//! them where the run is over. Nothing is proved of that.
 //!
 //! # The rule
 //!
@@ -50,6 +52,7 @@
 //! the calls of a pass of them.
 #![tactic(auto)]
 
+mod bell;
 mod blank;
 mod book;
 mod closed;
@@ -61,6 +64,7 @@ mod pass;
 mod rule;
 mod seats;
 mod shared;
+mod sleepers;
 mod step;
 mod view;
 

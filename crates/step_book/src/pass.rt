@@ -1,6 +1,6 @@
 //! What a thread has seen of a shared book.
 
-ghost use Rattle.std.specs.Prelude.{◌≡◌};
+ghost use Rattle.std.specs.Prelude.{◌≡◌, ◌<◌};
 ghost use Rattle.omp_model.specs.Legal.{Legal};
 ghost use Rattle.step_book.specs.Rule.{entries_of};
 
@@ -49,9 +49,10 @@ impl<K: BookName> Pass<K> {
         self.ended
     }
 
-    /// What it has seen is a legal history.
+    /// What it has seen is a legal history, and its thread is one of the run's.
     pub fn legal(&self)
-        ensures { Legal K.run (entries_of self.now.seen) }
+        ensures legal { Legal K.run (entries_of self.now.seen) }
+        ensures below { self.now.thread < K.run.threads }
     {
         let _opened = self.ended;
     }

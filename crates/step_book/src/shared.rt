@@ -12,12 +12,14 @@ ghost use Rattle.step_book.specs.declared.view.View.TheVariants.{OfBook};
 ghost use Rattle.step_book.specs.Owing.{OwesAnswer, OwesStep};
 ghost use Rattle.step_book.specs.Sharing.{Goes, Grows, IsClosed, Sight, any_ended, fresh_pass, pages_of};
 
+use crate::bell::Bell;
 use crate::blank::Blank;
 use crate::closed::Closed;
 use crate::desk::Desk;
 use crate::name::BookName;
 use crate::pass::Pass;
 use crate::seats::{BookSeat, CountTable, SharedCount, new_pass};
+use crate::sleepers::Woken;
 use crate::step::Step;
 use omp_machine::Memory;
 use omp_model::Cause;
@@ -36,6 +38,8 @@ pub struct SharedBook<K: BookName> {
     words: CountTable,
     /// The book with its seat.
     desk: Mutex<Desk<K>>,
+    /// For each thread the bell that wakes it.
+    bells: Vec<Bell>,
     ghost named: { words.shared.table_id ≡ K.table },
     ghost some: { 0 < K.table.words },
 }
@@ -54,12 +58,9 @@ impl<K: BookName> SharedBook<K> {
             book,
         } = blank;
         let passes = make_passes(alloc, &words.shared, &mut seat, book.threads())?;
-        let desk = Mutex::new(Desk {
-            book,
-            seat,
-            of: PhantomData,
-        });
-        Ok((SharedBook { words, desk }, passes))
+        let bells = make_bells(alloc, book.threads())?;
+        let desk = Mutex::new(Desk::new(book, seat));
+        Ok((SharedBook { words, desk, bells }, passes))
     }
 
     /// A visit of the pass's thread: it takes a turn, where it may and the run hasn't ended.
@@ -71,31 +72,66 @@ impl<K: BookName> SharedBook<K> {
         ensures ok { pass.old.ended ≡ false → IfOk result (λ step. Goes K.run pass.old step pass.new) }
         ensures owes { IfOk result (λ step. OwesStep (pages_of K.run pass.new.seen pass.new.ended) pass.new.thread step) }
         ensures memory { OnErr result (Grows pass.old pass.new []) }
+        ensures thread { pass.new.thread ≡ pass.old.thread }
         ensures ended { pass.new.ended ≡ pass.old.ended }
     {
         if pass.ended() {
             return Ok(Step::Ended(Cause::Memory));
         }
-        self.desk.lock(rt).go(&self.words.shared, pass)
+        let (result, woken) = {
+            let mut desk = self.desk.lock(rt);
+            let result = desk.go(&self.words.shared, pass);
+            let woken = desk.wake(pass.thread(), matches!(result, Ok(Step::NotYet)));
+            (result, woken)
+        };
+        self.ring(rt, woken);
+        result
     }
 
     /// The answer of the tool of the pass's thread, where it is owed. No memory is taken.
     pub fn answer(&self, rt: &impl Wait, pass: &mut Pass<K>, reply: &Reply, snapshot: &Snapshot)
         requires { OwesAnswer (pages_of K.run pass.old.seen pass.old.ended) pass.old.thread snapshot.now }
         ensures seen { Grows pass.old pass.new (event_reply pass.old.thread (stores_of reply.now snapshot.now)) }
+        ensures thread { pass.new.thread ≡ pass.old.thread }
         ensures ended { pass.new.ended ≡ pass.old.ended }
     {
-        self.desk
-            .lock(rt)
-            .answer(&self.words.shared, pass, reply, snapshot);
+        let woken = {
+            let mut desk = self.desk.lock(rt);
+            desk.answer(&self.words.shared, pass, reply, snapshot);
+            desk.wake(pass.thread(), false)
+        };
+        self.ring(rt, woken);
     }
 
     /// The pass ends the run for want of memory. No memory is taken.
     pub fn end_memory(&self, rt: &impl Wait, pass: &mut Pass<K>)
         ensures seen { Grows pass.old pass.new [] }
+        ensures thread { pass.new.thread ≡ pass.old.thread }
         ensures ended { pass.new.ended ≡ true }
     {
-        self.desk.lock(rt).end_memory(&self.words.shared, pass);
+        let woken = {
+            let mut desk = self.desk.lock(rt);
+            desk.end_memory(&self.words.shared, pass);
+            desk.wake(pass.thread(), false)
+        };
+        self.ring(rt, woken);
+    }
+
+    /// Sleeps, where the last call of the pass told it not yet, until the pass's thread may go on or the run is over. The thread may wake
+    /// earlier. No clause says that it wakes.
+    pub fn sleep(&self, rt: &impl Wait, pass: &Pass<K>) {
+        if let Some(bell) = self.bells.get(pass.thread() as usize) {
+            bell.sleep(rt);
+        }
+    }
+
+    /// Wakes these threads.
+    fn ring(&self, rt: &impl Wait, woken: Woken) {
+        for (bell, wakes) in self.bells.iter().zip(woken) {
+            if wakes {
+                bell.ring(rt);
+            }
+        }
     }
 
     /// What the book has come to, with the passes of all threads, in order.
@@ -107,7 +143,7 @@ impl<K: BookName> SharedBook<K> {
         ensures text { result.text.items ≡ (after K.run result.history).world.store.text }
         ensures cause { result.cause ≡ (if any_ended passes.items then Some Cause.Memory else cause_of K.run result.history) }
     {
-        let SharedBook { words, desk } = self;
+        let SharedBook { words, desk, .. } = self;
         let mut desk = desk.into_inner();
         for place in 0..passes.len() {
             desk.check(&words.shared, &mut passes[place]);
@@ -115,6 +151,15 @@ impl<K: BookName> SharedBook<K> {
         let ended = any_ended(&passes);
         desk.close(ended)
     }
+}
+
+/// Makes a bell for each thread.
+fn make_bells(alloc: Global, threads: u8) -> Result<Vec<Bell>, Memory> {
+    let mut bells = Vec::new(alloc);
+    for _thread in 0..threads {
+        bells.push(Bell::new())?;
+    }
+    Ok(bells)
 }
 
 /// Makes a pass for each thread, in order.
