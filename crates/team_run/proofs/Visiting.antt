@@ -99,7 +99,7 @@ waits-put_all run S t e made (store ∷ rest) inside =
     waits-put_all run (put S t store.target store.word) t e (made + 1) rest (inside-put run S t e made store.target store.word inside)
 
 -- a turn with no event leaves the callbacks alone
-same-pending : (S after : State) (t : ℕ) (o : Outcome) → Leaves S t after o → inside_after o t ≡ None → after.pending ≡ S.pending
+pub same-pending : (S after : State) (t : ℕ) (o : Outcome) → Leaves S t after o → inside_after o t ≡ None → after.pending ≡ S.pending
 same-pending S after t Idle leaves none = leaves.2
 same-pending S after t Quiet leaves none = leaves.2
 same-pending S after t (Happens event) leaves none = cc

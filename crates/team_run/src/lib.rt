@@ -12,7 +12,8 @@
 //! The stores of the reply take effect in their order, each with an entry, and the Back follows. A store at a place that
 //! isn't there is passed over. Where the part finds no memory the run ends, with the event's Go as its last entry.
 //!
-//! The parts of the crate are private. A run under way has the book with the entries so far, and the parts of the tool.
+//! A run under way, which is private, has the book with the entries so far, and the parts of the tool. How the first part is
+//! started and finished is public ([`initialize_first`], [`finalize_first`]): a run by threads does the same.
 //!
 //! Proved by the contracts of [`run_serial`], for every kind of part, over the definitions of `omp_model` and of `specs/`.
 //! They hold of each [`Ran`] that it answers; "the run" is that of the program, the threads and the silent steps that it
@@ -52,9 +53,11 @@
 //! The must-fail edits try wrong bodies.
 #![tactic(auto)]
 
+mod edges;
 mod ran;
 mod serial;
 mod serial_run;
 
+pub use edges::{Start, finalize_first, initialize_first, mask_of};
 pub use ran::{Memory, Ran};
 pub use serial::run_serial;

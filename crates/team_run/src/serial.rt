@@ -1,21 +1,21 @@
 //! The serial run: threads take turns round and round, each a whole turn with its callback.
 
-ghost use Rattle.std.specs.Prelude.{◌≡◌, ◌≢◌, ◌<◌, ◌≤◌, [], Some, IfOk, length, slice_index_or, ℕ};
+ghost use Rattle.std.specs.Prelude.{◌≡◌, ◌≢◌, ◌≤◌, [], Some, IfOk, length};
 ghost use Rattle.omp_model.specs.Serial.{Serial, serial};
 ghost use Rattle.omp_model.specs.Cause.{cause_of};
 ghost use Rattle.omp_model.specs.Legal.{after};
-ghost use Rattle.tool_api.specs.Record.{Record, initialized};
 ghost use Rattle.team_run.specs.Program.{run_of_program};
-ghost use Rattle.team_run.specs.Serving.{Becomes, RunsFor, SameKinds, finished_by, mask_of};
+ghost use Rattle.team_run.specs.Serving.{RunsFor, SameKinds};
 ghost use Rattle.team_run.specs.Standing.{HearsOwn, HearsSilent};
 
+use crate::edges::{finalize_first, initialize_first, mask_of};
 use crate::ran::{Memory, Ran};
 use crate::serial_run::SerialRun;
 use c_check::Program;
 use omp_model::Cause;
 use std::alloc::{AllocError, Global};
 use step_book::Closed;
-use tool_api::{Registrar, ToolPart};
+use tool_api::ToolPart;
 
 /// Runs the program serially, with so many threads, and so many silent steps at most. Part t is called for the events of
 /// thread t.
@@ -74,55 +74,4 @@ pub fn run_serial<P: ToolPart>(
         text,
         parts,
     })
-}
-
-/// What came of the start of the first part.
-#[derive(Clone, Copy)]
-struct Start {
-    /// What it answered: 0 is inactive.
-    answer: u32,
-    /// The callbacks that it registered: bit n for number n.
-    registered: u64,
-}
-
-/// Starts the first part.
-fn initialize_first<P: ToolPart>(parts: &mut [P]) -> Start
-    requires { 0 < length parts.old }
-    ensures as_many { length parts.new ≡ length parts.old }
-    ensures kinds { SameKinds P.kind parts.old parts.new }
-    ensures first { Becomes P.stands_for parts.old parts.new 0
-        (λ (h : Record). initialized h result.answer result.registered) }
-    ensures others { (k : ℕ) (d : P) → 0 < k → slice_index_or parts.new k d ≡ slice_index_or parts.old k d }
-{
-    let mut registrar = Registrar::new();
-    let answer = parts[0].initialize(&mut registrar);
-    Start {
-        answer,
-        registered: registrar.mask(),
-    }
-}
-
-/// What is heard of a run: what the first part registered, where it is active.
-fn mask_of(start: Start) -> u64
-    ensures { result ≡ mask_of start.answer start.registered }
-{
-    if start.answer == 0 {
-        0
-    } else {
-        start.registered
-    }
-}
-
-/// Finishes the first part, where it is active.
-fn finalize_first<P: ToolPart>(start: Start, parts: &mut [P])
-    requires { 0 < length parts.old }
-    ensures as_many { length parts.new ≡ length parts.old }
-    ensures kinds { SameKinds P.kind parts.old parts.new }
-    ensures first { Becomes P.stands_for parts.old parts.new 0 (finished_by start.answer) }
-    ensures others { (k : ℕ) (d : P) → 0 < k → slice_index_or parts.new k d ≡ slice_index_or parts.old k d }
-{
-    if start.answer == 0 {
-        return;
-    }
-    parts[0].finalize();
 }

@@ -1,0 +1,58 @@
+//! The start and the end of the first part.
+
+ghost use Rattle.std.specs.Prelude.{◌≡◌, ◌<◌, length, slice_index_or, ℕ};
+ghost use Rattle.tool_api.specs.Record.{Record, initialized};
+ghost use Rattle.team_run.specs.Serving.{Becomes, SameKinds, finished_by, mask_of};
+
+use tool_api::{Registrar, ToolPart};
+
+/// What came of the start of the first part.
+#[derive(Clone, Copy)]
+pub struct Start {
+    /// What it answered: 0 is inactive.
+    pub answer: u32,
+    /// The callbacks that it registered: bit n for number n.
+    pub registered: u64,
+}
+
+/// Starts the first part.
+pub fn initialize_first<P: ToolPart>(parts: &mut [P]) -> Start
+    requires { 0 < length parts.old }
+    ensures as_many { length parts.new ≡ length parts.old }
+    ensures kinds { SameKinds P.kind parts.old parts.new }
+    ensures first { Becomes P.stands_for parts.old parts.new 0
+        (λ (h : Record). initialized h result.answer result.registered) }
+    ensures others { (k : ℕ) (d : P) → 0 < k → slice_index_or parts.new k d ≡ slice_index_or parts.old k d }
+{
+    let mut registrar = Registrar::new();
+    let answer = parts[0].initialize(&mut registrar);
+    Start {
+        answer,
+        registered: registrar.mask(),
+    }
+}
+
+/// What is heard of a run: what the first part registered, where it is active.
+pub fn mask_of(start: Start) -> u64
+    ensures { result ≡ mask_of start.answer start.registered }
+{
+    if start.answer == 0 {
+        0
+    } else {
+        start.registered
+    }
+}
+
+/// Finishes the first part, where it is active.
+pub fn finalize_first<P: ToolPart>(start: Start, parts: &mut [P])
+    requires { 0 < length parts.old }
+    ensures as_many { length parts.new ≡ length parts.old }
+    ensures kinds { SameKinds P.kind parts.old parts.new }
+    ensures first { Becomes P.stands_for parts.old parts.new 0 (finished_by start.answer) }
+    ensures others { (k : ℕ) (d : P) → 0 < k → slice_index_or parts.new k d ≡ slice_index_or parts.old k d }
+{
+    if start.answer == 0 {
+        return;
+    }
+    parts[0].finalize();
+}
