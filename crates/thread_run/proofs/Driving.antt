@@ -1,0 +1,274 @@
+-- What a driver's part was called for, after each call of its pass.
+use Rattle.std.proofs.Common.{◌≡◌, ℕ, ◌+◌, ◌<◌, Bool, true, false, if◌then◌else◌, List, [], ◌∷◌, ◌++◌, length, Option, Some, None, slice_index_or, slice_set, get_or-set_same, refl, sym, ap, subst, ◌∙◌, append_assoc, append-nil, inl, inr, arith}
+use Rattle.std.proofs.lemmas.Bool.{true≢false, cases_lt}
+use Rattle.std.proofs.lemmas.List.{get_or_past, length-set, length-replicate}
+use Rattle.ompt_calls.specs.declared.call.Call.{Call}
+use Rattle.ompt_calls.specs.declared.reply.Reply.{Reply}
+use Rattle.ompt_calls.specs.declared.snapshot.Snapshot.{Snapshot}
+use Rattle.ompt_calls.specs.Item.{Item, item_of}
+use Rattle.ompt_calls.specs.Number.{is_registered}
+use Rattle.ompt_calls.specs.Snapshot.{Stored, stores_of}
+use Rattle.tool_api.specs.Record.{Record, one_unheard, told}
+use Rattle.omp_model.specs.declared.cause.Cause.{Cause}
+use Rattle.omp_model.specs.declared.cause.Cause.TheVariants as causes
+use Rattle.omp_model.specs.declared.event.Callback.{Callback}
+use Rattle.omp_model.specs.declared.event.Event.{Event}
+use Rattle.omp_model.specs.declared.event.Outcome.TheVariants as outcome
+use Rattle.omp_model.specs.declared.history.Entry.{Entry}
+use Rattle.omp_model.specs.State.{Run, State, first, pending_at}
+use Rattle.omp_model.specs.Calls.{call_of, callback_of}
+use Rattle.omp_model.specs.Heard.{heard_of}
+use Rattle.omp_model.specs.Legal.{AllowsFrom, Legal, after, after_from, back, back_from, entered}
+use Rattle.omp_model.specs.Serial.{inside_after}
+use Rattle.omp_model.specs.Snapshots.{snap_of}
+use Rattle.omp_model.specs.Storing.{back_at, event_reply, go_at, puts_at}
+use Rattle.omp_model.specs.Turn.{turn}
+use Rattle.omp_model.proofs.Turns.{leaves-turn, turn-goes}
+use Rattle.step_book.specs.declared.hold.Hold.{Hold}
+use Rattle.step_book.specs.declared.step.Step.{Step}
+use Rattle.step_book.specs.declared.step.Step.TheVariants.{Told, Quiet, NotYet, Ended}
+use Rattle.step_book.specs.Owing.{NotBy, Owes}
+use Rattle.step_book.specs.Pages.{Pages, state_of}
+use Rattle.step_book.specs.Rule.{entries_of}
+use Rattle.step_book.specs.Sharing.{Goes, Grows, IsHold, Sight, pages_of}
+use Rattle.step_book.specs.Steps.{hold_by}
+use Rattle.step_book.specs.Visit.{Visit, idle_by, idle_step, is_turn, turn_visit, visit}
+use Rattle.step_book.proofs.Histories.{after-append}
+use Rattle.step_book.proofs.Others.{entries-append, entries-others, not_by-append, owes-still}
+use Rattle.step_book.proofs.Telling.{ended-step, not_yet-step, quiet-step, told-step}
+use Rattle.step_book.proofs.Visiting.{visit-idle, visit-turn}
+use Rattle.thread_run.specs.Driving.{IsDriven, IsInside, LeftAt}
+use Rattle.team_run.specs.Serving.{served}
+use Rattle.thread_run.proofs.Hearing.{answered, back-others, heard-split, heard_on, more-without}
+use Rattle.team_run.proofs.Visiting.{same-pending}
+
+-- Entries that leave a thread as it was.
+
+-- after these entries the thread has heard what it had heard, and is inside no callback
+pub record IsCalm (run : Run) (history added : List Entry) (t : ℕ) : Type 0 where
+  pub same : heard_of run (history ++ added) t ≡ heard_of run history t
+  pub outside : pending_at (after run (history ++ added)) t ≡ None
+
+calm-none : (run : Run) (history : List Entry) (t : ℕ) → pending_at (after run history) t ≡ None → IsCalm run history [] t
+calm-none run history t outside =
+    record { same = ap (λ history. heard_of run history t) (append-nil history); outside = ap (λ history. pending_at (after run history) t) (append-nil history) ∙ outside }
+
+-- a Go without an event
+calm-alone : (run : Run) (history : List Entry) (t : ℕ) → pending_at (after run history) t ≡ None → inside_after (turn run (after run history) t).outcome t ≡ None → IsCalm run history (go_at t ∷ []) t
+calm-alone run history t outside none =
+    let S = after run history in
+    record {
+      same = more-without run (first run) 0 t history (go_at t ∷ []) refl;
+      outside =
+          ap (λ (S : State). pending_at S t) (after-append run (first run) history (go_at t ∷ []))
+          ∙ ap (λ pending. slice_index_or pending t None) (same-pending S (turn run S t).state t (turn run S t).outcome (leaves-turn run S t) none) ∙ outside;
+    }
+
+-- a thread that has returned from its callback is inside none
+pub back-outside : (S : State) (t : ℕ) → pending_at (back S t) t ≡ None
+back-outside S t = by (pending_at S t) refl
+  where
+    by : (callback : Option Callback) → pending_at S t ≡ callback → pending_at (back_from S t callback) t ≡ None
+    by None is = is
+    by (Some callback) is = elim (cases_lt t (length S.pending)) [
+      | inl within ↦ get_or-set_same S.pending t None None within
+      | inr past ↦ get_or_past (slice_set S.pending t None) t None (omega (arith, past, length-set S.pending t None))
+    ]
+
+within : (run : Run) (t : ℕ) → t < run.threads → t < length (first run).pending
+within run t below = let none : Option Callback = None in omega (arith, below, length-replicate run.threads none)
+
+-- an event that isn't told, with its Back
+calm-untold : (run : Run) (history : List Entry) (t : ℕ) (event : Event) → t < run.threads → pending_at (after run history) t ≡ None → (turn run (after run history) t).outcome ≡ outcome.Happens event → is_registered run.mask (callback_of event) ≡ false → IsCalm run history (go_at t ∷ back_at t ∷ []) t
+calm-untold run history t event below outside happens unregistered =
+    let S = after run history in
+    let silent : heard_on run S (0 + length history) (go_at t ∷ back_at t ∷ []) t ≡ [] = rw (happens, unregistered) refl in
+    record {
+      same = heard-split run (first run) 0 t history (go_at t ∷ back_at t ∷ []) (within run t below) outside ∙ ap (λ more. heard_of run history t ++ more) silent ∙ append-nil (heard_of run history t);
+      outside = ap (λ (S : State). pending_at S t) (after-append run (first run) history (go_at t ∷ back_at t ∷ [])) ∙ back-outside (turn run S t).state t;
+    }
+
+calm-turn : (book : Pages) (t : ℕ) → t < book.run.threads → pending_at (state_of book) t ≡ None → (step : Step) → (turn_visit book t).step ≡ step → ((seq : ℕ) (call : Call) (snapshot : Snapshot) → (turn_visit book t).step ≡ Told seq call snapshot → ⊥) → IsCalm book.run book.history (turn_visit book t).added t
+calm-turn book t below outside (Told seq call snapshot) is none = absurd (none seq call snapshot is)
+calm-turn book t below outside Quiet is none = elim (quiet-step book t is) [
+  | inl alone ↦ rw alone.added_is (calm-alone book.run book.history t outside alone.none)
+  | inr untold ↦ rw untold.added_is (calm-untold book.run book.history t untold.is_untold.event below outside untold.is_untold.happens untold.is_untold.unregistered)
+]
+calm-turn book t below outside NotYet is none = absurd (not_yet-step book t is)
+calm-turn book t below outside (Ended cause) is none =
+    let alone = ended-step book t cause is in rw alone.added_is (calm-alone book.run book.history t outside alone.none)
+
+-- a visit that tells of no event
+calm-visit : (book : Pages) (t : ℕ) → t < book.run.threads → pending_at (state_of book) t ≡ None → ((seq : ℕ) (call : Call) (snapshot : Snapshot) → (visit book t).step ≡ Told seq call snapshot → ⊥) → IsCalm book.run book.history (visit book t).added t
+calm-visit book t below outside none = elim (is_turn book t) as (λ b. is_turn book t ≡ b → IsCalm book.run book.history (visit book t).added t) [
+  | true ↦ λ is.
+      let same = visit-turn book t is in
+      subst (λ (v : Visit). IsCalm book.run book.history v.added t) (sym same) (calm-turn book t below outside (turn_visit book t).step refl (λ seq call snapshot told. none seq call snapshot (ap (λ (v : Visit). v.step) same ∙ told)))
+  | false ↦ λ is. subst (λ (v : Visit). IsCalm book.run book.history v.added t) (sym (visit-idle book t is)) (calm-none book.run book.history t outside)
+] refl
+
+-- a visit that tells of an event has its Go
+idle-untold : (book : Pages) (seq : ℕ) (call : Call) (snapshot : Snapshot) → idle_step book ≡ Told seq call snapshot → ⊥
+idle-untold book seq call snapshot = by book.ended (Rattle.omp_model.specs.Cause.cause_of book.run book.history)
+  where
+    by : (ended : Bool) (cause : Option Cause) → (if◌then◌else◌ {A = Step} ended (Ended causes.Memory) (idle_by cause)) ≡ Told seq call snapshot → ⊥
+    by true cause told = cc
+    by false (Some cause) told = cc
+    by false None told = cc
+
+told-added : (book : Pages) (t seq : ℕ) (call : Call) (snapshot : Snapshot) → (visit book t).step ≡ Told seq call snapshot → (visit book t).added ≡ go_at t ∷ []
+told-added book t seq call snapshot told = elim (is_turn book t) as (λ b. is_turn book t ≡ b → (visit book t).added ≡ go_at t ∷ []) [
+  | true ↦ λ is.
+      let same = visit-turn book t is in
+      ap (λ (v : Visit). v.added) same ∙ (told-step book t seq call snapshot (sym (ap (λ (v : Visit). v.step) same) ∙ told)).added_is
+  | false ↦ λ is. absurd (idle-untold book seq call snapshot (sym (ap (λ (v : Visit). v.step) (visit-idle book t is)) ∙ told))
+] refl
+
+-- the history that the pass has seen after a hold
+pub hold-entries : (before later : Sight) (between : List Hold) (entries : List Entry) → IsHold before later between entries → entries_of later.seen ≡ (entries_of before.seen ++ entries_of between) ++ entries
+hold-entries before later between entries hold =
+    ap entries_of hold.seen ∙ entries-append (before.seen ++ between) (hold_by before.thread entries ∷ [])
+    ∙ ap (λ front. front ++ (entries ++ [])) (entries-append before.seen between) ∙ ap (λ more. (entries_of before.seen ++ entries_of between) ++ more) (append-nil entries)
+
+-- How others' entries leave a thread.
+
+pub left-others : (run : Run) (history more : List Entry) (t : ℕ) (unheard : Bool) → NotBy t more → LeftAt run history t unheard → LeftAt run (history ++ more) t unheard
+left-others run history more t true none left =
+    record { seq = left.seq; call = left.call; snapshot = left.snapshot; owes = owes-still run history more t left.seq left.call left.snapshot left.owes none }
+left-others run history more t false none left =
+    ap (λ (S : State). pending_at S t) (after-append run (first run) history more) ∙ entries-others run (after run history) t more none ∙ left
+
+pub heard-others : (run : Run) (history more : List Entry) (t : ℕ) → NotBy t more → heard_of run (history ++ more) t ≡ heard_of run history t
+heard-others run history more t none = more-without run (first run) 0 t history more (back-others t more none)
+
+-- what is allowed behind a part of a legal history
+legal-behind : (run : Run) (S : State) (xs ys : List Entry) → AllowsFrom run S (xs ++ ys) → AllowsFrom run (after_from run S xs) ys
+legal-behind run S [] ys legal = legal
+legal-behind run S (entry ∷ xs) ys legal = legal-behind run (entered run S entry) xs ys legal.1
+
+module _ {P : Type 0} (stands_for : P → Record → Type 0) (kind : P → ℕ) (run : Run) (whose : P) where
+  abbrev Driven : Sight → P → Type 0
+  Driven pass part = IsDriven stands_for kind run whose pass part
+
+  abbrev Inside : Sight → P → Type 0
+  Inside pass part = IsInside stands_for kind run whose pass part
+
+  -- others' entries change nothing
+  pub driven-others : (pass later : Sight) (part : P) (more : List Entry) → NotBy pass.thread more → later.thread ≡ pass.thread → entries_of later.seen ≡ entries_of pass.seen ++ more → (pass.ended ≡ true → later.ended ≡ true) → Driven pass part → Driven later part
+  driven-others pass later part more none thread seen ended driven =
+      record {
+        unheard = driven.unheard;
+        left = rw (seen, thread) (left-others run (entries_of pass.seen) more pass.thread driven.unheard none driven.left);
+        over = λ unheard. ended (driven.over unheard);
+        hears = λ h stands. rw (seen, thread, heard-others run (entries_of pass.seen) more pass.thread none) (driven.hears h stands);
+        kind_is = driven.kind_is;
+      }
+
+  -- a hold without an entry
+  pub driven-grown : (pass later : Sight) (part : P) → Grows pass later [] → (pass.ended ≡ true → later.ended ≡ true) → Driven pass part → Driven later part
+  driven-grown pass later part grows ended driven =
+      driven-others pass later part (entries_of grows.between) grows.is_hold.not_by grows.is_hold.thread (hold-entries pass later grows.between [] grows.is_hold ∙ append-nil _) ended driven
+
+  -- a pass that hasn't ended the run is inside no callback
+  not-unheard : (pass : Sight) (part : P) → pass.ended ≡ false → (driven : Driven pass part) → driven.unheard ≡ false
+  not-unheard pass part ended driven = by driven.unheard driven.over
+    where
+      by : (unheard : Bool) → (unheard ≡ true → pass.ended ≡ true) → unheard ≡ false
+      by true over = absurd (true≢false (sym (over refl) ∙ ended))
+      by false over = refl
+
+  pub outside-of : (pass : Sight) (part : P) → pass.ended ≡ false → Driven pass part → pending_at (after run (entries_of pass.seen)) pass.thread ≡ None
+  outside-of pass part ended driven = rw (not-unheard pass part ended driven) at driven.left
+
+  pub inside-of : (pass : Sight) (part : P) → pass.ended ≡ false → Driven pass part → Inside pass part
+  inside-of pass part ended driven = record { hears = rw (not-unheard pass part ended driven) at driven.hears; kind_is = driven.kind_is }
+
+  pub driven-open : (pass : Sight) (part : P) → pending_at (after run (entries_of pass.seen)) pass.thread ≡ None → Inside pass part → Driven pass part
+  driven-open pass part outside inside =
+      record { unheard = false; left = outside; over = λ same. absurd (true≢false (sym same)); hears = inside.hears; kind_is = inside.kind_is }
+
+  -- a visit that tells of no event
+  pub driven-quiet :
+      (pass later : Sight) (part : P) (step : Step) → pass.thread < run.threads → pass.ended ≡ false → Goes run pass step later
+      → ((seq : ℕ) (call : Call) (snapshot : Snapshot) → step ≡ Told seq call snapshot → ⊥) → Driven pass part → Driven later part
+  driven-quiet pass later part step below ended goes none driven =
+      let book = pages_of run (pass.seen ++ goes.between) goes.ended in
+      let front = entries_of pass.seen ++ entries_of goes.between in
+      let t = pass.thread in
+      let whole : book.history ≡ front = entries-append pass.seen goes.between in
+      let outside : pending_at (after run book.history) t ≡ None = rw whole (left-others run (entries_of pass.seen) (entries_of goes.between) t false goes.is_hold.not_by (outside-of pass part ended driven)) in
+      let calm = calm-visit book t below outside (λ seq call snapshot told. none seq call snapshot (goes.step_is ∙ told)) in
+      let seen : entries_of later.seen ≡ book.history ++ (visit book t).added = hold-entries pass later goes.between (visit book t).added goes.is_hold ∙ ap (λ front. front ++ (visit book t).added) (sym whole) in
+      let inside = inside-of pass part ended driven in
+      let same : heard_of run (entries_of later.seen) later.thread ≡ heard_of run (entries_of pass.seen) t = rw (seen, goes.is_hold.thread) (calm.same ∙ rw whole (heard-others run (entries_of pass.seen) (entries_of goes.between) t goes.is_hold.not_by)) in
+      driven-open later part (rw (seen, goes.is_hold.thread) calm.outside) (record { hears = λ h stands. rw same (inside.hears h stands); kind_is = inside.kind_is })
+
+  -- a visit that tells of one
+  pub inside-told : (pass later : Sight) (part : P) (seq : ℕ) (call : Call) (snapshot : Snapshot) → pass.ended ≡ false → Goes run pass (Told seq call snapshot) later → Driven pass part → Inside later part
+  inside-told pass later part seq call snapshot ended goes driven =
+      let book = pages_of run (pass.seen ++ goes.between) goes.ended in
+      let t = pass.thread in
+      let inside = inside-of pass part ended driven in
+      let more = entries_of goes.between ++ go_at t ∷ [] in
+      let seen : entries_of later.seen ≡ entries_of pass.seen ++ more =
+      hold-entries pass later goes.between (visit book t).added goes.is_hold ∙ ap (λ added. (entries_of pass.seen ++ entries_of goes.between) ++ added) (told-added book t seq call snapshot (sym goes.step_is)) ∙ append_assoc (entries_of pass.seen) (entries_of goes.between) (go_at t ∷ []) in
+      let same : heard_of run (entries_of later.seen) later.thread ≡ heard_of run (entries_of pass.seen) t =
+      rw (seen, goes.is_hold.thread) (more-without run (first run) 0 t (entries_of pass.seen) more (no-back t (entries_of goes.between) goes.is_hold.not_by)) in
+      record { hears = λ h stands. rw same (inside.hears h stands); kind_is = inside.kind_is }
+    where
+      no-back : (t : ℕ) (xs : List Entry) → NotBy t xs → Rattle.omp_model.specs.Heard.has_back t (xs ++ go_at t ∷ []) ≡ false
+      no-back t xs none = Rattle.thread_run.proofs.Hearing.back-append t xs (go_at t ∷ []) refl ∙ back-others t xs none
+
+  -- its callback was answered
+  pub driven-answered :
+      (pass later : Sight) (part next : P) (seq : ℕ) (call : Call) (snapshot : Snapshot) (reply : Reply) → Legal run (entries_of pass.seen) → pass.thread < run.threads → Owes run (entries_of pass.seen) pass.thread seq call snapshot
+      → Grows pass later (event_reply pass.thread (stores_of reply snapshot)) → ((h : Record) → stands_for part h → stands_for next (told h (item_of seq pass.thread call snapshot reply))) → kind next ≡ kind part → Inside pass part → Driven later next
+  driven-answered pass later part next seq call snapshot reply legal below owed grows tells kept inside =
+      let t = pass.thread in
+      let stores = stores_of reply snapshot in
+      let between = entries_of grows.between in
+      let since = owed.since ++ between in
+      let none_since = not_by-append t owed.since between owed.none_since grows.is_hold.not_by in
+      let S = after run owed.before in
+      let behind = go_at t ∷ (since ++ event_reply t stores) in
+      let seen : entries_of later.seen ≡ owed.before ++ behind =
+      hold-entries pass later grows.between (event_reply t stores) grows.is_hold ∙ ap (λ front. (front ++ between) ++ event_reply t stores) owed.history_is
+      ∙ ap (λ front. front ++ event_reply t stores) (append_assoc owed.before (go_at t ∷ owed.since) between) ∙ append_assoc owed.before (go_at t ∷ since) (event_reply t stores) in
+      let outside : pending_at S t ≡ None = (turn-goes S t (legal-behind run (first run) owed.before (go_at t ∷ owed.since) (subst (AllowsFrom run (first run)) owed.history_is legal)).0).outside in
+      let item : Item = record { seq = 0 + length owed.before; thread = t; call = call_of (turn run S t).state.world t owed.event; snapshot = snap_of (turn run S t).state.world t owed.event; stores = stores } in
+      let place : 0 + length owed.before ≡ seq = omega (arith, owed.place) in
+      let is : item ≡ item_of seq t call snapshot reply = rw (place, owed.call_is, owed.snapshot_is) refl in
+      let heard : heard_of run (entries_of later.seen) later.thread ≡ heard_of run owed.before t ++ item ∷ [] =
+      rw (seen, grows.is_hold.thread) (heard-split run (first run) 0 t owed.before behind (within run t below) outside ∙ ap (λ more. heard_of run owed.before t ++ more) (answered run S (0 + length owed.before) t owed.event since stores owed.happens owed.registered none_since)) in
+      let before : heard_of run (entries_of pass.seen) t ≡ heard_of run owed.before t =
+      ap (λ history. heard_of run history t) owed.history_is ∙ more-without run (first run) 0 t owed.before (go_at t ∷ owed.since) (back-others t owed.since owed.none_since) in
+      let left : pending_at (after run (entries_of later.seen)) later.thread ≡ None =
+      rw (hold-entries pass later grows.between (event_reply t stores) grows.is_hold, grows.is_hold.thread) (reply-outside run (entries_of pass.seen ++ entries_of grows.between) t stores) in
+      driven-open later next left (record {
+        hears = λ h stands. subst (λ (h : Record). stands_for next h) (longer h (heard_of run owed.before t) item (item_of seq t call snapshot reply) is (heard_of run (entries_of later.seen) later.thread) heard) (tells (served h (heard_of run owed.before t)) (subst (λ items. stands_for part (served h items)) before (inside.hears h stands)));
+        kind_is = kept ∙ inside.kind_is;
+      })
+    where
+      longer : (h : Record) (items : List Item) (one other : Item) → one ≡ other → (all : List Item) → all ≡ items ++ one ∷ [] → told (served h items) other ≡ served h all
+      longer h items one other same all is = rw (is, ← same) (ap (λ calls. record h { calls = calls }) (append_assoc h.calls items (one ∷ [])))
+
+      reply-outside : (run : Run) (history : List Entry) (t : ℕ) (stores : List Stored) → pending_at (after run (history ++ event_reply t stores)) t ≡ None
+      reply-outside run history t stores =
+          let S = after_from run (after run history) (puts_at t stores) in
+          ap (λ (S : State). pending_at S t) (after-append run (first run) history (event_reply t stores) ∙ after-append run (after run history) (puts_at t stores) (back_at t ∷ [])) ∙ back-outside S t
+
+  -- its part found no memory
+  pub driven-unheard :
+      (pass later : Sight) (part next : P) (seq : ℕ) (call : Call) (snapshot : Snapshot) → Owes run (entries_of pass.seen) pass.thread seq call snapshot → Grows pass later [] → later.ended ≡ true
+      → ((h : Record) → stands_for part h → stands_for next (one_unheard h)) → kind next ≡ kind part → Inside pass part → Driven later next
+  driven-unheard pass later part next seq call snapshot owes grows ended none kept inside =
+      let t = pass.thread in
+      let seen : entries_of later.seen ≡ entries_of pass.seen ++ entries_of grows.between = hold-entries pass later grows.between [] grows.is_hold ∙ append-nil _ in
+      let left : LeftAt run (entries_of later.seen) later.thread true = rw (seen, grows.is_hold.thread) (left-others run (entries_of pass.seen) (entries_of grows.between) t true grows.is_hold.not_by (record { seq = seq; call = call; snapshot = snapshot; owes = owes })) in
+      record {
+        unheard = true;
+        left = left;
+        over = λ same. ended;
+        hears = λ h stands. rw (seen, grows.is_hold.thread, heard-others run (entries_of pass.seen) (entries_of grows.between) t grows.is_hold.not_by) (none _ (inside.hears h stands));
+        kind_is = kept ∙ inside.kind_is;
+      }

@@ -1,0 +1,23 @@
+use Rattle.std.proofs.Common.{◌≡◌, ◌∙◌, List, length, sym, ap}
+use Rattle.team_run.proofs.Serving.{written-back}
+use Rattle.thread_run.specs.declared.team.Slot.{Slot}
+use Rattle.thread_run.specs.Drivers.{IsSlot}
+use Rattle.thread_run.proofs.Drivers.{for-kept}
+use Rattle.thread_run.proofs.threads.fn.run_drivers.scope.Goals as goal
+
+pub returns : goal.returns
+returns g c =
+    let slots = c.start_all-slots.result in
+    let value = c.deref_mut.ensures.value in
+    let many : length c.drive_here.new.slots ≡ length slots.items = c.drive_here.ensures.as_many ∙ ap (λ (slots : List (Slot g.row.K.Denot g.row.P.Denot)). length slots) value in
+    let back = written-back c.drive_here.new.slots slots.items slots.len many (sym slots.ok.0) in
+    let all = ap (λ (slots : List (Slot g.row.K.Denot g.row.P.Denot)). length slots) back ∙ many ∙ c.start_all-slots.ensures.as_many in
+    record {
+      passes = c.finish_all.ensures.passes ∙ all;
+      parts = c.finish_all.ensures.parts ∙ all;
+      drivers = λ first are.
+          c.finish_all.ensures.drivers first
+          (rw back (for-kept {P = g.row.P.Denot} {L = Slot g.row.K.Denot g.row.P.Denot}
+          (λ t first slot. IsSlot (λ h. h.promise.0.value) (λ h. h.promise.1.value) g.P.ToolPart.stands_for g.P.ToolPart.kind g.K.BookName.run t first slot.driver)
+          first slots.items c.drive_here.new.slots many (c.start_all-slots.ensures.slots first are) (rw value at c.drive_here.ensures.kept)));
+    }

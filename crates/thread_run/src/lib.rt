@@ -1,0 +1,46 @@
+//! Runs of a program by threads, with the parts of a tool.
+//!
+//! [`run_threads`] runs a checked program over a book that threads share (`step_book`). Each thread number has a driver, with a
+//! pass to the book and a part of the tool, a [`ToolPart`](tool_api::ToolPart). A driver visits the book again and again until
+//! the run is over. Where its thread's event is told it calls its part, while it holds no lock, and answers. Told not yet it
+//! sleeps until its thread may go on. Where the book or the part finds no memory it ends the run for all.
+//!
+//! The caller has the driver of thread 0, and each other one runs on a thread of its own. Where a start is refused the driver
+//! comes back as it was, and the caller visits it in turn with driver 0. Passes and parts come back in the order of their
+//! threads. Part 0 is started before the book is made, and finished when all drivers have come back, as in a serial run.
+//!
+//! `driver` has a visit and a driver's whole way, `team` starts the drivers and takes them back, `threads` puts them together.
+//! In `specs/` `Driving` says what a driver's part was called for and what a whole run answers, and `Drivers` what is so of all
+//! drivers at once.
+//!
+//! Proved by the contract of [`run_threads`], for every kind of part. It holds of each answer that has a run. "The run" is that
+//! of the program, the threads and the silent steps that were handed in, with the mask in the answer:
+//!
+//! - `legal`: the history is legal for the run;
+//! - `parts`: part 0 was started once, and the mask is what it then registered, or 0 where it answered 0. It was finished once
+//!   and after all its calls where it answered another number, and else not at all. No other part was started or finished.
+//!   Each part was called for what its thread hears of the history, in order: the position of the event, its call, its
+//!   snapshot, and the stores that took effect. Beside that a part was called at most once more, for the event whose answer its
+//!   thread owes at the end of the history, and found no memory. That is so only where the cause is
+//!   [`Memory`](omp_model::Cause::Memory). A thread whose part found memory is inside no callback at the end;
+//! - `kinds`: each part is of the kind that it was;
+//! - `own`: nothing is heard on a thread that the run doesn't have;
+//! - `cause`: where the cause isn't `Memory` it is the one in which the history ends;
+//! - `text`: the text is what the program has printed in the state after the history.
+//!
+//! Not proved:
+//!
+//! - that a run ends, that a thread that sleeps wakes, and in which cause a run ends;
+//! - that callbacks of different threads overlap, that threads were started, and that no lock is held while a part is called:
+//!   to be read in `src/`;
+//! - that a run finds memory. Of the parts nothing is said after an error. That an error comes only before a thread was started
+//!   is to be read;
+//! - that part 0 is started before the other parts are called and finished after the threads have come back: a record doesn't
+//!   say in which order the calls of different parts came.
+#![tactic(auto)]
+
+mod driver;
+mod team;
+mod threads;
+
+pub use threads::run_threads;

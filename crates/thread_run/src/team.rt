@@ -1,0 +1,219 @@
+//! The drivers of a run, each on a thread of its own.
+
+ghost use Rattle.std.specs.Prelude.{◌≡◌, ◌≤◌, [], ℕ, List, length, vec_capacity};
+ghost use Rattle.thread_run.specs.Driving.{GoesOn};
+ghost use Rattle.thread_run.specs.Drivers.{AreDrivers, AreFor, AreKept, IsDriver, IsSlot};
+
+use crate::driver::{Visited, drive, visit};
+use std::snapshot::Snapshot;
+use std::sync::Wait;
+use std::sync::atomic::{AtomicBool, Ordering};
+use std::thread;
+use std::thread::{Promise, PromisedHandle, Scope, Threads};
+use step_book::{BookName, Pass, SharedBook};
+use tool_api::ToolPart;
+
+/// The most threads of a run.
+const THREADS: usize = 16;
+
+/// For each thread whether its driver is to be handed back as it is.
+pub(crate) type Stays = [AtomicBool; THREADS];
+
+/// The driver of a thread.
+#[derive(Drop)]
+pub(crate) struct Driver<K: BookName, P: ToolPart> {
+    /// Its pass.
+    pub pass: Pass<K>,
+    /// Its part.
+    pub part: P,
+}
+
+/// That a driver goes on from this pass and this part.
+#[derive(Drop)]
+struct Drives<K: BookName, P: ToolPart>(Snapshot<Pass<K>>, Snapshot<P>);
+
+impl<K: BookName, P: ToolPart> Promise<(Pass<K>, P)> for Drives<K, P> {
+    ghost kept_by = { λ promise r. GoesOn P.stands_for P.kind K.run promise.0.value promise.1.value r.0 r.1 };
+}
+
+/// A driver that runs on a thread of its own, or that the caller has.
+#[derive(Drop)]
+pub(crate) struct Slot<K: BookName, P: ToolPart> {
+    /// Its thread, or its pass and part where it has none.
+    driver: Result<PromisedHandle<(Pass<K>, P), Drives<K, P>>, (Pass<K>, P)>,
+}
+
+/// Starts the driver on a thread of its own. Where the start is refused the caller has it, as it was.
+fn start<'s, E: 's, R: Wait + Sync, K: BookName + 's, P: ToolPart + 's>(
+    scope: &Scope<'s, E>,
+    rt: &'s R,
+    book: &'s SharedBook<K>,
+    stays: &'s AtomicBool,
+    pass: Pass<K>,
+    part: P,
+) -> Slot<K, P>
+    ensures { (t : ℕ) (first : P) → IsDriver P.stands_for P.kind K.run t first pass part →
+        IsSlot (λ h. h.promise.0.value) (λ h. h.promise.1.value) P.stands_for P.kind K.run t first result.driver }
+{
+    let promise = Drives(Snapshot::of(&pass), Snapshot::of(&part));
+    match scope.spawn_with(
+        promise,
+        move || -> (Pass<K>, P)
+            ensures { GoesOn P.stands_for P.kind K.run pass part result.0 result.1 }
+        {
+            if stays.load(Ordering::SeqCst) {
+                return (pass, part);
+            }
+            drive(rt, book, pass, part)
+        },
+    ) {
+        Ok(child) => Slot { driver: Ok(child) },
+        Err(refused) => {
+            stays.store(true, Ordering::SeqCst);
+            Slot {
+                driver: Err((refused.value)()),
+            }
+        }
+    }
+}
+
+/// The driver as it has come back from its thread, if it has one.
+fn finish<R: Threads, K: BookName, P: ToolPart>(rt: &R, slot: Slot<K, P>) -> (Pass<K>, P)
+    ensures { (t : ℕ) (first : P) →
+        IsSlot (λ h. h.promise.0.value) (λ h. h.promise.1.value) P.stands_for P.kind K.run t first slot.driver →
+        IsDriver P.stands_for P.kind K.run t first result.0 result.1 }
+{
+    match slot.driver {
+        Ok(child) => child.join(rt),
+        Err(here) => here,
+    }
+}
+
+/// One visit of the driver, if the caller has it. Where the caller has no other one it sleeps while nothing is to be done.
+fn visit_here<R: Wait, K: BookName, P: ToolPart>(
+    rt: &R,
+    book: &SharedBook<K>,
+    slot: &mut Slot<K, P>,
+    is_alone: bool,
+) -> Visited
+    ensures { (t : ℕ) (first : P) →
+        IsSlot (λ h. h.promise.0.value) (λ h. h.promise.1.value) P.stands_for P.kind K.run t first slot.old.driver →
+        IsSlot (λ h. h.promise.0.value) (λ h. h.promise.1.value) P.stands_for P.kind K.run t first slot.new.driver }
+{
+    match &mut slot.driver {
+        Err((pass, part)) => {
+            let visited = visit(rt, book, pass, part);
+            if is_alone && visited == Visited::NotYet {
+                book.sleep(rt, pass);
+            }
+            visited
+        }
+        Ok(_) => Visited::Over,
+    }
+}
+
+/// How many drivers the caller has.
+fn count_here<K: BookName, P: ToolPart>(slots: &[Slot<K, P>]) -> usize {
+    slots.iter().filter(|slot| slot.driver.is_err()).count()
+}
+
+/// Visits the drivers that the caller has in turn, until the run is over.
+pub(crate) fn drive_here<R: Wait, K: BookName, P: ToolPart>(
+    rt: &R,
+    book: &SharedBook<K>,
+    slots: &mut [Slot<K, P>],
+)
+    ensures as_many { length slots.new ≡ length slots.old }
+    ensures kept { AreKept (λ t first slot.
+        IsSlot (λ h. h.promise.0.value) (λ h. h.promise.1.value) P.stands_for P.kind K.run t first slot.driver) slots.old slots.new }
+{
+    let is_alone = count_here(slots) == 1;
+    for _ in rt.forever() {
+        if !visit_all(rt, book, slots, is_alone) {
+            break;
+        }
+        if !is_alone {
+            thread::yield_now();
+        }
+    }
+}
+
+/// One visit of each driver that the caller has. It answers whether one goes on.
+fn visit_all<R: Wait, K: BookName, P: ToolPart>(
+    rt: &R,
+    book: &SharedBook<K>,
+    slots: &mut [Slot<K, P>],
+    is_alone: bool,
+) -> bool
+    ensures as_many { length slots.new ≡ length slots.old }
+    ensures kept { AreKept (λ t first slot.
+        IsSlot (λ h. h.promise.0.value) (λ h. h.promise.1.value) P.stands_for P.kind K.run t first slot.driver) slots.old slots.new }
+{
+    let mut goes_on = false;
+    for place in 0..slots.len() {
+        if visit_here(rt, book, &mut slots[place], is_alone) != Visited::Over {
+            goes_on = true;
+        }
+    }
+    goes_on
+}
+
+/// Starts each driver but the first, which the caller has.
+pub(crate) fn start_all<'s, E: 's, R: Wait + Sync, K: BookName + 's, P: ToolPart + 's>(
+    scope: &Scope<'s, E>,
+    rt: &'s R,
+    book: &'s SharedBook<K>,
+    stays: &'s Stays,
+    drivers: Vec<Driver<K, P>>,
+    slots: Vec<Slot<K, P>>,
+) -> Vec<Slot<K, P>>
+    requires few { length drivers.items ≤ 16 }
+    requires empty { slots.items ≡ [] }
+    requires room { length drivers.items ≤ vec_capacity slots }
+    ensures as_many { length result.items ≡ length drivers.items }
+    ensures slots { (parts : List P) → AreFor (λ t first driver. IsDriver P.stands_for P.kind K.run t first driver.pass driver.part) parts drivers.items →
+        AreFor (λ t first slot.
+        IsSlot (λ h. h.promise.0.value) (λ h. h.promise.1.value) P.stands_for P.kind K.run t first slot.driver) parts result.items }
+{
+    let mut slots = slots;
+    for driver in drivers {
+        let Driver { pass, part } = driver;
+        let place = slots.len();
+        let slot = if place == 0 {
+            Slot {
+                driver: Err((pass, part)),
+            }
+        } else {
+            start(scope, rt, book, &stays[place], pass, part)
+        };
+        slots.push_reserved(slot);
+    }
+    slots
+}
+
+/// The passes and parts of all drivers, in order, once each has come back from its thread.
+pub(crate) fn finish_all<R: Threads, K: BookName, P: ToolPart>(
+    rt: &R,
+    slots: Vec<Slot<K, P>>,
+    passes: Vec<Pass<K>>,
+    parts: Vec<P>,
+) -> (Vec<Pass<K>>, Vec<P>)
+    requires no_pass { passes.items ≡ [] }
+    requires no_part { parts.items ≡ [] }
+    requires passes { length slots.items ≤ vec_capacity passes }
+    requires parts { length slots.items ≤ vec_capacity parts }
+    ensures passes { length result.0.items ≡ length slots.items }
+    ensures parts { length result.1.items ≡ length slots.items }
+    ensures drivers { (first : List P) → AreFor (λ t first slot.
+        IsSlot (λ h. h.promise.0.value) (λ h. h.promise.1.value) P.stands_for P.kind K.run t first slot.driver) first slots.items →
+        AreDrivers P.stands_for P.kind K.run first result.0.items result.1.items }
+{
+    let mut passes = passes;
+    let mut parts = parts;
+    for slot in slots {
+        let (pass, part) = finish(rt, slot);
+        passes.push_reserved(pass);
+        parts.push_reserved(part);
+    }
+    (passes, parts)
+}
