@@ -1,5 +1,5 @@
 -- What a command does: what its words and its text decide, what it reports of its run, and what it writes.
-use Rattle.std.specs.Prelude.{ℕ, ◌≡◌, ◌≢◌, ◌⊎◌, ⊤, IsSome, IsSomeAnd, List, [], Option, Some, None, string_bytes, true}
+use Rattle.std.specs.Prelude.{ℕ, ◌≡◌, ◌≢◌, ◌⊎◌, ⊤, IsSome, IsSomeAnd, List, [], Option, Some, None, string_bytes}
 use Rattle.std.specs.declared.string.String.{String}
 use Rattle.std.specs.declared.alloc.Global.{Global}
 use Rattle.omp_model.specs.declared.cause.Cause.{Cause}
@@ -51,7 +51,7 @@ HasOutput shown ran = IsSome shown ⊎ IsSomeAnd ran (λ report. report.cause �
 
 -- the settings with which a report's run was made
 abbrev pub settings_in : {Table : Type 0} {Behind : Table → Type 0} → Report Table Behind → Settings
-settings_in report = record { command = report.command; threads = report.threads; steps = report.steps; serial = true }
+settings_in report = record { command = report.command; threads = report.threads; steps = report.steps; serial = report.serial }
 
 -- the end of a command whose text is refused for this: that refusal, or what comes before it
 abbrev pub MayRefuse : Refusal → End → Type 0

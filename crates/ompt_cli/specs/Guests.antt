@@ -1,5 +1,5 @@
 -- What guests stand for after a run: guest t was the part of thread t.
-use Rattle.std.specs.Prelude.{ℕ, ◌≡◌, ◌≢◌, ◌<◌, ◌≤◌, List, [], ◌∷◌, length, slice_index_or, Option, None}
+use Rattle.std.specs.Prelude.{ℕ, ◌≡◌, ◌≢◌, ◌<◌, ◌≤◌, Bool, false, List, [], ◌∷◌, length, slice_index_or}
 use Rattle.tool_api.specs.Record.{Record}
 use Rattle.tool_api.specs.declared.handed.Handed.{Handed}
 use Rattle.tool_api.specs.declared.handed.Handed.TheVariants as held
@@ -8,34 +8,35 @@ use Rattle.omp_model.specs.declared.cause.Cause.TheVariants as causes
 use Rattle.omp_model.specs.declared.history.Entry.{Entry}
 use Rattle.omp_model.specs.State.{Run}
 use Rattle.omp_model.specs.Heard.{heard_of}
-use Rattle.team_run.specs.Serving.{Becomes, mask_of, first_record, later_record}
+use Rattle.team_run.specs.Serving.{Becomes, mask_of}
 use Rattle.team_run.specs.Standing.{AreSilent}
-use Rattle.team_run.specs.Unheard.{IsUnheard}
+use Rattle.thread_run.specs.Driving.{called_for, record_of_first}
 use Rattle.ompt_words.specs.declared.settings.Command.{Command}
 use Rattle.ompt_words.specs.declared.settings.Command.TheVariants.{List as Listing, Run as Running}
+use Rattle.ompt_cli.specs.Runs.{Miss}
 
 -- guest 0 was started, with this answer and these callbacks registered, called for what thread 0 heard, and finished after all
--- that where it is active; guest t was called for what thread t heard; those past the threads are as they were. Beside that only
--- one call more was made, where one found no memory. Where there is no guest, nothing is registered, and nothing is stored on a
--- thread without a guest
-pub record GuestsServe {B : Type 0} (stands_for : B → Record → Type 0) (run : Run) (cause : Cause) (history : List Entry) (guests after : List B) : Type 0 where
+-- that where it is active; guest t was called for what thread t heard; those past the threads are as they were. Beside that a guest
+-- was called once more where its thread missed an event, for which no memory was found, and then the cause says so. Where there is no
+-- guest, nothing is registered, and nothing is stored on a thread without a guest
+pub record GuestsServe {B : Type 0} (stands_for : B → Record → Type 0) (serial : Bool) (run : Run) (cause : Cause) (history : List Entry) (guests after : List B) : Type 0 where
   pub as_many : length after ≡ length guests
   pub answer : ℕ
   pub registered : ℕ
   pub mask_is : run.mask ≡ mask_of answer registered
   pub nobody : length guests ≡ 0 → answer ≡ 0
-  pub unheard : Option ℕ
-  pub is_unheard : IsUnheard run history unheard
-  pub all_heard : cause ≢ causes.Memory → unheard ≡ None
-  pub first : 0 < length guests → Becomes stands_for guests after 0 (first_record answer registered (heard_of run history 0) unheard)
-  pub others : (k : ℕ) → 0 < k → k < run.threads → k < length guests → Becomes stands_for guests after k (later_record k (heard_of run history k) unheard)
+  pub missed : ℕ → Bool
+  pub miss : Miss serial run history missed
+  pub all_heard : cause ≢ causes.Memory → (k : ℕ) → k < run.threads → missed k ≡ false
+  pub first : 0 < length guests → Becomes stands_for guests after 0 (record_of_first answer registered (heard_of run history 0) (missed 0))
+  pub others : (k : ℕ) → 0 < k → k < run.threads → k < length guests → Becomes stands_for guests after k (called_for (heard_of run history k) (missed k))
   pub rest : (k : ℕ) (d : B) → run.threads ≤ k → slice_index_or after k d ≡ slice_index_or guests k d
   pub guestless : (k : ℕ) → length guests ≤ k → k < run.threads → AreSilent (heard_of run history k)
 
 -- what guests stand for after a command: a listing leaves them as they were
-abbrev pub GuestsAfter : {B : Type 0} → (B → Record → Type 0) → Command → Run → Cause → List Entry → List B → List B → Type 0
-GuestsAfter stands_for Listing run cause history guests after = after ≡ guests
-GuestsAfter stands_for Running run cause history guests after = GuestsServe stands_for run cause history guests after
+abbrev pub GuestsAfter : {B : Type 0} → (B → Record → Type 0) → Command → Bool → Run → Cause → List Entry → List B → List B → Type 0
+GuestsAfter stands_for Listing serial run cause history guests after = after ≡ guests
+GuestsAfter stands_for Running serial run cause history guests after = GuestsServe stands_for serial run cause history guests after
 
 -- the guests that these parts hold, in order
 abbrev pub guests_of : {G : Type 0} {B : Type 0} → (G → B) → List (Handed G) → List B

@@ -18,7 +18,6 @@
 //! memory isn't proved: the rows of `run_tables` show it.
 #![tactic(auto)]
 
-mod asked;
 mod end;
 mod ended;
 mod guest_part;
@@ -28,6 +27,7 @@ mod list;
 mod program_tree;
 mod report;
 mod run;
+mod running;
 mod text;
 mod top_call;
 

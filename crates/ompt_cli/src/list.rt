@@ -1,31 +1,36 @@
-//! The command `list`: it runs the program serially, and writes a line for each event.
+//! The command `list`: it runs the program, and writes a line for each event.
 
-ghost use Rattle.std.specs.Prelude.{ℕ, ℤ, ◌≡◌, ◌≢◌, IfSome, IsSomeAnd, List, [], replicate, IfOk};
+ghost use Rattle.std.specs.Prelude.{ℕ, ℤ, ◌≡◌, ◌≢◌, IfSome, IsSomeAnd, List, [], replicate, IfOk, true};
 ghost use Rattle.std.specs.Io.KnownBytes.{Appends, Keeps};
 ghost use Rattle.omp_model.specs.declared.history.EventRecord.{EventRecord};
 ghost use Rattle.omp_model.specs.Serial.{Serial, serial};
 ghost use Rattle.omp_model.specs.Cause.{cause_of};
+ghost use Rattle.omp_model.specs.Legal.{Legal};
 ghost use Rattle.omp_model.specs.Records.{lines_of};
 ghost use Rattle.run_edges.specs.Edges.{Rose, AppendsFront};
 ghost use Rattle.tool_report.specs.Order.{AreShared};
 ghost use Rattle.ompt_cli.specs.Commands.{EndsAs, EndsWith, IsAfterRun, TellsRun, run_text, run_of, unless_memory};
+ghost use Rattle.ompt_cli.specs.Runs.{AreOutside};
 
 use crate::end::End;
 use crate::ended::{Ended, without_run};
 use crate::job::Job;
 use crate::program_tree::ProgramTree;
 use crate::report::Report;
+use crate::running::run_job;
 use omp_codes::PROFILE_MASK;
 use omp_model::Cause;
 use ompt_words::Command;
 use run_edges::{Sink, write_all};
 use std::alloc::{AllocError, Global};
-use team_run::run_serial;
+use std::sync::Wait;
+use std::thread::Threads;
 use tool_api::GuestTool;
 use tool_report::{Lister, lines_text};
 
 /// Runs the job, and writes its lines. The guests come back as they were.
-pub(crate) fn list<O: Sink>(
+pub(crate) fn list<R: Threads + Wait + Sync, O: Sink>(
+    rt: &R,
     alloc: Global,
     job: Job,
     guests: Vec<Box<dyn GuestTool>>,
@@ -36,13 +41,15 @@ pub(crate) fn list<O: Sink>(
     ensures steady { result.end ≢ End.WriteFault → O.faults out.new ≡ O.faults out.old }
     ensures ran { IfSome result.ran (λ report.
         (report.command ≡ Command.List) × (report.program.tree ≡ job.program) × (report.threads ≡ job.threads)
-        × (report.steps ≡ job.steps)) }
+        × (report.steps ≡ job.steps) × (report.serial ≡ job.serial)) }
     ensures guests { IfSome result.ran (λ report. report.guests ≡ guests) }
     ensures mask { IfSome result.ran (λ report. report.mask ≡ PROFILE_MASK) }
-    ensures serial { IfSome result.ran (λ report. Serial (run_of report) report.history) }
+    ensures legal { IfSome result.ran (λ report. Legal (run_of report) report.history) }
+    ensures outside { IfSome result.ran (λ report. report.cause ≢ Cause.Memory → AreOutside (run_of report) report.history) }
+    ensures serial { IfSome result.ran (λ report. report.serial ≡ true → Serial (run_of report) report.history) }
     ensures cause { IfSome result.ran (λ report. report.cause ≢ Cause.Memory →
         cause_of (run_of report) report.history ≡ Some report.cause) }
-    ensures whole { IfSome result.ran (λ report. report.cause ≢ Cause.Memory →
+    ensures whole { IfSome result.ran (λ report. report.serial ≡ true → report.cause ≢ Cause.Memory →
         report.history ≡ serial (run_of report)) }
     ensures done { result.end ≡ End.Done → IsSomeAnd result.ran (λ report. report.cause ≡ Cause.Done) }
     ensures returned { (value : ℤ) → result.end ≡ End.Returned value →
@@ -62,16 +69,17 @@ pub(crate) fn list<O: Sink>(
         AppendsFront (O.held out.old) (O.held out.new) (run_text result.ran) }
     ensures kept { result.end ≡ End.Memory → Keeps (O.held out.old) (O.held out.new) }
 {
+    let tree = ProgramTree::of(&job.program);
     let Job {
-        program,
         threads,
         steps,
+        serial,
+        ..
     } = job;
-    let tree = ProgramTree::of(&program);
     let Ok(parts) = listers(alloc, threads) else {
         return without_run(End::Memory);
     };
-    let ran = match run_serial(alloc, program, threads, steps, parts) {
+    let ran = match run_job(rt, alloc, job, parts) {
         Ok(ran) => ran,
         Err(_) => return without_run(End::Memory),
     };
@@ -83,6 +91,7 @@ pub(crate) fn list<O: Sink>(
         mask: ran.mask,
         threads,
         steps,
+        serial,
         history: ran.history,
         guests,
     };

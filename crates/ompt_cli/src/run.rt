@@ -1,13 +1,15 @@
-//! The command `run`: it runs the program serially, with the guests as the parts of its threads, and writes what it prints.
+//! The command `run`: it runs the program with the guests as the parts of its threads, and writes what it prints.
 
-ghost use Rattle.std.specs.Prelude.{ℕ, ℤ, ◌≡◌, ◌≢◌, IfSome, IsSomeAnd, List, []};
+ghost use Rattle.std.specs.Prelude.{ℕ, ℤ, ◌≡◌, ◌≢◌, IfSome, IsSomeAnd, List, [], true};
 ghost use Rattle.std.specs.Io.KnownBytes.{Appends, Keeps};
 ghost use Rattle.omp_model.specs.Serial.{Serial, serial};
 ghost use Rattle.omp_model.specs.Cause.{cause_of};
+ghost use Rattle.omp_model.specs.Legal.{Legal};
 ghost use Rattle.team_run.specs.Standing.{HearsSilent};
 ghost use Rattle.run_edges.specs.Edges.{Rose, AppendsFront};
 ghost use Rattle.ompt_cli.specs.Commands.{EndsAs, EndsWith, IsAfterRun, TellsRun, run_text, run_of, unless_memory};
 ghost use Rattle.ompt_cli.specs.Guests.{GuestsServe};
+ghost use Rattle.ompt_cli.specs.Runs.{AreOutside};
 
 use crate::end::End;
 use crate::ended::{Ended, without_run};
@@ -15,15 +17,18 @@ use crate::guests::{hand_out, take_back};
 use crate::job::Job;
 use crate::program_tree::ProgramTree;
 use crate::report::Report;
+use crate::running::run_job;
 use omp_model::Cause;
 use ompt_words::Command;
 use run_edges::{Sink, write_all};
 use std::alloc::Global;
-use team_run::run_serial;
+use std::sync::Wait;
+use std::thread::Threads;
 use tool_api::GuestTool;
 
 /// Runs the job, and writes what the program printed. Guest t is the part of thread t; threads past the guests have none.
-pub(crate) fn run<O: Sink>(
+pub(crate) fn run<R: Threads + Wait + Sync, O: Sink>(
+    rt: &R,
     alloc: Global,
     job: Job,
     guests: Vec<Box<dyn GuestTool>>,
@@ -34,14 +39,16 @@ pub(crate) fn run<O: Sink>(
     ensures steady { result.end ≢ End.WriteFault → O.faults out.new ≡ O.faults out.old }
     ensures ran { IfSome result.ran (λ report.
         (report.command ≡ Command.Run) × (report.program.tree ≡ job.program) × (report.threads ≡ job.threads)
-        × (report.steps ≡ job.steps)) }
+        × (report.steps ≡ job.steps) × (report.serial ≡ job.serial)) }
     ensures guests { IfSome result.ran (λ report.
-        GuestsServe (λ guest h. (GuestTool-box guest).stands_for guest.value h) (run_of report) report.cause report.history
+        GuestsServe (λ guest h. (GuestTool-box guest).stands_for guest.value h) report.serial (run_of report) report.cause report.history
         guests.items report.guests.items) }
-    ensures serial { IfSome result.ran (λ report. Serial (run_of report) report.history) }
+    ensures legal { IfSome result.ran (λ report. Legal (run_of report) report.history) }
+    ensures outside { IfSome result.ran (λ report. report.cause ≢ Cause.Memory → AreOutside (run_of report) report.history) }
+    ensures serial { IfSome result.ran (λ report. report.serial ≡ true → Serial (run_of report) report.history) }
     ensures cause { IfSome result.ran (λ report. report.cause ≢ Cause.Memory →
         cause_of (run_of report) report.history ≡ Some report.cause) }
-    ensures whole { IfSome result.ran (λ report. report.cause ≢ Cause.Memory → HearsSilent (run_of report) report.history →
+    ensures whole { IfSome result.ran (λ report. report.serial ≡ true → report.cause ≢ Cause.Memory → HearsSilent (run_of report) report.history →
         report.history ≡ serial (run_of report)) }
     ensures done { result.end ≡ End.Done → IsSomeAnd result.ran (λ report. report.cause ≡ Cause.Done) }
     ensures returned { (value : ℤ) → result.end ≡ End.Returned value →
@@ -62,12 +69,13 @@ pub(crate) fn run<O: Sink>(
         AppendsFront (O.held out.old) (O.held out.new) (run_text result.ran) }
     ensures kept { result.end ≡ End.Memory → Keeps (O.held out.old) (O.held out.new) }
 {
+    let tree = ProgramTree::of(&job.program);
     let Job {
-        program,
         threads,
         steps,
+        serial,
+        ..
     } = job;
-    let tree = ProgramTree::of(&program);
     let mut waiting = guests;
     waiting.reverse();
     let Ok(parts) = hand_out(alloc, threads, &mut waiting) else {
@@ -76,7 +84,7 @@ pub(crate) fn run<O: Sink>(
     let Ok(()) = waiting.reserve(threads as usize) else {
         return without_run(End::Memory);
     };
-    let ran = match run_serial(alloc, program, threads, steps, parts) {
+    let ran = match run_job(rt, alloc, job, parts) {
         Ok(ran) => ran,
         Err(_) => return without_run(End::Memory),
     };
@@ -91,6 +99,7 @@ pub(crate) fn run<O: Sink>(
         mask: ran.mask,
         threads,
         steps,
+        serial,
         history: ran.history,
         guests: waiting,
     };

@@ -1,20 +1,21 @@
 //! The call that does all: a command from bytes to bytes.
 
-ghost use Rattle.std.specs.Prelude.{ℕ, ℤ, ◌≡◌, ◌≢◌, ◌<◌, IfSome, IsSome, IsSomeAnd, IsNone, Some, ◌↔◌, ◌⊎◌, []};
+ghost use Rattle.std.specs.Prelude.{ℕ, ℤ, ◌≡◌, ◌≢◌, ◌<◌, IfSome, IsSome, IsSomeAnd, IsNone, Some, ◌↔◌, ◌⊎◌, [], true};
 ghost use Rattle.std.specs.Io.KnownBytes.{Appends, Keeps};
 ghost use Rattle.omp_model.specs.Serial.{Serial, serial};
 ghost use Rattle.omp_model.specs.Cause.{cause_of};
+ghost use Rattle.omp_model.specs.Legal.{Legal};
 ghost use Rattle.run_edges.specs.Edges.{Rose, AppendsFront};
-ghost use Rattle.ompt_words.specs.Answers.{AreReadAs, AskForText};
+ghost use Rattle.ompt_words.specs.Answers.{AreReadAs, AreWrong, AskForText};
 ghost use Rattle.ompt_words.specs.Form.{AskInForm, InForm, own_settings};
-ghost use Rattle.ompt_cli.specs.Words.{AreRefused, AskForRun, texts};
+ghost use Rattle.ompt_cli.specs.Words.{AskForRun, texts};
 ghost use Rattle.ompt_cli.specs.Text.{IsProgram, IsRefused, Spells};
 ghost use Rattle.ompt_cli.specs.Ends.{IsLost, IsQuiet, IsTold, status_of_lost};
 ghost use Rattle.team_run.specs.Standing.{HearsSilent};
 ghost use Rattle.ompt_cli.specs.Commands.{EndsAs, HasOutput, IsShowing, IsUnread, MayRefuse, MayRun, out_of, run_of, settings_in};
 ghost use Rattle.ompt_cli.specs.Guests.{GuestsAfter};
+ghost use Rattle.ompt_cli.specs.Runs.{AreOutside, IsReturn, IsWhole};
 
-use crate::asked::serial_settings;
 use crate::end::{End, Refusal};
 use crate::ended::{Ended, without_run};
 use crate::job::Job;
@@ -24,9 +25,11 @@ use crate::run::run;
 use crate::text::read_program_of;
 use omp_codes::PROFILE_MASK;
 use omp_model::Cause;
-use ompt_words::{Command, Settings, WordsFault};
+use ompt_words::{Command, Settings, WordsFault, settings_of};
 use run_edges::{Sink, Source, write_all};
 use std::alloc::Global;
+use std::sync::Wait;
+use std::thread::Threads;
 use tool_api::GuestTool;
 
 /// Does what the words say: it reads the program from `source`, runs it, writes what is defined to `out`, and one line
@@ -34,10 +37,11 @@ use tool_api::GuestTool;
 /// the guests come back as they were. Where the words ask for help or for the version, that text is written to `out`, and
 /// nothing is read.
 ///
-/// `words` don't contain the program's own name. `rt` stands for the runtime, of which a serial run takes nothing.
+/// `words` don't contain the program's own name. With `--serial` one thread has all turns, and nothing is taken of `rt`; else each
+/// thread number has a thread of its own, the first one the caller's. No clause says that a run by threads comes back.
 /// Where nothing ran the guests are dropped.
-pub fn top<R, S: Source, O: Sink, E: Sink>(
-    _rt: &R,
+pub fn top<R: Threads + Wait + Sync, S: Source, O: Sink, E: Sink>(
+    rt: &R,
     alloc: Global,
     words: &[String],
     source: &mut S,
@@ -51,9 +55,9 @@ pub fn top<R, S: Source, O: Sink, E: Sink>(
     ensures zero { (result.status ≡ 0) ↔ IsQuiet result.end }
     ensures silent { IsQuiet result.end → err.new ≡ err.old }
 
-    // Words are refused only where clap may find a mistake in them, or `--serial` is wanting. Nothing is touched then. Words that
-    // ask for a run aren't refused, and a text is read only for them.
-    ensures usage { result.end ≡ End.Usage → AreRefused (texts words.now) }
+    // Words are refused only where clap may find a mistake in them. Nothing is touched then. Words that ask for a run aren't refused,
+    // and a text is read only for them.
+    ensures usage { result.end ≡ End.Usage → AreWrong (texts words.now) }
     ensures formed { AskForRun (texts words.now) → (result.end ≢ End.Usage) × (result.end ≢ End.Shown) × IsNone result.shown }
     ensures untouched { result.end ≡ End.Usage →
         (source.new ≡ source.old) × (out.new ≡ out.old) × IsNone result.ran × IsNone result.shown }
@@ -80,28 +84,35 @@ pub fn top<R, S: Source, O: Sink, E: Sink>(
     ensures lost { O.faults out.old < O.faults out.new → result.end ≡ End.WriteFault }
     ensures untold { E.faults err.old < E.faults err.new → result.status ≡ status_of_lost result.end }
 
-    // What ran is one serial run of the program, with the command, the threads and the steps that the words ask for: where they
-    // are in the form, their own with the defaults.
+    // What ran is the program, with the command, the threads and the steps that the words ask for, and serially where they do: where
+    // they are in the form, their own with the defaults.
     ensures asked { IfSome result.ran (λ report. AreReadAs (texts words.now) (settings_in report)) }
     ensures own { (form : InForm (texts words.now)) →
         IfSome result.ran (λ report. settings_in report ≡ own_settings form) }
     ensures spelled { IfSome result.ran (λ report.
         IfSome (S.left source.old) (λ text. Spells text report.program.tree)) }
     ensures mask { IfSome result.ran (λ report. report.command ≡ Command.List → report.mask ≡ PROFILE_MASK) }
-    ensures serial { IfSome result.ran (λ report. Serial (run_of report) report.history) }
+
+    // Its history is legal, and ends in the cause that is reported: whole exactly where main returned. No thread is inside a callback then.
+    // With `--serial` it is in the serial order.
+    ensures legal { IfSome result.ran (λ report. Legal (run_of report) report.history) }
     ensures cause { IfSome result.ran (λ report. report.cause ≢ Cause.Memory →
         cause_of (run_of report) report.history ≡ Some report.cause) }
+    ensures finished { IfSome result.ran (λ report. report.cause ≢ Cause.Memory →
+        IsReturn report.cause ↔ IsWhole (run_of report) report.history) }
+    ensures outside { IfSome result.ran (λ report. report.cause ≢ Cause.Memory → AreOutside (run_of report) report.history) }
+    ensures serial { IfSome result.ran (λ report. report.serial ≡ true → Serial (run_of report) report.history) }
 
-    // It is the one in which nothing is stored: for a listing, and where no tool stored anything.
-    ensures whole { IfSome result.ran (λ report. report.command ≡ Command.List → report.cause ≢ Cause.Memory →
+    // A serial history is the one in which nothing is stored: for a listing, and where no tool stored anything.
+    ensures whole { IfSome result.ran (λ report. report.serial ≡ true → report.command ≡ Command.List → report.cause ≢ Cause.Memory →
         report.history ≡ serial (run_of report)) }
-    ensures silent_run { IfSome result.ran (λ report. report.cause ≢ Cause.Memory →
+    ensures silent_run { IfSome result.ran (λ report. report.serial ≡ true → report.cause ≢ Cause.Memory →
         HearsSilent (run_of report) report.history → report.history ≡ serial (run_of report)) }
 
-    // Guest t was called for what thread t heard, in its order, and for nothing else but at most one call that found no
-    // memory. Threads without a guest stored nothing.
+    // Guest t was called for what thread t heard, in its order, and for nothing else but a call that found no memory, which ends the
+    // run. Threads without a guest stored nothing.
     ensures guests { IfSome result.ran (λ report.
-        GuestsAfter (λ guest h. (GuestTool-box guest).stands_for guest.value h) report.command (run_of report)
+        GuestsAfter (λ guest h. (GuestTool-box guest).stands_for guest.value h) report.command report.serial (run_of report)
         report.cause report.history guests.items report.guests.items) }
 
     // The end is the run's, unless a write or memory fails.
@@ -127,7 +138,7 @@ pub fn top<R, S: Source, O: Sink, E: Sink>(
         AppendsFront (O.held out.old) (O.held out.new) (out_of result.shown result.ran) }
     ensures kept { result.end ≡ End.Memory → Keeps (O.held out.old) (O.held out.new) }
 {
-    let settings = match serial_settings(alloc, words) {
+    let settings = match settings_of(alloc, words) {
         Ok(settings) => settings,
         Err(WordsFault::Usage) => return tell(without_run(End::Usage), None, err),
         Err(WordsFault::Memory) => return tell(without_run(End::Memory), None, err),
@@ -140,16 +151,16 @@ pub fn top<R, S: Source, O: Sink, E: Sink>(
         command,
         threads,
         steps,
-        ..
+        serial,
     } = settings;
     match (read_program_of(alloc, source), command) {
         (Ok(program), Command::List) => tell(
-            list(alloc, Job::new(program, threads, steps), guests, out),
+            list(rt, alloc, Job::new(program, threads, steps, serial), guests, out),
             None,
             err,
         ),
         (Ok(program), Command::Run) => tell(
-            run(alloc, Job::new(program, threads, steps), guests, out),
+            run(rt, alloc, Job::new(program, threads, steps, serial), guests, out),
             None,
             err,
         ),

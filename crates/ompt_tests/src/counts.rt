@@ -5,7 +5,9 @@ use crate::listening::Listening;
 use omp_codes::PROFILE_MASK;
 use run_edges::Memory;
 use std::process::Abort;
+use std::sync::Wait;
 use std::test::Fail;
+use std::thread::Threads;
 
 /// Words of a run with four threads.
 const RUN_ON_FOUR: &[&str] = &["run", "--serial", "--threads", "4"];
@@ -81,7 +83,7 @@ fn guests_on_four_threads_count_their_calls(rt: HostRuntime) -> Result<(), Fail>
 }
 
 /// Hands the command the text, with four guests that register the callbacks of the profile.
-fn told_to_four<R: AllocGlobal>(rt: &R, text: &[u8]) -> Result<Told, Memory> {
+fn told_to_four<R: AllocGlobal + Threads + Wait + Sync>(rt: &R, text: &[u8]) -> Result<Told, Memory> {
     let mut guests = Vec::new(rt.alloc());
     for _guest in 0..4 {
         guests.push(Listening::new(rt, PROFILE_MASK, 1))?;

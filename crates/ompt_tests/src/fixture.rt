@@ -10,6 +10,8 @@ use ompt_cli::{Command, End, Report, Top, top};
 use run_edges::{MemSink, MemSource, Memory, Script, Source};
 use std::alloc::{AllocError, Global};
 use std::process::Abort;
+use std::sync::Wait;
+use std::thread::Threads;
 use tool_api::GuestTool;
 
 /// The program that does nothing.
@@ -50,7 +52,7 @@ pub(crate) struct Ran {
 }
 
 /// Hands the command these words, this source, an output with ample room, and no guests.
-pub(crate) fn tell<R: AllocGlobal, S: Source>(
+pub(crate) fn tell<R: AllocGlobal + Threads + Wait + Sync, S: Source>(
     rt: &R,
     words: &[&str],
     source: &mut S,
@@ -60,7 +62,7 @@ pub(crate) fn tell<R: AllocGlobal, S: Source>(
 }
 
 /// Hands the command these words, this text, and these guests. The guests are asked for these calls.
-pub(crate) fn tell_guests<R: AllocGlobal>(
+pub(crate) fn tell_guests<R: AllocGlobal + Threads + Wait + Sync>(
     rt: &R,
     words: &[&str],
     text: &[u8],
@@ -73,7 +75,7 @@ pub(crate) fn tell_guests<R: AllocGlobal>(
 
 /// Hands the command all that it takes, with ample room for its line. The guests are boxed here, and the boxes that come back are
 /// asked before this ends: a function that gave away boxes from another crate's call would hide which ones they are.
-pub(crate) fn hand<R: AllocGlobal, S: Source>(
+pub(crate) fn hand<R: AllocGlobal + Threads + Wait + Sync, S: Source>(
     rt: &R,
     words: &[&str],
     source: &mut S,

@@ -8,7 +8,9 @@ use ompt_calls::{Call, Frame, Target, Word};
 use ompt_cli::{Command, End};
 use run_edges::Memory;
 use std::process::Abort;
+use std::sync::Wait;
 use std::test::Fail;
+use std::thread::Threads;
 use team_run::run_serial;
 use tool_api::Guest;
 
@@ -133,7 +135,7 @@ fn guests_hear_of_runs(rt: HostRuntime) -> Result<(), Fail> {
 }
 
 /// Hands the command what the case has.
-fn told_in<R: AllocGlobal>(rt: &R, case: &Case) -> Result<Told, Memory> {
+fn told_in<R: AllocGlobal + Threads + Wait + Sync>(rt: &R, case: &Case) -> Result<Told, Memory> {
     let mut guests = Vec::new(rt.alloc());
     for _guest in 0..case.guests {
         let mut guest = Listening::new(rt, case.registers, case.answer);

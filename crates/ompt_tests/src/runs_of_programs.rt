@@ -5,6 +5,8 @@ use crate::fixture::program_of;
 use crate::parts::{run_on_one, run_on_two};
 use omp_model::Cause;
 use std::process::Abort;
+use std::sync::Wait;
+use std::thread::Threads;
 use team_run::{Memory, run_serial};
 use tool_api::Quiet;
 
@@ -68,7 +70,7 @@ fn runs_come_to_their_ends(rt: HostRuntime) -> Result<(), Memory> {
     Ok(())
 }
 
-fn comes_to_its_end<R: Abort + AllocGlobal>(rt: &R, run: &Run) -> Result<(), Memory> {
+fn comes_to_its_end<R: Abort + AllocGlobal + Threads + Wait + Sync>(rt: &R, run: &Run) -> Result<(), Memory> {
     let ran = if run.threads == 2 {
         run_on_two(rt, run.text)?
     } else {

@@ -6,6 +6,8 @@ use crate::wanted::Wanted;
 use ompt_cli::{Report, top};
 use run_edges::{MemSink, MemSource, Script};
 use std::alloc::Global;
+use std::sync::Wait;
+use std::thread::Threads;
 
 /// How many bytes an output has room for.
 const ROOM: usize = 0x20_0000;
@@ -69,7 +71,7 @@ impl Row {
     }
 
     /// Hands the command these words and what the row has. Tells what it came to, if that isn't as the row says.
-    pub fn difference<R>(
+    pub fn difference<R: Threads + Wait + Sync>(
         self,
         rt: &R,
         alloc: Global,

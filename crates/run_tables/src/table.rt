@@ -4,6 +4,8 @@ use crate::piece::add_piece;
 use crate::row::Row;
 use crate::row_fault::RowFault;
 use std::alloc::Global;
+use std::sync::Wait;
+use std::thread::Threads;
 
 /// What the lines of a table said so far.
 #[derive(Drop)]
@@ -57,7 +59,7 @@ impl Table {
     }
 
     /// Ends the row, if one began. Tells how it came to something else than it wants.
-    pub fn end_row<R>(
+    pub fn end_row<R: Threads + Wait + Sync>(
         &mut self,
         rt: &R,
         alloc: Global,
