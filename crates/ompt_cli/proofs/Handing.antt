@@ -1,5 +1,5 @@
 -- Guests are handed out to threads, and taken back.
-use Rattle.std.proofs.Common.{◌≡◌, ℕ, zero, suc, ◌<◌, ◌≤◌, List, [], ◌∷◌, ◌++◌, length, slice_index_or, refl, sym, ap, subst, ◌∙◌, arith}
+use Rattle.std.proofs.Common.{◌≡◌, ℕ, zero, suc, ◌<◌, ◌≤◌, Bool, List, [], ◌∷◌, ◌++◌, length, slice_index_or, refl, sym, ap, subst, ◌∙◌, arith}
 use Rattle.std.proofs.lemmas.List.{nil_from_length}
 use Rattle.tool_api.specs.Record.{Record, QuietFor, StartedWith, StoresNothing}
 use Rattle.tool_api.specs.declared.quiet.Quiet.{Quiet}
@@ -10,11 +10,12 @@ use Rattle.omp_model.specs.declared.cause.Cause.{Cause}
 use Rattle.omp_model.specs.declared.history.Entry.{Entry}
 use Rattle.omp_model.specs.State.{Run}
 use Rattle.omp_model.specs.Heard.{heard_of}
-use Rattle.team_run.specs.Serving.{served, first_record, RunsFor, SameKinds}
+use Rattle.team_run.specs.Serving.{SameKinds}
 use Rattle.team_run.specs.Standing.{AreSilent}
-use Rattle.team_run.specs.Unheard.{unheard_on}
+use Rattle.thread_run.specs.Driving.{called_for, record_of_first}
+use Rattle.ompt_cli.specs.Runs.{RunsParts}
 use Rattle.ompt_cli.specs.Guests.{GuestsServe, HandOut, guests_of}
-use Rattle.ompt_cli.proofs.Calls.{SameCalls, same-first, same-unheard}
+use Rattle.ompt_cli.proofs.Calls.{SameCalls, same-first, same-missed}
 use Rattle.ompt_cli.proofs.Listing.{nothing_called, silent-each}
 
 module _ {G : Type 0} {B : Type 0} (box : G → B) where
@@ -100,13 +101,13 @@ module _ {G : Type 0} {B : Type 0} (box : G → B) (stands : B → Record → Ty
   fresh-quiet : (quiet : Quiet) → QuietFor quiet nothing_called
   fresh-quiet quiet = record { started = λ k d below. absurd (omega (arith, below)); silent = λ k d below. absurd (omega (arith, below)); heard = refl; alone = refl }
 
-  first-answer : (run : Run) (cause : Cause) (H : List Entry) (parts after : List (Handed G)) (rest : List B) → 1 ≤ length parts → HandOut box [] parts rest → length after ≡ length parts → SameKinds kind_of parts after → (runs : RunsFor For run cause H parts after) → runs.answer ≡ 0
-  first-answer run cause H [] after rest some out same kinds runs = absurd (omega (arith, some))
-  first-answer run cause H (p ∷ parts) [] rest some out same kinds runs = absurd (omega (arith, same))
-  first-answer run cause H (held.Guest g ∷ parts) (a ∷ after) rest some out same kinds runs = absurd out
-  first-answer run cause H (held.Quiet q ∷ parts) (held.Guest a ∷ after) rest some out same kinds runs = absurd (omega (arith, kinds-head kind_of (held.Quiet q) (held.Guest a) parts after kinds))
-  first-answer run cause H (held.Quiet q ∷ parts) (held.Quiet a ∷ after) rest some out same kinds runs =
-      quiet-answer runs.answer runs.registered _ _ a (same-first runs.answer runs.registered (heard_of run H 0) runs.unheard nothing_called) refl (runs.first (held.Quiet q) nothing_called (fresh-quiet q))
+  first-answer : (serial : Bool) (run : Run) (cause : Cause) (H : List Entry) (parts after : List (Handed G)) (rest : List B) → 1 ≤ length parts → HandOut box [] parts rest → length after ≡ length parts → SameKinds kind_of parts after → (runs : RunsParts For serial run cause H parts after) → runs.answer ≡ 0
+  first-answer serial run cause H [] after rest some out same kinds runs = absurd (omega (arith, some))
+  first-answer serial run cause H (p ∷ parts) [] rest some out same kinds runs = absurd (omega (arith, same))
+  first-answer serial run cause H (held.Guest g ∷ parts) (a ∷ after) rest some out same kinds runs = absurd out
+  first-answer serial run cause H (held.Quiet q ∷ parts) (held.Guest a ∷ after) rest some out same kinds runs = absurd (omega (arith, kinds-head kind_of (held.Quiet q) (held.Guest a) parts after kinds))
+  first-answer serial run cause H (held.Quiet q ∷ parts) (held.Quiet a ∷ after) rest some out same kinds runs =
+      quiet-answer runs.answer runs.registered _ _ a (same-first runs.answer runs.registered (heard_of run H 0) (runs.missed 0) nothing_called) refl (runs.first (held.Quiet q) nothing_called (fresh-quiet q))
 
   -- the part of a thread past the guests is none
   none-in : (guests : List B) (parts : List (Handed G)) (rest : List B) → HandOut box guests parts rest → (k : ℕ) (e : Handed G) → length guests ≤ k → k < length parts → For (slice_index_or parts k e) nothing_called
@@ -133,33 +134,33 @@ module _ {G : Type 0} {B : Type 0} (box : G → B) (stands : B → Record → Ty
   none-out (b ∷ guests) (held.Quiet q ∷ parts) (a ∷ after) rest out same kinds k e h past below for = absurd out
 
   -- so nothing is stored on a thread without a guest
-  without-guest : (run : Run) (cause : Cause) (H : List Entry) (guests : List B) (parts after : List (Handed G)) (rest : List B) → HandOut box guests parts rest → SameKinds kind_of parts after → RunsFor For run cause H parts after → (k : ℕ) (e : Handed G) → length guests ≤ k → k < length parts → AreSilent (heard_of run H k)
-  without-guest run cause H guests parts after rest out kinds runs zero e past below =
-      silent-each (heard_of run H 0) (subst StoresNothing (same-first runs.answer runs.registered (heard_of run H 0) runs.unheard nothing_called).calls
+  without-guest : (serial : Bool) (run : Run) (cause : Cause) (H : List Entry) (guests : List B) (parts after : List (Handed G)) (rest : List B) → HandOut box guests parts rest → SameKinds kind_of parts after → RunsParts For serial run cause H parts after → (k : ℕ) (e : Handed G) → length guests ≤ k → k < length parts → AreSilent (heard_of run H k)
+  without-guest serial run cause H guests parts after rest out kinds runs zero e past below =
+      silent-each (heard_of run H 0) (subst StoresNothing (same-first runs.answer runs.registered (heard_of run H 0) (runs.missed 0) nothing_called).calls
       (none-out guests parts after rest out runs.as_many kinds 0 e _ past below (runs.first e nothing_called (none-in guests parts rest out 0 e past below))))
-  without-guest run cause H guests parts after rest out kinds runs (suc k) e past below =
-      silent-each (heard_of run H (suc k)) (subst StoresNothing (same-unheard runs.unheard (suc k) (served nothing_called (heard_of run H (suc k)))).calls
-      (none-out guests parts after rest out runs.as_many kinds (suc k) e _ past below (runs.others (suc k) (omega arith) below e nothing_called (none-in guests parts rest out (suc k) e past below))))
+  without-guest serial run cause H guests parts after rest out kinds runs (suc k) e past below =
+      silent-each (heard_of run H (suc k)) (subst StoresNothing (same-missed (heard_of run H (suc k)) (runs.missed (suc k)) nothing_called).calls
+      (none-out guests parts after rest out runs.as_many kinds (suc k) e _ past below (runs.each (suc k) (omega arith) below e nothing_called (none-in guests parts rest out (suc k) e past below))))
 
   -- so the guests stand for what their threads heard
-  pub guests-serve : (run : Run) (cause : Cause) (H : List Entry) (guests : List B) (parts after : List (Handed G)) (rest : List B) → 1 ≤ run.threads → length parts ≡ run.threads → HandOut box guests parts rest → SameKinds kind_of parts after → RunsFor For run cause H parts after → GuestsServe stands run cause H guests (guests_of box after ++ rest)
-  guests-serve run cause H guests [] after rest some each out kinds runs = absurd (omega (arith, some, each))
-  guests-serve run cause H guests (p ∷ parts) after rest some each out kinds runs =
+  pub guests-serve : (serial : Bool) (run : Run) (cause : Cause) (H : List Entry) (guests : List B) (parts after : List (Handed G)) (rest : List B) → 1 ≤ run.threads → length parts ≡ run.threads → HandOut box guests parts rest → SameKinds kind_of parts after → RunsParts For serial run cause H parts after → GuestsServe stands serial run cause H guests (guests_of box after ++ rest)
+  guests-serve serial run cause H guests [] after rest some each out kinds runs = absurd (omega (arith, some, each))
+  guests-serve serial run cause H guests (p ∷ parts) after rest some each out kinds runs =
       record {
         as_many = as-many guests (p ∷ parts) after rest out runs.as_many kinds;
         answer = runs.answer;
         registered = runs.registered;
         mask_is = runs.mask_is;
-        nobody = λ none. first-answer run cause H (p ∷ parts) after rest (omega arith) (subst (λ guests. HandOut box guests (p ∷ parts) rest) (nil_from_length guests none) out) runs.as_many kinds runs;
+        nobody = λ none. first-answer serial run cause H (p ∷ parts) after rest (omega arith) (subst (λ guests. HandOut box guests (p ∷ parts) rest) (nil_from_length guests none) out) runs.as_many kinds runs;
         first = λ more d h for.
-            guest-out guests (p ∷ parts) after rest out runs.as_many kinds 0 d p (first_record runs.answer runs.registered (heard_of run H 0) runs.unheard h) (omega arith) more
+            guest-out guests (p ∷ parts) after rest out runs.as_many kinds 0 d p (record_of_first runs.answer runs.registered (heard_of run H 0) (runs.missed 0) h) (omega arith) more
             (runs.first p h (guest-in guests (p ∷ parts) rest out 0 d p h (omega arith) more for));
         others = λ k past below more d h for.
-            guest-out guests (p ∷ parts) after rest out runs.as_many kinds k d p (unheard_on runs.unheard k (served h (heard_of run H k))) (omega (arith, below, each)) more
-            (runs.others k past (omega (arith, below, each)) p h (guest-in guests (p ∷ parts) rest out k d p h (omega (arith, below, each)) more for));
-        unheard = runs.unheard;
-        is_unheard = runs.is_unheard;
+            guest-out guests (p ∷ parts) after rest out runs.as_many kinds k d p (called_for (heard_of run H k) (runs.missed k) h) (omega (arith, below, each)) more
+            (runs.each k past (omega (arith, below, each)) p h (guest-in guests (p ∷ parts) rest out k d p h (omega (arith, below, each)) more for));
+        missed = runs.missed;
+        miss = runs.miss;
         all_heard = runs.all_heard;
-        guestless = λ k past below. without-guest run cause H guests (p ∷ parts) after rest out kinds runs k p past (omega (arith, below, each));
+        guestless = λ k past below. without-guest serial run cause H guests (p ∷ parts) after rest out kinds runs k p past (omega (arith, below, each));
         rest = λ k d past. guest-past guests (p ∷ parts) after rest out runs.as_many kinds k d (omega (arith, past, each));
       }

@@ -1,4 +1,6 @@
 pub mod Calls
+pub mod Runs
+pub mod Finishing
 pub mod Handing
 pub mod Listing
 pub mod Ending

@@ -23,9 +23,10 @@ use Rattle.omp_model.specs.Legal.{entered}
 use Rattle.omp_model.specs.Heard.{has_back, stores_in, heard_event, heard_outcome, heard_at, heard_from, heard, heard_of}
 use Rattle.omp_model.specs.Records.{record_of, records_of}
 use Rattle.omp_model.proofs.Recording.{records-by_thread}
-use Rattle.team_run.specs.Serving.{served, mask_of, RunsFor}
+use Rattle.team_run.specs.Serving.{served, mask_of}
 use Rattle.team_run.specs.Standing.{AreSilent, HearsOwn, HearsSilent}
-use Rattle.ompt_cli.proofs.Calls.{SameCalls, same-first, same-unheard}
+use Rattle.ompt_cli.specs.Runs.{RunsParts}
+use Rattle.ompt_cli.proofs.Calls.{SameCalls, same-first, same-missed}
 
 -- at most one item, of this position
 abbrev OneAt : ℕ → List Item → Type 0
@@ -110,7 +111,7 @@ keeps-of kept h none items for =
     let calls : h.calls ++ items ≡ items = ap (λ calls. calls ++ items) none in
     record { events = subst (λ calls. kept ≡ map record_of calls) calls for.events; silent = silent-each items (subst StoresNothing calls for.silent) }
 
-module _ (run : Run) (cause : Cause) (H : List Entry) (threads : ℕ) (parts : List (List EventRecord)) (some : 1 ≤ threads) (runs : RunsFor ListerFor run cause H (replicate threads []) parts) where
+module _ (serial : Bool) (run : Run) (cause : Cause) (H : List Entry) (threads : ℕ) (parts : List (List EventRecord)) (some : 1 ≤ threads) (runs : RunsParts ListerFor serial run cause H (replicate threads []) parts) where
   pub as_many : length parts ≡ threads
   as_many = runs.as_many ∙ length-replicate threads []
 
@@ -121,14 +122,14 @@ module _ (run : Run) (cause : Cause) (H : List Entry) (threads : ℕ) (parts : L
   -- the first lister, after its start
   first-lister : (d : List EventRecord) → ListerFor (slice_index_or parts 0 d) (served (initialized nothing_called runs.answer runs.registered) (heard_of run H 0))
   first-lister d =
-      same-lister (slice_index_or parts 0 d) _ _ (same-first runs.answer runs.registered (heard_of run H 0) runs.unheard nothing_called)
+      same-lister (slice_index_or parts 0 d) _ _ (same-first runs.answer runs.registered (heard_of run H 0) (runs.missed 0) nothing_called)
       (runs.first d nothing_called (fresh-at 0 d (omega (arith, some))))
 
   -- each lister kept what its thread heard
   keeps : (k : ℕ) (d : List EventRecord) → k < threads → KeepsOf (slice_index_or parts k d) (heard_of run H k)
   keeps zero d below = keeps-of (slice_index_or parts 0 d) (initialized nothing_called runs.answer runs.registered) refl (heard_of run H 0) (first-lister d)
   keeps (suc k) d below =
-      keeps-of (slice_index_or parts (suc k) d) nothing_called refl (heard_of run H (suc k)) (same-lister (slice_index_or parts (suc k) d) _ _ (same-unheard runs.unheard (suc k) (served nothing_called (heard_of run H (suc k)))) (runs.others (suc k) (omega arith) (subst (λ n. suc k < n) (sym (length-replicate threads [])) below) d nothing_called (fresh-at (suc k) d below)))
+      keeps-of (slice_index_or parts (suc k) d) nothing_called refl (heard_of run H (suc k)) (same-lister (slice_index_or parts (suc k) d) _ _ (same-missed (heard_of run H (suc k)) (runs.missed (suc k)) nothing_called) (runs.each (suc k) (omega arith) (subst (λ n. suc k < n) (sym (length-replicate threads [])) below) d nothing_called (fresh-at (suc k) d below)))
 
   -- so nothing was stored
   pub lists-silent : run.threads ≡ threads → HearsSilent run H

@@ -1,5 +1,5 @@
 -- What is known of a report, in the words of `top`.
-use Rattle.std.proofs.Common.{◌≡◌, ℕ, Bool, true, List, Option, Some, None, IfSome, ap, sym, subst}
+use Rattle.std.proofs.Common.{◌≡◌, ℕ, List, Option, Some, None, IfSome, refl, sym, subst}
 use Rattle.c_syntax.specs.Numbered.{TreeView}
 use Rattle.ompt_words.specs.declared.settings.Settings.{Settings}
 use Rattle.ompt_words.specs.Answers.{AreReadAs}
@@ -14,9 +14,8 @@ where_some (Some value) so more = more value so
 
 -- the settings of a report are those that were read
 pub settings-as : {Table : Type 0} {Behind : Table → Type 0} (report : Report Table Behind) (settings : Settings) → report.command ≡ settings.command → report.threads ≡ settings.threads
-    → report.steps ≡ settings.steps → settings.serial ≡ true → settings_in report ≡ settings
-settings-as report settings command threads steps serial =
-    rw (command, threads, steps) (ap (λ (is : Bool). record { command = settings.command; threads = settings.threads; steps = settings.steps; serial = is }) (sym serial))
+    → report.steps ≡ settings.steps → report.serial ≡ settings.serial → settings_in report ≡ settings
+settings-as report settings command threads steps serial = rw (command, threads, steps, serial) refl
 
 pub read-as : (words : List (List ℕ)) (settings other : Settings) → AreReadAs words settings → other ≡ settings → AreReadAs words other
 read-as words settings other read same = subst (AreReadAs words) (sym same) read

@@ -1,11 +1,12 @@
 -- What a run gives, whether one thread has all turns in the serial order or each thread number has a thread of its own.
-use Rattle.std.specs.Prelude.{ℕ, ◌≡◌, ◌≢◌, ◌<◌, ◌==◌, Bool, true, false, IsTrue, List, length, Option, Some, None}
+use Rattle.std.specs.Prelude.{ℕ, ⊤, ◌≡◌, ◌≢◌, ◌<◌, ◌==◌, Bool, true, false, List, length, Option, Some, None}
 use Rattle.tool_api.specs.Record.{Record}
 use Rattle.omp_model.specs.declared.cause.Cause.{Cause}
 use Rattle.omp_model.specs.declared.cause.Cause.TheVariants as causes
 use Rattle.omp_model.specs.declared.history.Entry.{Entry}
 use Rattle.omp_model.specs.State.{Run, pending_at}
-use Rattle.omp_model.specs.Cause.{main_returned, threads_over}
+use Rattle.omp_model.specs.Cause.{threads_over}
+use Rattle.omp_model.specs.Gates.{main_returned}
 use Rattle.omp_model.specs.Heard.{heard_of}
 use Rattle.omp_model.specs.Legal.{after}
 use Rattle.team_run.specs.Serving.{Becomes, mask_of}
@@ -14,8 +15,8 @@ use Rattle.thread_run.specs.Driving.{LeftAt, called_for, record_of_first}
 
 -- every thread that was made has ended, main has returned, and no trap or limit was met
 pub record IsWhole (run : Run) (history : List Entry) : Type 0 where
-  pub over : IsTrue (threads_over (after run history).world)
-  pub returned : IsTrue (main_returned (after run history).world)
+  pub over : threads_over (after run history).world ≡ true
+  pub returned : main_returned (after run history).world ≡ true
   pub not_halted : (after run history).halt ≡ None
 
 -- the cause is that main returned

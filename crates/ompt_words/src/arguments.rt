@@ -41,5 +41,5 @@ pub(crate) fn serial<'a>(alloc: Global) -> Arg<'a>
     Arg::new(alloc, "serial")
         .long("serial")
         .action(ArgAction::SetTrue)
-        .help("Takes the turns of all threads one after another [needed today]")
+        .help("Takes the turns of all threads one after another")
 }
