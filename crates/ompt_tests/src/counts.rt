@@ -1,4 +1,4 @@
-//! How many calls four guests get of each callback, through the command.
+//! How many calls four guests get of each callback, through the command: serially, and by threads in each order of events.
 
 use crate::fixture::{Ran, Told, ran_in, tell_guests};
 use crate::listening::Listening;
@@ -9,8 +9,11 @@ use std::sync::Wait;
 use std::test::Fail;
 use std::thread::Threads;
 
-/// Words of a run with four threads.
-const RUN_ON_FOUR: &[&str] = &["run", "--serial", "--threads", "4"];
+/// Words of a serial run with four threads, and of a run by four threads.
+const RUNS_ON_FOUR: [&[&str]; 2] = [
+    &["run", "--serial", "--threads", "4"],
+    &["run", "--threads", "4"],
+];
 
 /// A program that four threads run, what it prints, and what the four guests together get: how many calls of each callback of the profile,
 /// in their order, and how many in all.
@@ -71,28 +74,33 @@ int main(void) {
 
 #[test]
 fn guests_on_four_threads_count_their_calls(rt: HostRuntime) -> Result<(), Fail> {
-    for counted in COUNTED {
-        let told = told_to_four(&rt, counted.text)?;
-        assert!(rt; told.status == 0);
-        assert!(rt; told.out.bytes() == counted.printed);
-        let ran = ran_in(&rt, &told);
-        assert!(rt; ran.guests.len() == 4);
-        has_calls(&rt, ran, counted);
+    for words in RUNS_ON_FOUR {
+        for counted in COUNTED {
+            let told = told_to_four(&rt, words, counted.text)?;
+            assert!(rt; told.status == 0);
+            assert!(rt; told.out.bytes() == counted.printed);
+            has_calls(&rt, ran_in(&rt, &told), counted);
+        }
     }
     Ok(())
 }
 
-/// Hands the command the text, with four guests that register the callbacks of the profile.
-fn told_to_four<R: AllocGlobal + Threads + Wait + Sync>(rt: &R, text: &[u8]) -> Result<Told, Memory> {
+/// Hands the command these words and the text, with four guests that register the callbacks of the profile.
+fn told_to_four<R: AllocGlobal + Threads + Wait + Sync>(
+    rt: &R,
+    words: &[&str],
+    text: &[u8],
+) -> Result<Told, Memory> {
     let mut guests = Vec::new(rt.alloc());
     for _guest in 0..4 {
         guests.push(Listening::new(rt, PROFILE_MASK, 1))?;
     }
-    tell_guests(rt, RUN_ON_FOUR, text, guests, &[])
+    tell_guests(rt, words, text, guests, &[])
 }
 
-/// The guests together got these calls.
+/// There are four guests, and together they got these calls.
 fn has_calls(rt: &impl Abort, ran: &Ran, counted: &Counted) {
+    assert!(rt; ran.guests.len() == 4);
     for (place, calls) in counted.calls.iter().enumerate() {
         assert!(rt; calls_at(ran, place) == *calls, "at {place}");
     }

@@ -159,7 +159,7 @@ pub(crate) fn source_of<R: AllocGlobal>(rt: &R, text: &[u8]) -> Result<MemSource
 }
 
 /// A sink that never fails, with room for all that is written here.
-fn ample<R: AllocGlobal>(rt: &R) -> Result<MemSink, Memory> {
+pub(crate) fn ample<R: AllocGlobal>(rt: &R) -> Result<MemSink, Memory> {
     MemSink::new(rt.alloc(), 4000, Vec::new(rt.alloc()))
 }
 

@@ -13,6 +13,8 @@ mod edges;
 #[cfg(test)]
 mod fixture;
 #[cfg(test)]
+mod gate;
+#[cfg(test)]
 mod listening;
 #[cfg(test)]
 mod parts;
@@ -30,5 +32,7 @@ mod states;
 mod stored_words;
 #[cfg(test)]
 mod tests;
+#[cfg(test)]
+mod threads;
 #[cfg(test)]
 mod words;

@@ -165,7 +165,7 @@ pub(crate) fn stores_in(ran: &Ran) -> usize {
 }
 
 /// There is a guest for each of these: how many calls it got, how often it was started, and how often it was finished.
-fn heard(rt: &impl Abort, ran: &Ran, expected: &[[u64; 3]]) {
+pub(crate) fn heard(rt: &impl Abort, ran: &Ran, expected: &[[u64; 3]]) {
     assert!(rt; ran.guests.len() == expected.len());
     for (guest, counts) in ran.guests.iter().zip(expected) {
         assert!(rt; guest.counts == *counts);

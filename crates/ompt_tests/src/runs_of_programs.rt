@@ -70,7 +70,10 @@ fn runs_come_to_their_ends(rt: HostRuntime) -> Result<(), Memory> {
     Ok(())
 }
 
-fn comes_to_its_end<R: Abort + AllocGlobal + Threads + Wait + Sync>(rt: &R, run: &Run) -> Result<(), Memory> {
+fn comes_to_its_end<R: Abort + AllocGlobal + Threads + Wait + Sync>(
+    rt: &R,
+    run: &Run,
+) -> Result<(), Memory> {
     let ran = if run.threads == 2 {
         run_on_two(rt, run.text)?
     } else {

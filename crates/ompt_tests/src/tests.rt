@@ -48,7 +48,7 @@ fn has_eight_entries(rt: &impl Abort, told: &Told, threads: u8) {
 fn wrong_words_touch_neither_source_nor_output(rt: HostRuntime) -> Result<(), Fail> {
     let mut source = MemSource::new(PROGRAM.to_vec(rt.alloc())?, failing(&rt)?);
     let out = MemSink::new(rt.alloc(), 10, failing(&rt)?)?;
-    let words = ["list", "--threads", "2"];
+    let words = ["run", "--threads", "0"];
     let mut told = hand(&rt, &words, &mut source, out, Vec::new(rt.alloc()), &[])?;
     assert!(rt; told.end == End::Usage);
     assert!(rt; told.ran.is_none());

@@ -55,6 +55,8 @@ mod wanted;
 
 use row_tally::{Tally, Verdict};
 use std::io::{self, BufRead, BufReader};
+use std::sync::Wait;
+use std::thread::Threads;
 use table::{Table, ends_row};
 
 fn main(rt: HostRuntime) -> io::Result<()> {
@@ -77,7 +79,11 @@ fn main(rt: HostRuntime) -> io::Result<()> {
 }
 
 /// Ends the row of the table, if one began, and counts it.
-fn end_row(rt: &HostRuntime, table: &mut Table, tally: &mut Tally) -> io::Result<()> {
+fn end_row<R: AllocGlobal + Print + Threads + Wait + Sync>(
+    rt: &R,
+    table: &mut Table,
+    tally: &mut Tally,
+) -> io::Result<()> {
     match table.end_row(rt, rt.alloc()) {
         None => {}
         Some(Ok(None)) => tally.add(Verdict::Agrees),
