@@ -155,12 +155,24 @@ pub fn top<R: Threads + Wait + Sync, S: Source, O: Sink, E: Sink>(
     } = settings;
     match (read_program_of(alloc, source), command) {
         (Ok(program), Command::List) => tell(
-            list(rt, alloc, Job::new(program, threads, steps, serial), guests, out),
+            list(
+                rt,
+                alloc,
+                Job::new(program, threads, steps, serial),
+                guests,
+                out,
+            ),
             None,
             err,
         ),
         (Ok(program), Command::Run) => tell(
-            run(rt, alloc, Job::new(program, threads, steps, serial), guests, out),
+            run(
+                rt,
+                alloc,
+                Job::new(program, threads, steps, serial),
+                guests,
+                out,
+            ),
             None,
             err,
         ),
