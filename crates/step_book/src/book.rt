@@ -209,9 +209,9 @@ impl Book {
         self.machine.cause()
     }
 
-    /// Whether a visit of the thread would be a turn, or tell it that the run has ended. No clause says so.
-    pub(crate) fn has_news(&self, thread: u8) -> bool {
-        self.ended || self.machine.enabled(thread) || self.machine.cause().is_some()
+    /// Whether a visit of the thread would be a turn. No clause says so.
+    pub(crate) fn has_turn(&self, thread: u8) -> bool {
+        self.machine.enabled(thread)
     }
 
     /// How many threads there may be.

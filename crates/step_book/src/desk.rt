@@ -15,7 +15,7 @@ use crate::closed::Closed;
 use crate::name::BookName;
 use crate::pass::Pass;
 use crate::seats::{BookSeat, SharedCount, add_hold, give_pass, take_pass};
-use crate::sleepers::{Sleepers, Woken};
+use crate::sleepers::{Sleepers, Then, Woken};
 use crate::step::Step;
 use omp_machine::Memory;
 use omp_model::Cause;
@@ -123,12 +123,19 @@ impl<K: BookName> Desk<K> {
         pass.ended = true;
     }
 
-    /// The end of a hold of the thread, which is to sleep or isn't. It answers which threads wake.
-    pub fn wake(&mut self, thread: u8, sleeps: bool) -> Woken
+    /// The end of a hold of the thread, which then does this. It answers which threads wake.
+    pub fn wake(&mut self, thread: u8, then: Then) -> Woken
         ensures { self.new ≡ self.old }
     {
         let Desk { book, sleepers, .. } = self;
-        sleepers.wake(book, thread, sleeps)
+        sleepers.wake(book, thread, then)
+    }
+
+    /// An answer was added. Who wakes for it is seen at the next hold.
+    pub fn answered(&mut self)
+        ensures { self.new ≡ self.old }
+    {
+        self.sleepers.answered();
     }
 
     /// Compares what the pass has seen with all holds.

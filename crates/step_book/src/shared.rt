@@ -19,7 +19,7 @@ use crate::desk::Desk;
 use crate::name::BookName;
 use crate::pass::Pass;
 use crate::seats::{BookSeat, CountTable, SharedCount, new_pass};
-use crate::sleepers::Woken;
+use crate::sleepers::{Then, Woken};
 use crate::step::Step;
 use omp_machine::Memory;
 use omp_model::Cause;
@@ -81,10 +81,10 @@ impl<K: BookName> SharedBook<K> {
         let (result, woken) = {
             let mut desk = self.desk.lock(rt);
             let result = desk.go(&self.words.shared, pass);
-            let woken = desk.wake(pass.thread(), matches!(result, Ok(Step::NotYet)));
+            let woken = desk.wake(pass.thread(), then_of(&result));
             (result, woken)
         };
-        self.ring(rt, woken);
+        self.ring(woken);
         result
     }
 
@@ -95,12 +95,9 @@ impl<K: BookName> SharedBook<K> {
         ensures thread { pass.new.thread ≡ pass.old.thread }
         ensures ended { pass.new.ended ≡ pass.old.ended }
     {
-        let woken = {
-            let mut desk = self.desk.lock(rt);
-            desk.answer(&self.words.shared, pass, reply, snapshot);
-            desk.wake(pass.thread(), false)
-        };
-        self.ring(rt, woken);
+        let mut desk = self.desk.lock(rt);
+        desk.answer(&self.words.shared, pass, reply, snapshot);
+        desk.answered();
     }
 
     /// The pass ends the run for want of memory. No memory is taken.
@@ -112,9 +109,9 @@ impl<K: BookName> SharedBook<K> {
         let woken = {
             let mut desk = self.desk.lock(rt);
             desk.end_memory(&self.words.shared, pass);
-            desk.wake(pass.thread(), false)
+            desk.wake(pass.thread(), Then::IsOver)
         };
-        self.ring(rt, woken);
+        self.ring(woken);
     }
 
     /// Sleeps, where the last call of the pass told it not yet, until the pass's thread may go on or the run is over. The thread may wake
@@ -126,10 +123,10 @@ impl<K: BookName> SharedBook<K> {
     }
 
     /// Wakes these threads.
-    fn ring(&self, rt: &impl Wait, woken: Woken) {
+    fn ring(&self, woken: Woken) {
         for (bell, wakes) in self.bells.iter().zip(woken) {
             if wakes {
-                bell.ring(rt);
+                bell.ring();
             }
         }
     }
@@ -150,6 +147,15 @@ impl<K: BookName> SharedBook<K> {
         }
         let ended = any_ended(&passes);
         desk.close(ended)
+    }
+}
+
+/// What the thread does next whose visit came to this.
+fn then_of(came: &Result<Step, Memory>) -> Then {
+    match came {
+        Ok(Step::NotYet) => Then::Sleeps,
+        Ok(Step::Ended(_)) => Then::IsOver,
+        _ => Then::GoesOn,
     }
 }
 
