@@ -2,7 +2,7 @@ use Rattle.std.proofs.Common.{ap, inr, ◌∙◌}
 use Rattle.ompt_cli.specs.Job.{JobView}
 use Rattle.ompt_cli.specs.Commands.{run_of, settings_in}
 use Rattle.ompt_cli.proofs.Finishing.{finished}
-use Rattle.ompt_cli.proofs.Telling.{read-as, settings-as, spells-as, where_some}
+use Rattle.ompt_cli.proofs.Telling.{not-shown, not-usage, read-as, settings-as, spells-as, where_some}
 use Rattle.ompt_cli.proofs.top_call.top.Goals as goal
 
 pub returns-in-Ok-List-clause-asked : goal.returns-in-Ok-List-clause-asked
@@ -101,3 +101,33 @@ returns-in-Ok-Run-clause-finished g c =
     rw c.tell-in-Ok-Run.ensures.ran
     (where_some c.run.result.ran c.run.ensures.cause
     (λ report ends found. finished (run_of report) report.history report.cause (ends found)))
+
+pub returns-in-Err-Usage-clause-formed : goal.returns-in-Err-Usage-clause-formed
+returns-in-Err-Usage-clause-formed g c = λ ask.
+    absurd (not-usage _ c.in-Err-Usage.field-0 c.in-Err-Usage.field-0-is ask c.in-Err-Usage.ensures.form c.in-Err-Usage.ensures.exact)
+
+pub returns-in-Err-Shown-clause-formed : goal.returns-in-Err-Shown-clause-formed
+returns-in-Err-Shown-clause-formed g c = λ ask.
+    absurd (not-shown _ c.in-Err-Shown.field-0 c.in-Err-Shown.text c.in-Err-Shown.field-0-is ask c.in-Err-Shown.ensures.form c.in-Err-Shown.ensures.exact)
+
+pub returns-in-Err-Usage-clause-accepted : goal.returns-in-Err-Usage-clause-accepted
+returns-in-Err-Usage-clause-accepted g c = λ ask.
+    absurd (not-usage _ c.in-Err-Usage.field-0 c.in-Err-Usage.field-0-is ask c.in-Err-Usage.ensures.form c.in-Err-Usage.ensures.exact)
+
+pub returns-in-Err-Shown-clause-accepted : goal.returns-in-Err-Shown-clause-accepted
+returns-in-Err-Shown-clause-accepted g c = λ ask.
+    absurd (not-shown _ c.in-Err-Shown.field-0 c.in-Err-Shown.text c.in-Err-Shown.field-0-is ask c.in-Err-Shown.ensures.form c.in-Err-Shown.ensures.exact)
+
+pub returns-in-Err-Usage-clause-runs : goal.returns-in-Err-Usage-clause-runs
+returns-in-Err-Usage-clause-runs g c = λ ask.
+    absurd (not-usage _ c.in-Err-Usage.field-0 c.in-Err-Usage.field-0-is ask c.in-Err-Usage.ensures.form c.in-Err-Usage.ensures.exact)
+
+pub returns-in-Err-Shown-clause-runs : goal.returns-in-Err-Shown-clause-runs
+returns-in-Err-Shown-clause-runs g c = λ ask.
+    absurd (not-shown _ c.in-Err-Shown.field-0 c.in-Err-Shown.text c.in-Err-Shown.field-0-is ask c.in-Err-Shown.ensures.form c.in-Err-Shown.ensures.exact)
+
+pub returns-in-Ok-List-clause-outside : goal.returns-in-Ok-List-clause-outside
+returns-in-Ok-List-clause-outside g c = rw c.tell-in-Ok-List.ensures.ran c.list.ensures.outside
+
+pub returns-in-Ok-Run-clause-outside : goal.returns-in-Ok-Run-clause-outside
+returns-in-Ok-Run-clause-outside g c = rw c.tell-in-Ok-Run.ensures.ran c.run.ensures.outside
