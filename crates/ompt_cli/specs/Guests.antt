@@ -13,7 +13,7 @@ use Rattle.team_run.specs.Standing.{AreSilent}
 use Rattle.thread_run.specs.Driving.{called_for, record_of_first}
 use Rattle.ompt_words.specs.declared.settings.Command.{Command}
 use Rattle.ompt_words.specs.declared.settings.Command.TheVariants.{List as Listing, Run as Running}
-use Rattle.ompt_cli.specs.Runs.{Miss}
+use Rattle.ompt_cli.specs.Runs.{AreMissed}
 
 -- guest 0 was started, with this answer and these callbacks registered, called for what thread 0 heard, and finished after all
 -- that where it is active; guest t was called for what thread t heard; those past the threads are as they were. Beside that a guest
@@ -26,7 +26,7 @@ pub record GuestsServe {B : Type 0} (stands_for : B → Record → Type 0) (seri
   pub mask_is : run.mask ≡ mask_of answer registered
   pub nobody : length guests ≡ 0 → answer ≡ 0
   pub missed : ℕ → Bool
-  pub miss : Miss serial run history missed
+  pub miss : AreMissed serial run history missed
   pub all_heard : cause ≢ causes.Memory → (k : ℕ) → k < run.threads → missed k ≡ false
   pub first : 0 < length guests → Becomes stands_for guests after 0 (record_of_first answer registered (heard_of run history 0) (missed 0))
   pub others : (k : ℕ) → 0 < k → k < run.threads → k < length guests → Becomes stands_for guests after k (called_for (heard_of run history k) (missed k))
