@@ -159,7 +159,7 @@ module _ {G : Type 0} {B : Type 0} (box : G → B) (stands : B → Record → Ty
             guest-out guests (p ∷ parts) after rest out runs.as_many kinds k d p (called_for (heard_of run H k) (runs.missed k) h) (omega (arith, below, each)) more
             (runs.each k past (omega (arith, below, each)) p h (guest-in guests (p ∷ parts) rest out k d p h (omega (arith, below, each)) more for));
         missed = runs.missed;
-        miss = runs.miss;
+        are_missed = runs.are_missed;
         all_heard = runs.all_heard;
         guestless = λ k past below. without-guest serial run cause H guests (p ∷ parts) after rest out kinds runs k p past (omega (arith, below, each));
         rest = λ k d past. guest-past guests (p ∷ parts) after rest out runs.as_many kinds k d (omega (arith, past, each));

@@ -55,7 +55,7 @@ pub record RunsParts {P : Type 0} (stands_for : P → Record → Type 0) (serial
   pub registered : ℕ
   pub mask_is : run.mask ≡ mask_of answer registered
   pub missed : ℕ → Bool
-  pub miss : AreMissed serial run history missed
+  pub are_missed : AreMissed serial run history missed
   pub all_heard : cause ≢ causes.Memory → (k : ℕ) → k < run.threads → missed k ≡ false
   pub first : Becomes stands_for parts others 0 (record_of_first answer registered (heard_of run history 0) (missed 0))
   pub each : (k : ℕ) → 0 < k → k < length parts → Becomes stands_for parts others k (called_for (heard_of run history k) (missed k))
