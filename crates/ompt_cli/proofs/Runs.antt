@@ -26,7 +26,7 @@ module _ {P : Type 0} (stands_for : P → Record → Type 0) (run : Run) (cause 
         registered = runs.registered;
         mask_is = runs.mask_is;
         missed = is_just runs.unheard;
-        are_missed = record { unheard = runs.unheard; is_unheard = runs.is_unheard; missed_is = λ k. refl };
+        are_missed = record { unheard = runs.unheard; is_unheard = runs.is_unheard; all_heard = runs.all_heard; missed_is = λ k. refl };
         all_heard = λ found k below. ap (λ (unheard : Option ℕ). is_just unheard k) (runs.all_heard found);
         first = λ d h for.
             subst (stands_for _) (ap (finished_by runs.answer) (same-missed 0 (heard_of run history 0) runs.unheard (initialized h runs.answer runs.registered)))

@@ -26,7 +26,7 @@ pub record GuestsServe {B : Type 0} (stands_for : B → Record → Type 0) (seri
   pub mask_is : run.mask ≡ mask_of answer registered
   pub nobody : length guests ≡ 0 → answer ≡ 0
   pub missed : ℕ → Bool
-  pub are_missed : AreMissed serial run history missed
+  pub are_missed : AreMissed serial run cause history missed
   pub all_heard : cause ≢ causes.Memory → (k : ℕ) → k < run.threads → missed k ≡ false
   pub first : 0 < length guests → Becomes stands_for guests after 0 (record_of_first answer registered (heard_of run history 0) (missed 0))
   pub others : (k : ℕ) → 0 < k → k < run.threads → k < length guests → Becomes stands_for guests after k (called_for (heard_of run history k) (missed k))

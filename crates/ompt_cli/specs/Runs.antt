@@ -37,15 +37,16 @@ is_just None k = false
 is_just (Some t) k = t == k
 
 -- after a serial run the one thread inside whose callback the history ends, if it ends so, missed an event: its part was called for it, and found no memory
-pub record IsOneMissed (run : Run) (history : List Entry) (missed : ℕ → Bool) : Type 0 where
+pub record IsOneMissed (run : Run) (cause : Cause) (history : List Entry) (missed : ℕ → Bool) : Type 0 where
   pub unheard : Option ℕ
   pub is_unheard : IsUnheard run history unheard
+  pub all_heard : cause ≢ causes.Memory → unheard ≡ None
   pub missed_is : (k : ℕ) → missed k ≡ is_just unheard k
 
 -- the threads that missed an event: after a run by threads those that owe an answer still
-abbrev pub AreMissed : Bool → Run → List Entry → (ℕ → Bool) → Type 0
-AreMissed true run history missed = IsOneMissed run history missed
-AreMissed false run history missed = (k : ℕ) → k < run.threads → LeftAt run history k (missed k)
+abbrev pub AreMissed : Bool → Run → Cause → List Entry → (ℕ → Bool) → Type 0
+AreMissed true run cause history missed = IsOneMissed run cause history missed
+AreMissed false run cause history missed = (k : ℕ) → k < run.threads → LeftAt run history k (missed k)
 
 -- The parts of a run that ended in this cause with this history: the first was started, and at the end finished where it is active, and each was called
 -- for what its thread heard, in order. Beside that a part was called once more where its thread missed an event, and then the cause says so.
@@ -55,7 +56,7 @@ pub record RunsParts {P : Type 0} (stands_for : P → Record → Type 0) (serial
   pub registered : ℕ
   pub mask_is : run.mask ≡ mask_of answer registered
   pub missed : ℕ → Bool
-  pub are_missed : AreMissed serial run history missed
+  pub are_missed : AreMissed serial run cause history missed
   pub all_heard : cause ≢ causes.Memory → (k : ℕ) → k < run.threads → missed k ≡ false
   pub first : Becomes stands_for parts others 0 (record_of_first answer registered (heard_of run history 0) (missed 0))
   pub each : (k : ℕ) → 0 < k → k < length parts → Becomes stands_for parts others k (called_for (heard_of run history k) (missed k))
