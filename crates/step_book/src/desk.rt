@@ -124,11 +124,11 @@ impl<K: BookName> Desk<K> {
     }
 
     /// The end of a hold of the thread, which then does this. It answers which threads wake.
-    pub fn wake(&mut self, thread: u8, then: Then) -> Woken
+    pub fn wake(&mut self, thread: u8, next: Then) -> Woken
         ensures { self.new ≡ self.old }
     {
         let Desk { book, sleepers, .. } = self;
-        sleepers.wake(book, thread, then)
+        sleepers.wake(book, thread, next)
     }
 
     /// An answer was added. Who wakes for it is seen at the next hold.

@@ -48,25 +48,25 @@ impl Sleepers {
     /// The end of a hold of the thread. It answers which threads wake: all where the run is over, and else the first one that sleeps and may
     /// go on now, unless one that was woken is still on its way. That one wakes the next one at the end of its hold. So where a thread sleeps
     /// that may go on, another one is on its way to a hold. Where a thread that wasn't woken is told not yet, nothing has changed.
-    pub fn wake(&mut self, book: &Book, thread: u8, then: Then) -> Woken {
+    pub fn wake(&mut self, book: &Book, thread: u8, next: Then) -> Woken {
         let was_called = self.called == Some(thread);
         if was_called {
             self.called = None;
         }
         if let Some(asleep) = self.asleep.get_mut(thread as usize) {
-            *asleep = then == Then::Sleeps;
+            *asleep = next == Then::Sleeps;
         }
         let mut woken = [false; THREADS];
-        let is_idle = then == Then::Sleeps && !was_called && !self.is_new;
-        if then != Then::IsOver && (is_idle || self.called.is_some()) {
+        let is_idle = next == Then::Sleeps && !was_called && !self.is_new;
+        if next != Then::IsOver && (is_idle || self.called.is_some()) {
             return woken;
         }
         self.is_new = false;
         for other in 0..THREADS {
-            if self.asleep[other] && (then == Then::IsOver || book.has_turn(other as u8)) {
+            if self.asleep[other] && (next == Then::IsOver || book.has_turn(other as u8)) {
                 self.asleep[other] = false;
                 woken[other] = true;
-                if then != Then::IsOver {
+                if next != Then::IsOver {
                     self.called = Some(other as u8);
                     return woken;
                 }
