@@ -1,5 +1,5 @@
 -- How a run has ended: whole exactly where main returned, and with no thread inside a callback.
-use Rattle.std.proofs.Common.{◌≡◌, ◌≢◌, ℕ, zero, suc, ℤ, pos, negsuc, ◌<◌, ◌&&◌, Bool, true, false, if◌then◌else◌, List, [], ◌∷◌, Option, Some, None, is_none, slice_index_or, refl, sym, ap, subst, ◌∙◌, ◌↔◌, arith}
+use Rattle.std.proofs.Common.{◌≡◌, ◌≢◌, ℕ, zero, suc, ℤ, pos, negsuc, ◌&&◌, Bool, true, false, if◌then◌else◌, List, [], ◌∷◌, Option, Some, None, is_none, slice_index_or, refl, sym, ap, subst, ◌∙◌, ◌↔◌}
 use Rattle.std.specs.List.{list_all}
 use Rattle.tool_api.specs.Record.{Record}
 use Rattle.omp_model.specs.declared.cause.Cause.{Cause}
@@ -8,8 +8,8 @@ use Rattle.omp_model.specs.declared.event.Callback.{Callback}
 use Rattle.omp_model.specs.declared.event.Halt.{Halt}
 use Rattle.omp_model.specs.declared.event.Halt.TheVariants.{Trap, Limit}
 use Rattle.omp_model.specs.declared.history.Entry.{Entry}
-use Rattle.omp_model.specs.State.{Run, State, pending_at}
-use Rattle.omp_model.specs.Cause.{cause_of, cause_by_halt, cause_of_halt, cause_of_value, cause_of_whole, is_stuck, main_value, none_pending, threads_over, whole_value}
+use Rattle.omp_model.specs.State.{Run, State}
+use Rattle.omp_model.specs.Cause.{cause_of, cause_by_halt, cause_of_halt, cause_of_value, cause_of_whole, is_stuck, main_value, threads_over, whole_value}
 use Rattle.omp_model.specs.Gates.{main_returned}
 use Rattle.omp_model.specs.Legal.{after}
 use Rattle.team_run.specs.Serving.{RunsFor}

@@ -1,5 +1,4 @@
 use Rattle.std.proofs.Common.{◌≡◌, get_or, subst, arith, rules}
-use Rattle.step_book.specs.Owing.{OwesAnswer}
 use Rattle.book_tests.proofs.in_turn.closed_in_turn.Goals as goal
 
 pub answer-requires-after_bounds : goal.answer-requires-after_bounds
