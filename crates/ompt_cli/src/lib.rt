@@ -3,16 +3,18 @@
 //! [`top`] does what the words say, as `ompt_words` reads them: it reads a program from a source and runs it. `list` writes a line for each event to an
 //! output; `run` calls guests, which are tools, at the events of their threads, and writes what the program printed. Where the
 //! run isn't done, one line goes to standard error. Its contract says, over any source and any sinks, what each end comes with,
-//! that what ran is one serial run of the program, what the outputs gain, and what the guests were called for. Words that ask for
+//! that what ran is one legal run of the program, what the outputs gain, and what the guests were called for. Words that ask for
 //! help or the version have a text written to the output in its place.
+//!
+//! Each thread number has a thread of the system (`thread_run`), or with `--serial` one thread has all turns (`team_run`).
 //!
 //! Every text runs that is a program of the grammar, breaks no rule and is at most 65,536 bytes long. What its program printed
 //! is written where the run ends in any cause but want of memory: also at a trap, at a limit, and where no thread can go on.
 //!
 //! The definitions stand in `specs/`: which words ask for a run (`Words`), the texts that run, with their programs, and why others
-//! are refused (`Text`), the status and the line of each end (`Ends`), what a command reports and writes (`Commands`), and what
-//! guests stand for after it (`Guests`). The runs are those of `omp_model`. A report holds the tree of its program for contracts
-//! alone ([`ProgramTree`]).
+//! are refused (`Text`), the status and the line of each end (`Ends`), what a run of either kind gives (`Runs`), what a command
+//! reports and writes (`Commands`), and what guests stand for after it (`Guests`). The runs are those of `omp_model`. A report holds
+//! the tree of its program for contracts alone ([`ProgramTree`]).
 //!
 //! Want of memory is free: no clause says when it comes, only what stands after it. That the calls succeed with ample
 //! memory isn't proved: the rows of `run_tables` show it.
