@@ -1,7 +1,8 @@
 //! A history once more, on a machine alone.
 
 use omp_machine::{Machine, Memory, Went};
-use omp_model::{Entry, EventRecord, What};
+use omp_model::{Entry, What};
+use ompt_calls::EventRecord;
 use std::alloc::Global;
 use std::process::Abort;
 

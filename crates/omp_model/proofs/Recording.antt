@@ -9,7 +9,7 @@ use Rattle.ompt_calls.specs.Number.{is_registered}
 use Rattle.ompt_calls.specs.Snapshot.{Stored}
 use Rattle.omp_model.specs.declared.limits.TheConstants.{TURN_LIMIT}
 use Rattle.omp_model.specs.declared.history.Entry.{Entry}
-use Rattle.omp_model.specs.declared.history.EventRecord.{EventRecord}
+use Rattle.ompt_calls.specs.declared.event.EventRecord.{EventRecord}
 use Rattle.omp_model.specs.declared.event.Callback.{Callback}
 use Rattle.omp_model.specs.declared.event.Event.{Event}
 use Rattle.omp_model.specs.State.{Run, State, World, first, pending_at}

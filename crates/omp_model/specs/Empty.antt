@@ -11,7 +11,7 @@ use Rattle.c_syntax.specs.Tree.Children.{Over, Child}
 use Rattle.c_syntax.specs.Numbered.{TreeView}
 use Rattle.ompt_calls.specs.declared.call.Call.TheVariants.{ThreadBegin, ThreadEnd, ImplicitTask}
 use Rattle.omp_model.specs.declared.history.Entry.{Entry}
-use Rattle.omp_model.specs.declared.history.EventRecord.{EventRecord}
+use Rattle.ompt_calls.specs.declared.event.EventRecord.{EventRecord}
 use Rattle.omp_model.specs.declared.history.What.TheVariants.{Go, Back}
 use Rattle.omp_model.specs.State.{Run}
 use Rattle.omp_model.specs.Words.{fresh_word}

@@ -1,8 +1,8 @@
-//! The entries of a run's history, and the record of an event.
+//! The entries of a run's history.
 
 ghost use Rattle.std.specs.Prelude.{◌≡◌};
 
-use ompt_calls::{Call, Target};
+use ompt_calls::Target;
 use std::marker::Model;
 
 /// What one entry of a history is.
@@ -45,19 +45,4 @@ impl History {
     {
         self.0.as_slice()
     }
-}
-
-/// What is recorded of an event that a tool heard.
-#[derive(Clone, Copy, PartialEq, Eq)]
-pub struct EventRecord {
-    /// The position of the event's Go in the history, from 0.
-    pub seq: u32,
-    /// The thread's number, from 0.
-    pub thread: u8,
-    /// The thread's `ompt_state_t` at the event.
-    pub state: u16,
-    /// What the thread waited for (`ompt_wait_id_t`), or 0.
-    pub wait_id: u32,
-    /// The callback with its arguments.
-    pub call: Call,
 }

@@ -55,7 +55,7 @@ mod parts;
 
 pub use cause::Cause;
 pub use event::{Arrival, Callback, Endpoint, Event, Halt, Outcome, Share};
-pub use history::{Entry, EventRecord, History, What};
+pub use history::{Entry, History, What};
 pub use laws::{
     calls_are_of_their_callbacks, empty_program_ends, enabled_threads_have_turns,
     serial_history_is_one, stores_of_replies_may_stand, tasks_are_orderly,

@@ -18,6 +18,8 @@
 //!   and `parallel_info` say; [`Snapshot::target`] the word at a place, as `target_of` says;
 //! - [`is_registered`] says whether a number is in a mask, for every number.
 //!
+//! An [`EventRecord`] is what is kept of an event that a tool heard.
+//!
 //! A [`Reply`] has the stores of a tool. Which of them take effect, and in which words, is the definition `stores_of`. What
 //! a tool hears of an event, with these stores, is the definition `Item`.
 //!
@@ -25,12 +27,14 @@
 #![tactic(auto)]
 
 mod call;
+mod event;
 mod line;
 mod mask;
 mod reply;
 mod snapshot;
 
 pub use call::{Call, Frame, Word};
+pub use event::EventRecord;
 pub use line::{Memory, line_of};
 pub use mask::is_registered;
 pub use reply::{Reply, Store, WordAt};

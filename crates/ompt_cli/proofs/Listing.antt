@@ -9,7 +9,7 @@ use Rattle.tool_report.specs.Lister.{ListerFor}
 use Rattle.tool_report.specs.Order.{AreFrom, AreRising, AreShared}
 use Rattle.omp_model.specs.declared.cause.Cause.{Cause}
 use Rattle.omp_model.specs.declared.history.Entry.{Entry}
-use Rattle.omp_model.specs.declared.history.EventRecord.{EventRecord}
+use Rattle.ompt_calls.specs.declared.event.EventRecord.{EventRecord}
 use Rattle.omp_model.specs.declared.history.What.{What}
 use Rattle.omp_model.specs.declared.history.What.TheVariants.{Go, Put, Back}
 use Rattle.omp_model.specs.declared.event.Event.{Event}

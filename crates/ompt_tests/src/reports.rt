@@ -1,8 +1,7 @@
 //! What a lister keeps of its calls, against records written out by hand. The listing of a region of two has the lines.
 
 use crate::listening::{ONE, inside};
-use omp_model::EventRecord;
-use ompt_calls::Call;
+use ompt_calls::{Call, EventRecord};
 use tool_api::ToolPart;
 use tool_report::{Lister, Memory, lines_text};
 

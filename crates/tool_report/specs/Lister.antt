@@ -1,7 +1,7 @@
 -- What a lister stands for.
 use Rattle.std.specs.Prelude.{◌≡◌, List, [], map}
 use Rattle.omp_codes.specs.declared.callbacks.TheConstants.{PROFILE_MASK}
-use Rattle.omp_model.specs.declared.history.EventRecord.{EventRecord}
+use Rattle.ompt_calls.specs.declared.event.EventRecord.{EventRecord}
 use Rattle.omp_model.specs.Records.{record_of}
 use Rattle.tool_api.specs.Record.{Record, StartedWith, StoresNothing}
 

@@ -1,6 +1,6 @@
 -- The events of several listers, in the order of their positions.
 use Rattle.std.specs.Prelude.{ℕ, ◌≡◌, ◌<◌, ◌≤◌, ◌+◌, ◌==◌, List, [], ◌∷◌, length, filter, slice_index_or}
-use Rattle.omp_model.specs.declared.history.EventRecord.{EventRecord}
+use Rattle.ompt_calls.specs.declared.event.EventRecord.{EventRecord}
 
 -- each of these has a position of at least this
 abbrev pub AreFrom : ℕ → List EventRecord → Type 0

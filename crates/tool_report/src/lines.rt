@@ -2,13 +2,12 @@
 
 ghost use Rattle.std.specs.Prelude.{◌≡◌, IfOk, List};
 ghost use Rattle.std.specs.List.{flat_map};
-ghost use Rattle.omp_model.specs.declared.history.EventRecord.{EventRecord};
+ghost use Rattle.ompt_calls.specs.declared.event.EventRecord.{EventRecord};
 ghost use Rattle.omp_model.specs.Records.{lines_of};
 ghost use Rattle.tool_report.specs.Order.{AreShared};
 
 use crate::lister::Lister;
-use omp_model::EventRecord;
-use ompt_calls::line_of;
+use ompt_calls::{EventRecord, line_of};
 use std::alloc::Global;
 
 /// The error of a text that found no memory.

@@ -3,8 +3,7 @@
 ghost use Rattle.std.specs.Prelude.{◌≡◌, []};
 ghost use Rattle.tool_report.specs.Lister.{ListerFor};
 
-use omp_model::EventRecord;
-use ompt_calls::{Call, Reply, Snapshot};
+use ompt_calls::{Call, EventRecord, Reply, Snapshot};
 use std::alloc::Global;
 use std::marker::Model;
 use tool_api::{Memory, Registrar, ToolPart};
@@ -28,7 +27,7 @@ pub struct Lister {
 
 impl Model for Lister {
     ghost use Rattle.std.specs.Prelude.{List};
-    ghost use Rattle.omp_model.specs.declared.history.EventRecord.{EventRecord};
+    ghost use Rattle.ompt_calls.specs.declared.event.EventRecord.{EventRecord};
 
     ghost Value = { List EventRecord };
 

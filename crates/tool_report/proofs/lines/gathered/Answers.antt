@@ -1,7 +1,7 @@
 use Rattle.std.proofs.Common.{List, ◌∙◌, ap}
 use Rattle.std.specs.List.{flat_map}
 use Rattle.std.proofs.lemmas.List.{take_all}
-use Rattle.omp_model.specs.declared.history.EventRecord.{EventRecord}
+use Rattle.ompt_calls.specs.declared.event.EventRecord.{EventRecord}
 use Rattle.tool_report.proofs.lines.gathered.Goals as goal
 
 pub returns : goal.returns

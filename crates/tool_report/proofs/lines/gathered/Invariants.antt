@@ -1,6 +1,6 @@
 use Rattle.std.proofs.Common.{◌≡◌, List, take}
 use Rattle.std.specs.List.{flat_map}
-use Rattle.omp_model.specs.declared.history.EventRecord.{EventRecord}
+use Rattle.ompt_calls.specs.declared.event.EventRecord.{EventRecord}
 use Rattle.tool_report.proofs.lines.gathered.Given as goal
 
 abbrev pub invariant-loop-part : goal.invariant-loop-part
