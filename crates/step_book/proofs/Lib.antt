@@ -9,4 +9,5 @@ pub mod Steps
 pub mod Longest
 pub mod Others
 pub mod Desking
+pub mod Answering
 pub mod Closing

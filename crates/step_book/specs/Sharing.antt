@@ -69,6 +69,13 @@ pub record Goes (run : Run) (before : Sight) (step : Step) (after : Sight) : Typ
   pub step_is : step ≡ (visit (pages_of run (before.seen ++ between) ended) before.thread).step
   pub is_hold : IsHold before after between (visit (pages_of run (before.seen ++ between) ended) before.thread).added
 
+-- The answer of the pass's thread was put last, in a hold of its own, and of the pass as it stood then this is so.
+pub record Answers (before : Sight) (entries : List Entry) (Next : Sight → Type 0) : Type 0 where
+  pub answered : Sight
+  pub grows : Grows before answered entries
+  pub ended : answered.ended ≡ before.ended
+  pub next : Next answered
+
 -- what is so of each pass of a book of this name: its thread is one of the run's, its badge is of the book's table and has seen a legal history
 pub record IsPassOf (table at : TableId) (run : Run) (views : List View) (thread : ℕ) : Type 0 where
   pub table_is : at ≡ table

@@ -103,6 +103,14 @@ impl<K: BookName> Desk<K> {
         add_hold(count, &mut self.seat, &self.book.entries()[before..]);
         self.book.legal();
         give_pass(count, &mut self.seat, &mut pass.badge);
+        self.sleepers.answered();
+    }
+
+    /// The snapshot isn't used any more. The next one takes its place in memory.
+    pub fn reuse(&mut self, snapshot: Snapshot)
+        ensures { self.new ≡ self.old }
+    {
+        self.book.reuse(snapshot);
     }
 
     /// The pass ends the run for want of memory, as one hold.
@@ -123,19 +131,13 @@ impl<K: BookName> Desk<K> {
         pass.ended = true;
     }
 
-    /// The end of a hold of the thread, which then does this. It answers which threads wake.
+    /// The end of a hold of the thread, which then does this. It answers which threads wake. An answer alone needs no such end: who wakes for
+    /// it is seen at the end of a later hold.
     pub fn wake(&mut self, thread: u8, next: Then) -> Woken
         ensures { self.new ≡ self.old }
     {
         let Desk { book, sleepers, .. } = self;
         sleepers.wake(book, thread, next)
-    }
-
-    /// An answer was added. Who wakes for it is seen at the next hold.
-    pub fn answered(&mut self)
-        ensures { self.new ≡ self.old }
-    {
-        self.sleepers.answered();
     }
 
     /// Compares what the pass has seen with all holds.

@@ -17,15 +17,18 @@
 //! with the entries that it added to the history, which may be none. The history is the entries of all holds, in order.
 //! The locked book knows all holds, and each pass those that it has seen.
 //!
-//! Each call of a pass is one hold, but `go` of a pass that has ended the run itself. The hold is then the last that the
-//! pass has seen, and between it and those that it had seen stand other threads' holds alone. What `go` adds and answers
-//! is what a visit to the book comes to after all holds before this one ([`SharedBook::go`], `Goes` in
-//! `specs/Sharing.antt`). `close` takes the passes in: each has seen a beginning of the list of all holds, beyond which
-//! no hold is of its thread, and one has seen all.
+//! Each call of a pass is one hold, but `go` of a pass that has ended the run itself, which is none, and `answer_and_go`,
+//! which is two holds for one taking of the lock. A hold is then the last that the pass has seen, and between it and those
+//! that it had seen stand other threads' holds alone. What `go` adds and answers is what a visit to the book comes to after
+//! all holds before this one ([`SharedBook::go`], `Goes` in `specs/Sharing.antt`). [`SharedBook::answer_and_go`] is an
+//! answer and then such a visit (`Answers`). That no other thread's hold stands between the two is no clause. `close`
+//! takes the passes in: each has seen a beginning of the list of all holds, beyond which no hold is of its thread, and one
+//! has seen all.
 //!
 //! No tool is called under the lock. That a wait for it ends isn't proved. A thread that is told not yet may sleep
-//! ([`SharedBook::sleep`]): the locked book notes who sleeps, and a hold wakes those that may go on after it, and all of
-//! them where the run is over. Nothing is proved of that.
+//! ([`SharedBook::sleep`]): the locked book notes who sleeps, and a visit wakes one of those that may go on after it, and
+//! all of them where the run is over. Before it sleeps a thread lets others have its processor for a while. Nothing is
+//! proved of that.
 //!
 //! # The rule
 //!

@@ -10,7 +10,7 @@ ghost use Rattle.omp_model.specs.Storing.{event_reply};
 ghost use Rattle.step_book.specs.declared.step.Step.{Step};
 ghost use Rattle.step_book.specs.declared.view.View.TheVariants.{OfBook};
 ghost use Rattle.step_book.specs.Owing.{OwesAnswer, OwesStep};
-ghost use Rattle.step_book.specs.Sharing.{Goes, Grows, IsClosed, Sight, any_ended, fresh_pass, pages_of};
+ghost use Rattle.step_book.specs.Sharing.{Answers, Goes, Grows, IsClosed, Sight, any_ended, fresh_pass, pages_of};
 
 use crate::bell::Bell;
 use crate::blank::Blank;
@@ -30,8 +30,8 @@ use std::sync::{Mutex, Wait};
 
 /// The book of this name, behind a lock. Each thread has a [`Pass`] to it.
 ///
-/// Each call takes the lock for one hold. What it adds and answers is what the book says after all holds before it: those that the pass had
-/// seen, and then other threads' alone. No tool is called under the lock.
+/// Each call takes the lock once, for one hold or for two ([`SharedBook::answer_and_go`]). What a hold adds and answers is what the book says
+/// after all holds before it: those that the pass had seen, and then other threads' alone. No tool is called under the lock.
 #[derive(Drop)]
 pub struct SharedBook<K: BookName> {
     /// The table of the word that counts the entries.
@@ -97,7 +97,36 @@ impl<K: BookName> SharedBook<K> {
     {
         let mut desk = self.desk.lock(rt);
         desk.answer(&self.words.shared, pass, reply, snapshot);
-        desk.answered();
+    }
+
+    /// The answer of the tool of the pass's thread, where it is owed, and then a visit of the thread, as two holds between which the lock isn't
+    /// given back.
+    ///
+    /// The answer takes no memory. Where there is none for the visit its hold has no entry.
+    pub fn answer_and_go(
+        &self,
+        rt: &impl Wait,
+        pass: &mut Pass<K>,
+        reply: &Reply,
+        snapshot: Snapshot,
+    ) -> Result<Step, Memory>
+        requires { OwesAnswer (pages_of K.run pass.old.seen pass.old.ended) pass.old.thread snapshot }
+        ensures ok { IfOk result (λ step. Answers pass.old (event_reply pass.old.thread (stores_of reply.now snapshot)) (λ answered. Goes K.run answered step pass.new)) }
+        ensures owes { IfOk result (λ step. OwesStep (pages_of K.run pass.new.seen pass.new.ended) pass.new.thread step) }
+        ensures memory { OnErr result (Answers pass.old (event_reply pass.old.thread (stores_of reply.now snapshot)) (λ answered. Grows answered pass.new [])) }
+        ensures thread { pass.new.thread ≡ pass.old.thread }
+        ensures ended { pass.new.ended ≡ pass.old.ended }
+    {
+        let (result, woken) = {
+            let mut desk = self.desk.lock(rt);
+            desk.answer(&self.words.shared, pass, reply, &snapshot);
+            desk.reuse(snapshot);
+            let result = desk.go(&self.words.shared, pass);
+            let woken = desk.wake(pass.thread(), then_of(&result));
+            (result, woken)
+        };
+        self.ring(woken);
+        result
     }
 
     /// The pass ends the run for want of memory. No memory is taken.
@@ -155,7 +184,7 @@ fn then_of(came: &Result<Step, Memory>) -> Then {
     match came {
         Ok(Step::NotYet) => Then::Sleeps,
         Ok(Step::Ended(_)) => Then::IsOver,
-        _ => Then::GoesOn,
+        Ok(Step::Told(..) | Step::Quiet) | Err(_) => Then::GoesOn,
     }
 }
 

@@ -1,5 +1,6 @@
 -- What a driver's part was called for, after each call of its pass.
-use Rattle.std.proofs.Common.{◌≡◌, ℕ, ◌+◌, ◌<◌, Bool, true, false, if◌then◌else◌, List, [], ◌∷◌, ◌++◌, length, Option, Some, None, slice_index_or, slice_set, get_or-set_same, refl, sym, ap, subst, ◌∙◌, append_assoc, append-nil, inl, inr, arith}
+use Rattle.std.proofs.Common.{◌≡◌, ℕ, ◌+◌, ◌<◌, Bool, true, false, if◌then◌else◌, List, [], ◌∷◌, ◌++◌, length, Option, Some, None, Result, Ok, Err, IfOk, OnErr, slice_index_or, slice_set, get_or-set_same, refl, sym, ap, subst, ◌∙◌, append_assoc, append-nil, inl, inr, arith}
+use Rattle.std.specs.Result.{IsOk}
 use Rattle.std.proofs.lemmas.Bool.{true≢false, cases_lt}
 use Rattle.std.proofs.lemmas.List.{get_or_past, length-set, length-replicate}
 use Rattle.ompt_calls.specs.declared.call.Call.{Call}
@@ -30,14 +31,14 @@ use Rattle.step_book.specs.declared.step.Step.TheVariants.{Told, Quiet, NotYet, 
 use Rattle.step_book.specs.Owing.{NotBy, Owes}
 use Rattle.step_book.specs.Pages.{Pages, state_of}
 use Rattle.step_book.specs.Rule.{entries_of}
-use Rattle.step_book.specs.Sharing.{Goes, Grows, IsHold, Sight, pages_of}
+use Rattle.step_book.specs.Sharing.{Answers, Goes, Grows, IsHold, Sight, pages_of}
 use Rattle.step_book.specs.Steps.{hold_by}
 use Rattle.step_book.specs.Visit.{Visit, idle_by, idle_step, is_turn, turn_visit, visit}
 use Rattle.step_book.proofs.Histories.{after-append}
 use Rattle.step_book.proofs.Others.{entries-append, entries-others, not_by-append, owes-still}
 use Rattle.step_book.proofs.Telling.{ended-step, not_yet-step, quiet-step, told-step}
 use Rattle.step_book.proofs.Visiting.{visit-idle, visit-turn}
-use Rattle.thread_run.specs.Driving.{IsDriven, IsInside, LeftAt}
+use Rattle.thread_run.specs.Driving.{HasCome, HasStep, IsDriven, IsInside, LeftAt}
 use Rattle.team_run.specs.Serving.{served}
 use Rattle.thread_run.proofs.Hearing.{answered, back-others, heard-split, heard_on, more-without}
 use Rattle.team_run.proofs.Visiting.{same-pending}
@@ -272,3 +273,41 @@ module _ {P : Type 0} (stands_for : P → Record → Type 0) (kind : P → ℕ) 
         hears = λ h stands. rw (seen, grows.is_hold.thread, heard-others run (entries_of pass.seen) (entries_of grows.between) t grows.is_hold.not_by) (none _ (inside.hears h stands));
         kind_is = kept ∙ inside.kind_is;
       }
+
+  -- a visit of a pass that hasn't ended the run
+  step-gone : (pass later : Sight) (part : P) (step : Step) → pass.thread < run.threads → pass.ended ≡ false → later.ended ≡ pass.ended → Goes run pass step later → Driven pass part → HasStep stands_for kind run whose later part step
+  step-gone pass later part (Told seq call snapshot) below ended same goes driven = (same ∙ ended, inside-told pass later part seq call snapshot ended goes driven)
+  step-gone pass later part Quiet below ended same goes driven = driven-quiet pass later part Quiet below ended goes (λ seq call snapshot told. cc) driven
+  step-gone pass later part NotYet below ended same goes driven = driven-quiet pass later part NotYet below ended goes (λ seq call snapshot told. cc) driven
+  step-gone pass later part (Ended cause) below ended same goes driven = driven-quiet pass later part (Ended cause) below ended goes (λ seq call snapshot told. cc) driven
+
+  -- a visit, and then no memory
+  driven-ended : (pass later last : Sight) (part : P) → Grows pass later [] → later.ended ≡ pass.ended → Grows later last [] → last.ended ≡ true → Driven pass part → Driven last part
+  driven-ended pass later last part one same two ended driven =
+      driven-grown later last part two (λ over. ended) (driven-grown pass later part one (λ over. same ∙ over) driven)
+
+  -- a visit of a pass
+  pub come-gone :
+      {E : Type 0} (pass later : Sight) (part : P) (result : Result Step E) → pass.thread < run.threads
+      → (pass.ended ≡ true → (later ≡ pass) × IsOk result × IfOk result (λ step. step ≡ Ended causes.Memory)) → (pass.ended ≡ false → IfOk result (λ step. Goes run pass step later))
+      → OnErr result (Grows pass later []) → later.ended ≡ pass.ended → Driven pass part → HasCome stands_for kind run whose later part result
+  come-gone pass later part (Ok step) below over goes memory same driven = by pass.ended refl
+    where
+      by : (ended : Bool) → pass.ended ≡ ended → HasStep stands_for kind run whose later part step
+      by true ended = rw ((over ended).2, (over ended).0) driven
+      by false ended = step-gone pass later part step below ended same (goes ended) driven
+  come-gone pass later part (Err e) below over goes memory same driven = λ last grows ended. driven-ended pass later last part memory same grows ended driven
+
+  -- its callback was answered, and then it visited again
+  pub come-answered :
+      {E : Type 0} (pass later : Sight) (part next : P) (seq : ℕ) (call : Call) (snapshot : Snapshot) (reply : Reply) (result : Result Step E) → Legal run (entries_of pass.seen) → pass.thread < run.threads → pass.ended ≡ false
+      → Owes run (entries_of pass.seen) pass.thread seq call snapshot
+      → IfOk result (λ step. Answers pass (event_reply pass.thread (stores_of reply snapshot)) (λ answered. Goes run answered step later))
+      → OnErr result (Answers pass (event_reply pass.thread (stores_of reply snapshot)) (λ answered. Grows answered later [])) → later.ended ≡ pass.ended
+      → ((h : Record) → stands_for part h → stands_for next (told h (item_of seq pass.thread call snapshot reply))) → kind next ≡ kind part → Inside pass part → HasCome stands_for kind run whose later next result
+  come-answered pass later part next seq call snapshot reply (Ok step) legal below open_now owes goes memory same tells kept inside =
+      let driven = driven-answered pass goes.answered part next seq call snapshot reply legal below owes goes.grows tells kept inside in
+      step-gone goes.answered later next step (rw goes.grows.is_hold.thread below) (goes.ended ∙ open_now) (same ∙ sym goes.ended) goes.next driven
+  come-answered pass later part next seq call snapshot reply (Err e) legal below open_now owes goes memory same tells kept inside =
+      let driven = driven-answered pass memory.answered part next seq call snapshot reply legal below owes memory.grows tells kept inside in
+      λ last grows ended. driven-ended memory.answered later last next memory.next (same ∙ sym memory.ended) grows ended driven

@@ -1,5 +1,5 @@
 -- What the driver of a thread has come to, and what the parts of a run by threads were called for.
-use Rattle.std.specs.Prelude.{ℕ, Bool, true, false, ◌≡◌, ◌≢◌, ◌<◌, if◌then◌else◌, List, length, None}
+use Rattle.std.specs.Prelude.{ℕ, Bool, true, false, ◌≡◌, ◌≢◌, ◌<◌, if◌then◌else◌, List, [], length, None, Result, Ok, Err}
 use Rattle.ompt_calls.specs.declared.call.Call.{Call}
 use Rattle.ompt_calls.specs.declared.snapshot.Snapshot.{Snapshot}
 use Rattle.ompt_calls.specs.Item.{Item}
@@ -10,9 +10,11 @@ use Rattle.omp_model.specs.declared.history.Entry.{Entry}
 use Rattle.omp_model.specs.State.{Run, pending_at}
 use Rattle.omp_model.specs.Heard.{heard_of}
 use Rattle.omp_model.specs.Legal.{after}
+use Rattle.step_book.specs.declared.step.Step.{Step}
+use Rattle.step_book.specs.declared.step.Step.TheVariants.{Told}
 use Rattle.step_book.specs.Owing.{Owes}
 use Rattle.step_book.specs.Rule.{entries_of}
-use Rattle.step_book.specs.Sharing.{Sight}
+use Rattle.step_book.specs.Sharing.{Grows, Sight}
 use Rattle.team_run.specs.Serving.{Becomes, finished_by, mask_of, served}
 
 -- the thread owes the answer to a registered event: its part was called for it, and found no memory
@@ -48,6 +50,16 @@ pub record IsDriven {P : Type 0} (stands_for : P → Record → Type 0) (kind : 
 pub record IsInside {P : Type 0} (stands_for : P → Record → Type 0) (kind : P → ℕ) (run : Run) (first : P) (pass : Sight) (part : P) : Type 0 where
   pub hears : (h : Record) → stands_for first h → stands_for part (served h (heard_of run (entries_of pass.seen) pass.thread))
   pub kind_is : kind part ≡ kind first
+
+-- what a driver has come to that was told this step last: where an event was told, its part is still to be called for it
+abbrev pub HasStep : {P : Type 0} → (P → Record → Type 0) → (P → ℕ) → Run → P → Sight → P → Step → Type 0
+HasStep stands_for kind run first pass part (Told seq call snapshot) = (pass.ended ≡ false) × IsInside stands_for kind run first pass part
+HasStep stands_for kind run first pass part other = IsDriven stands_for kind run first pass part
+
+-- what a driver has come to between two visits: where it found no memory, it is still to end the run
+abbrev pub HasCome : {P E : Type 0} → (P → Record → Type 0) → (P → ℕ) → Run → P → Sight → P → Result Step E → Type 0
+HasCome stands_for kind run first pass part (Ok step) = HasStep stands_for kind run first pass part step
+HasCome stands_for kind run first pass part (Err e) = (later : Sight) → Grows pass later [] → later.ended ≡ true → IsDriven stands_for kind run first later part
 
 -- a driver goes on from this pass and part to those: the thread is the same, and what was so of it is so still
 pub record GoesOn {P : Type 0} (stands_for : P → Record → Type 0) (kind : P → ℕ) (run : Run) (pass : Sight) (part : P) (later : Sight) (next : P) : Type 0 where

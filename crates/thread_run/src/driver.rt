@@ -1,46 +1,80 @@
 //! The driver of a thread: its pass to the book, and the part that is called for its events.
 
-ghost use Rattle.std.specs.Prelude.{◌≡◌};
-ghost use Rattle.step_book.specs.Owing.{Owes};
+ghost use Rattle.std.specs.Prelude.{◌≡◌, false, IfOk};
+ghost use Rattle.step_book.specs.Owing.{Owes, OwesStep};
 ghost use Rattle.step_book.specs.Rule.{entries_of};
-ghost use Rattle.thread_run.specs.Driving.{GoesOn, IsDriven, IsInside};
+ghost use Rattle.step_book.specs.Sharing.{pages_of};
+ghost use Rattle.thread_run.specs.Driving.{GoesOn, HasCome, IsDriven, IsInside};
 
 use ompt_calls::{Call, Snapshot};
 use std::sync::Wait;
 use step_book::{BookName, Pass, SharedBook, Step};
-use tool_api::ToolPart;
+use tool_api::{Memory, ToolPart};
 
 /// What a visit of a driver came to.
 #[derive(Clone, Copy, PartialEq, Eq)]
 pub(crate) enum Visited {
     /// The driver goes on.
     On,
-    /// Nothing is to be done until another thread has gone on.
-    NotYet,
     /// The run is over.
     Over,
 }
 
-/// Visits the book until the run is over, and hands the pass and the part back.
+/// Visits the book until the run is over. An answer and the visit that follows it take the lock once.
+///
+/// Where a visit or the part finds no memory, the pass ends the run.
 pub(crate) fn drive<R: Wait, K: BookName, P: ToolPart>(
     rt: &R,
     book: &SharedBook<K>,
-    mut pass: Pass<K>,
-    mut part: P,
-) -> (Pass<K>, P)
-    ensures { GoesOn P.stands_for P.kind K.run pass part result.0 result.1 }
+    pass: &mut Pass<K>,
+    part: &mut P,
+)
+    ensures { GoesOn P.stands_for P.kind K.run pass.old part.old pass.new part.new }
 {
+    pass.legal();
+    let mut came = book.go(rt, pass);
     for _ in rt.forever() {
-        match visit(rt, book, &mut pass, &mut part) {
-            Visited::On => {}
-            Visited::NotYet => book.sleep(rt, &pass),
-            Visited::Over => break,
-        }
+        came = match came {
+            Ok(Step::Told(seq, call, snapshot)) => {
+                serve_and_go(rt, book, pass, part, seq, &call, snapshot)
+            }
+            Ok(Step::Quiet) => book.go(rt, pass),
+            Ok(Step::NotYet) => {
+                book.sleep(rt, pass);
+                book.go(rt, pass)
+            }
+            Ok(Step::Ended(_)) => return,
+            Err(_) => {
+                book.end_memory(rt, pass);
+                return;
+            }
+        };
     }
-    (pass, part)
+    unreachable!()
 }
 
-/// One visit of the pass's thread, and the call of its part where an event is told.
+/// Calls the part for the event of the pass's thread, answers, and visits the book again. No lock is held while the part is called.
+fn serve_and_go<R: Wait, K: BookName, P: ToolPart>(
+    rt: &R,
+    book: &SharedBook<K>,
+    pass: &mut Pass<K>,
+    part: &mut P,
+    seq: u32,
+    call: &Call,
+    snapshot: Snapshot,
+) -> Result<Step, Memory>
+    requires owes { Owes K.run (entries_of pass.old.seen) pass.old.thread seq call.now snapshot }
+    ensures thread { pass.new.thread ≡ pass.old.thread }
+    ensures owes { IfOk result (λ step. OwesStep (pages_of K.run pass.new.seen pass.new.ended) pass.new.thread step) }
+    ensures comes { (first : P) → pass.old.ended ≡ false → IsInside P.stands_for P.kind K.run first pass.old part.old →
+        HasCome P.stands_for P.kind K.run first pass.new part.new result }
+{
+    pass.legal();
+    let reply = part.callback(seq, pass.thread(), call, &snapshot)?;
+    book.answer_and_go(rt, pass, &reply, snapshot)
+}
+
+/// One visit of the pass's thread, and the call of its part where an event is told, with its answer.
 ///
 /// Where the visit or the part finds no memory, the pass ends the run.
 pub(crate) fn visit<R: Wait, K: BookName, P: ToolPart>(
@@ -58,7 +92,7 @@ pub(crate) fn visit<R: Wait, K: BookName, P: ToolPart>(
     match book.go(rt, pass) {
         Ok(Step::Told(seq, call, snapshot)) => serve(rt, book, pass, part, seq, &call, &snapshot),
         Ok(Step::Quiet) => Visited::On,
-        Ok(Step::NotYet) => Visited::NotYet,
+        Ok(Step::NotYet) => Visited::On,
         Ok(Step::Ended(_)) => Visited::Over,
         Err(_) => {
             book.end_memory(rt, pass);

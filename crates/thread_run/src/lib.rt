@@ -2,14 +2,15 @@
 //!
 //! [`run_threads`] runs a checked program over a book that threads share (`step_book`). Each thread number has a driver, with a
 //! pass to the book and a part of the tool, a [`ToolPart`](tool_api::ToolPart). A driver visits the book again and again until
-//! the run is over. Where its thread's event is told it calls its part, while it holds no lock, and answers. Told not yet it
-//! sleeps until its thread may go on. Where the book or the part finds no memory it ends the run for all.
+//! the run is over. Where its thread's event is told it calls its part, while it holds no lock. Then it answers and visits
+//! again, for which it takes the lock once. Told not yet it sleeps until its thread may go on. Where the book or the part
+//! finds no memory it ends the run for all.
 //!
 //! The caller has the driver of thread 0, and each other one runs on a thread of its own. Where a start is refused the driver
-//! comes back as it was, and the caller visits it in turn with driver 0. Passes and parts come back in the order of their
-//! threads. Part 0 is started before the book is made, and finished when all drivers have come back, as in a serial run.
+//! comes back as it was, and the caller visits it in turn with driver 0, one visit with its answer each. Passes and parts come
+//! back in the order of their threads. Part 0 is started before the book is made, and finished when all drivers have come back, as in a serial run.
 //!
-//! `driver` has a visit and a driver's whole way, `team` starts the drivers and takes them back, `threads` puts them together.
+//! `driver` has a driver's whole way and a visit alone, `team` starts the drivers and takes them back, `threads` puts them together.
 //! In `specs/` `Driving` says what a driver's part was called for and what a whole run answers, and `Drivers` what is so of all
 //! drivers at once.
 //!

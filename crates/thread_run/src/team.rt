@@ -64,7 +64,10 @@ fn start<'s, E: 's, R: Wait + Sync, K: BookName + 's, P: ToolPart + 's>(
             if stays.load(Ordering::SeqCst) {
                 return (pass, part);
             }
-            drive(rt, book, pass, part)
+            let mut pass = pass;
+            let mut part = part;
+            drive(rt, book, &mut pass, &mut part);
+            (pass, part)
         },
     ) {
         Ok(child) => Slot { driver: Ok(child) },
@@ -89,35 +92,12 @@ fn finish<R: Threads, K: BookName, P: ToolPart>(rt: &R, slot: Slot<K, P>) -> (Pa
     }
 }
 
-/// One visit of the driver, if the caller has it. Where the caller has no other one it sleeps while nothing is to be done.
-fn visit_here<R: Wait, K: BookName, P: ToolPart>(
-    rt: &R,
-    book: &SharedBook<K>,
-    slot: &mut Slot<K, P>,
-    is_alone: bool,
-) -> Visited
-    ensures { (t : ℕ) (first : P) →
-        IsSlot (λ h. h.promise.0.value) (λ h. h.promise.1.value) P.stands_for P.kind K.run t first slot.old.driver →
-        IsSlot (λ h. h.promise.0.value) (λ h. h.promise.1.value) P.stands_for P.kind K.run t first slot.new.driver }
-{
-    match &mut slot.driver {
-        Err((pass, part)) => {
-            let visited = visit(rt, book, pass, part);
-            if is_alone && visited == Visited::NotYet {
-                book.sleep(rt, pass);
-            }
-            visited
-        }
-        Ok(_) => Visited::Over,
-    }
-}
-
 /// How many drivers the caller has.
 fn count_here<K: BookName, P: ToolPart>(slots: &[Slot<K, P>]) -> usize {
     slots.iter().filter(|slot| slot.driver.is_err()).count()
 }
 
-/// Visits the drivers that the caller has in turn, until the run is over.
+/// Drives the drivers that the caller has, until the run is over.
 pub(crate) fn drive_here<R: Wait, K: BookName, P: ToolPart>(
     rt: &R,
     book: &SharedBook<K>,
@@ -127,14 +107,58 @@ pub(crate) fn drive_here<R: Wait, K: BookName, P: ToolPart>(
     ensures kept { AreKept (λ t first slot.
         IsSlot (λ h. h.promise.0.value) (λ h. h.promise.1.value) P.stands_for P.kind K.run t first slot.driver) slots.old slots.new }
 {
-    let is_alone = count_here(slots) == 1;
+    if count_here(slots) == 1 {
+        drive_alone(rt, book, slots);
+    } else {
+        drive_in_turn(rt, book, slots);
+    }
+}
+
+/// Drives the only driver that the caller has.
+fn drive_alone<R: Wait, K: BookName, P: ToolPart>(
+    rt: &R,
+    book: &SharedBook<K>,
+    slots: &mut [Slot<K, P>],
+)
+    ensures as_many { length slots.new ≡ length slots.old }
+    ensures kept { AreKept (λ t first slot.
+        IsSlot (λ h. h.promise.0.value) (λ h. h.promise.1.value) P.stands_for P.kind K.run t first slot.driver) slots.old slots.new }
+{
+    for place in 0..slots.len() {
+        drive_slot(rt, book, &mut slots[place]);
+    }
+}
+
+/// Drives the driver, if the caller has it.
+fn drive_slot<R: Wait, K: BookName, P: ToolPart>(
+    rt: &R,
+    book: &SharedBook<K>,
+    slot: &mut Slot<K, P>,
+)
+    ensures { (t : ℕ) (first : P) →
+        IsSlot (λ h. h.promise.0.value) (λ h. h.promise.1.value) P.stands_for P.kind K.run t first slot.old.driver →
+        IsSlot (λ h. h.promise.0.value) (λ h. h.promise.1.value) P.stands_for P.kind K.run t first slot.new.driver }
+{
+    if let Err((pass, part)) = &mut slot.driver {
+        drive(rt, book, pass, part);
+    }
+}
+
+/// Visits the drivers that the caller has in turn, so that each goes on.
+fn drive_in_turn<R: Wait, K: BookName, P: ToolPart>(
+    rt: &R,
+    book: &SharedBook<K>,
+    slots: &mut [Slot<K, P>],
+)
+    ensures as_many { length slots.new ≡ length slots.old }
+    ensures kept { AreKept (λ t first slot.
+        IsSlot (λ h. h.promise.0.value) (λ h. h.promise.1.value) P.stands_for P.kind K.run t first slot.driver) slots.old slots.new }
+{
     for _ in rt.forever() {
-        if !visit_all(rt, book, slots, is_alone) {
+        if !visit_all(rt, book, slots) {
             break;
         }
-        if !is_alone {
-            thread::yield_now();
-        }
+        thread::yield_now();
     }
 }
 
@@ -143,7 +167,6 @@ fn visit_all<R: Wait, K: BookName, P: ToolPart>(
     rt: &R,
     book: &SharedBook<K>,
     slots: &mut [Slot<K, P>],
-    is_alone: bool,
 ) -> bool
     ensures as_many { length slots.new ≡ length slots.old }
     ensures kept { AreKept (λ t first slot.
@@ -151,11 +174,27 @@ fn visit_all<R: Wait, K: BookName, P: ToolPart>(
 {
     let mut goes_on = false;
     for place in 0..slots.len() {
-        if visit_here(rt, book, &mut slots[place], is_alone) != Visited::Over {
+        if visit_here(rt, book, &mut slots[place]) != Visited::Over {
             goes_on = true;
         }
     }
     goes_on
+}
+
+/// One visit of the driver, if the caller has it.
+fn visit_here<R: Wait, K: BookName, P: ToolPart>(
+    rt: &R,
+    book: &SharedBook<K>,
+    slot: &mut Slot<K, P>,
+) -> Visited
+    ensures { (t : ℕ) (first : P) →
+        IsSlot (λ h. h.promise.0.value) (λ h. h.promise.1.value) P.stands_for P.kind K.run t first slot.old.driver →
+        IsSlot (λ h. h.promise.0.value) (λ h. h.promise.1.value) P.stands_for P.kind K.run t first slot.new.driver }
+{
+    match &mut slot.driver {
+        Err((pass, part)) => visit(rt, book, pass, part),
+        Ok(_) => Visited::Over,
+    }
 }
 
 /// Starts each driver but the first, which the caller has.
