@@ -1,0 +1,10 @@
+pub mod Fields
+pub mod Validity
+pub mod Refusing
+pub mod Items
+pub mod Taking
+pub mod Accepting
+pub mod Decoding
+pub mod Reached
+pub mod Flat
+pub mod Holding

@@ -1,0 +1,168 @@
+//! The kinds of an event's arguments.
+
+ghost use Rattle.std.specs.Prelude.{◌≡◌, ◌≤◌, [], length};
+ghost use Rattle.trace_format.specs.Accepting.{accepts_kind, kinds_of, width_of};
+
+use crate::decode::{long_at, short_at};
+use omp_codes::callbacks;
+
+/// `ompt_parallel_invoker_runtime` of a team.
+const PARALLEL_FLAGS: u32 = 0x8000_0001;
+
+/// The flags of an explicit task.
+const EXPLICIT_TASK: u32 = 4;
+
+/// The flags of one that is undeferred.
+const UNDEFERRED_TASK: u32 = 134_217_732;
+
+/// What a field of the arguments has, and so how long it is and which values it may have.
+#[derive(Clone, Copy, Debug, PartialEq, Eq)]
+pub enum Kind {
+    /// Any number of 32 bits.
+    Short,
+    /// Any number of 64 bits.
+    Long,
+    /// A data word.
+    Word,
+    /// A frame.
+    Frame,
+    /// The kind of a thread.
+    OfThread,
+    /// Begin or end.
+    Endpoint,
+    /// What is waited for in a synchronization region.
+    OfSync,
+    /// A lock or a critical.
+    OfMutex,
+    /// What is released: a lock or a critical.
+    OfRelease,
+    /// A worksharing construct.
+    OfWork,
+    /// A chunk or a section.
+    OfDispatch,
+    /// How many iterations were dispatched.
+    Iterations,
+    /// The status of a task that was left.
+    Status,
+    /// The kind of a lock.
+    OfLock,
+    /// Always 0.
+    Zero,
+    /// The flags of a region.
+    ParallelFlags,
+    /// The flags of an explicit task.
+    TaskFlags,
+    /// The flags of an implicit task.
+    ImplicitFlags,
+}
+
+/// The kinds of a callback's arguments, by its number.
+pub fn kinds_of(number: u32) -> &'static [Kind]
+    ensures { result.now ≡ kinds_of number }
+{
+    match number {
+        callbacks::THREAD_BEGIN => &[Kind::OfThread, Kind::Word],
+        callbacks::THREAD_END => &[Kind::Word],
+        callbacks::PARALLEL_BEGIN => &[
+            Kind::Word,
+            Kind::Frame,
+            Kind::Word,
+            Kind::Short,
+            Kind::ParallelFlags,
+            Kind::Long,
+        ],
+        callbacks::PARALLEL_END => &[Kind::Word, Kind::Word, Kind::ParallelFlags, Kind::Long],
+        callbacks::TASK_CREATE => &[
+            Kind::Word,
+            Kind::Frame,
+            Kind::Word,
+            Kind::TaskFlags,
+            Kind::Zero,
+            Kind::Long,
+        ],
+        callbacks::TASK_SCHEDULE => &[Kind::Word, Kind::Status, Kind::Word],
+        callbacks::IMPLICIT_TASK => &[
+            Kind::Endpoint,
+            Kind::Word,
+            Kind::Word,
+            Kind::Short,
+            Kind::Short,
+            Kind::ImplicitFlags,
+        ],
+        callbacks::SYNC_REGION_WAIT | callbacks::SYNC_REGION => &[
+            Kind::OfSync,
+            Kind::Endpoint,
+            Kind::Word,
+            Kind::Word,
+            Kind::Long,
+        ],
+        callbacks::MUTEX_RELEASED => &[Kind::OfRelease, Kind::Short, Kind::Long],
+        callbacks::WORK => &[
+            Kind::OfWork,
+            Kind::Endpoint,
+            Kind::Word,
+            Kind::Word,
+            Kind::Long,
+            Kind::Long,
+        ],
+        callbacks::MASKED => &[Kind::Endpoint, Kind::Word, Kind::Word, Kind::Long],
+        callbacks::LOCK_INIT => &[
+            Kind::OfLock,
+            Kind::Zero,
+            Kind::Zero,
+            Kind::Short,
+            Kind::Long,
+        ],
+        callbacks::LOCK_DESTROY => &[Kind::OfLock, Kind::Short, Kind::Long],
+        callbacks::MUTEX_ACQUIRE => &[
+            Kind::OfMutex,
+            Kind::Zero,
+            Kind::Zero,
+            Kind::Short,
+            Kind::Long,
+        ],
+        callbacks::MUTEX_ACQUIRED => &[Kind::OfMutex, Kind::Short, Kind::Long],
+        callbacks::DISPATCH => &[
+            Kind::Word,
+            Kind::Word,
+            Kind::OfDispatch,
+            Kind::Long,
+            Kind::Iterations,
+        ],
+        _ => &[],
+    }
+}
+
+/// How many bytes an argument of the kind has.
+pub fn width_of(kind: Kind) -> usize
+    ensures { result ≡ width_of kind }
+{
+    match kind {
+        Kind::Word => 12,
+        Kind::Long | Kind::Frame | Kind::Iterations => 8,
+        _ => 4,
+    }
+}
+
+/// Whether an argument of the kind may have these bytes. Of iterations it says nothing: that goes by an argument before them.
+pub fn accepts_kind(kind: Kind, bytes: &[u8]) -> bool
+    requires { width_of kind ≤ length bytes.now }
+    ensures { result ≡ accepts_kind kind [] bytes.now }
+{
+    match kind {
+        Kind::Word => short_at(bytes, 0) != 0 || long_at(bytes, 4) == 0,
+        Kind::OfThread | Kind::Endpoint => matches!(short_at(bytes, 0), 1 | 2),
+        Kind::OfSync => matches!(short_at(bytes, 0), 3 | 5 | 8 | 9),
+        Kind::OfMutex => matches!(short_at(bytes, 0), 1 | 2 | 5),
+        Kind::OfRelease => matches!(short_at(bytes, 0), 1 | 5),
+        Kind::OfWork => matches!(short_at(bytes, 0), 1..=4),
+        Kind::OfDispatch => matches!(short_at(bytes, 0), 2 | 3),
+        Kind::Status => matches!(short_at(bytes, 0), 1 | 7),
+        Kind::OfLock => short_at(bytes, 0) == 1,
+        Kind::Zero => short_at(bytes, 0) == 0,
+        Kind::ParallelFlags => short_at(bytes, 0) == PARALLEL_FLAGS,
+        Kind::TaskFlags => matches!(short_at(bytes, 0), EXPLICIT_TASK | UNDEFERRED_TASK),
+        Kind::ImplicitFlags => matches!(short_at(bytes, 0), 1 | 2),
+        Kind::Short | Kind::Long | Kind::Frame | Kind::Iterations => true,
+    }
+}

@@ -1,0 +1,23 @@
+//! What follows from the definitions alone: each law is the contract of a function with an empty body.
+
+ghost use Rattle.std.specs.Prelude.{◌≡◌, ◌≤◌, ℕ, List, ◌++◌, length};
+ghost use Rattle.trace_format.specs.declared.refusal.Refusal.{Refusal};
+ghost use Rattle.trace_format.specs.declared.trace.Trace.{Trace};
+ghost use Rattle.trace_format.specs.Refusing.{IsRefused};
+ghost use Rattle.trace_format.specs.Validity.{Writes};
+
+/// A trace is written in one way, no other trace is written so, and no trace's bytes begin with another's.
+pub fn one_spelling()
+    ensures { (t u : Trace) (a b x y : List ℕ) → Writes t a → Writes u b → a ++ x ≡ b ++ y → (t ≡ u) × (a ≡ b) }
+{}
+
+/// Bytes that aren't refused have at most the length of the longest trace: a header, an event with 60 bytes for each sequence number, and an end
+/// mark.
+pub fn longest()
+    ensures { (bytes : List ℕ) → ((refusal : Refusal) → IsRefused bytes refusal → ⊥) → length bytes ≤ 157286426 }
+{}
+
+/// Bytes are refused in one way at most.
+pub fn one_refusal()
+    ensures { (bytes : List ℕ) (r s : Refusal) → IsRefused bytes r → IsRefused bytes s → r ≡ s }
+{}

@@ -1,0 +1,54 @@
+//! The format of traces: what a recorded run is written as, and how it is read in any pieces.
+//!
+//! A [`Trace`] is a header, events and an end mark. These are its [`Item`]s. [`write_trace`] writes a trace and [`write_item`]
+//! one item, each item as one piece. [`valid`] says whether a trace can be. A [`Reader`] takes bytes in pieces and gives each
+//! item with its last byte, or a [`Refusal`] with the last byte of the first field that may not stand where it does. The second
+//! version of the format is what runs are written in, and both are read. docs/traces.md has the format, field by field.
+//!
+//! The definitions that are to be believed stand in `specs/`: `Fields` has the fields of a trace with their bytes, `Validity`
+//! which traces there are and what each is written as, `Refusing` where bytes are refused, as a statement on all traces that
+//! begin so, `Items` which items are whole in bytes, and `Taking` what a reader has taken and given. The other files of `specs/`
+//! say how the code goes from field to field and serve the proofs: `Accepting`, `Decoding`, `Reached`, `Flat` and `Holding`.
+//!
+//! Proved by the contracts of the functions that are named:
+//!
+//! - [`valid`]: true exactly of the traces;
+//! - [`write_item`] and [`write_trace`] append what the item or the trace is written as, of every item and every trace, or at a
+//!   write fault a front of it;
+//! - [`Reader::feed`] and [`Reader::end`], for all that was taken before: the items given are those whose last byte was taken,
+//!   whatever the pieces; bytes are refused exactly where the definition has it, with the last byte of the field that is wrong,
+//!   and then always; the end is `Ok` exactly where the bytes are a whole trace;
+//! - [`one_spelling`], [`one_refusal`] and [`longest`] are laws of the definitions.
+//!
+//! Neither writing nor reading takes memory. That each item is one piece is tested alone (`trace_tests`). How fast the calls are
+//! isn't proved.
+#![tactic(auto)]
+
+mod arguments;
+mod checking;
+mod decode;
+mod field;
+mod item;
+mod kept;
+mod kind;
+mod laws;
+mod next;
+mod piece;
+mod reader;
+mod refusal;
+mod room;
+mod test;
+mod trace;
+mod writing;
+
+pub use checking::valid;
+pub use field::Field;
+pub use item::Item;
+pub use kind::Kind;
+pub use laws::{longest, one_refusal, one_spelling};
+pub use reader::{Reader, Taken};
+pub use refusal::{Reason, Refusal};
+pub use trace::{
+    EndMark, Events, FIRST_VERSION, Header, MIGRATED, RECORDED, SEQ_LIMIT, Trace, VERSION,
+};
+pub use writing::{write_item, write_trace};

@@ -1,0 +1,272 @@
+//! Writing traces.
+
+ghost use Rattle.std.specs.Prelude.{◌≡◌, ◌≤◌, ◌+◌, ◌++◌, length, OnOk, OnErr};
+ghost use Rattle.std.specs.Io.KnownBytes.{Appends};
+ghost use Rattle.run_edges.specs.Edges.{Rose, AppendsFront};
+ghost use Rattle.trace_format.specs.Fields.{arguments, end_fields, event_fields, fields_of, header_fields, spelling};
+ghost use Rattle.trace_format.specs.Items.{item_bytes};
+ghost use Rattle.trace_format.specs.Reached.{flat};
+
+use crate::item::Item;
+use crate::piece::Piece;
+use crate::trace::{EndMark, Header, Trace};
+use ompt_calls::{Call, EventRecord};
+use run_edges::{Sink, WriteFault, write_all};
+
+/// The four bytes with which a trace begins, `OMPT`, as a number.
+const MAGIC: u32 = 0x4F4D_5054;
+
+/// Writes a trace: the header, each event and the end mark as one piece each. It takes no memory.
+pub fn write_trace<O: Sink>(sink: &mut O, trace: &Trace) -> Result<(), WriteFault>
+    ensures whole { OnOk result (Appends (O.held sink.old) (O.held sink.new) (spelling (fields_of trace.now))) }
+    ensures fault { OnErr result (Rose (O.faults sink.old) (O.faults sink.new)) }
+    ensures part { OnErr result (AppendsFront (O.held sink.old) (O.held sink.new) (spelling (fields_of trace.now))) }
+    ensures counted { O.faults sink.old ≤ O.faults sink.new }
+    ensures steady { OnOk result (O.faults sink.new ≡ O.faults sink.old) }
+{
+    write_item(sink, &Item::Header(trace.header))?;
+    for event in &trace.events.0 {
+        write_item(sink, &Item::Event(*event))?;
+    }
+    write_item(sink, &Item::End(trace.end))
+}
+
+/// Writes an item of a trace as one piece, and nothing for [`Item::More`]. It takes no memory.
+pub fn write_item<O: Sink>(sink: &mut O, item: &Item) -> Result<(), WriteFault>
+    ensures whole { OnOk result (Appends (O.held sink.old) (O.held sink.new) (item_bytes item.now)) }
+    ensures fault { OnErr result (Rose (O.faults sink.old) (O.faults sink.new)) }
+    ensures part { OnErr result (AppendsFront (O.held sink.old) (O.held sink.new) (item_bytes item.now)) }
+    ensures counted { O.faults sink.old ≤ O.faults sink.new }
+    ensures steady { OnOk result (O.faults sink.new ≡ O.faults sink.old) }
+{
+    let piece = piece_of(item);
+    write_all(sink, piece.as_slice())
+}
+
+/// The bytes of an item.
+fn piece_of(item: &Item) -> Piece
+    ensures { result ≡ item_bytes item.now }
+{
+    match item {
+        Item::More => Piece::new(),
+        Item::Header(header) => header_piece(header),
+        Item::Event(event) => event_piece(event),
+        Item::End(end) => end_piece(end),
+    }
+}
+
+/// The bytes of the header.
+fn header_piece(header: &Header) -> Piece
+    ensures { result ≡ spelling (header_fields header.now) }
+{
+    let mut piece = Piece::new();
+    piece.short(MAGIC);
+    piece.half(header.version);
+    piece.byte(header.threads);
+    piece.byte(header.origin);
+    piece.long(header.mask);
+    piece
+}
+
+/// The bytes of an event.
+fn event_piece(event: &EventRecord) -> Piece
+    ensures { result ≡ spelling (event_fields event.now) }
+{
+    let mut piece = Piece::new();
+    piece.byte(event.call.number() as u8);
+    piece.short(event.seq);
+    piece.byte(event.thread);
+    piece.half(event.state);
+    piece.short(event.wait_id);
+    put_arguments(&mut piece, &event.call);
+    piece
+}
+
+/// Puts the arguments of a callback behind the bytes of the other fields.
+fn put_arguments(piece: &mut Piece, call: &Call)
+    requires { length piece.old + 48 ≤ 60 }
+    ensures { piece.new ≡ piece.old ++ flat (arguments call.now) }
+{
+    match call {
+        Call::ThreadBegin { kind, thread } => {
+            piece.short(*kind);
+            piece.word(thread);
+        }
+        Call::ThreadEnd { thread } => piece.word(thread),
+        Call::ParallelBegin {
+            task,
+            frame,
+            region,
+            requested,
+            flags,
+            codeptr,
+        } => {
+            piece.word(task);
+            piece.frame(frame);
+            piece.word(region);
+            piece.short(*requested);
+            piece.short(*flags);
+            piece.long(*codeptr);
+        }
+        Call::ParallelEnd {
+            region,
+            task,
+            flags,
+            codeptr,
+        } => {
+            piece.word(region);
+            piece.word(task);
+            piece.short(*flags);
+            piece.long(*codeptr);
+        }
+        Call::TaskCreate {
+            task,
+            frame,
+            fresh,
+            flags,
+            has_dependences,
+            codeptr,
+        } => {
+            piece.word(task);
+            piece.frame(frame);
+            piece.word(fresh);
+            piece.short(*flags);
+            piece.short(*has_dependences);
+            piece.long(*codeptr);
+        }
+        Call::TaskSchedule {
+            prior,
+            status,
+            next,
+        } => {
+            piece.word(prior);
+            piece.short(*status);
+            piece.word(next);
+        }
+        Call::ImplicitTask {
+            endpoint,
+            region,
+            task,
+            actual,
+            index,
+            flags,
+        } => {
+            piece.short(*endpoint);
+            piece.word(region);
+            piece.word(task);
+            piece.short(*actual);
+            piece.short(*index);
+            piece.short(*flags);
+        }
+        Call::SyncRegionWait {
+            kind,
+            endpoint,
+            region,
+            task,
+            codeptr,
+        }
+        | Call::SyncRegion {
+            kind,
+            endpoint,
+            region,
+            task,
+            codeptr,
+        } => {
+            piece.short(*kind);
+            piece.short(*endpoint);
+            piece.word(region);
+            piece.word(task);
+            piece.long(*codeptr);
+        }
+        Call::MutexReleased {
+            kind,
+            wait_id,
+            codeptr,
+        }
+        | Call::LockDestroy {
+            kind,
+            wait_id,
+            codeptr,
+        }
+        | Call::MutexAcquired {
+            kind,
+            wait_id,
+            codeptr,
+        } => {
+            piece.short(*kind);
+            piece.short(*wait_id);
+            piece.long(*codeptr);
+        }
+        Call::Work {
+            kind,
+            endpoint,
+            region,
+            task,
+            count,
+            codeptr,
+        } => {
+            piece.short(*kind);
+            piece.short(*endpoint);
+            piece.word(region);
+            piece.word(task);
+            piece.long(*count);
+            piece.long(*codeptr);
+        }
+        Call::Masked {
+            endpoint,
+            region,
+            task,
+            codeptr,
+        } => {
+            piece.short(*endpoint);
+            piece.word(region);
+            piece.word(task);
+            piece.long(*codeptr);
+        }
+        Call::LockInit {
+            kind,
+            hint,
+            variant,
+            wait_id,
+            codeptr,
+        }
+        | Call::MutexAcquire {
+            kind,
+            hint,
+            variant,
+            wait_id,
+            codeptr,
+        } => {
+            piece.short(*kind);
+            piece.short(*hint);
+            piece.short(*variant);
+            piece.short(*wait_id);
+            piece.long(*codeptr);
+        }
+        Call::Dispatch {
+            region,
+            task,
+            kind,
+            start,
+            iterations,
+        } => {
+            piece.word(region);
+            piece.word(task);
+            piece.short(*kind);
+            piece.long(*start);
+            piece.long(*iterations);
+        }
+    }
+}
+
+/// The bytes of the end mark.
+fn end_piece(end: &EndMark) -> Piece
+    ensures { result ≡ spelling (end_fields end.now) }
+{
+    let mut piece = Piece::new();
+    piece.byte(0);
+    piece.byte(end.status);
+    piece.short(end.detail);
+    piece.short(end.count);
+    piece
+}

@@ -1,0 +1,115 @@
+//! The trace of `int main(void) { return 0; }`, run by one thread: as a value, and as its bytes, written out by hand.
+
+use ompt_calls::{Call, EventRecord, Word};
+use std::alloc::{AllocError, Global};
+use trace_format::{EndMark, Events, Header, RECORDED, Trace, VERSION};
+
+/// How many bytes it has.
+pub(crate) const LENGTH: usize = 182;
+
+/// Where its items begin, and where the last one ends.
+pub(crate) const CUTS: [usize; 7] = [0, 16, 44, 96, 148, 172, 182];
+
+/// Its bytes: the header, four events and the end mark.
+#[rattlefmt::skip]
+pub(crate) const BYTES: [u8; LENGTH] = [
+    // The header: version 2, one thread, recorded, the mask of the profile.
+    0x4f, 0x4d, 0x50, 0x54, 0x00, 0x02, 0x01, 0x00, 0x00, 0x00, 0x00, 0x01, 0x0f, 0xb3, 0x00, 0xfe,
+    // The initial thread begins, at 0.
+    0x01, 0x00, 0x00, 0x00, 0x00, 0x00, 0x01, 0x01, 0x00, 0x00, 0x00, 0x00, 0x00, 0x00, 0x00, 0x01,
+    0x00, 0x00, 0x00, 0x01, 0x00, 0x00, 0x00, 0x00, 0x00, 0x00, 0x00, 0x00,
+    // The initial task begins, at 2.
+    0x07, 0x00, 0x00, 0x00, 0x02, 0x00, 0x00, 0x00, 0x00, 0x00, 0x00, 0x00, 0x00, 0x00, 0x00, 0x01,
+    0x00, 0x00, 0x00, 0x01, 0x00, 0x00, 0x00, 0x00, 0x00, 0x00, 0x00, 0x00, 0x00, 0x00, 0x00, 0x01,
+    0x00, 0x00, 0x00, 0x00, 0x00, 0x00, 0x00, 0x00, 0x00, 0x00, 0x00, 0x01, 0x00, 0x00, 0x00, 0x01,
+    0x00, 0x00, 0x00, 0x01,
+    // It ends, at 4.
+    0x07, 0x00, 0x00, 0x00, 0x04, 0x00, 0x01, 0x01, 0x00, 0x00, 0x00, 0x00, 0x00, 0x00, 0x00, 0x02,
+    0x00, 0x00, 0x00, 0x00, 0x00, 0x00, 0x00, 0x00, 0x00, 0x00, 0x00, 0x00, 0x00, 0x00, 0x00, 0x01,
+    0x00, 0x00, 0x00, 0x00, 0x00, 0x00, 0x00, 0x00, 0x00, 0x00, 0x00, 0x00, 0x00, 0x00, 0x00, 0x01,
+    0x00, 0x00, 0x00, 0x01,
+    // The thread ends, at 6.
+    0x02, 0x00, 0x00, 0x00, 0x06, 0x00, 0x01, 0x01, 0x00, 0x00, 0x00, 0x00, 0x00, 0x00, 0x00, 0x01,
+    0x00, 0x00, 0x00, 0x00, 0x00, 0x00, 0x00, 0x00,
+    // The end mark: done, after four events.
+    0x00, 0x00, 0x00, 0x00, 0x00, 0x00, 0x00, 0x00, 0x00, 0x04,
+];
+
+/// The data word of the only thread, and that of the initial task and its region.
+const ONE: Word = Word {
+    identity: 1,
+    value: 0,
+};
+
+/// NULL.
+const NULL: Word = Word {
+    identity: 0,
+    value: 0,
+};
+
+/// `ompt_state_work_serial`.
+const WORK_SERIAL: u16 = 0x000;
+
+/// `ompt_state_overhead`.
+const OVERHEAD: u16 = 0x101;
+
+/// An event of thread 0 in this state.
+fn event(seq: u32, state: u16, call: Call) -> EventRecord {
+    EventRecord {
+        seq,
+        thread: 0,
+        state,
+        wait_id: 0,
+        call,
+    }
+}
+
+/// The initial task begins or ends.
+fn task(endpoint: u32, region: Word, actual: u32) -> Call {
+    Call::ImplicitTask {
+        endpoint,
+        region,
+        task: ONE,
+        actual,
+        index: 1,
+        flags: 1,
+    }
+}
+
+/// Its header.
+pub(crate) const HEADER: Header = Header {
+    version: VERSION,
+    threads: 1,
+    origin: RECORDED,
+    mask: omp_codes::PROFILE_MASK,
+};
+
+/// Its events.
+pub(crate) fn events() -> [EventRecord; 4] {
+    let begin = Call::ThreadBegin {
+        kind: 1,
+        thread: ONE,
+    };
+    [
+        event(0, OVERHEAD, begin),
+        event(2, WORK_SERIAL, task(1, ONE, 1)),
+        event(4, OVERHEAD, task(2, NULL, 0)),
+        event(6, OVERHEAD, Call::ThreadEnd { thread: ONE }),
+    ]
+}
+
+/// Its end mark.
+pub(crate) const END: EndMark = EndMark {
+    status: 0,
+    detail: 0,
+    count: 4,
+};
+
+/// The trace.
+pub(crate) fn smallest(alloc: Global) -> Result<Trace, AllocError> {
+    Ok(Trace {
+        header: HEADER,
+        events: Events(events().to_vec(alloc)?),
+        end: END,
+    })
+}
