@@ -86,6 +86,7 @@ impl<'a> Scope<'a> {
     }
 
     /// The first trap of the children of a node, from left to right up to the first that is absent.
+    #[inline(always)]
     #[tactic(auto, using(crate::proofs::ValuesAll::all_trap, crate::proofs::ValuesAll::all_next, crate::proofs::ValuesAll::all_without))]
     pub(crate) fn check_all(&self, node: u32) -> Result<(), u8>
         requires node { node < length self.now.tree.now.trees }

@@ -216,6 +216,7 @@ impl Board {
     }
 
     /// What the code of the thread's current task sees.
+    #[inline(always)]
     pub fn view(&self, thread: u8) -> View
         ensures view { result ≡ view_of self.now.world thread }
         ensures numbers { HasNumbers result }

@@ -111,6 +111,7 @@ fn task_level(
 }
 
 /// Adds the levels of these tasks of the owner, which are the lowest of its stack, from top to bottom.
+#[inline(always)]
 fn push_stack(
     levels: &mut Vec<TaskLevel>,
     board: &Board,

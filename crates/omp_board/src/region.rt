@@ -42,6 +42,7 @@ impl Region {
     }
 
     /// What the team answers where the member meets this next.
+    #[inline(always)]
     pub fn meeting_answer(&self, member: u8, what: Meeting) -> Result<bool, Mismatch>
         ensures { result ≡ if has_member (team_of self.now) member then answer_to_meet (team_of self.now) member what else Ok false }
     {
@@ -100,6 +101,7 @@ impl Region {
     }
 
     /// The member begins to wait at the barrier that it met last.
+    #[inline(always)]
     pub fn arrive(&mut self, member: u8)
         ensures begun { seen_region self.new ≡ record (seen_region self.old) { team = with_begun (team_of self.old) member } }
         ensures room { room_of self.new ≡ room_of self.old }

@@ -217,6 +217,7 @@ impl Regions {
     }
 
     /// What the team answers where the member meets this next.
+    #[inline(always)]
     pub fn meeting_answer(&self, region: u32, member: u8, what: Meeting) -> Result<bool, Mismatch>
         ensures { result ≡ meeting_in self.now region member what }
     {
@@ -259,6 +260,7 @@ impl Regions {
     }
 
     /// The member begins to wait at the barrier that it met last.
+    #[inline(always)]
     pub fn arrive(&mut self, region: u32, member: u8)
         ensures { self.new ≡ with_team_in self.old region (with_begun (team_in self.old region) member) }
     {

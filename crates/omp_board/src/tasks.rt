@@ -219,6 +219,7 @@ impl Tasks {
     }
 
     /// What stands first in the task's code.
+    #[inline(always)]
     #[tactic(auto, using(c_steps::proofs::Giving::nothing_past))]
     pub fn standing(&self, task: u32) -> Upcoming
         ensures { result ≡ upcoming.upcoming_among (code_in self.now task).todo }

@@ -342,6 +342,7 @@ impl State {
     }
 
     /// What follows the silent steps of a turn, so many, where the thread comes to this.
+    #[inline(always)]
     fn after_steps(&mut self, thread: u8, made: u32, next: Arrival) -> Outcome
         requires arrival { next ≡ arrival self.old.state.world thread }
         requires turns { self.old.state.turns < TURN_LIMIT }

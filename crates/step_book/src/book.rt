@@ -138,6 +138,7 @@ impl Book {
     /// A turn of an enabled thread, where it is known to what it comes.
     ///
     /// Where there is no memory nothing has changed.
+    #[inline(always)]
     pub fn go_ready(&mut self, ready: Ready) -> Result<Step, Memory>
         requires thread { ready.thread < self.old.run.threads }
         requires enabled { IsTrue (enabled (state_of self.old) ready.thread) }
@@ -172,6 +173,7 @@ impl Book {
     }
 
     /// The answer of the thread's tool: what it stores, where it takes effect, and the return of its callback. No memory is taken.
+    #[inline(always)]
     pub fn answer(&mut self, thread: u8, reply: &Reply, snapshot: &Snapshot)
         requires { OwesAnswer self.old thread snapshot.now }
         ensures { self.new ≡ with_entries self.old (event_reply thread (stores_of reply.now snapshot.now)) }
@@ -283,6 +285,7 @@ fn put_store(
 }
 
 /// The callback of the thread's event has returned.
+#[inline(always)]
 fn put_back(machine: &mut Machine, entries: &mut Entries, thread: u8)
     requires room { 0 < entries.old.room }
     requires inside { IsSome (pending_at machine.old.state thread) }

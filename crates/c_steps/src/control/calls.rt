@@ -297,6 +297,7 @@ impl Control {
     }
 
     /// A function returns this number: the call that was begun last has ended.
+    #[inline(always)]
     #[tactic(auto, using(crate::proofs::Returning::returned_is, crate::proofs::Returning::returned_after))]
     pub(super) fn returns(
         &mut self,

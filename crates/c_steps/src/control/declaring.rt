@@ -28,7 +28,7 @@ use c_syntax::NodeKind;
 
 impl Control {
     /// A declarator of a block.
-    #[inline(never)]
+    #[inline(always)]
     pub(super) fn declare(&mut self, code: &Code, cells: &mut Cells, view: View, node: u32) -> Next
         requires ready { IsStepping code.now self.old }
         requires node { node < length code.now.trees }
@@ -150,6 +150,7 @@ impl Control {
     }
 
     /// A name comes into scope with so many new cells that hold 0.
+    #[inline(always)]
     fn declare_cells(
         &mut self,
         code: &Code,

@@ -77,6 +77,7 @@ impl Control {
     }
 
     /// At most one item stands in place of the event.
+    #[inline(always)]
     #[tactic(auto, using(crate::proofs::Passing::pass_then_if))]
     fn put_instead(&mut self, code: &Code, item: Option<Item>)
         requires ready { IsPassing code.now self.old }

@@ -36,7 +36,7 @@ pub(crate) struct Change {
 
 impl Control {
     /// A step that is a statement.
-    #[inline(never)]
+    #[inline(always)]
     pub(super) fn try_change(
         &mut self,
         code: &Code,
@@ -61,7 +61,7 @@ impl Control {
 
     /// The third part of a plain `for`, and then its test stands next.
     #[tactic(auto, unfolding(crate::specs::Items::todo_at, crate::specs::Items::calls_at))]
-    #[inline(never)]
+    #[inline(always)]
     pub(super) fn try_third(
         &mut self,
         code: &Code,
@@ -88,7 +88,7 @@ impl Control {
 
     /// `if`: the branch that is taken stands next.
     #[tactic(auto, using(crate::proofs::Stepping::todo_if, crate::proofs::Stepping::calls_if, crate::proofs::Stepping::are_if))]
-    #[inline(never)]
+    #[inline(always)]
     pub(super) fn try_if(&mut self, code: &Code, cells: &Cells, view: View, node: u32) -> bool
         requires ready { IsStepping code.now self.old }
         requires node { node < length code.now.trees }
@@ -109,7 +109,7 @@ impl Control {
 
     /// `while`: the statement stands next, and then the loop again, or nothing.
     #[tactic(auto, unfolding(crate::specs::Items::todo_at, crate::specs::Items::calls_at))]
-    #[inline(never)]
+    #[inline(always)]
     pub(super) fn try_while(&mut self, code: &Code, cells: &Cells, view: View, node: u32) -> bool
         requires ready { IsStepping code.now self.old }
         requires node { node < length code.now.trees }
@@ -135,7 +135,7 @@ impl Control {
 
     /// The test of a plain `for`. Where it is 0 so many names stay in scope.
     #[tactic(auto, using(crate::proofs::Frames::cut_names, crate::proofs::Frames::take_shorter), unfolding(crate::specs::Items::todo_at, crate::specs::Items::calls_at))]
-    #[inline(never)]
+    #[inline(always)]
     pub(super) fn try_test(
         &mut self,
         code: &Code,
@@ -167,7 +167,7 @@ impl Control {
     }
 
     /// `return`, of nothing, of a call, or of an expression.
-    #[inline(never)]
+    #[inline(always)]
     pub(super) fn try_return(
         &mut self,
         code: &Code,

@@ -32,6 +32,7 @@ use c_syntax::NodeKind;
 impl Control {
     /// Makes silent steps of C's own statements one after another, at most so many, and answers how many it made. `advance` tells what stands
     /// next then. It takes no memory.
+    #[inline(never)]
     #[tactic(auto, using(crate::proofs::Repeated::none_made, crate::proofs::Repeated::made_then_not, crate::proofs::Repeated::made_one_more))]
     pub fn try_steps(&mut self, code: &Code, cells: &mut Cells, view: View, most: u32) -> u32
         requires made { IsMadeFor code.now self.old }
@@ -131,7 +132,7 @@ impl Control {
     }
 
     /// The end of a block stands next, in place of its parts.
-    #[inline(never)]
+    #[inline(always)]
     fn end_parts(&mut self, names: usize)
         requires { open_calls (slice_set self.old.frames 0 (One (Leave names))) ≡ open_calls self.old.frames }
         ensures { self.new ≡ record self.old { frames = slice_set self.old.frames 0 (One (Leave names)) } }
@@ -184,7 +185,7 @@ impl Control {
 
     /// A block is entered.
     #[tactic(auto, using(crate::proofs::Trying::attempt_of))]
-    #[inline(never)]
+    #[inline(always)]
     fn try_block(&mut self, code: &Code, cells: &mut Cells, view: View, node: u32) -> bool
         requires ready { IsStepping code.now self.old }
         requires node { node < length code.now.trees }
@@ -209,7 +210,7 @@ impl Control {
     }
 
     /// An assignment of a call: first the cell, and then the call.
-    #[inline(never)]
+    #[inline(always)]
     fn try_set_call(&mut self, code: &Code, cells: &mut Cells, view: View, node: u32) -> bool
         requires ready { IsStepping code.now self.old }
         requires node { node < length code.now.trees }
@@ -227,7 +228,7 @@ impl Control {
     }
 
     /// A call that is a statement.
-    #[inline(never)]
+    #[inline(always)]
     fn try_called(&mut self, code: &Code, cells: &mut Cells, view: View, node: u32) -> bool
         requires ready { IsStepping code.now self.old }
         requires node { node < length code.now.trees }
@@ -252,7 +253,7 @@ impl Control {
 
     /// A declarator of a block.
     #[tactic(auto, using(crate::proofs::Trying::attempt_of))]
-    #[inline(never)]
+    #[inline(always)]
     fn try_declare(&mut self, code: &Code, cells: &mut Cells, view: View, node: u32) -> bool
         requires ready { IsStepping code.now self.old }
         requires node { node < length code.now.trees }
@@ -267,7 +268,7 @@ impl Control {
 
     /// A block ends, and so many names stay in scope.
     #[tactic(auto, using(crate::proofs::Trying::attempt_of))]
-    #[inline(never)]
+    #[inline(always)]
     fn try_leave(&mut self, code: &Code, cells: &mut Cells, view: View, names: usize) -> bool
         requires ready { IsStepping code.now self.old }
         ensures { IsAttempt code.now (statements.leave_block (here_at code.now view self.old cells.old) (with_file code.now names)) result self.old cells.old self.new cells.new }
@@ -278,7 +279,7 @@ impl Control {
 
     /// A function returns this number.
     #[tactic(auto, using(crate::proofs::Trying::attempt_of))]
-    #[inline(never)]
+    #[inline(always)]
     pub(super) fn try_returns(
         &mut self,
         code: &Code,

@@ -117,6 +117,7 @@ impl Board {
     }
 
     /// The event at this point, with its numbers: one line for each.
+    #[inline(always)]
     fn event_at(&self, thread: u8, point: Point) -> Event
         ensures { result ≡ going.event_of_point self.now.world thread point }
     {
@@ -217,6 +218,7 @@ impl Board {
     }
 
     /// The code of the thread's task goes past its event. `executes` counts at the begin of a `single` alone.
+    #[inline(always)]
     fn go_past(&mut self, thread: u8, point: Point, node: u32, executes: bool)
         requires event { IsEventOfNext self.old.program point node (code_of self.old.world thread).todo }
         requires room { HasPassing self.old.room self.old.world thread }

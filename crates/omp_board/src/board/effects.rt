@@ -25,6 +25,7 @@ use team_parts::Meeting;
 
 impl Board {
     /// The event at this point changes what it does beside the code: one line for each. Where it meets a trap or a limit, nothing has changed.
+    #[inline(always)]
     #[tactic(auto, unfolding(omp_model::specs::Going::fault_of_point, omp_model::specs::Going::effect_of_point))]
     pub(super) fn take_effect(&mut self, thread: u8, point: Point) -> Result<(), Halt>
         requires made { IsMadeWorld self.old.world }
@@ -123,6 +124,7 @@ impl Board {
     }
 
     /// The thread meets this next, a worksharing construct or a barrier.
+    #[inline(always)]
     fn meet_next(&mut self, thread: u8, what: Meeting) -> Result<(), Halt>
         requires chunk { HasChunk what }
         requires room { HasGo self.old.room self.old.world thread }

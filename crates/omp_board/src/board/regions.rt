@@ -61,6 +61,7 @@ impl Board {
     }
 
     /// What the team of the thread's region answers where the thread meets this next.
+    #[inline(always)]
     pub(super) fn meeting_answer(&self, thread: u8, what: Meeting) -> Result<bool, Mismatch>
         ensures { result ≡ meeting_at self.now.world thread what }
     {
@@ -84,6 +85,7 @@ impl Board {
     }
 
     /// The thread begins to wait at the barrier that it met last.
+    #[inline(always)]
     pub(super) fn arrive(&mut self, thread: u8)
         ensures { self.new ≡ record self.old { world = changes.begun self.old.world (current_region self.old.world thread) (current_index self.old.world thread) } }
     {

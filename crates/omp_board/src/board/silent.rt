@@ -90,6 +90,7 @@ impl Board {
     }
 
     /// Makes a silent step of the code of the thread's current task, or says what stands next.
+    #[inline(always)]
     pub(super) fn advance(&mut self, thread: u8, view: View) -> Next
         requires numbers { HasNumbers view }
         requires room { HasStep self.old.room self.old.world thread }
