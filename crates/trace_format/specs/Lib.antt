@@ -8,3 +8,4 @@ pub mod Decoding
 pub mod Reached
 pub mod Flat
 pub mod Holding
+pub mod Fitting

@@ -4,10 +4,8 @@ ghost use Rattle.std.specs.Prelude.{◌↔◌, [], ◌∷◌, IsTrue};
 ghost use Rattle.trace_format.specs.Validity.{IsAmong, IsCall, IsDispatched, IsWord};
 ghost use Rattle.trace_format.specs.Validity.{endpoints, implicit_flags, mutex_kinds, statuses, sync_kinds, task_flags, thread_kinds, work_kinds};
 
+use crate::kind::PARALLEL_FLAGS;
 use ompt_calls::{Call, Word};
-
-/// The flags of each region: `ompt_parallel_invoker_runtime` of a team.
-const PARALLEL_FLAGS: u32 = 0x8000_0001;
 
 /// Whether the callback can have its arguments.
 pub(crate) fn is_call(call: Call) -> bool

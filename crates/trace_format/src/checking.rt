@@ -2,11 +2,11 @@
 
 ghost use Rattle.std.specs.Prelude.{ℕ, ◌≡◌, ◌↔◌, [], ◌∷◌, true, IsTrue, IsFalse};
 ghost use Rattle.omp_codes.specs.Answers.{in_profile};
-ghost use Rattle.omp_codes.specs.States.{states};
 ghost use Rattle.ompt_calls.specs.Number.{is_registered};
 ghost use Rattle.trace_format.specs.Validity.{AreEvents, IsAmong, IsDetail, IsEvent, IsHeader, IsMask, IsOrigin, IsTrace};
 
 use crate::arguments::is_call;
+use crate::test::is_state;
 use crate::trace::{FIRST_VERSION, Header, MIGRATED, RECORDED, SEQ_LIMIT, Trace, VERSION};
 use omp_codes::PROFILE_MASK;
 use omp_codes::callbacks::DISPATCH;
@@ -94,16 +94,6 @@ fn is_event(header: &Header, event: EventRecord) -> bool
         && event.thread < header.threads
         && is_state(event.state)
         && is_call(event.call)
-}
-
-/// Whether a thread can be in this state.
-fn is_state(state: u16) -> bool
-    ensures { IsTrue result ↔ IsAmong states state }
-{
-    matches!(
-        state,
-        0x000 | 0x001 | 0x011 | 0x012 | 0x014 | 0x020 | 0x041 | 0x042 | 0x100 | 0x101
-    )
 }
 
 /// Whether a run can end with this status and detail.

@@ -6,8 +6,8 @@ ghost use Rattle.trace_format.specs.Accepting.{accepts_kind, kinds_of, width_of}
 use crate::decode::{long_at, short_at};
 use omp_codes::callbacks;
 
-/// `ompt_parallel_invoker_runtime` of a team.
-const PARALLEL_FLAGS: u32 = 0x8000_0001;
+/// The flags of each region: `ompt_parallel_team` and `ompt_parallel_invoker_program`.
+pub(crate) const PARALLEL_FLAGS: u32 = 0x8000_0001;
 
 /// The flags of an explicit task.
 const EXPLICIT_TASK: u32 = 4;

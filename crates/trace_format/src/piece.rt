@@ -3,18 +3,18 @@
 ghost use Rattle.std.specs.Prelude.{◌≡◌, ◌≤◌, ◌+◌, [], ◌++◌, length};
 ghost use Rattle.byteorder.specs.Endian.{big_bytes};
 ghost use Rattle.trace_format.specs.Fields.{frame, word};
+ghost use Rattle.trace_format.specs.Fitting.{FitsWord};
+ghost use Rattle.trace_format.specs.Validity.{IsFrame};
 
+use crate::room::LONGEST_ITEM;
 use byteorder::{BigEndian, ByteOrder};
 use ompt_calls::{Frame, Word};
 use std::marker::Model;
 
-/// The most bytes of an item: those of a parallel_begin, a task_create or a work.
-pub(crate) const ROOM: usize = 60;
-
 /// Bytes that are put in order until they are written. Contracts see their list.
 #[derive(Drop)]
 pub(crate) struct Piece {
-    bytes: [u8; ROOM],
+    bytes: [u8; LONGEST_ITEM],
     len: usize,
 }
 
@@ -34,7 +34,7 @@ impl Piece {
         ensures { result ≡ [] }
     {
         Piece {
-            bytes: [0; ROOM],
+            bytes: [0; LONGEST_ITEM],
             len: 0,
         }
     }
@@ -91,6 +91,7 @@ impl Piece {
         requires { length self.old + 12 ≤ 60 }
         ensures bytes { self.new ≡ self.old ++ word data_word.now }
         ensures longer { length self.new ≡ length self.old + 12 }
+        ensures fits { FitsWord data_word.now }
     {
         self.short(data_word.identity);
         self.long(data_word.value);
@@ -101,6 +102,7 @@ impl Piece {
         requires { length self.old + 8 ≤ 60 }
         ensures bytes { self.new ≡ self.old ++ frame of_task.now }
         ensures longer { length self.new ≡ length self.old + 8 }
+        ensures fits { IsFrame of_task.now }
     {
         self.short(of_task.exit);
         self.short(of_task.enter);

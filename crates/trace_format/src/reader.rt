@@ -63,7 +63,8 @@ impl Model for Reader {
 impl Reader {
     /// A reader that has taken nothing. It takes no memory.
     pub fn new() -> Reader
-        ensures { HasTaken result [] [] }
+        ensures taken { HasTaken result [] [] }
+        ensures unrefused { result.refusal ≡ None }
     {
         Reader {
             kept: Kept {
@@ -87,6 +88,7 @@ impl Reader {
     /// takes nothing more, and gives the same refusal. No memory is taken.
     pub fn feed(&mut self, piece: &[u8]) -> Result<Taken, Refusal>
         ensures used { IfOk result (λ taken. taken.used ≤ length piece.now) }
+        ensures some { IfOk result (λ taken. 0 < length piece.now → 0 < taken.used) }
         ensures more { IfOk result (λ taken. taken.item ≡ Item.More → taken.used ≡ length piece.now) }
         ensures ends { IfOk result (λ taken. taken.item ≢ Item.More → self.new.begun ≡ []) }
         ensures ok { IfOk result (λ taken. (bytes : List ℕ) (items : List Item) → HasTaken self.old bytes items →

@@ -10,7 +10,7 @@ ghost use Rattle.trace_format.specs.Validity.{is_among};
 
 use crate::decode::{byte_at, half_at, long_at, short_at};
 use crate::kind::{Kind, accepts_kind, width_of};
-use crate::trace::{FIRST_VERSION, MIGRATED, RECORDED, SEQ_LIMIT, VERSION};
+use crate::trace::{FIRST_VERSION, MAGIC, MIGRATED, RECORDED, SEQ_LIMIT, VERSION};
 use omp_codes::callbacks;
 use ompt_calls::is_registered;
 
@@ -48,9 +48,6 @@ pub enum Test {
     /// This number.
     Count(u32),
 }
-
-/// The four bytes with which a trace begins, as a number.
-const MAGIC: u32 = 0x4F4D_5054;
 
 /// The kind of a section.
 const SECTION: u32 = 2;
@@ -125,7 +122,7 @@ fn is_seq(least: u32, seq: u32) -> bool
 }
 
 /// Whether it is the state of a thread.
-fn is_state(state: u16) -> bool
+pub(crate) fn is_state(state: u16) -> bool
     ensures { result ≡ is_among states state }
 {
     matches!(

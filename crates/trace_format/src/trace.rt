@@ -8,6 +8,9 @@ use std::marker::Model;
 /// The number below which the sequence numbers of a trace lie: a history has at most five entries for each of 524,288 turns.
 pub const SEQ_LIMIT: u32 = 2_621_440;
 
+/// The four bytes with which a trace begins, `OMPT`, as a number.
+pub(crate) const MAGIC: u32 = 0x4F4D_5054;
+
 /// The first version of the format. It doesn't know the callback dispatch.
 pub const FIRST_VERSION: u16 = 1;
 

@@ -3,18 +3,17 @@
 ghost use Rattle.std.specs.Prelude.{◌≡◌, ◌≤◌, ◌+◌, ◌++◌, length, OnOk, OnErr};
 ghost use Rattle.std.specs.Io.KnownBytes.{Appends};
 ghost use Rattle.run_edges.specs.Edges.{Rose, AppendsFront};
+ghost use Rattle.std.specs.List.{All};
+ghost use Rattle.trace_format.specs.Fitting.{FitsCall, FitsFields, FitsItem};
 ghost use Rattle.trace_format.specs.Fields.{arguments, end_fields, event_fields, fields_of, header_fields, spelling};
 ghost use Rattle.trace_format.specs.Items.{item_bytes};
 ghost use Rattle.trace_format.specs.Reached.{flat};
 
 use crate::item::Item;
 use crate::piece::Piece;
-use crate::trace::{EndMark, Header, Trace};
+use crate::trace::{EndMark, Header, MAGIC, Trace};
 use ompt_calls::{Call, EventRecord};
 use run_edges::{Sink, WriteFault, write_all};
-
-/// The four bytes with which a trace begins, `OMPT`, as a number.
-const MAGIC: u32 = 0x4F4D_5054;
 
 /// Writes a trace: the header, each event and the end mark as one piece each. It takes no memory.
 pub fn write_trace<O: Sink>(sink: &mut O, trace: &Trace) -> Result<(), WriteFault>
@@ -23,6 +22,8 @@ pub fn write_trace<O: Sink>(sink: &mut O, trace: &Trace) -> Result<(), WriteFaul
     ensures part { OnErr result (AppendsFront (O.held sink.old) (O.held sink.new) (spelling (fields_of trace.now))) }
     ensures counted { O.faults sink.old ≤ O.faults sink.new }
     ensures steady { OnOk result (O.faults sink.new ≡ O.faults sink.old) }
+    // The numbers of what was written fit their fields, by their types.
+    ensures fits { OnOk result (All FitsFields trace.now.events) }
 {
     write_item(sink, &Item::Header(trace.header))?;
     for event in &trace.events.0 {
@@ -38,6 +39,7 @@ pub fn write_item<O: Sink>(sink: &mut O, item: &Item) -> Result<(), WriteFault>
     ensures part { OnErr result (AppendsFront (O.held sink.old) (O.held sink.new) (item_bytes item.now)) }
     ensures counted { O.faults sink.old ≤ O.faults sink.new }
     ensures steady { OnOk result (O.faults sink.new ≡ O.faults sink.old) }
+    ensures fits { FitsItem item.now }
 {
     let piece = piece_of(item);
     write_all(sink, piece.as_slice())
@@ -45,7 +47,8 @@ pub fn write_item<O: Sink>(sink: &mut O, item: &Item) -> Result<(), WriteFault>
 
 /// The bytes of an item.
 fn piece_of(item: &Item) -> Piece
-    ensures { result ≡ item_bytes item.now }
+    ensures bytes { result ≡ item_bytes item.now }
+    ensures fits { FitsItem item.now }
 {
     match item {
         Item::More => Piece::new(),
@@ -70,7 +73,8 @@ fn header_piece(header: &Header) -> Piece
 
 /// The bytes of an event.
 fn event_piece(event: &EventRecord) -> Piece
-    ensures { result ≡ spelling (event_fields event.now) }
+    ensures bytes { result ≡ spelling (event_fields event.now) }
+    ensures fits { FitsFields event.now }
 {
     let mut piece = Piece::new();
     piece.byte(event.call.number() as u8);
@@ -85,7 +89,8 @@ fn event_piece(event: &EventRecord) -> Piece
 /// Puts the arguments of a callback behind the bytes of the other fields.
 fn put_arguments(piece: &mut Piece, call: &Call)
     requires { length piece.old + 48 ≤ 60 }
-    ensures { piece.new ≡ piece.old ++ flat (arguments call.now) }
+    ensures bytes { piece.new ≡ piece.old ++ flat (arguments call.now) }
+    ensures fits { FitsCall call.now }
 {
     match call {
         Call::ThreadBegin { kind, thread } => {

@@ -13,4 +13,4 @@ pub invariant_of-result : goal.invariant_of-result
 invariant_of-result c = λ unrefused. to_holds first_stage c.new.result [] [] [] [] 0 0 0 (first c.new.result c.new.ensures) refl refl refl (begins first_stage _ refl) nil_bytes
 
 pub returns : goal.returns
-returns c = has_taken first_stage c.new.result [] [] [] [] 0 (first c.new.result c.new.ensures) refl (begins first_stage _ refl)
+returns c = record { taken = has_taken first_stage c.new.result [] [] [] [] 0 (first c.new.result c.new.ensures) refl (begins first_stage _ refl); unrefused = refl }
