@@ -1,2 +1,2 @@
-pub mod Lister
+pub mod Recorder
 pub mod Order

@@ -1,4 +1,4 @@
--- The events of several listers, in the order of their positions.
+-- The events of several recorders, in the order of their positions.
 use Rattle.std.specs.Prelude.{ℕ, ◌≡◌, ◌<◌, ◌≤◌, ◌+◌, ◌==◌, List, [], ◌∷◌, length, filter, slice_index_or}
 use Rattle.ompt_calls.specs.declared.event.EventRecord.{EventRecord}
 
@@ -12,7 +12,7 @@ abbrev pub AreRising : List EventRecord → Type 0
 AreRising [] = Unit {0}
 AreRising (event ∷ rest) = AreFrom (event.seq + 1) rest × AreRising rest
 
--- the listers have these events between them: each its own thread's, in order
+-- the recorders have these events between them: each its own thread's, in order
 pub record AreShared (events : List EventRecord) (parts : List (List EventRecord)) : Type 0 where
   pub rising : AreRising events
   pub few : (k : ℕ) → length parts ≤ k → filter (λ (event : EventRecord). event.thread == k) events ≡ []

@@ -1,14 +1,14 @@
 //! A part that keeps what it is told.
 
 ghost use Rattle.std.specs.Prelude.{◌≡◌, []};
-ghost use Rattle.tool_report.specs.Lister.{ListerFor};
+ghost use Rattle.tool_report.specs.Recorder.{RecorderFor};
 
 use ompt_calls::{Call, EventRecord, Reply, Snapshot};
 use std::alloc::Global;
 use std::marker::Model;
 use tool_api::{Memory, Registrar, ToolPart};
 
-/// What a lister answers to `initialize`: it is active.
+/// What a recorder answers to `initialize`: it is active.
 const ACTIVE: u32 = 1;
 
 /// The reply that stores nothing.
@@ -20,26 +20,29 @@ const NOTHING: Reply = Reply {
 
 /// A part that keeps a record of each call of `callback`, in order. Contracts see it as that list.
 #[derive(Drop)]
-pub struct Lister {
+pub struct Recorder {
     /// The records, in the order of the calls.
     events: Vec<EventRecord>,
 }
 
-impl Model for Lister {
+/// What a listing needs is what a recorder keeps.
+pub type Lister = Recorder;
+
+impl Model for Recorder {
     ghost use Rattle.std.specs.Prelude.{List};
     ghost use Rattle.ompt_calls.specs.declared.event.EventRecord.{EventRecord};
 
     ghost Value = { List EventRecord };
 
-    ghost view = { λ lister. lister.events.items };
+    ghost view = { λ recorder. recorder.events.items };
 }
 
-impl Lister {
-    /// A lister that was told nothing yet.
-    pub fn new(alloc: Global) -> Lister
+impl Recorder {
+    /// A recorder that was told nothing yet.
+    pub fn new(alloc: Global) -> Recorder
         ensures { result ≡ [] }
     {
-        Lister {
+        Recorder {
             events: Vec::new(alloc),
         }
     }
@@ -52,10 +55,10 @@ impl Lister {
     }
 }
 
-impl ToolPart for Lister {
-    ghost stands_for = { ListerFor };
+impl ToolPart for Recorder {
+    ghost stands_for = { RecorderFor };
 
-    ghost kind = { λ lister. 0 };
+    ghost kind = { λ recorder. 0 };
 
     fn initialize(&mut self, registrar: &mut Registrar) -> u32 {
         registrar.set_profile();
