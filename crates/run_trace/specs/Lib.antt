@@ -1,0 +1,2 @@
+pub mod TraceOf
+pub mod Sensible

@@ -1,0 +1,26 @@
+//! A trace that is read from a source and written again: as lines, or in the second version of the format.
+//!
+//! [`copy_trace`] reads pieces of at most 4,096 bytes, and writes what it says of each item as soon as the item is whole. The
+//! definitions stand in `specs/`: `Written` has what is written of items, `Copying` what the call has read and written, by how it ended.
+//!
+//! Proved by the contract of [`copy_trace`]:
+//!
+//! - at `Whole` the whole input is a trace, and what was written is what is defined of its items. The line of the end mark comes only
+//!   then;
+//! - at `Refused` the input is refused so (`trace_format`), or is cut; at `ReadFault` a read failed, and was counted. What was
+//!   written is that of all items that are whole in what was taken;
+//! - at `WriteFault` a write failed, and was counted; what was written is a front of what is defined. So it is at `Memory`, which isn't
+//!   answered for the second version;
+//! - the call returns: each read takes a byte or ends it, and no bytes without a refusal are longer than the longest trace.
+//!
+//! Its memory doesn't grow with the trace: that isn't proved, but plain in the code.
+#![tactic(auto)]
+
+mod copied;
+mod copy;
+mod form;
+mod put;
+
+pub use copied::Copied;
+pub use copy::copy_trace;
+pub use form::Form;
