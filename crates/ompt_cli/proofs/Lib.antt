@@ -7,3 +7,4 @@ pub mod Ending
 pub mod Reading
 pub mod Walks
 pub mod Telling
+pub mod Recorded

@@ -1,11 +1,11 @@
--- The listers of a run: what they kept is what is recorded of the run.
+-- The recorders of a run: what they kept is what is recorded of the run.
 use Rattle.std.proofs.Common.{◌≡◌, ℕ, ◌+◌, ◌<◌, ◌≤◌, ◌&&◌, Bool, true, false, if◌then◌else◌, List, [], ◌∷◌, ◌++◌, map, length, replicate, slice_index_or, refl, sym, ap, subst, ◌∙◌, zero, suc, arith}
 use Rattle.std.proofs.lemmas.List.{get_or-replicate, length-replicate}
 use Rattle.ompt_calls.specs.Item.{Item}
 use Rattle.ompt_calls.specs.Number.{is_registered}
 use Rattle.tool_api.specs.Record.{Record, StartedWith, initialized, StoresNothing}
 use Rattle.omp_codes.specs.declared.callbacks.TheConstants.{PROFILE_MASK}
-use Rattle.tool_report.specs.Lister.{ListerFor}
+use Rattle.tool_report.specs.Recorder.{RecorderFor}
 use Rattle.tool_report.specs.Order.{AreFrom, AreRising, AreShared}
 use Rattle.omp_model.specs.declared.cause.Cause.{Cause}
 use Rattle.omp_model.specs.declared.history.Entry.{Entry}
@@ -83,12 +83,12 @@ rising-from run S position (entry ∷ rest) =
 abbrev pub nothing_called : Record
 nothing_called = record { started = []; calls = []; finished = []; unheard = 0; within = [] }
 
-fresh-lister : ListerFor [] nothing_called
-fresh-lister = record { started = λ k d below. absurd (omega (arith, below)); silent = λ k d below. absurd (omega (arith, below)); events = refl; alone = refl }
+fresh-recorder : RecorderFor [] nothing_called
+fresh-recorder = record { started = λ k d below. absurd (omega (arith, below)); silent = λ k d below. absurd (omega (arith, below)); events = refl; alone = refl }
 
--- a lister stands for its starts and calls alone
-same-lister : (kept : List EventRecord) (g h : Record) → SameCalls g h → ListerFor kept g → ListerFor kept h
-same-lister kept g h same for =
+-- a recorder stands for its starts and calls alone
+same-recorder : (kept : List EventRecord) (g h : Record) → SameCalls g h → RecorderFor kept g → RecorderFor kept h
+same-recorder kept g h same for =
     record {
       started = subst (λ starts. StartedWith 1 PROFILE_MASK starts) same.started for.started;
       silent = subst StoresNothing same.calls for.silent;
@@ -101,35 +101,35 @@ pub silent-each : (items : List Item) → StoresNothing items → AreSilent item
 silent-each [] all = tt
 silent-each (item ∷ rest) all = (all 0 item (omega arith), silent-each rest (λ k d below. all (suc k) d (omega (arith, below))))
 
--- what a lister kept, of calls that stored nothing
+-- what a recorder kept, of calls that stored nothing
 record KeepsOf (kept : List EventRecord) (items : List Item) : Type 0 where
   events : kept ≡ map record_of items
   silent : AreSilent items
 
-keeps-of : (kept : List EventRecord) (h : Record) → h.calls ≡ [] → (items : List Item) → ListerFor kept (served h items) → KeepsOf kept items
+keeps-of : (kept : List EventRecord) (h : Record) → h.calls ≡ [] → (items : List Item) → RecorderFor kept (served h items) → KeepsOf kept items
 keeps-of kept h none items for =
     let calls : h.calls ++ items ≡ items = ap (λ calls. calls ++ items) none in
     record { events = subst (λ calls. kept ≡ map record_of calls) calls for.events; silent = silent-each items (subst StoresNothing calls for.silent) }
 
-module _ (serial : Bool) (run : Run) (cause : Cause) (H : List Entry) (threads : ℕ) (parts : List (List EventRecord)) (some : 1 ≤ threads) (runs : RunsParts ListerFor serial run cause H (replicate threads []) parts) where
+module _ (serial : Bool) (run : Run) (cause : Cause) (H : List Entry) (threads : ℕ) (parts : List (List EventRecord)) (some : 1 ≤ threads) (runs : RunsParts RecorderFor serial run cause H (replicate threads []) parts) where
   pub as_many : length parts ≡ threads
   as_many = runs.as_many ∙ length-replicate threads []
 
-  -- a fresh lister for each thread
-  fresh-at : (k : ℕ) (d : List EventRecord) → k < threads → ListerFor (slice_index_or (replicate threads []) k d) nothing_called
-  fresh-at k d below = subst (λ kept. ListerFor kept nothing_called) (sym (get_or-replicate threads k [] d below)) fresh-lister
+  -- a fresh recorder for each thread
+  fresh-at : (k : ℕ) (d : List EventRecord) → k < threads → RecorderFor (slice_index_or (replicate threads []) k d) nothing_called
+  fresh-at k d below = subst (λ kept. RecorderFor kept nothing_called) (sym (get_or-replicate threads k [] d below)) fresh-recorder
 
-  -- the first lister, after its start
-  first-lister : (d : List EventRecord) → ListerFor (slice_index_or parts 0 d) (served (initialized nothing_called runs.answer runs.registered) (heard_of run H 0))
-  first-lister d =
-      same-lister (slice_index_or parts 0 d) _ _ (same-first runs.answer runs.registered (heard_of run H 0) (runs.missed 0) nothing_called)
+  -- the first recorder, after its start
+  first-recorder : (d : List EventRecord) → RecorderFor (slice_index_or parts 0 d) (served (initialized nothing_called runs.answer runs.registered) (heard_of run H 0))
+  first-recorder d =
+      same-recorder (slice_index_or parts 0 d) _ _ (same-first runs.answer runs.registered (heard_of run H 0) (runs.missed 0) nothing_called)
       (runs.first d nothing_called (fresh-at 0 d (omega (arith, some))))
 
-  -- each lister kept what its thread heard
+  -- each recorder kept what its thread heard
   keeps : (k : ℕ) (d : List EventRecord) → k < threads → KeepsOf (slice_index_or parts k d) (heard_of run H k)
-  keeps zero d below = keeps-of (slice_index_or parts 0 d) (initialized nothing_called runs.answer runs.registered) refl (heard_of run H 0) (first-lister d)
+  keeps zero d below = keeps-of (slice_index_or parts 0 d) (initialized nothing_called runs.answer runs.registered) refl (heard_of run H 0) (first-recorder d)
   keeps (suc k) d below =
-      keeps-of (slice_index_or parts (suc k) d) nothing_called refl (heard_of run H (suc k)) (same-lister (slice_index_or parts (suc k) d) _ _ (same-missed (heard_of run H (suc k)) (runs.missed (suc k)) nothing_called) (runs.each (suc k) (omega arith) (subst (λ n. suc k < n) (sym (length-replicate threads [])) below) d nothing_called (fresh-at (suc k) d below)))
+      keeps-of (slice_index_or parts (suc k) d) nothing_called refl (heard_of run H (suc k)) (same-recorder (slice_index_or parts (suc k) d) _ _ (same-missed (heard_of run H (suc k)) (runs.missed (suc k)) nothing_called) (runs.each (suc k) (omega arith) (subst (λ n. suc k < n) (sym (length-replicate threads [])) below) d nothing_called (fresh-at (suc k) d below)))
 
   -- so nothing was stored
   pub lists-silent : run.threads ≡ threads → HearsSilent run H
@@ -138,10 +138,10 @@ module _ (serial : Bool) (run : Run) (cause : Cause) (H : List Entry) (threads :
   -- and all callbacks of the profile were registered
   pub lists-all : run.mask ≡ PROFILE_MASK
   lists-all =
-      let started = (first-lister []).started 0 (record { answer = 0; mask = 0 }) (omega arith) in
+      let started = (first-recorder []).started 0 (record { answer = 0; mask = 0 }) (omega arith) in
       runs.mask_is ∙ ap (λ answer. mask_of answer runs.registered) started.0 ∙ started.1
 
-  -- the listers have the run's records between them
+  -- the recorders have the run's records between them
   pub lists-shared : run.threads ≡ threads → HearsOwn run H → AreShared (records_of run H) parts
   lists-shared same own =
       record {

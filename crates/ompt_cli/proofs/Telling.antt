@@ -1,17 +1,32 @@
 -- What is known of a report, in the words of `top`.
-use Rattle.std.proofs.Common.{◌≡◌, ℕ, List, Option, Some, None, IfSome, inl, inr, refl, sym, subst}
+use Rattle.std.proofs.Common.{◌∙◌, ◌⊎◌, Bool, ◌≢◌, ◌<◌, arith, false, is_some, IsNone, IsSomeAnd, ◌↔◌, ◌≡◌, ℕ, List, Option, Some, None, IfSome, inl, inr, refl, sym, subst, ap}
 use Rattle.std.specs.declared.string.String.{String}
 use Rattle.std.specs.declared.alloc.Global.{Global}
 use Rattle.c_syntax.specs.Numbered.{TreeView}
 use Rattle.ompt_words.specs.declared.settings.Settings.{Settings}
+use Rattle.ompt_words.specs.declared.settings.Request.{Request}
+use Rattle.ompt_words.specs.declared.settings.Request.TheVariants as request
+use Rattle.ompt_words.specs.declared.settings.TraceCommand.{TraceCommand}
+use Rattle.ompt_words.specs.declared.settings.Request.{Request}
+use Rattle.ompt_words.specs.declared.settings.Request.TheVariants as request
+use Rattle.ompt_words.specs.declared.settings.TraceCommand.{TraceCommand}
 use Rattle.ompt_words.specs.declared.fault.WordsFault.{WordsFault}
 use Rattle.ompt_words.specs.declared.fault.WordsFault.TheVariants.{Usage, Shown, Memory}
 use Rattle.ompt_words.specs.Answers.{AreReadAs}
-use Rattle.ompt_words.specs.Form.{InForm}
+use Rattle.ompt_words.specs.Form.{InForm, ReadInForm, own_settings}
 use Rattle.ompt_cli.specs.declared.report.Report.{Report}
-use Rattle.ompt_cli.specs.Commands.{settings_in}
+use Rattle.tool_api.specs.Record.{Record}
+use Rattle.omp_model.specs.State.{Run}
+use Rattle.omp_model.specs.declared.cause.Cause.{Cause}
+use Rattle.omp_model.specs.declared.history.Entry.{Entry}
+use Rattle.ompt_words.specs.declared.settings.Command.{Command}
+use Rattle.ompt_words.specs.declared.settings.Command.TheVariants.{List as Listing, Record as Recording, Run as Running}
+use Rattle.ompt_cli.specs.Guests.{GuestsAfter}
+use Rattle.ompt_cli.specs.declared.end.End.{End}
+use Rattle.ompt_cli.specs.declared.end.End.TheVariants as end
+use Rattle.ompt_cli.specs.Commands.{IsAfterRun, MayRun, settings_in}
 use Rattle.ompt_cli.specs.Text.{Spells}
-use Rattle.ompt_cli.specs.Words.{AskForRun}
+use Rattle.ompt_cli.specs.Words.{AskForRun, AskToRead}
 
 -- what follows from what is so where there is a value
 pub where_some : {A : Type 0} {P Q : A → Type 0} (found : Option A) → IfSome found P → ((value : A) → P value → Q value) → IfSome found Q
@@ -23,20 +38,104 @@ pub settings-as : {Table : Type 0} {Behind : Table → Type 0} (report : Report 
     → report.steps ≡ settings.steps → report.serial ≡ settings.serial → settings_in report ≡ settings
 settings-as report settings command threads steps serial = rw (command, threads, steps, serial) refl
 
-pub read-as : (words : List (List ℕ)) (settings other : Settings) → AreReadAs words settings → other ≡ settings → AreReadAs words other
-read-as words settings other read same = subst (AreReadAs words) (sym same) read
+pub read-as : (words : List (List ℕ)) (found : Request) (settings other : Settings) → found ≡ request.Run settings → AreReadAs words found → other ≡ settings → AreReadAs words (request.Run other)
+read-as words found settings other is read same = subst (AreReadAs words) (is ∙ ap request.Run (sym same)) read
 
 -- the program of a report is the one that was read
 pub spells-as : (left : Option (List ℕ)) (program other : TreeView) → IfSome left (λ text. Spells text program) → other ≡ program → IfSome left (λ text. Spells text other)
 spells-as left program other spelled same = subst (λ (one : TreeView). IfSome left (λ text. Spells text one)) (sym same) spelled
 
 -- words that ask for a run have no other fault than want of memory
-asked-memory : (words : List (List ℕ)) (fault : WordsFault) → AskForRun words → ((form : InForm words) → fault ≡ Memory) → ((settings : Settings) → AreReadAs words settings → fault ≡ Memory) → fault ≡ Memory
+asked-memory : (words : List (List ℕ)) (fault : WordsFault) → AskForRun words → ((form : InForm words) → fault ≡ Memory) → ((asked : Request) → AreReadAs words asked → fault ≡ Memory) → fault ≡ Memory
 asked-memory words fault (inl form) formed read = formed form
-asked-memory words fault (inr settings) formed read = read settings.0 settings.1
+asked-memory words fault (inr settings) formed read = read (request.Run settings.0) settings.1
 
-pub not-usage : (words : List (List ℕ)) (fault : WordsFault) → fault ≡ Usage → AskForRun words → ((form : InForm words) → fault ≡ Memory) → ((settings : Settings) → AreReadAs words settings → fault ≡ Memory) → ⊥
+pub not-usage : (words : List (List ℕ)) (fault : WordsFault) → fault ≡ Usage → AskForRun words → ((form : InForm words) → fault ≡ Memory) → ((asked : Request) → AreReadAs words asked → fault ≡ Memory) → ⊥
 not-usage words fault is ask formed read = let memory = asked-memory words fault ask formed read in cc
 
-pub not-shown : (words : List (List ℕ)) (fault : WordsFault) (text : String Global) → fault ≡ Shown text → AskForRun words → ((form : InForm words) → fault ≡ Memory) → ((settings : Settings) → AreReadAs words settings → fault ≡ Memory) → ⊥
+pub not-shown : (words : List (List ℕ)) (fault : WordsFault) (text : String Global) → fault ≡ Shown text → AskForRun words → ((form : InForm words) → fault ≡ Memory) → ((asked : Request) → AreReadAs words asked → fault ≡ Memory) → ⊥
 not-shown words fault text is ask formed read = let memory = asked-memory words fault ask formed read in cc
+
+-- what is so of no value
+pub none-if : {A : Type 0} (P : A → Type 0) (found : Option A) → IsNone found → IfSome found P
+none-if P None none = tt
+none-if P (Some value) none = absurd cc
+
+pub is-none : {A : Type 0} (found : Option A) → IsNone found → found ≡ None
+is-none None none = refl
+is-none (Some value) none = absurd cc
+
+-- two things that are so where there is a value
+pub where_both : {A : Type 0} {P Q R : A → Type 0} (found : Option A) → IfSome found P → IfSome found Q → ((value : A) → P value → Q value → R value) → IfSome found R
+where_both None so too more = tt
+where_both (Some value) so too more = more value so too
+
+-- what holds under a condition that something else needs too
+pub where_when : {A : Type 0} {C : Type 0} (P Q : A → Type 0) (found : Option A) → IfSome found (λ value. Q value → C) → (C → IfSome found P) → IfSome found (λ value. Q value → P value)
+where_when P Q None so more = tt
+where_when P Q (Some value) so more = λ holds. more (so holds)
+
+-- words that are read as settings don't ask that a trace is read, and words that ask so aren't read as settings
+pub not-reading :
+    (words : List (List ℕ)) (found : Request) (settings : Settings) (command : TraceCommand) → found ≡ request.Run settings
+    → ((other : TraceCommand) → ReadInForm words other → found ≡ request.Read other) → ((asked : Request) → AreReadAs words asked → found ≡ asked) → AskToRead words command → ⊥
+not-reading words found settings command is formed read (inl form) = let same = formed command form in cc
+not-reading words found settings command is formed read (inr other) = let same = read (request.Read command) other in cc
+
+pub not-running :
+    (words : List (List ℕ)) (found : Request) (command : TraceCommand) → found ≡ request.Read command → ((form : InForm words) → found ≡ request.Run (own_settings form))
+    → ((asked : Request) → AreReadAs words asked → found ≡ asked) → AskForRun words → ⊥
+not-running words found command is formed read (inl form) = let same = formed form in cc
+not-running words found command is formed read (inr (settings, other)) = let same = read (request.Run settings) other in cc
+
+-- the settings of the same request
+abbrev settings_asked : Request → Settings → Settings
+settings_asked (request.Run settings) other = settings
+settings_asked (request.Read command) other = other
+
+pub same-settings : (found : Request) (settings other : Settings) → found ≡ request.Run settings → found ≡ request.Run other → settings ≡ other
+same-settings found settings other is same = ap (λ (asked : Request). settings_asked asked settings) (sym is ∙ same)
+
+-- a command that isn't `run` leaves the guests as they were
+pub other-command : (command of : Command) → of ≡ command → (command ≡ Listing) ⊎ (command ≡ Recording) → of ≢ Running
+other-command command of same (inl is) running = cc
+other-command command of same (inr is) running = cc
+
+pub guests-kept :
+    {B : Type 0} (stands_for : B → Record → Type 0) (command : Command) (serial : Bool) (run : Run) (why : Cause) (history : List Entry) (guests after : List B)
+    → command ≢ Running → after ≡ guests → GuestsAfter stands_for command serial run why history guests after
+guests-kept stands_for Listing serial run why history guests after other kept = kept
+guests-kept stands_for Recording serial run why history guests after other kept = kept
+guests-kept stands_for Running serial run why history guests after other kept = absurd (other refl)
+
+-- a count that rose shows a write that failed
+pub lost-write : (told : End) (before now : ℕ) → (told ≢ end.WriteFault → now ≡ before) → before < now → told ≡ end.WriteFault
+lost-write end.WriteFault before now steady rose = refl
+lost-write end.Done before now steady rose = absurd (omega (arith, steady (λ is. cc), rose))
+lost-write (end.Returned value) before now steady rose = absurd (omega (arith, steady (λ is. cc), rose))
+lost-write end.Shown before now steady rose = absurd (omega (arith, steady (λ is. cc), rose))
+lost-write end.Read before now steady rose = absurd (omega (arith, steady (λ is. cc), rose))
+lost-write end.Usage before now steady rose = absurd (omega (arith, steady (λ is. cc), rose))
+lost-write (end.Refused why) before now steady rose = absurd (omega (arith, steady (λ is. cc), rose))
+lost-write (end.Trapped number) before now steady rose = absurd (omega (arith, steady (λ is. cc), rose))
+lost-write end.Deadlock before now steady rose = absurd (omega (arith, steady (λ is. cc), rose))
+lost-write (end.Limit number) before now steady rose = absurd (omega (arith, steady (λ is. cc), rose))
+lost-write (end.TraceRefused refusal) before now steady rose = absurd (omega (arith, steady (λ is. cc), rose))
+lost-write end.ReadFault before now steady rose = absurd (omega (arith, steady (λ is. cc), rose))
+lost-write end.Memory before now steady rose = absurd (omega (arith, steady (λ is. cc), rose))
+
+-- the end of a command that has run is one of those that a program may have
+pub after-may : (told : End) → IsAfterRun told → MayRun told
+after-may end.Done after = tt
+after-may (end.Returned value) after = tt
+after-may end.Shown after = after
+after-may end.Read after = after
+after-may end.Usage after = after
+after-may (end.Refused why) after = after
+after-may (end.Trapped number) after = tt
+after-may end.Deadlock after = tt
+after-may (end.Limit number) after = tt
+after-may (end.TraceRefused refusal) after = after
+after-may end.ReadFault after = absurd after
+after-may end.WriteFault after = tt
+after-may end.Memory after = tt

@@ -1,5 +1,5 @@
 -- What a command does: what its words and its text decide, what it reports of its run, and what it writes.
-use Rattle.std.specs.Prelude.{ℕ, ◌≡◌, ◌≢◌, ◌⊎◌, ⊤, IsSome, IsSomeAnd, List, [], Option, Some, None, string_bytes}
+use Rattle.std.specs.Prelude.{ℕ, ◌≤◌, length, ◌≡◌, ◌≢◌, ◌⊎◌, ⊤, IsSome, IsSomeAnd, List, [], Option, Some, None, string_bytes}
 use Rattle.std.specs.declared.string.String.{String}
 use Rattle.std.specs.declared.alloc.Global.{Global}
 use Rattle.omp_model.specs.declared.cause.Cause.{Cause}
@@ -8,13 +8,19 @@ use Rattle.omp_model.specs.State.{Run}
 use Rattle.omp_model.specs.Records.{records_of, lines_of}
 use Rattle.omp_model.specs.Legal.{after}
 use Rattle.team_run.specs.Program.{run_of_program}
+use Rattle.omp_codes.specs.declared.callbacks.TheConstants.{PROFILE_MASK}
+use Rattle.ompt_calls.specs.declared.event.EventRecord.{EventRecord}
+use Rattle.tool_report.specs.Order.{AreShared}
+use Rattle.trace_format.specs.declared.trace.TheConstants.{SEQ_LIMIT}
+use Rattle.trace_format.specs.Fields.{fields_of, spelling}
+use Rattle.run_trace.specs.TraceOf.{trace_of, trace_with}
 use Rattle.omp_model.specs.declared.history.Entry.{Entry}
 use Rattle.ompt_words.specs.declared.settings.Command.{Command}
-use Rattle.ompt_words.specs.declared.settings.Command.TheVariants.{List as Listing, Run as Running}
+use Rattle.ompt_words.specs.declared.settings.Command.TheVariants.{List as Listing, Record as Recording, Run as Running}
 use Rattle.ompt_words.specs.declared.settings.Settings.{Settings}
 use Rattle.ompt_cli.specs.declared.end.Refusal.{Refusal}
 use Rattle.ompt_cli.specs.declared.end.End.{End}
-use Rattle.ompt_cli.specs.declared.end.End.TheVariants.{Done, Returned, Shown, Usage, Refused, Trapped, Deadlock, Limit, ReadFault, WriteFault, Memory}
+use Rattle.ompt_cli.specs.declared.end.End.TheVariants.{Done, Returned, Shown, Read, TraceRefused, Usage, Refused, Trapped, Deadlock, Limit, ReadFault, WriteFault, Memory}
 use Rattle.ompt_cli.specs.declared.report.Report.{Report}
 
 -- the run that a report is of. A guest is a box of a vtable and what lies behind it
@@ -30,15 +36,27 @@ unless_memory cause.Deadlock lines = lines
 unless_memory (cause.Limit number) lines = lines
 unless_memory cause.Memory lines = []
 
--- what a command writes of its run: a listing a line for each record, and `run` what the program printed
-abbrev pub written_by : Command → Run → List Entry → List ℕ
-written_by Listing run history = lines_of (records_of run history)
-written_by Running run history = (after run history).world.store.text
+-- what a command writes of these events of a run with so many threads that ended in this cause, and with the callbacks of the profile registered
+abbrev pub events_text : Command → ℕ → Cause → List EventRecord → List ℕ
+events_text Listing threads cause events = lines_of events
+events_text Recording threads cause events = spelling (fields_of (trace_with threads PROFILE_MASK cause events))
+events_text Running threads cause events = []
+
+-- recorders have events between them that are few enough for a trace
+abbrev pub IsSharedFew : List (List EventRecord) → Type 0
+IsSharedFew parts = (events : List EventRecord) × AreShared events parts × (length events ≤ SEQ_LIMIT)
+
+-- what a command writes of its run, which ended in this cause: a listing a line for each record, a recording the trace, and `run` what the program
+-- printed
+abbrev pub written_by : Command → Run → Cause → List Entry → List ℕ
+written_by Listing run cause history = lines_of (records_of run history)
+written_by Recording run cause history = spelling (fields_of (trace_of run cause history))
+written_by Running run cause history = (after run history).world.store.text
 
 -- what a command writes of its run, if there was one
 abbrev pub run_text : {Table : Type 0} {Behind : Table → Type 0} → Option (Report Table Behind) → List ℕ
 run_text None = []
-run_text (Some report) = unless_memory report.cause (written_by report.command (run_of report) report.history)
+run_text (Some report) = unless_memory report.cause (written_by report.command (run_of report) report.cause report.history)
 
 -- what a command writes: the text that its words ask for, or else what it writes of its run
 abbrev pub out_of : {Table : Type 0} {Behind : Table → Type 0} → Option (String Global) → Option (Report Table Behind) → List ℕ
@@ -58,11 +76,13 @@ abbrev pub MayRefuse : Refusal → End → Type 0
 MayRefuse why Done = ⊥
 MayRefuse why (Returned value) = ⊥
 MayRefuse why Shown = ⊥
+MayRefuse why Read = ⊥
 MayRefuse why Usage = ⊥
 MayRefuse why (Refused other) = other ≡ why
 MayRefuse why (Trapped number) = ⊥
 MayRefuse why Deadlock = ⊥
 MayRefuse why (Limit number) = ⊥
+MayRefuse why (TraceRefused refusal) = ⊥
 MayRefuse why ReadFault = ⊤
 MayRefuse why WriteFault = ⊥
 MayRefuse why Memory = ⊤
@@ -72,11 +92,13 @@ abbrev pub MayRun : End → Type 0
 MayRun Done = ⊤
 MayRun (Returned value) = ⊤
 MayRun Shown = ⊥
+MayRun Read = ⊥
 MayRun Usage = ⊥
 MayRun (Refused why) = ⊥
 MayRun (Trapped number) = ⊤
 MayRun Deadlock = ⊤
 MayRun (Limit number) = ⊤
+MayRun (TraceRefused refusal) = ⊥
 MayRun ReadFault = ⊤
 MayRun WriteFault = ⊤
 MayRun Memory = ⊤
@@ -86,11 +108,13 @@ abbrev pub IsUnread : End → Type 0
 IsUnread Done = ⊥
 IsUnread (Returned value) = ⊥
 IsUnread Shown = ⊤
+IsUnread Read = ⊥
 IsUnread Usage = ⊤
 IsUnread (Refused why) = ⊥
 IsUnread (Trapped number) = ⊥
 IsUnread Deadlock = ⊥
 IsUnread (Limit number) = ⊥
+IsUnread (TraceRefused refusal) = ⊥
 IsUnread ReadFault = ⊥
 IsUnread WriteFault = ⊤
 IsUnread Memory = ⊤
@@ -100,25 +124,45 @@ abbrev pub IsShowing : End → Type 0
 IsShowing Done = ⊥
 IsShowing (Returned value) = ⊥
 IsShowing Shown = ⊤
+IsShowing Read = ⊥
 IsShowing Usage = ⊥
 IsShowing (Refused why) = ⊥
 IsShowing (Trapped number) = ⊥
 IsShowing Deadlock = ⊥
 IsShowing (Limit number) = ⊥
+IsShowing (TraceRefused refusal) = ⊥
 IsShowing ReadFault = ⊥
 IsShowing WriteFault = ⊤
 IsShowing Memory = ⊤
+
+-- the end of a command that reads a trace
+abbrev pub IsReading : End → Type 0
+IsReading Done = ⊥
+IsReading (Returned value) = ⊥
+IsReading Shown = ⊥
+IsReading Read = ⊤
+IsReading Usage = ⊥
+IsReading (Refused why) = ⊥
+IsReading (Trapped number) = ⊥
+IsReading Deadlock = ⊥
+IsReading (Limit number) = ⊥
+IsReading (TraceRefused refusal) = ⊤
+IsReading ReadFault = ⊤
+IsReading WriteFault = ⊤
+IsReading Memory = ⊤
 
 -- the end of a command that comes before its run
 abbrev pub IsBeforeRun : End → Type 0
 IsBeforeRun Done = ⊥
 IsBeforeRun (Returned value) = ⊥
 IsBeforeRun Shown = ⊥
+IsBeforeRun Read = ⊥
 IsBeforeRun Usage = ⊥
 IsBeforeRun (Refused why) = ⊤
 IsBeforeRun (Trapped number) = ⊥
 IsBeforeRun Deadlock = ⊥
 IsBeforeRun (Limit number) = ⊥
+IsBeforeRun (TraceRefused refusal) = ⊥
 IsBeforeRun ReadFault = ⊤
 IsBeforeRun WriteFault = ⊥
 IsBeforeRun Memory = ⊤
@@ -128,11 +172,13 @@ abbrev pub IsAfterRun : End → Type 0
 IsAfterRun Done = ⊤
 IsAfterRun (Returned value) = ⊤
 IsAfterRun Shown = ⊥
+IsAfterRun Read = ⊥
 IsAfterRun Usage = ⊥
 IsAfterRun (Refused why) = ⊥
 IsAfterRun (Trapped number) = ⊤
 IsAfterRun Deadlock = ⊤
 IsAfterRun (Limit number) = ⊤
+IsAfterRun (TraceRefused refusal) = ⊥
 IsAfterRun ReadFault = ⊥
 IsAfterRun WriteFault = ⊤
 IsAfterRun Memory = ⊤
@@ -142,11 +188,13 @@ abbrev pub TellsRun : End → Type 0
 TellsRun Done = ⊤
 TellsRun (Returned value) = ⊤
 TellsRun Shown = ⊥
+TellsRun Read = ⊥
 TellsRun Usage = ⊥
 TellsRun (Refused why) = ⊥
 TellsRun (Trapped number) = ⊤
 TellsRun Deadlock = ⊤
 TellsRun (Limit number) = ⊤
+TellsRun (TraceRefused refusal) = ⊥
 TellsRun ReadFault = ⊥
 TellsRun WriteFault = ⊥
 TellsRun Memory = ⊥
@@ -156,11 +204,13 @@ abbrev pub EndsWith : End → End → Type 0
 EndsWith whole Done = whole ≡ Done
 EndsWith whole (Returned value) = whole ≡ Returned value
 EndsWith whole Shown = ⊥
+EndsWith whole Read = ⊥
 EndsWith whole Usage = ⊥
 EndsWith whole (Refused why) = ⊥
 EndsWith whole (Trapped number) = whole ≡ Trapped number
 EndsWith whole Deadlock = whole ≡ Deadlock
 EndsWith whole (Limit number) = whole ≡ Limit number
+EndsWith whole (TraceRefused refusal) = ⊥
 EndsWith whole ReadFault = ⊥
 EndsWith whole WriteFault = ⊤
 EndsWith whole Memory = ⊤

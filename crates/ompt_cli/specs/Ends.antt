@@ -15,18 +15,22 @@ use Rattle.c_check.specs.declared.fault.CheckFault.{CheckFault}
 use Rattle.c_check.specs.declared.fault.CheckFault.TheVariants as rule
 use Rattle.c_check.specs.Faults.{fault_number as rule_number, fault_spot as rule_spot}
 use Rattle.std.specs.Fmt.{decimal, signed_decimal}
+use Rattle.trace_format.specs.declared.refusal.Refusal.{Refusal as TraceRefusal}
+use Rattle.trace_format.specs.Refusing.{number_of_reason}
 use Rattle.ompt_cli.specs.declared.end.End.{End}
-use Rattle.ompt_cli.specs.declared.end.End.TheVariants.{Done, Returned, Shown, Usage, Refused, Trapped, Deadlock, Limit, ReadFault, WriteFault, Memory}
+use Rattle.ompt_cli.specs.declared.end.End.TheVariants.{Done, Returned, Shown, Read, TraceRefused, Usage, Refused, Trapped, Deadlock, Limit, ReadFault, WriteFault, Memory}
 
 abbrev pub status_of : End → ℕ
 status_of Done = 0
 status_of (Returned value) = 1
 status_of Shown = 0
+status_of Read = 0
 status_of Usage = 2
 status_of (Refused why) = 3
 status_of (Trapped number) = 4
 status_of Deadlock = 5
 status_of (Limit number) = 6
+status_of (TraceRefused refusal) = 7
 status_of ReadFault = 8
 status_of WriteFault = 9
 status_of Memory = 10
@@ -65,6 +69,10 @@ refusal_at number spot = codes "refused " ++ decimal number ++ codes " at " ++ d
 abbrev pub refusal_text : Refusal → List ℕ
 refusal_text why = refusal_at (refusal_number why) (refusal_spot why)
 
+-- the line that tells a refused trace, without its newline
+abbrev pub trace_refusal_text : TraceRefusal → List ℕ
+trace_refusal_text refusal = codes "trace refused " ++ decimal (number_of_reason refusal.reason) ++ codes " at " ++ decimal refusal.offset
+
 -- the names of the limits, which have the numbers 1 to 7
 abbrev pub limit_text : ℕ → List ℕ
 limit_text number =
@@ -75,29 +83,33 @@ abbrev pub line_of_end : End → List ℕ
 line_of_end Done = []
 line_of_end (Returned value) = codes "returned " ++ signed_decimal value ++ 10 ∷ []
 line_of_end Shown = []
+line_of_end Read = []
 line_of_end Usage = codes "usage: ompt run, list, record, profile, timeline, show, check, gen, migrate, rerun or tasks" ++ 10 ∷ []
 line_of_end (Refused why) = refusal_text why ++ 10 ∷ []
 line_of_end (Trapped number) = codes "trapped " ++ decimal number ++ 10 ∷ []
 line_of_end Deadlock = codes "deadlock" ++ 10 ∷ []
 line_of_end (Limit number) = limit_text number ++ 10 ∷ []
+line_of_end (TraceRefused refusal) = trace_refusal_text refusal ++ 10 ∷ []
 line_of_end ReadFault = codes "read fault" ++ 10 ∷ []
 line_of_end WriteFault = codes "write fault" ++ 10 ∷ []
 line_of_end Memory = codes "memory" ++ 10 ∷ []
 
--- the end has status 0, and no line: the run is whole and main returned 0, or a text was shown
+-- the end has status 0, and no line: the run is whole and main returned 0, or a text was shown, or a trace was read
 abbrev pub IsQuiet : End → Type 0
-IsQuiet end = (end ≡ Done) ⊎ (end ≡ Shown)
+IsQuiet end = (end ≡ Done) ⊎ ((end ≡ Shown) ⊎ (end ≡ Read))
 
 -- the status where the line of an end was lost: a write fault, but want of memory stays
 abbrev pub status_of_lost : End → ℕ
 status_of_lost Done = 9
 status_of_lost (Returned value) = 9
 status_of_lost Shown = 9
+status_of_lost Read = 9
 status_of_lost Usage = 9
 status_of_lost (Refused why) = 9
 status_of_lost (Trapped number) = 9
 status_of_lost Deadlock = 9
 status_of_lost (Limit number) = 9
+status_of_lost (TraceRefused refusal) = 9
 status_of_lost ReadFault = 9
 status_of_lost WriteFault = 9
 status_of_lost Memory = 10

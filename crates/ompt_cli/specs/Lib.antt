@@ -5,3 +5,4 @@ pub mod Runs
 pub mod Guests
 pub mod Job
 pub mod Commands
+pub mod Traces

@@ -2,9 +2,11 @@
 use Rattle.std.specs.Prelude.{ℕ, ◌⊎◌, List, map, string_bytes}
 use Rattle.std.specs.declared.string.String.{String}
 use Rattle.std.specs.declared.alloc.Global.{Global}
+use Rattle.ompt_words.specs.declared.settings.Request.TheVariants as request
 use Rattle.ompt_words.specs.declared.settings.Settings.{Settings}
+use Rattle.ompt_words.specs.declared.settings.TraceCommand.{TraceCommand}
 use Rattle.ompt_words.specs.Answers.{AreReadAs}
-use Rattle.ompt_words.specs.Form.{InForm}
+use Rattle.ompt_words.specs.Form.{InForm, ReadInForm}
 
 -- the bytes of each word
 abbrev pub texts : List (String Global) → List (List ℕ)
@@ -12,4 +14,8 @@ texts words = map string_bytes words
 
 -- the words ask for a run: they are in the form, or clap reads them as settings
 abbrev pub AskForRun : List (List ℕ) → Type 0
-AskForRun words = InForm words ⊎ ((settings : Settings) × AreReadAs words settings)
+AskForRun words = InForm words ⊎ ((settings : Settings) × AreReadAs words (request.Run settings))
+
+-- the words ask that a trace is read, by this command
+abbrev pub AskToRead : List (List ℕ) → TraceCommand → Type 0
+AskToRead words command = ReadInForm words command ⊎ AreReadAs words (request.Read command)

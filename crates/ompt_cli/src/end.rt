@@ -3,7 +3,7 @@
 ghost use Rattle.std.specs.Prelude.{◌≡◌, ◌≤◌, ◌+◌, ◌∷◌, ◌++◌, [], codes, length};
 ghost use Rattle.std.specs.Fmt.{decimal, signed_decimal};
 ghost use Rattle.arrayvec.specs.ArrayString.{array_string_len};
-ghost use Rattle.ompt_cli.specs.Ends.{end_of_check_fault, end_of_fault, end_of_syntax_fault, line_of_end, refusal_number, refusal_spot, refusal_text, status_of};
+ghost use Rattle.ompt_cli.specs.Ends.{end_of_check_fault, end_of_fault, end_of_syntax_fault, line_of_end, refusal_number, refusal_spot, refusal_text, status_of, trace_refusal_text};
 
 use arrayvec::ArrayString;
 use c_check::CheckFault;
@@ -33,6 +33,8 @@ pub enum End {
     Returned(i32),
     /// The words ask for help or for the version, which was shown. Nothing ran.
     Shown,
+    /// The trace was read to its end, and what was asked of it was written.
+    Read,
     /// The words are refused.
     Usage,
     /// The text is refused.
@@ -44,6 +46,8 @@ pub enum End {
     /// The run met the limit with this number: 1 of silent steps, 2 of turns, 3 of cells, 4 of tasks, 5 of the tasks on a
     /// thread's stack, 6 of the depth of calls, 7 of printed text.
     Limit(u8),
+    /// The trace is refused.
+    TraceRefused(trace_format::Refusal),
     /// A read failed.
     ReadFault,
     /// A write failed.
@@ -58,13 +62,14 @@ impl End {
         ensures { result ≡ status_of self }
     {
         match self {
-            End::Done | End::Shown => 0,
+            End::Done | End::Shown | End::Read => 0,
             End::Returned(_) => 1,
             End::Usage => 2,
             End::Refused(_) => 3,
             End::Trapped(_) => 4,
             End::Deadlock => 5,
             End::Limit(_) => 6,
+            End::TraceRefused(_) => 7,
             End::ReadFault => 8,
             End::WriteFault => 9,
             End::Memory => 10,
@@ -76,7 +81,7 @@ impl End {
         ensures { result.bytes ≡ line_of_end self }
     {
         match self {
-            End::Done | End::Shown => line_of(""),
+            End::Done | End::Shown | End::Read => line_of(""),
             End::Returned(value) => line_of_returned(value),
             End::Usage => line_of(
                 "usage: ompt run, list, record, profile, timeline, show, check, gen, migrate, rerun or tasks\n",
@@ -91,6 +96,7 @@ impl End {
             End::Limit(5) => line_of("limit stack\n"),
             End::Limit(6) => line_of("limit depth\n"),
             End::Limit(_) => line_of("limit text\n"),
+            End::TraceRefused(refusal) => line_of_trace_refused(refusal),
             End::ReadFault => line_of("read fault\n"),
             End::WriteFault => line_of("write fault\n"),
             End::Memory => line_of("memory\n"),
@@ -187,6 +193,19 @@ fn line_of_trapped(number: u8) -> ArrayString<160>
 {
     let mut line = line_of("trapped ");
     push_number(&mut line, u32::from(number));
+    line.push_str("\n");
+    line
+}
+
+/// The line that tells a refused trace.
+fn line_of_trace_refused(refusal: trace_format::Refusal) -> ArrayString<160>
+    ensures { result.bytes ≡ trace_refusal_text refusal ++ 10 ∷ [] }
+{
+    let mut digits = Buffer::new();
+    let mut line = line_of("trace refused ");
+    push_number(&mut line, u32::from(refusal.reason.number()));
+    line.push_str(" at ");
+    line.push_str(digits.format(refusal.offset));
     line.push_str("\n");
     line
 }

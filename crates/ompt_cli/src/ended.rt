@@ -1,20 +1,53 @@
 //! How a command ended, before its line is told.
 
-ghost use Rattle.std.specs.Prelude.{◌≡◌, None};
+ghost use Rattle.std.specs.Prelude.{◌≡◌, None, Some};
 
 use crate::end::End;
 use crate::report::Report;
+use ompt_words::TraceCommand;
 
-/// How a command ended, and what it reports of its run, if there was one.
+/// How a command ended, what it reports of its run, if there was one, the text that it was to show, if there was one, and the command that has read a
+/// trace, if one has.
 #[derive(Drop)]
 pub(crate) struct Ended {
     pub end: End,
     pub ran: Option<Report>,
+    pub shown: Option<String>,
+    pub read: Option<TraceCommand>,
 }
 
 /// A command that ended before its run.
 pub(crate) fn without_run(end: End) -> Ended
-    ensures { result ≡ record { end = end; ran = None } }
+    ensures { result ≡ record { end = end; ran = None; shown = None; read = None } }
 {
-    Ended { end, ran: None }
+    Ended {
+        end,
+        ran: None,
+        shown: None,
+        read: None,
+    }
+}
+
+/// A command that was to show this text.
+pub(crate) fn having_shown(end: End, text: String) -> Ended
+    ensures { result ≡ record { end = end; ran = None; shown = Some text; read = None } }
+{
+    Ended {
+        end,
+        ran: None,
+        shown: Some(text),
+        read: None,
+    }
+}
+
+/// A command that has read a trace.
+pub(crate) fn having_read(end: End, command: TraceCommand) -> Ended
+    ensures { result ≡ record { end = end; ran = None; shown = None; read = Some command } }
+{
+    Ended {
+        end,
+        ran: None,
+        shown: None,
+        read: Some(command),
+    }
 }

@@ -1,20 +1,23 @@
 //! The command from bytes to bytes.
 //!
-//! [`top`] does what the words say, as `ompt_words` reads them: it reads a program from a source and runs it. `list` writes a line for each event to an
-//! output; `run` calls guests, which are tools, at the events of their threads, and writes what the program printed. Where the
-//! run isn't done, one line goes to standard error. Its contract says, over any source and any sinks, what each end comes with,
-//! that what ran is one legal run of the program, what the outputs gain, and what the guests were called for. Words that ask for
-//! help or the version have a text written to the output in its place.
+//! [`top`] does what the words say, as `ompt_words` reads them. Three commands read a program from a source and run it: `list` writes a
+//! line for each event to an output; `record` writes the trace of the run; `run` calls guests, which are tools, at the events of their
+//! threads, and writes what the program printed. Two commands read a trace from the source: `show` writes a line for each event and one
+//! for the end, and `migrate` writes the trace in the second version of the format. Where the end isn't a good one, one line goes to
+//! standard error. Its contract says, over any source and any sinks, what each end comes with, that what ran is one legal run of the
+//! program, what the outputs gain, and what the guests were called for. Words that ask for help or the version have a text written to
+//! the output in its place.
 //!
 //! Each thread number has a thread of the system (`thread_run`), or with `--serial` one thread has all turns (`team_run`).
 //!
 //! Every text runs that is a program of the grammar, breaks no rule and is at most 65,536 bytes long. What its program printed
 //! is written where the run ends in any cause but want of memory: also at a trap, at a limit, and where no thread can go on.
 //!
-//! The definitions stand in `specs/`: which words ask for a run (`Words`), the texts that run, with their programs, and why others
-//! are refused (`Text`), the status and the line of each end (`Ends`), what a run of either kind gives (`Runs`), what a command
-//! reports and writes (`Commands`), and what guests stand for after it (`Guests`). The runs are those of `omp_model`. A report holds
-//! the tree of its program for contracts alone ([`ProgramTree`]).
+//! The definitions stand in `specs/`: which words ask for a run or for a trace to be read (`Words`), the texts that run, with their
+//! programs, and why others are refused (`Text`), the status and the line of each end (`Ends`), what a run of either kind gives
+//! (`Runs`), what a command reports and writes (`Commands`), what one that reads a trace has read and written (`Traces`), and what
+//! guests stand for after a command (`Guests`). The runs are those of `omp_model`, and the traces those of `trace_format` and
+//! `run_trace`. A report holds the tree of its program for contracts alone ([`ProgramTree`]).
 //!
 //! Want of memory is free: no clause says when it comes, only what stands after it. That the calls succeed with ample
 //! memory isn't proved: the rows of `run_tables` show it.
@@ -22,19 +25,20 @@
 
 mod end;
 mod ended;
+mod events;
 mod guest_part;
 mod guests;
 mod job;
-mod list;
 mod program_tree;
 mod report;
 mod run;
 mod running;
 mod text;
 mod top_call;
+mod trace_commands;
 
 pub use end::{End, Refusal};
-pub use ompt_words::Command;
+pub use ompt_words::{Command, TraceCommand};
 pub use program_tree::ProgramTree;
 pub use report::{Report, Top};
 pub use top_call::top;

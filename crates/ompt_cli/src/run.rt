@@ -1,6 +1,6 @@
 //! The command `run`: it runs the program with the guests as the parts of its threads, and writes what it prints.
 
-ghost use Rattle.std.specs.Prelude.{ℕ, ℤ, ◌≡◌, ◌≢◌, IfSome, IsSomeAnd, List, [], true};
+ghost use Rattle.std.specs.Prelude.{ℕ, ℤ, ◌≡◌, ◌≢◌, IfSome, IsNone, IsSomeAnd, List, [], true};
 ghost use Rattle.std.specs.Io.KnownBytes.{Appends, Keeps};
 ghost use Rattle.omp_model.specs.Serial.{Serial, serial};
 ghost use Rattle.omp_model.specs.Cause.{cause_of};
@@ -35,6 +35,7 @@ pub(crate) fn run<R: Threads + Wait + Sync, O: Sink>(
     out: &mut O,
 ) -> Ended
     ensures end { IsAfterRun result.end }
+    ensures alone { IsNone result.shown × IsNone result.read }
     ensures write { result.end ≡ End.WriteFault → Rose (O.faults out.old) (O.faults out.new) }
     ensures steady { result.end ≢ End.WriteFault → O.faults out.new ≡ O.faults out.old }
     ensures ran { IfSome result.ran (λ report.
@@ -106,6 +107,8 @@ pub(crate) fn run<R: Threads + Wait + Sync, O: Sink>(
     Ended {
         end,
         ran: Some(report),
+        shown: None,
+        read: None,
     }
 }
 

@@ -8,24 +8,28 @@ ghost use Rattle.omp_model.specs.Legal.{Legal};
 ghost use Rattle.run_edges.specs.Edges.{Rose, AppendsFront};
 ghost use Rattle.ompt_words.specs.Answers.{AreReadAs, AreWrong, AskForText};
 ghost use Rattle.ompt_words.specs.Form.{AskInForm, InForm, own_settings};
-ghost use Rattle.ompt_cli.specs.Words.{AskForRun, texts};
+ghost use Rattle.ompt_cli.specs.Traces.{HasRead};
+ghost use Rattle.ompt_cli.specs.Words.{AskForRun, AskToRead, texts};
+ghost use Rattle.run_trace.specs.TraceOf.{trace_of};
+ghost use Rattle.trace_format.specs.Validity.{IsTrace};
 ghost use Rattle.ompt_cli.specs.Text.{IsProgram, IsRefused, Spells};
 ghost use Rattle.ompt_cli.specs.Ends.{IsLost, IsQuiet, IsTold, status_of_lost};
 ghost use Rattle.team_run.specs.Standing.{HearsSilent};
-ghost use Rattle.ompt_cli.specs.Commands.{EndsAs, HasOutput, IsShowing, IsUnread, MayRefuse, MayRun, out_of, run_of, settings_in};
+ghost use Rattle.ompt_cli.specs.Commands.{EndsAs, HasOutput, IsReading, IsShowing, IsUnread, MayRefuse, MayRun, out_of, run_of, settings_in};
 ghost use Rattle.ompt_cli.specs.Guests.{GuestsAfter};
 ghost use Rattle.ompt_cli.specs.Runs.{AreOutside, IsReturn, IsWhole};
 
 use crate::end::{End, Refusal};
-use crate::ended::{Ended, without_run};
+use crate::ended::{Ended, having_read, having_shown, without_run};
+use crate::events::list_or_record;
 use crate::job::Job;
-use crate::list::list;
 use crate::report::Top;
 use crate::run::run;
 use crate::text::read_program_of;
+use crate::trace_commands::read_trace;
 use omp_codes::PROFILE_MASK;
 use omp_model::Cause;
-use ompt_words::{Command, Settings, WordsFault, settings_of};
+use ompt_words::{Command, Request, Settings, TraceCommand, WordsFault, request_of};
 use run_edges::{Sink, Source, write_all};
 use std::alloc::Global;
 use std::sync::Wait;
@@ -33,9 +37,9 @@ use std::thread::Threads;
 use tool_api::GuestTool;
 
 /// Does what the words say: it reads the program from `source`, runs it, writes what is defined to `out`, and one line
-/// to `err` where the status isn't 0. For `run`, guest t is the part of thread t, and guest 0 is initialized; for `list`
-/// the guests come back as they were. Where the words ask for help or for the version, that text is written to `out`, and
-/// nothing is read.
+/// to `err` where the status isn't 0. For `run`, guest t is the part of thread t, and guest 0 is initialized; for `list` and
+/// `record` the guests come back as they were. `show` and `migrate` read a trace from `source`, and write it to `out` as it comes.
+/// Where the words ask for help or for the version, that text is written to `out`, and nothing is read.
 ///
 /// `words` don't contain the program's own name. With `--serial` one thread has all turns, and nothing is taken of `rt`; else each
 /// thread number has a thread of its own, the first one the caller's. No clause says that a run by threads comes back.
@@ -58,18 +62,30 @@ pub fn top<R: Threads + Wait + Sync, S: Source, O: Sink, E: Sink>(
     // Words are refused only where clap may find a mistake in them. Nothing is touched then. Words that ask for a run aren't refused,
     // and a text is read only for them.
     ensures usage { result.end ≡ End.Usage → AreWrong (texts words.now) }
-    ensures formed { AskForRun (texts words.now) → (result.end ≢ End.Usage) × (result.end ≢ End.Shown) × IsNone result.shown }
+    ensures formed { AskForRun (texts words.now) →
+        (result.end ≢ End.Usage) × (result.end ≢ End.Shown) × IsNone result.shown × IsNone result.read }
     ensures untouched { result.end ≡ End.Usage →
-        (source.new ≡ source.old) × (out.new ≡ out.old) × IsNone result.ran × IsNone result.shown }
-    ensures other { ¬ AskForRun (texts words.now) →
-        IsUnread result.end × (source.new ≡ source.old) × IsNone result.ran }
+        (source.new ≡ source.old) × (out.new ≡ out.old) × IsNone result.ran × IsNone result.shown × IsNone result.read }
+    ensures other { ¬ AskForRun (texts words.now) → ((command : TraceCommand) → ¬ AskToRead (texts words.now) command) →
+        IsUnread result.end × (source.new ≡ source.old) × IsNone result.ran × IsNone result.read }
 
     // A text is shown only where clap may say so, and then nothing is read. Words of the form up to `--help` or `--version` have
     // theirs shown.
     ensures shown { IfSome result.shown (λ text.
-        AskForText (texts words.now) × (source.new ≡ source.old) × IsNone result.ran × IsShowing result.end) }
+        AskForText (texts words.now) × (source.new ≡ source.old) × IsNone result.ran × IsNone result.read × IsShowing result.end) }
     ensures displayed { result.end ≡ End.Shown → IsSome result.shown }
     ensures help { AskInForm (texts words.now) → IsShowing result.end }
+
+    // A trace is read only where the words ask for it, and for no others. What was read and written is defined for each end: the trace was read to
+    // its end, or it is refused, or a read, a write or memory failed. `migrate` takes no memory.
+    ensures reads { (command : TraceCommand) → AskToRead (texts words.now) command →
+        (result.read ≡ Some command) ⊎ ((result.end ≡ End.Memory) × (source.new ≡ source.old) × (out.new ≡ out.old)
+        × IsNone result.ran × IsNone result.shown × IsNone result.read) }
+    ensures read_alone { IfSome result.read (λ command. AreReadAs (texts words.now) (Request.Read command)
+        × IsReading result.end × IsNone result.ran × IsNone result.shown) }
+    ensures copied { IfSome result.read (λ command.
+        HasRead command result.end (S.left source.old) (S.left source.new) (O.held out.old) (O.held out.new)) }
+    ensures migrated { result.read ≡ Some TraceCommand.Migrate → result.end ≢ End.Memory }
 
     // A text is refused for what it is.
     ensures refused { (why : Refusal) → result.end ≡ End.Refused why →
@@ -86,12 +102,12 @@ pub fn top<R: Threads + Wait + Sync, S: Source, O: Sink, E: Sink>(
 
     // What ran is the program, with the command, the threads and the steps that the words ask for, and serially where they do: where
     // they are in the form, their own with the defaults.
-    ensures asked { IfSome result.ran (λ report. AreReadAs (texts words.now) (settings_in report)) }
+    ensures asked { IfSome result.ran (λ report. AreReadAs (texts words.now) (Request.Run (settings_in report))) }
     ensures own { (form : InForm (texts words.now)) →
         IfSome result.ran (λ report. settings_in report ≡ own_settings form) }
     ensures spelled { IfSome result.ran (λ report.
         IfSome (S.left source.old) (λ text. Spells text report.program.tree)) }
-    ensures mask { IfSome result.ran (λ report. report.command ≡ Command.List → report.mask ≡ PROFILE_MASK) }
+    ensures mask { IfSome result.ran (λ report. report.command ≢ Command.Run → report.mask ≡ PROFILE_MASK) }
 
     // Its history is legal, and ends in the cause that is reported: whole exactly where main returned. No thread is inside a callback then.
     // With `--serial` it is in the serial order.
@@ -103,8 +119,8 @@ pub fn top<R: Threads + Wait + Sync, S: Source, O: Sink, E: Sink>(
     ensures outside { IfSome result.ran (λ report. report.cause ≢ Cause.Memory → AreOutside (run_of report) report.history) }
     ensures serial { IfSome result.ran (λ report. report.serial ≡ true → Serial (run_of report) report.history) }
 
-    // A serial history is the one in which nothing is stored: for a listing, and where no tool stored anything.
-    ensures whole { IfSome result.ran (λ report. report.serial ≡ true → report.command ≡ Command.List → report.cause ≢ Cause.Memory →
+    // A serial history is the one in which nothing is stored: for a listing and a recording, and where no tool stored anything.
+    ensures whole { IfSome result.ran (λ report. report.serial ≡ true → report.command ≢ Command.Run → report.cause ≢ Cause.Memory →
         report.history ≡ serial (run_of report)) }
     ensures silent_run { IfSome result.ran (λ report. report.serial ≡ true → report.cause ≢ Cause.Memory →
         HearsSilent (run_of report) report.history → report.history ≡ serial (run_of report)) }
@@ -124,27 +140,34 @@ pub fn top<R: Threads + Wait + Sync, S: Source, O: Sink, E: Sink>(
     ensures stuck { result.end ≡ End.Deadlock → IsSomeAnd result.ran (λ report. report.cause ≡ Cause.Deadlock) }
     ensures limit { (number : ℕ) → result.end ≡ End.Limit number →
         IsSomeAnd result.ran (λ report. report.cause ≡ Cause.Limit number) }
-    ensures unwritten { result.end ≡ End.WriteFault → HasOutput result.shown result.ran }
+    ensures unwritten { result.end ≡ End.WriteFault → IsNone result.read → HasOutput result.shown result.ran }
     ensures ended { IfSome result.ran (λ report. EndsAs report.cause result.end) }
     ensures memory { IfSome result.ran (λ report. report.command ≡ Command.Run → report.cause ≢ Cause.Memory →
         result.end ≢ End.Memory) }
     ensures begun { IfSome result.ran (λ report. report.cause ≡ Cause.Memory → report.history ≢ []) }
     ensures runs { AskForRun (texts words.now) → IsSomeAnd (S.left source.old) IsProgram → MayRun result.end }
 
-    // What is written is the text that was asked for, the run's lines, or what its program printed.
-    ensures listed { result.end ≢ End.WriteFault → result.end ≢ End.Memory →
+    // Where no trace is read, what is written is the text that was asked for, the run's lines, its trace, or what its program printed. What is
+    // recorded is a trace of the format.
+    ensures listed { IsNone result.read → result.end ≢ End.WriteFault → result.end ≢ End.Memory →
         Appends (O.held out.old) (O.held out.new) (out_of result.shown result.ran) }
-    ensures part { result.end ≡ End.WriteFault →
+    ensures part { IsNone result.read → result.end ≡ End.WriteFault →
         AppendsFront (O.held out.old) (O.held out.new) (out_of result.shown result.ran) }
-    ensures kept { result.end ≡ End.Memory → Keeps (O.held out.old) (O.held out.new) }
+    ensures kept { IsNone result.read → result.end ≡ End.Memory → Keeps (O.held out.old) (O.held out.new) }
+    ensures traced { result.end ≢ End.WriteFault → result.end ≢ End.Memory → IfSome result.ran (λ report. report.command ≡ Command.Record →
+        IsTrace (trace_of (run_of report) report.cause report.history)) }
 {
-    let settings = match settings_of(alloc, words) {
-        Ok(settings) => settings,
-        Err(WordsFault::Usage) => return tell(without_run(End::Usage), None, err),
-        Err(WordsFault::Memory) => return tell(without_run(End::Memory), None, err),
+    let settings = match request_of(alloc, words) {
+        Ok(Request::Run(settings)) => settings,
+        Ok(Request::Read(command)) => {
+            let end = read_trace(alloc, command, source, out);
+            return tell(having_read(end, command), err);
+        }
+        Err(WordsFault::Usage) => return tell(without_run(End::Usage), err),
+        Err(WordsFault::Memory) => return tell(without_run(End::Memory), err),
         Err(WordsFault::Shown(text)) => {
             let end = show(&text, out);
-            return tell(without_run(end), Some(text), err);
+            return tell(having_shown(end, text), err);
         }
     };
     let Settings {
@@ -153,30 +176,16 @@ pub fn top<R: Threads + Wait + Sync, S: Source, O: Sink, E: Sink>(
         steps,
         serial,
     } = settings;
-    match (read_program_of(alloc, source), command) {
-        (Ok(program), Command::List) => tell(
-            list(
-                rt,
-                alloc,
-                Job::new(program, threads, steps, serial),
-                guests,
-                out,
-            ),
-            None,
-            err,
-        ),
-        (Ok(program), Command::Run) => tell(
-            run(
-                rt,
-                alloc,
-                Job::new(program, threads, steps, serial),
-                guests,
-                out,
-            ),
-            None,
-            err,
-        ),
-        (Err(end), _) => tell(without_run(end), None, err),
+    let program = match read_program_of(alloc, source) {
+        Ok(program) => program,
+        Err(end) => return tell(without_run(end), err),
+    };
+    let job = Job::new(program, threads, steps, serial);
+    match command {
+        Command::Run => tell(run(rt, alloc, job, guests, out), err),
+        Command::List | Command::Record => {
+            tell(list_or_record(rt, alloc, command, job, guests, out), err)
+        }
     }
 }
 
@@ -194,18 +203,24 @@ fn show<O: Sink>(text: &str, out: &mut O) -> End
     }
 }
 
-/// Writes the line of the end. A text that was shown is handed on.
-fn tell<E: Sink>(ended: Ended, shown: Option<String>, err: &mut E) -> Top
+/// Writes the line of the end.
+fn tell<E: Sink>(ended: Ended, err: &mut E) -> Top
     ensures end { result.end ≡ ended.end }
     ensures ran { result.ran ≡ ended.ran }
-    ensures shown { result.shown ≡ shown }
+    ensures shown { result.shown ≡ ended.shown }
+    ensures read { result.read ≡ ended.read }
     ensures told { IsTold result.status ended.end (E.held err.old) (E.held err.new)
         ⊎ IsLost result.status ended.end (E.held err.old) (E.held err.new) (E.faults err.old) (E.faults err.new) }
     ensures untold { E.faults err.old < E.faults err.new → result.status ≡ status_of_lost ended.end }
     ensures zero { (result.status ≡ 0) ↔ IsQuiet ended.end }
     ensures silent { IsQuiet ended.end → err.new ≡ err.old }
 {
-    let Ended { end, ran } = ended;
+    let Ended {
+        end,
+        ran,
+        shown,
+        read,
+    } = ended;
     let line = end.line();
     let status = match write_all(err, line.as_str().as_bytes()) {
         Ok(()) => end.status(),
@@ -217,5 +232,6 @@ fn tell<E: Sink>(ended: Ended, shown: Option<String>, err: &mut E) -> Top
         end,
         ran,
         shown,
+        read,
     }
 }

@@ -1,7 +1,7 @@
 //! A tool from start to end: the commands of `ompt`, where `run` is followed by the report of a tool.
 //!
 //! [`Profiler`] is the tool. Each thread has one as its guest, and all of them add to one [`Profile`], which `main` writes behind what the
-//! program printed. For `list` nothing is heard, and nothing is reported.
+//! program printed. For the other commands nothing is heard, and nothing is reported.
 //!
 //! Proved is that it is safe, that it ends unless it waits for the lock, and what [`ended`], `Profile::add_region` and `Profile::add_wait`
 //! say. That the profile has all that was heard, and that the report is as it should be, is only tested: by the run of `stdin`, which has

@@ -6,7 +6,7 @@ use c_syntax::read_program;
 use c_tokens::tokens;
 use omp_model::{Cause, Entry, History, What};
 use ompt_calls::Call;
-use ompt_cli::{Command, End, Report, Top, top};
+use ompt_cli::{Command, End, Report, Top, TraceCommand, top};
 use run_edges::{MemSink, MemSource, Memory, Script, Source};
 use std::alloc::{AllocError, Global};
 use std::process::Abort;
@@ -35,6 +35,7 @@ pub(crate) struct Told {
     pub end: End,
     pub ran: Option<Ran>,
     pub shown: Option<String>,
+    pub read: Option<TraceCommand>,
     pub out: MemSink,
     pub err: MemSink,
 }
@@ -95,6 +96,7 @@ pub(crate) fn hand<R: AllocGlobal + Threads + Wait + Sync, S: Source>(
         end,
         ran,
         shown,
+        read,
     } = top;
     let ran = match ran {
         Some(report) => Some(ran_of(rt, report, asked)?),
@@ -105,6 +107,7 @@ pub(crate) fn hand<R: AllocGlobal + Threads + Wait + Sync, S: Source>(
         end,
         ran,
         shown,
+        read,
         out,
         err,
     })

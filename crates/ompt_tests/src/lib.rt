@@ -35,4 +35,6 @@ mod tests;
 #[cfg(test)]
 mod threads;
 #[cfg(test)]
+mod traces;
+#[cfg(test)]
 mod words;

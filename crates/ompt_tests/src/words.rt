@@ -1,7 +1,7 @@
 //! What words ask for.
 
 use crate::fixture::*;
-use ompt_words::{Command, Settings, WordsFault, settings_of};
+use ompt_words::{Command, Request, Settings, TraceCommand, WordsFault, request_of};
 use run_edges::Memory;
 use std::test::Fail;
 
@@ -13,34 +13,44 @@ const RUN: Settings = Settings {
     serial: true,
 };
 
-/// Words, and the settings that they ask for.
-const SETTINGS: &[(&str, Settings)] = &[
-    ("run --serial", RUN),
+/// Words, and what they ask for.
+const REQUESTS: &[(&str, Request)] = &[
+    ("run --serial", Request::Run(RUN)),
     (
         "run",
-        Settings {
+        Request::Run(Settings {
             serial: false,
             ..RUN
-        },
+        }),
     ),
     (
         "list --steps 1 --threads 16 --serial",
-        Settings {
+        Request::Run(Settings {
             command: Command::List,
             threads: 16,
             steps: 1,
             ..RUN
-        },
+        }),
     ),
     (
         "run --serial --threads 1 --steps 30000000",
-        Settings {
+        Request::Run(Settings {
             threads: 1,
             steps: 30_000_000,
             ..RUN
-        },
+        }),
     ),
-    ("run --threads=04 --serial", RUN),
+    ("run --threads=04 --serial", Request::Run(RUN)),
+    (
+        "record --threads 2 --serial",
+        Request::Run(Settings {
+            command: Command::Record,
+            threads: 2,
+            ..RUN
+        }),
+    ),
+    ("show", Request::Read(TraceCommand::Show)),
+    ("migrate", Request::Read(TraceCommand::Migrate)),
 ];
 
 /// Words that are refused.
@@ -59,6 +69,12 @@ const WRONG: &[&str] = &[
     "run --steps 0",
     "run --steps 30000001",
     "run --step 2",
+    "record --threads 0",
+    "show --serial",
+    "show --threads 2",
+    "show run.trace",
+    "show migrate",
+    "migrate --steps 2",
 ];
 
 /// Words that ask for a text, and its first line.
@@ -73,13 +89,26 @@ const SHOWN: &[(&str, &str)] = &[
         "run --threads 2 -h",
         "Runs a program with the tools, and writes what it prints",
     ),
+    (
+        "record --help",
+        "Runs a program and writes the trace of the run",
+    ),
+    (
+        "show --help",
+        "Reads a trace and writes a line for each event, and one for the end",
+    ),
+    (
+        "migrate -h",
+        "Reads a trace and writes it in the second version of the format",
+    ),
+    ("migrate --version", "ompt-migrate 0.1.0"),
 ];
 
 #[test]
-fn words_give_settings(rt: HostRuntime) -> Result<(), Fail> {
-    for (words, settings) in SETTINGS {
-        let given = asked(&rt, words)?.expect(&rt, "settings");
-        assert!(rt; given == *settings, "{words}");
+fn words_give_requests(rt: HostRuntime) -> Result<(), Fail> {
+    for (words, request) in REQUESTS {
+        let given = asked(&rt, words)?.expect(&rt, "a request");
+        assert!(rt; given == *request, "{words}");
     }
     Ok(())
 }
@@ -109,10 +138,10 @@ fn a_text_is_shown(rt: HostRuntime) -> Result<(), Fail> {
 }
 
 /// What the words of this text ask for.
-fn asked<R: AllocGlobal>(rt: &R, text: &str) -> Result<Result<Settings, WordsFault>, Memory> {
+fn asked<R: AllocGlobal>(rt: &R, text: &str) -> Result<Result<Request, WordsFault>, Memory> {
     let mut words: Vec<&str> = Vec::new(rt.alloc());
     for word in text.split_ascii_whitespace() {
         words.push(word)?;
     }
-    Ok(settings_of(rt.alloc(), &owned(rt, &words)?))
+    Ok(request_of(rt.alloc(), &owned(rt, &words)?))
 }

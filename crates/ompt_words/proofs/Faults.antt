@@ -1,5 +1,5 @@
 -- What clap's answer tells of the words.
-use Rattle.std.proofs.Common.{Err, Ok, Result, refl, ap, sym, subst, codes, true, List, Some, [], ◌∷◌, ◌≡◌, ◌∙◌, ◌⊎◌, inl, inr, option_map}
+use Rattle.std.proofs.Common.{Err, Ok, Result, refl, ap, sym, subst, codes, true, List, Some, [], ◌∷◌, ◌≡◌, ◌∙◌, ◌≤◌, ◌⊎◌, inl, inr, option_map}
 use Rattle.std.specs.Prelude.{option_and_then}
 use Rattle.clap.specs.Walk.{Row, Text, one_of, rows_of}
 use Rattle.clap.specs.Simple.{App, is_simple, matches_of, subcommand_of, subcommand_rows_of}
@@ -14,15 +14,14 @@ use Rattle.clap.specs.declared.parser.matches.ArgMatches.{ArgMatches}
 use Rattle.clap.specs.declared.parser.matches.Found.{Found}
 use Rattle.clap.proofs.WalkLemmas.{one_text-rows}
 use Rattle.ompt_words.specs.CommandLine.{ompt}
-use Rattle.ompt_words.specs.Form.{command_word}
-use Rattle.ompt_words.specs.Answers.{AreWrong, AskForText, IsAnswerTo, IsMistake, IsTextOrMemory, IsWish, matched_text}
+use Rattle.ompt_words.specs.Form.{command_word, default_steps, default_threads}
+use Rattle.ompt_words.specs.Answers.{AreWrong, AskForText, HaveSettings, IsAnswerTo, IsMistake, IsTextOrMemory, IsWish, Name, flag_in, matched_text, number_in}
 use Rattle.ompt_words.specs.declared.fault.WordsFault.{WordsFault}
 use Rattle.ompt_words.specs.declared.fault.WordsFault.TheVariants.{Memory, Shown, Usage}
 use Rattle.ompt_words.specs.declared.settings.Settings.{Settings}
-use Rattle.ompt_words.specs.declared.settings.Command.{Command}
-use Rattle.ompt_words.specs.declared.settings.Command.TheVariants.{List as Listing, Run}
+use Rattle.ompt_words.specs.declared.settings.Request.{Request}
 use Rattle.ompt_words.proofs.Options.{IsOneWish}
-use Rattle.ompt_words.proofs.Levels.{both_of, name_of_two}
+use Rattle.ompt_words.proofs.Levels.{both_of}
 
 -- ---- an error
 
@@ -36,11 +35,11 @@ simple = refl
 pub exact : (P : Kinds → Type 0) (app : App) (words : List Text) → app ≡ ompt → (is_simple_and_free app ≡ true → P (fault_of app words)) → P (fault_of ompt words)
 exact P app words is answer = subst (λ a. P (fault_of a words)) is (answer (ap is_simple_and_free is ∙ simple_and_free))
 
-abbrev as_result : WordsFault → Result Settings WordsFault
+abbrev as_result : WordsFault → Result Request WordsFault
 as_result fault = Err fault
 
-abbrev fault_in : WordsFault → Result Settings WordsFault → WordsFault
-fault_in other (Ok settings) = other
+abbrev fault_in : WordsFault → Result Request WordsFault → WordsFault
+fault_in other (Ok given) = other
 fault_in other (Err fault) = fault
 
 -- the fault of a result is one
@@ -98,14 +97,32 @@ pub command_found : (app : App) (words : List Text) (m : ArgMatches) (name : Tex
 command_found app words m name rows is matches is_name is_rows =
     sym (subst (λ a. subcommand_rows_of m ≡ subcommand_of a words) is (matches (ap is_simple is ∙ simple)).1) ∙ both_of m name rows is_name is_rows
 
-named : (name : Text) (command : Command) → (name ≡ codes "list") ⊎ (name ≡ codes "run") → ((other : Command) → name ≡ command_word other → command ≡ other) → name ≡ command_word command
-named name command (inl is) only = is ∙ ap command_word (sym (only Listing is))
-named name command (inr is) only = is ∙ ap command_word (sym (only Run is))
-
-pub command_read : (words : List Text) (name : Text) (rows : List Row) (command : Command) → subcommand_of ompt words ≡ Some (name, rows)
-    → ((other : Command) → name ≡ command_word other → command ≡ other) → option_map (λ found. found.0) (subcommand_of ompt words) ≡ Some (command_word command)
-command_read words name rows command is only = ap (option_map (λ (found : Text × List Row). found.0)) is ∙ ap (λ (word : Text). Some word) (named name command (name_of_two words name rows is) only)
-
 -- the text of an option that a getter reads is that of the matches
 pub text_matched : (words : List Text) (name : Text) (found : Found) (id : Text) → subcommand_of ompt words ≡ Some (name, rows_of found) → one_text found id ≡ matched_text words id
 text_matched words name found id is = one_text-rows found id ∙ sym (ap (option_and_then (λ (p : Text × List Row). one_of id p.1)) is)
+
+-- the words name the command that was found
+pub command_read : (words : List Text) (name : Text) (rows : List Row) (other : Text) → fault_of ompt words ≡ [] → subcommand_of ompt words ≡ Some (name, rows) → name ≡ other
+    → Name words other
+command_read words name rows other clean found is = record {
+  taken = clean;
+  command_is = ap (option_map (λ (found : Text × List Row). found.0)) found ∙ ap (λ (word : Text). Some word) is;
+}
+
+-- and settings of its matches are those of the words
+pub settings_read : (words : List Text) (name : Text) (found : Found) (settings : Settings) → fault_of ompt words ≡ [] → subcommand_of ompt words ≡ Some (name, rows_of found)
+    → name ≡ command_word settings.command
+    → settings.threads ≡ number_in 1 16 default_threads (one_text found (codes "threads"))
+    → settings.steps ≡ number_in 1 30000000 default_steps (one_text found (codes "steps"))
+    → settings.serial ≡ flag_in (one_text found (codes "serial"))
+    → 1 ≤ settings.threads → settings.threads ≤ 16 → 1 ≤ settings.steps → settings.steps ≤ 30000000 → HaveSettings words settings
+settings_read words name found settings clean is_found is threads steps serial some few some_steps few_steps = record {
+  name = command_read words name (rows_of found) (command_word settings.command) clean is_found is;
+  threads = threads ∙ ap (number_in 1 16 default_threads) (text_matched words name found (codes "threads") is_found);
+  steps = steps ∙ ap (number_in 1 30000000 default_steps) (text_matched words name found (codes "steps") is_found);
+  serial = serial ∙ ap flag_in (text_matched words name found (codes "serial") is_found);
+  some_threads = some;
+  few_threads = few;
+  some_steps = some_steps;
+  few_steps = few_steps;
+}

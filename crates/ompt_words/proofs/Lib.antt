@@ -5,3 +5,4 @@ pub mod Numbers
 pub mod Readings
 pub mod Choices
 pub mod Faults
+pub mod Commands

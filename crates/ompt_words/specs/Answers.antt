@@ -12,8 +12,10 @@ use Rattle.clap.specs.declared.error.kind.ErrorKind.TheVariants as kind
 use Rattle.ompt_words.specs.declared.fault.WordsFault.{WordsFault}
 use Rattle.ompt_words.specs.declared.fault.WordsFault.TheVariants.{Usage, Shown, Memory}
 use Rattle.ompt_words.specs.declared.settings.Settings.{Settings}
+use Rattle.ompt_words.specs.declared.settings.Request.{Request}
+use Rattle.ompt_words.specs.declared.settings.Request.TheVariants as request
 use Rattle.ompt_words.specs.CommandLine.{ompt}
-use Rattle.ompt_words.specs.Form.{command_word, default_steps, default_threads}
+use Rattle.ompt_words.specs.Form.{command_word, default_steps, default_threads, trace_word}
 
 -- the text of an option in clap's matches, if the command that the words name has one
 abbrev pub matched_text : List Text → Text → Option Text
@@ -30,10 +32,14 @@ abbrev pub flag_in : Option Text → Bool
 flag_in None = false
 flag_in (Some text) = bytes_eq text (codes "true")
 
--- clap finds no fault in the words, and these are the settings of its matches
-pub record AreReadAs (words : List Text) (settings : Settings) : Type 0 where
+-- clap finds no fault in the words, and the command that they name has this name
+pub record Name (words : List Text) (command : List ℕ) : Type 0 where
   pub taken : fault_of ompt words ≡ []
-  pub command : option_map (λ found. found.0) (subcommand_of ompt words) ≡ Some (command_word settings.command)
+  pub command_is : option_map (λ found. found.0) (subcommand_of ompt words) ≡ Some command
+
+-- clap finds no fault in the words, and these are the settings of its matches
+pub record HaveSettings (words : List Text) (settings : Settings) : Type 0 where
+  pub name : Name words (command_word settings.command)
   pub threads : settings.threads ≡ number_in 1 16 default_threads (matched_text words (codes "threads"))
   pub steps : settings.steps ≡ number_in 1 30000000 default_steps (matched_text words (codes "steps"))
   pub serial : settings.serial ≡ flag_in (matched_text words (codes "serial"))
@@ -41,6 +47,11 @@ pub record AreReadAs (words : List Text) (settings : Settings) : Type 0 where
   pub few_threads : settings.threads ≤ 16
   pub some_steps : 1 ≤ settings.steps
   pub few_steps : settings.steps ≤ 30000000
+
+-- clap finds no fault in the words, and they ask for this
+abbrev pub AreReadAs : List Text → Request → Type 0
+AreReadAs words (request.Run settings) = HaveSettings words settings
+AreReadAs words (request.Read command) = Name words (trace_word command)
 
 -- clap's answer is help or the version
 abbrev pub IsWish : ErrorKind → Type 0

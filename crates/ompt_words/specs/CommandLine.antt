@@ -41,6 +41,13 @@ program = record (new_app (codes "ompt")) {
   };
 }
 
--- the program with its commands
+-- a command that reads a trace, with this name. It has no options
+abbrev pub reader : Text → Shape
+reader name = new_shape name
+
+-- the program with the commands that run a program, and with all
+abbrev pub runners : App
+runners = with_subcommand (with_subcommand (with_subcommand program (runner (codes "run"))) (runner (codes "list"))) (runner (codes "record"))
+
 abbrev pub ompt : App
-ompt = with_subcommand (with_subcommand program (runner (codes "list"))) (runner (codes "run"))
+ompt = with_subcommand (with_subcommand runners (reader (codes "show"))) (reader (codes "migrate"))

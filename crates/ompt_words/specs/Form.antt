@@ -1,9 +1,11 @@
--- The form of the words: a command, and then its options in any order, each at most once.
+-- The form of the words: a command that runs a program, and then its options in any order, each at most once; or a command that reads a trace alone.
 use Rattle.std.specs.Prelude.{ℕ, Bool, true, false, ⊤, ◌≡◌, ◌≢◌, ◌≤◌, ◌⊎◌, List, [], ◌∷◌, ◌++◌, codes}
 use Rattle.std.specs.List.{All}
 use Rattle.std.specs.Fmt.{decimal}
 use Rattle.ompt_words.specs.declared.settings.Command.{Command}
-use Rattle.ompt_words.specs.declared.settings.Command.TheVariants.{List as Listing, Run}
+use Rattle.ompt_words.specs.declared.settings.Command.TheVariants.{List as Listing, Record, Run}
+use Rattle.ompt_words.specs.declared.settings.TraceCommand.{TraceCommand}
+use Rattle.ompt_words.specs.declared.settings.TraceCommand.TheVariants.{Migrate, Show}
 use Rattle.ompt_words.specs.declared.settings.Settings.{Settings}
 
 -- an option: `--threads N`, `--steps N` or `--serial`
@@ -16,6 +18,11 @@ pub data Choice : Type 0 where
 abbrev pub command_word : Command → List ℕ
 command_word Listing = codes "list"
 command_word Run = codes "run"
+command_word Record = codes "record"
+
+abbrev pub trace_word : TraceCommand → List ℕ
+trace_word Show = codes "show"
+trace_word Migrate = codes "migrate"
 
 -- the word of an option
 abbrev pub option_word : Choice → List ℕ
@@ -47,11 +54,15 @@ pub record BeginInForm (words : List (List ℕ)) (command : Command) (choices : 
   pub in_range : All IsInRange choices
   pub distinct : AreDistinct choices
 
--- the words are in the form
+-- the words are in the form, and ask for a run
 pub record InForm (words : List (List ℕ)) : Type 0 where
   pub command : Command
   pub choices : List Choice
   pub begin : BeginInForm words command choices []
+
+-- the words are in the form, and ask that a trace is read
+abbrev pub ReadInForm : List (List ℕ) → TraceCommand → Type 0
+ReadInForm words command = words ≡ trace_word command ∷ []
 
 -- how many threads there may be, and how many silent steps, where the words don't say
 abbrev pub default_threads : ℕ
@@ -108,6 +119,14 @@ pub record AskLater (words : List (List ℕ)) : Type 0 where
   pub request : IsRequest word
   pub begin : BeginInForm words command choices (word ∷ rest)
 
+-- the words are a command that reads a trace, and then a word that asks so
+pub record AskOfTrace (words : List (List ℕ)) : Type 0 where
+  pub command : TraceCommand
+  pub word : List ℕ
+  pub rest : List (List ℕ)
+  pub request : IsRequest word
+  pub words_are : words ≡ trace_word command ∷ word ∷ rest
+
 -- the words ask for help or for the version, with nothing before that isn't of the form
 abbrev pub AskInForm : List (List ℕ) → Type 0
-AskInForm words = AskFirst words ⊎ AskLater words
+AskInForm words = AskFirst words ⊎ (AskLater words ⊎ AskOfTrace words)

@@ -3,7 +3,7 @@
 ghost use Rattle.std.specs.Prelude.{◌≡◌, IfOk, false};
 ghost use Rattle.clap.specs.Words.{app_of, shape_of};
 ghost use Rattle.clap.specs.declared.builder.command.Command.TheViews.{out-Command};
-ghost use Rattle.ompt_words.specs.CommandLine.{ompt, program, runner};
+ghost use Rattle.ompt_words.specs.CommandLine.{ompt, program, reader, runner, runners};
 
 use crate::arguments::{serial, steps, threads};
 use clap::Command;
@@ -17,19 +17,48 @@ pub(crate) fn ompt_command<'a>(alloc: Global) -> Result<Command<'a>, AllocError>
     ensures app { IfOk result (λ command. app_of command ≡ ompt) }
     ensures local { IfOk result (λ command. (out-Command command).has_globals ≡ false) }
 {
-    let list = runner(
+    let show = reader(
         alloc,
-        "list",
-        "Runs a program and writes a line for each event",
-        "Example: ompt list --serial --threads 2 < program.c",
+        "show",
+        "Reads a trace and writes a line for each event, and one for the end",
+        "Example: ompt show < run.trace",
     )?;
+    let migrate = reader(
+        alloc,
+        "migrate",
+        "Reads a trace and writes it in the second version of the format",
+        "Example: ompt migrate < old.trace > new.trace",
+    )?;
+    runners(alloc)?.subcommand(show)?.subcommand(migrate)
+}
+
+/// The program with the commands that run a program.
+fn runners<'a>(alloc: Global) -> Result<Command<'a>, AllocError>
+    ensures app { IfOk result (λ command. app_of command ≡ runners) }
+    ensures local { IfOk result (λ command. (out-Command command).has_globals ≡ false) }
+{
     let run = runner(
         alloc,
         "run",
         "Runs a program with the tools, and writes what it prints",
         "Example: ompt run --serial --threads 2 --steps 5000 < program.c",
     )?;
-    program(alloc)?.subcommand(list)?.subcommand(run)
+    let list = runner(
+        alloc,
+        "list",
+        "Runs a program and writes a line for each event",
+        "Example: ompt list --serial --threads 2 < program.c",
+    )?;
+    let record = runner(
+        alloc,
+        "record",
+        "Runs a program and writes the trace of the run",
+        "Example: ompt record --threads 2 < program.c > run.trace",
+    )?;
+    program(alloc)?
+        .subcommand(run)?
+        .subcommand(list)?
+        .subcommand(record)
 }
 
 /// The program itself, without its commands.
@@ -44,7 +73,7 @@ fn program<'a>(alloc: Global) -> Result<Command<'a>, AllocError>
         .no_binary_name(true)
         .disable_help_subcommand(true)
         .subcommand_required(true)
-        .after_help("The program is read from standard input.")
+        .after_help("The program, or the trace, is read from standard input.")
         .bin_name("ompt")
 }
 
@@ -64,4 +93,17 @@ fn runner<'a>(
         .arg(threads(alloc))?
         .arg(steps(alloc))?
         .arg(serial(alloc))
+}
+
+/// A command that reads a trace.
+fn reader<'a>(
+    alloc: Global,
+    name: &'a str,
+    about: &'a str,
+    example: &'a str,
+) -> Result<Command<'a>, AllocError>
+    ensures shape { IfOk result (λ command. shape_of command ≡ reader name.entry.now) }
+    ensures local { IfOk result (λ command. (out-Command command).has_globals ≡ false) }
+{
+    Ok(Command::new(alloc, name).about(about).after_help(example))
 }

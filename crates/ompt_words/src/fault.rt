@@ -1,4 +1,4 @@
-//! Why words give no settings.
+//! Why words make no request.
 
 ghost use Rattle.std.specs.Prelude.{◌≢◌};
 ghost use Rattle.clap.specs.Words.{kind_of};
@@ -8,7 +8,7 @@ use clap::error::ErrorKind;
 use std::alloc::{AllocError, Global};
 use thiserror::Error;
 
-/// Why words give no settings.
+/// Why words make no request.
 #[derive(Debug, Drop, Error)]
 pub enum WordsFault {
     /// They are refused.

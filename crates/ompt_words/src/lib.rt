@@ -1,13 +1,14 @@
 //! What the words of the command line ask for.
 //!
-//! `clap` reads them, as one command with a subcommand for each [`Command`]. [`settings_of`] answers the [`Settings`] that they
-//! ask for, or why there are none: the words are refused, help or the version is to be shown, or there was no memory.
+//! `clap` reads them, as one command with a subcommand for each [`Command`] and each [`TraceCommand`]. [`request_of`] answers the
+//! [`Request`] that they make, or why there is none: the words are refused, help or the version is to be shown, or there was no
+//! memory.
 //!
 //! Proved over the definitions of `specs/`:
 //!
-//! - words of the form (a command, and then `--threads N`, `--steps N` and `--serial` in any order, each at most once) are never
-//!   refused, and give their own values with the defaults (`Form`);
-//! - settings come only where clap's rules find no fault in the words, and are those of its matches; such words are never refused.
+//! - words of the form are never refused, and give their own values with the defaults. They are a command that runs a program, and
+//!   then `--threads N`, `--steps N` and `--serial` in any order, each at most once; or a command that reads a trace, alone (`Form`);
+//! - a request comes only where clap's rules find no fault in the words, and is that of its matches; such words are never refused.
 //!   Words are refused only where a fault is a mistake, and a text is shown only where a fault asks for it (`Answers`, over the
 //!   command of `CommandLine`);
 //! - words of the form up to a `--help` or a `--version` give a text to show.
@@ -23,5 +24,5 @@ mod read_words;
 mod settings;
 
 pub use fault::WordsFault;
-pub use read_words::settings_of;
-pub use settings::{Command, DEFAULT_STEPS, DEFAULT_THREADS, Settings};
+pub use read_words::request_of;
+pub use settings::{Command, DEFAULT_STEPS, DEFAULT_THREADS, Request, Settings, TraceCommand};

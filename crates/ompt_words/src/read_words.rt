@@ -4,47 +4,59 @@ ghost use Rattle.std.specs.Prelude.{◌≡◌, ◌≤◌, IfOk, IsErrAnd, MatchR
 ghost use Rattle.std.specs.declared.alloc.Global.{Global};
 ghost use Rattle.clap.specs.Words.{found_of, one_text};
 ghost use Rattle.ompt_words.specs.Answers.{AreReadAs, AreWrong, AskForText, IsTextOrMemory, flag_in, number_in};
-ghost use Rattle.ompt_words.specs.Form.{AskInForm, InForm, command_word, default_steps, default_threads, own_settings};
+ghost use Rattle.ompt_words.specs.Form.{AskInForm, InForm, ReadInForm, default_steps, default_threads, own_settings};
 
 use crate::clap_command::ompt_command;
 use crate::fault::{WordsFault, fault_of};
-use crate::settings::{Command, DEFAULT_STEPS, DEFAULT_THREADS, Settings};
+use crate::settings::{Command, DEFAULT_STEPS, DEFAULT_THREADS, Request, Settings, TraceCommand};
 use clap::ArgMatches;
 use std::alloc::Global;
 
 /// What the words ask for. They don't contain the program's own name.
-pub fn settings_of(alloc: Global, words: &[String]) -> Result<Settings, WordsFault>
+pub fn request_of(alloc: Global, words: &[String]) -> Result<Request, WordsFault>
     ensures read { IfOk result (AreReadAs (map string_bytes words.now)) }
     ensures usage { result ≡ Err WordsFault.Usage → AreWrong (map string_bytes words.now) }
     ensures shown { (text : String Global) → result ≡ Err (WordsFault.Shown text) → AskForText (map string_bytes words.now) }
-    ensures exact { (settings : Settings) → AreReadAs (map string_bytes words.now) settings →
-        MatchResult result (λ given. given ≡ settings) (λ fault. fault ≡ WordsFault.Memory) }
+    ensures exact { (request : Request) → AreReadAs (map string_bytes words.now) request →
+        MatchResult result (λ given. given ≡ request) (λ fault. fault ≡ WordsFault.Memory) }
     ensures form { (form : InForm (map string_bytes words.now)) →
-        MatchResult result (λ settings. settings ≡ own_settings form) (λ fault. fault ≡ WordsFault.Memory) }
+        MatchResult result (λ given. given ≡ Request.Run (own_settings form)) (λ fault. fault ≡ WordsFault.Memory) }
+    ensures read_form { (command : TraceCommand) → ReadInForm (map string_bytes words.now) command →
+        MatchResult result (λ given. given ≡ Request.Read command) (λ fault. fault ≡ WordsFault.Memory) }
     ensures asked { AskInForm (map string_bytes words.now) → IsErrAnd result IsTextOrMemory }
 {
     let matches = match ompt_command(alloc)?.try_get_matches_from(words) {
         Ok(matches) => matches,
         Err(error) => return Err(fault_of(alloc, &error)),
     };
-    match matches.subcommand() {
-        Some((name, inner)) => Ok(Settings {
-            command: command_of(name),
-            threads: threads_in(inner),
-            steps: steps_in(inner),
-            serial: serial_in(inner),
-        }),
-        None => Err(WordsFault::Usage),
-    }
+    let Some((name, inner)) = matches.subcommand() else {
+        return Err(WordsFault::Usage);
+    };
+    Ok(match name {
+        "show" => Request::Read(TraceCommand::Show),
+        "migrate" => Request::Read(TraceCommand::Migrate),
+        "run" => Request::Run(settings_in(Command::Run, inner)),
+        "record" => Request::Run(settings_in(Command::Record, inner)),
+        _ => Request::Run(settings_in(Command::List, inner)),
+    })
 }
 
-/// The command with this name, which is that of one.
-fn command_of(name: &str) -> Command
-    ensures { (command : Command) → name.now ≡ command_word command → result ≡ command }
+/// The settings of a command that runs a program, in its matches.
+fn settings_in(command: Command, matches: &ArgMatches<'_>) -> Settings
+    ensures command { result.command ≡ command }
+    ensures threads { result.threads ≡ number_in 1 16 default_threads (one_text (found_of matches.now) (codes "threads")) }
+    ensures steps { result.steps ≡ number_in 1 30000000 default_steps (one_text (found_of matches.now) (codes "steps")) }
+    ensures serial { result.serial ≡ flag_in (one_text (found_of matches.now) (codes "serial")) }
+    ensures some { 1 ≤ result.threads }
+    ensures few { result.threads ≤ 16 }
+    ensures some_steps { 1 ≤ result.steps }
+    ensures few_steps { result.steps ≤ 30000000 }
 {
-    match name.as_bytes() {
-        b"run" => Command::Run,
-        _ => Command::List,
+    Settings {
+        command,
+        threads: threads_in(matches),
+        steps: steps_in(matches),
+        serial: serial_in(matches),
     }
 }
 

@@ -13,9 +13,20 @@ pub enum Command {
     List,
     /// It calls the guests for the events of their threads.
     Run,
+    /// It writes the trace of the run.
+    Record,
 }
 
-/// What the words ask for.
+/// A command that reads a trace.
+#[derive(Clone, Copy, PartialEq, Eq, Debug)]
+pub enum TraceCommand {
+    /// It writes a line for each event, and one for the end.
+    Show,
+    /// It writes the trace in the second version of the format.
+    Migrate,
+}
+
+/// How a program is to run.
 #[derive(Clone, Copy, PartialEq, Eq, Debug)]
 pub struct Settings {
     /// The command.
@@ -26,4 +37,13 @@ pub struct Settings {
     pub steps: u32,
     /// Whether the run is serial.
     pub serial: bool,
+}
+
+/// What the words ask for.
+#[derive(Clone, Copy, PartialEq, Eq, Debug)]
+pub enum Request {
+    /// A run of a program.
+    Run(Settings),
+    /// That a trace is read.
+    Read(TraceCommand),
 }

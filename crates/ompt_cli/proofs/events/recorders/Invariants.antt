@@ -1,5 +1,5 @@
 use Rattle.std.proofs.Common.{◌≡◌, [], replicate}
-use Rattle.ompt_cli.proofs.list.listers.Given as goal
+use Rattle.ompt_cli.proofs.events.recorders.Given as goal
 
 -- as many listers as turns were made
 abbrev pub invariant-loop-thread : goal.invariant-loop-thread

@@ -1,6 +1,6 @@
-//! The command `list`: it runs the program, and writes a line for each event.
+//! The commands `list` and `record`: they run the program, and write its events, as lines or as a trace.
 
-ghost use Rattle.std.specs.Prelude.{ℕ, ℤ, ◌≡◌, ◌≢◌, IfSome, IsSomeAnd, List, [], replicate, IfOk, true};
+ghost use Rattle.std.specs.Prelude.{ℕ, ℤ, ◌≡◌, ◌≢◌, IfSome, IsNone, IsSomeAnd, List, [], replicate, IfOk, true};
 ghost use Rattle.std.specs.Io.KnownBytes.{Appends, Keeps};
 ghost use Rattle.ompt_calls.specs.declared.event.EventRecord.{EventRecord};
 ghost use Rattle.omp_model.specs.Serial.{Serial, serial};
@@ -8,8 +8,12 @@ ghost use Rattle.omp_model.specs.Cause.{cause_of};
 ghost use Rattle.omp_model.specs.Legal.{Legal};
 ghost use Rattle.omp_model.specs.Records.{lines_of};
 ghost use Rattle.run_edges.specs.Edges.{Rose, AppendsFront};
+ghost use Rattle.run_trace.specs.TraceOf.{FitsCause, trace_of};
 ghost use Rattle.tool_report.specs.Order.{AreShared};
-ghost use Rattle.ompt_cli.specs.Commands.{EndsAs, EndsWith, IsAfterRun, TellsRun, run_text, run_of, unless_memory};
+ghost use Rattle.trace_format.specs.Fitting.{FitsFields};
+ghost use Rattle.trace_format.specs.Validity.{IsTrace};
+ghost use Rattle.std.specs.List.{All};
+ghost use Rattle.ompt_cli.specs.Commands.{EndsAs, EndsWith, IsAfterRun, IsSharedFew, TellsRun, events_text, run_text, run_of, unless_memory};
 ghost use Rattle.ompt_cli.specs.Runs.{AreOutside};
 
 use crate::end::End;
@@ -22,25 +26,30 @@ use omp_codes::PROFILE_MASK;
 use omp_model::Cause;
 use ompt_words::Command;
 use run_edges::{Sink, write_all};
+use run_trace::trace_of;
 use std::alloc::{AllocError, Global};
 use std::sync::Wait;
 use std::thread::Threads;
 use tool_api::GuestTool;
-use tool_report::{Lister, lines_text};
+use tool_report::{Recorder, lines_text, merge};
+use trace_format::write_trace;
 
-/// Runs the job, and writes its lines. The guests come back as they were.
-pub(crate) fn list<R: Threads + Wait + Sync, O: Sink>(
+/// Runs the job, and writes its lines or its trace. The guests come back as they were.
+pub(crate) fn list_or_record<R: Threads + Wait + Sync, O: Sink>(
     rt: &R,
     alloc: Global,
+    command: Command,
     job: Job,
     guests: Vec<Box<dyn GuestTool>>,
     out: &mut O,
 ) -> Ended
+    requires events { command ≢ Command.Run }
     ensures end { IsAfterRun result.end }
+    ensures alone { IsNone result.shown × IsNone result.read }
     ensures write { result.end ≡ End.WriteFault → Rose (O.faults out.old) (O.faults out.new) }
     ensures steady { result.end ≢ End.WriteFault → O.faults out.new ≡ O.faults out.old }
     ensures ran { IfSome result.ran (λ report.
-        (report.command ≡ Command.List) × (report.program.tree ≡ job.program) × (report.threads ≡ job.threads)
+        (report.command ≡ command) × (report.program.tree ≡ job.program) × (report.threads ≡ job.threads)
         × (report.steps ≡ job.steps) × (report.serial ≡ job.serial)) }
     ensures guests { IfSome result.ran (λ report. report.guests ≡ guests) }
     ensures mask { IfSome result.ran (λ report. report.mask ≡ PROFILE_MASK) }
@@ -68,6 +77,9 @@ pub(crate) fn list<R: Threads + Wait + Sync, O: Sink>(
     ensures part { result.end ≡ End.WriteFault →
         AppendsFront (O.held out.old) (O.held out.new) (run_text result.ran) }
     ensures kept { result.end ≡ End.Memory → Keeps (O.held out.old) (O.held out.new) }
+    // What is recorded is a trace.
+    ensures traced { result.end ≢ End.WriteFault → result.end ≢ End.Memory → command ≡ Command.Record →
+        IfSome result.ran (λ report. IsTrace (trace_of (run_of report) report.cause report.history)) }
 {
     let tree = ProgramTree::of(&job.program);
     let Job {
@@ -76,16 +88,16 @@ pub(crate) fn list<R: Threads + Wait + Sync, O: Sink>(
         serial,
         ..
     } = job;
-    let Ok(parts) = listers(alloc, threads) else {
+    let Ok(parts) = recorders(alloc, threads) else {
         return without_run(End::Memory);
     };
     let ran = match run_job(rt, alloc, job, parts) {
         Ok(ran) => ran,
         Err(_) => return without_run(End::Memory),
     };
-    let end = write_run(alloc, ran.cause, &ran.parts, out);
+    let end = write_run(alloc, command, threads, ran.cause, &ran.parts, out);
     let report = Report {
-        command: Command::List,
+        command,
         cause: ran.cause,
         program: tree,
         mask: ran.mask,
@@ -98,44 +110,61 @@ pub(crate) fn list<R: Threads + Wait + Sync, O: Sink>(
     Ended {
         end,
         ran: Some(report),
+        shown: None,
+        read: None,
     }
 }
 
-/// A lister for each of so many threads.
-fn listers(alloc: Global, threads: u8) -> Result<Vec<Lister>, AllocError>
+/// A recorder for each of so many threads.
+fn recorders(alloc: Global, threads: u8) -> Result<Vec<Recorder>, AllocError>
     ensures { IfOk result (λ parts. parts.items ≡ replicate threads []) }
 {
     let mut parts = Vec::new(alloc);
     for _thread in 0..threads {
-        parts.push(Lister::new(alloc))?;
+        parts.push(Recorder::new(alloc))?;
     }
     Ok(parts)
 }
 
-/// Writes a line for each event of a run that ended in this cause, unless it found no memory. It answers how the command
+/// Writes the events of a run with so many threads that ended in this cause, unless it found no memory. It answers how the command
 /// ends.
-fn write_run<O: Sink>(alloc: Global, cause: Cause, parts: &[Lister], out: &mut O) -> End
+fn write_run<O: Sink>(
+    alloc: Global,
+    command: Command,
+    threads: u8,
+    cause: Cause,
+    parts: &[Recorder],
+    out: &mut O,
+) -> End
+    requires events { command ≢ Command.Run }
+    requires shared { IsSharedFew parts.now }
     ensures end { EndsAs cause result }
     ensures listed { (events : List EventRecord) → AreShared events parts.now → result ≢ End.WriteFault → result ≢ End.Memory →
-        Appends (O.held out.old) (O.held out.new) (unless_memory cause (lines_of events)) }
+        Appends (O.held out.old) (O.held out.new) (unless_memory cause (events_text command threads cause events)) }
     ensures part { (events : List EventRecord) → AreShared events parts.now → result ≡ End.WriteFault →
-        AppendsFront (O.held out.old) (O.held out.new) (unless_memory cause (lines_of events)) }
+        AppendsFront (O.held out.old) (O.held out.new) (unless_memory cause (events_text command threads cause events)) }
+    ensures fits { (events : List EventRecord) → AreShared events parts.now → result ≢ End.WriteFault → result ≢ End.Memory →
+        command ≡ Command.Record → FitsCause cause × All FitsFields events }
     ensures write { result ≡ End.WriteFault → Rose (O.faults out.old) (O.faults out.new) }
     ensures steady { result ≢ End.WriteFault → O.faults out.new ≡ O.faults out.old }
     ensures kept { result ≡ End.Memory → Keeps (O.held out.old) (O.held out.new) }
 {
-    match cause {
-        Cause::Done => write_lines(alloc, End::Done, parts, out),
-        Cause::Returned(value) => write_lines(alloc, End::Returned(value), parts, out),
-        Cause::Trapped(number) => write_lines(alloc, End::Trapped(number), parts, out),
-        Cause::Deadlock => write_lines(alloc, End::Deadlock, parts, out),
-        Cause::Limit(number) => write_lines(alloc, End::Limit(number), parts, out),
-        Cause::Memory => End::Memory,
+    let end = match cause {
+        Cause::Done => End::Done,
+        Cause::Returned(value) => End::Returned(value),
+        Cause::Trapped(number) => End::Trapped(number),
+        Cause::Deadlock => End::Deadlock,
+        Cause::Limit(number) => End::Limit(number),
+        Cause::Memory => return End::Memory,
+    };
+    match command {
+        Command::Record => write_recorded(alloc, end, threads, cause, parts, out),
+        Command::List | Command::Run => write_lines(alloc, end, parts, out),
     }
 }
 
 /// Writes a line for each event. It answers this end, unless a write or memory failed.
-fn write_lines<O: Sink>(alloc: Global, whole: End, parts: &[Lister], out: &mut O) -> End
+fn write_lines<O: Sink>(alloc: Global, whole: End, parts: &[Recorder], out: &mut O) -> End
     requires { TellsRun whole }
     ensures end { EndsWith whole result }
     ensures listed { (events : List EventRecord) → AreShared events parts.now → result ≢ End.WriteFault → result ≢ End.Memory →
@@ -150,6 +179,42 @@ fn write_lines<O: Sink>(alloc: Global, whole: End, parts: &[Lister], out: &mut O
         return End::Memory;
     };
     match write_all(out, &lines) {
+        Ok(()) => whole,
+        Err(_) => End::WriteFault,
+    }
+}
+
+/// Writes the trace of a run, which is whole in memory before the first write. It answers this end, unless a write or memory failed.
+fn write_recorded<O: Sink>(
+    alloc: Global,
+    whole: End,
+    threads: u8,
+    cause: Cause,
+    parts: &[Recorder],
+    out: &mut O,
+) -> End
+    requires end { TellsRun whole }
+    requires cause { cause ≢ Cause.Memory }
+    requires shared { IsSharedFew parts.now }
+    ensures end { EndsWith whole result }
+    ensures listed { (events : List EventRecord) → AreShared events parts.now → result ≢ End.WriteFault → result ≢ End.Memory →
+        Appends (O.held out.old) (O.held out.new) (events_text Command.Record threads cause events) }
+    ensures part { (events : List EventRecord) → AreShared events parts.now → result ≡ End.WriteFault →
+        AppendsFront (O.held out.old) (O.held out.new) (events_text Command.Record threads cause events) }
+    ensures fits { (events : List EventRecord) → AreShared events parts.now → result ≢ End.WriteFault → result ≢ End.Memory → All FitsFields events }
+    ensures value { result ≢ End.Memory → FitsCause cause }
+    ensures found { cause ≢ Cause.Memory }
+    ensures write { result ≡ End.WriteFault → Rose (O.faults out.old) (O.faults out.new) }
+    ensures steady { result ≢ End.WriteFault → O.faults out.new ≡ O.faults out.old }
+    ensures kept { result ≡ End.Memory → Keeps (O.held out.old) (O.held out.new) }
+{
+    let Ok(events) = merge(alloc, parts) else {
+        return End::Memory;
+    };
+    let Some(trace) = trace_of(threads, PROFILE_MASK, cause, events) else {
+        return End::Memory;
+    };
+    match write_trace(out, &trace) {
         Ok(()) => whole,
         Err(_) => End::WriteFault,
     }

@@ -1,0 +1,43 @@
+-- What a recording writes, and that it is a trace.
+use Rattle.std.proofs.Common.{◌≡◌, ◌≢◌, ℕ, ◌≤◌, ◌+◌, List, [], ◌∷◌, ◌++◌, length, length-append, map, refl, subst, sym, ◌∙◌, ap, arith}
+use Rattle.std.proofs.lemmas.List.{length-map}
+use Rattle.ompt_calls.specs.declared.event.EventRecord.{EventRecord}
+use Rattle.omp_model.specs.declared.cause.Cause.{Cause}
+use Rattle.omp_model.specs.declared.cause.Cause.TheVariants as cause
+use Rattle.omp_model.specs.declared.history.Entry.{Entry}
+use Rattle.omp_model.specs.Legal.{Legal}
+use Rattle.omp_model.specs.Records.{records_of}
+use Rattle.omp_model.specs.State.{Run}
+use Rattle.run_trace.proofs.Heard.{few-records}
+use Rattle.tool_report.specs.Order.{AreShared}
+use Rattle.omp_codes.specs.declared.callbacks.TheConstants.{PROFILE_MASK}
+use Rattle.ompt_words.specs.declared.settings.Command.{Command}
+use Rattle.ompt_words.specs.declared.settings.Command.TheVariants.{List as Listing, Record as Recording, Run as Running}
+use Rattle.run_trace.specs.TraceOf.{trace_with}
+use Rattle.trace_format.specs.Fields.{fields_of, spelling}
+use Rattle.ompt_cli.specs.declared.end.End.{End}
+use Rattle.ompt_cli.specs.declared.end.End.TheVariants as end
+use Rattle.ompt_cli.specs.Commands.{EndsAs, IsSharedFew, events_text, unless_memory, written_by}
+
+-- something is written of each run that found memory
+pub unless-found : (of : Cause) (lines : List ℕ) → of ≢ cause.Memory → unless_memory of lines ≡ lines
+unless-found cause.Done lines found = refl
+unless-found (cause.Returned value) lines found = refl
+unless-found (cause.Trapped number) lines found = refl
+unless-found cause.Deadlock lines found = refl
+unless-found (cause.Limit number) lines found = refl
+unless-found cause.Memory lines found = absurd (found refl)
+
+-- what is written of the events of a run is what its command writes
+pub events-written : (command : Command) (run : Run) (of : Cause) (H : List Entry) → command ≢ Running → run.mask ≡ PROFILE_MASK → events_text command run.threads of (records_of run H) ≡ written_by command run of H
+events-written Listing run of H other mask = refl
+events-written Recording run of H other mask = ap (λ (callbacks : ℕ). spelling (fields_of (trace_with run.threads callbacks of (records_of run H)))) (sym mask)
+events-written Running run of H other mask = absurd (other refl)
+
+-- an end that isn't want of memory tells of a run that found memory
+pub ends-found : (of : Cause) (told : End) → EndsAs of told → told ≢ end.Memory → of ≢ cause.Memory
+ends-found of told ends other none = other (subst (λ (found : Cause). EndsAs found told) none ends)
+
+-- the records of a run are few enough
+pub shared-few : (run : Run) (H : List Entry) (parts : List (List EventRecord)) → 1 ≤ run.threads → Legal run H → AreShared (records_of run H) parts → IsSharedFew parts
+shared-few run H parts some legal shared = (records_of run H, shared, few-records run H some legal)

@@ -1,0 +1,80 @@
+use Rattle.std.proofs.Common.{◌≡◌, ◌∙◌, List, [], ap, codes, map, string_bytes, subst, sym, ℕ}
+use Rattle.clap.specs.Kinds.{HasKind}
+use Rattle.clap.specs.Matches.{found_of}
+use Rattle.clap.specs.Walk.{rows_of}
+use Rattle.clap.specs.Words.{app_of, kind_of}
+use Rattle.ompt_words.specs.Answers.{AreReadAs, IsAnswerTo}
+use Rattle.ompt_words.specs.declared.fault.WordsFault.TheVariants.{Shown, Usage}
+use Rattle.ompt_words.specs.Form.{command_word}
+use Rattle.ompt_words.proofs.Choices.{asked_wish, form_clean, own_command, own_read, read_clean, read_once, read_taken}
+use Rattle.ompt_words.proofs.Faults.{asking_words, command_found, command_read, exact, only_memory, same_fault, settings_read, text_or_memory, wish_is_fault, wrong_words}
+use Rattle.ompt_words.proofs.Levels.{listing_left}
+use Rattle.ompt_words.proofs.read_words.request_of.Goals.{in-migrate, in-record, in-run, in-show, in_default-name}
+use Rattle.ompt_words.proofs.read_words.request_of.Goals as goal
+
+pub returns-in-Err-clause-usage : goal.returns-in-Err-clause-usage
+returns-in-Err-clause-usage c = λ same.
+    let kind = exact (λ kinds. HasKind kinds c.in-Err.error) (app_of c.in_ok-ompt_command.field-0) (map string_bytes c.args.words.now) c.in_ok-ompt_command.ensures.app c.in-Err.ensures.kinds in
+    wrong_words _ c.in-Err.error kind (subst (IsAnswerTo (kind_of c.in-Err.error)) (same_fault c.fault_of.result Usage same) c.fault_of.ensures)
+
+pub returns-in-Err-clause-shown : goal.returns-in-Err-clause-shown
+returns-in-Err-clause-shown c = λ text same.
+    let kind = exact (λ kinds. HasKind kinds c.in-Err.error) (app_of c.in_ok-ompt_command.field-0) (map string_bytes c.args.words.now) c.in_ok-ompt_command.ensures.app c.in-Err.ensures.kinds in
+    asking_words _ c.in-Err.error kind (subst (IsAnswerTo (kind_of c.in-Err.error)) (same_fault c.fault_of.result (Shown text) same) c.fault_of.ensures)
+
+pub returns-in-Err-clause-exact : goal.returns-in-Err-clause-exact
+returns-in-Err-clause-exact c = λ request read.
+    let kind = exact (λ kinds. HasKind kinds c.in-Err.error) (app_of c.in_ok-ompt_command.field-0) (map string_bytes c.args.words.now) c.in_ok-ompt_command.ensures.app c.in-Err.ensures.kinds in
+    only_memory _ c.in-Err.error c.fault_of.result (read_taken _ request read) kind c.fault_of.ensures
+
+pub returns-in-Err-clause-form : goal.returns-in-Err-clause-form
+returns-in-Err-clause-form c = λ form.
+    let kind = exact (λ kinds. HasKind kinds c.in-Err.error) (app_of c.in_ok-ompt_command.field-0) (map string_bytes c.args.words.now) c.in_ok-ompt_command.ensures.app c.in-Err.ensures.kinds in
+    only_memory _ c.in-Err.error c.fault_of.result (form_clean _ form) kind c.fault_of.ensures
+
+pub returns-in-Err-clause-read_form : goal.returns-in-Err-clause-read_form
+returns-in-Err-clause-read_form c = λ command is.
+    let kind = exact (λ kinds. HasKind kinds c.in-Err.error) (app_of c.in_ok-ompt_command.field-0) (map string_bytes c.args.words.now) c.in_ok-ompt_command.ensures.app c.in-Err.ensures.kinds in
+    only_memory _ c.in-Err.error c.fault_of.result (read_clean _ command is) kind c.fault_of.ensures
+
+pub returns-in-Err-clause-asked : goal.returns-in-Err-clause-asked
+returns-in-Err-clause-asked c = λ asked.
+    let kind = exact (λ kinds. HasKind kinds c.in-Err.error) (app_of c.in_ok-ompt_command.field-0) (map string_bytes c.args.words.now) c.in_ok-ompt_command.ensures.app c.in-Err.ensures.kinds in
+    text_or_memory _ c.in-Err.error c.fault_of.result (asked_wish _ asked) kind c.fault_of.ensures
+
+pub returns-clause-read : goal.returns-clause-read
+returns-clause-read c =
+    let words : List (List ℕ) = map string_bytes c.args.words.now in
+    let clean = exact (λ kinds. kinds ≡ []) (app_of c.in_ok-ompt_command.field-0) words c.in_ok-ompt_command.ensures.app c.in-Ok.ensures.kinds in
+    let found = command_found (app_of c.in_ok-ompt_command.field-0) words c.in-Ok.matches c.in-Some.name.now (rows_of (found_of c.in-Some.inner.now))
+    c.in_ok-ompt_command.ensures.app c.in-Ok.ensures.matches c.in-Some.ensures.name c.in-Some.ensures.rows in
+    elim c.match-name.branch [
+      | in-show w ↦ subst (AreReadAs words) (sym w.result-is) (command_read words c.in-Some.name.now (rows_of (found_of c.in-Some.inner.now)) (codes "show") clean found w.in-show.is)
+      | in-migrate w ↦ subst (AreReadAs words) (sym w.result-is) (command_read words c.in-Some.name.now (rows_of (found_of c.in-Some.inner.now)) (codes "migrate") clean found w.in-migrate.is)
+      | in-run w ↦ subst (AreReadAs words) (sym w.result-is)
+          (settings_read words c.in-Some.name.now (found_of c.in-Some.inner.now) w.settings_in.result clean found (w.in-run.is ∙ ap command_word (sym w.settings_in.ensures.command))
+          w.settings_in.ensures.threads w.settings_in.ensures.steps w.settings_in.ensures.serial
+          w.settings_in.ensures.some w.settings_in.ensures.few w.settings_in.ensures.some_steps w.settings_in.ensures.few_steps)
+      | in-record w ↦ subst (AreReadAs words) (sym w.result-is)
+          (settings_read words c.in-Some.name.now (found_of c.in-Some.inner.now) w.settings_in-in-record.result clean found (w.in-record.is ∙ ap command_word (sym w.settings_in-in-record.ensures.command))
+          w.settings_in-in-record.ensures.threads w.settings_in-in-record.ensures.steps w.settings_in-in-record.ensures.serial
+          w.settings_in-in-record.ensures.some w.settings_in-in-record.ensures.few w.settings_in-in-record.ensures.some_steps w.settings_in-in-record.ensures.few_steps)
+      | in_default-name w ↦
+          let list = listing_left words c.in-Some.name.now (rows_of (found_of c.in-Some.inner.now)) found w.in_default-name.not-show w.in_default-name.not-migrate w.in_default-name.not-run w.in_default-name.not-record in
+          subst (AreReadAs words) (sym w.result-is)
+          (settings_read words c.in-Some.name.now (found_of c.in-Some.inner.now) w.settings_in-in_default-name.result clean found (list ∙ ap command_word (sym w.settings_in-in_default-name.ensures.command))
+          w.settings_in-in_default-name.ensures.threads w.settings_in-in_default-name.ensures.steps w.settings_in-in_default-name.ensures.serial
+          w.settings_in-in_default-name.ensures.some w.settings_in-in_default-name.ensures.few w.settings_in-in_default-name.ensures.some_steps w.settings_in-in_default-name.ensures.few_steps)
+    ]
+
+pub returns-clause-exact : goal.returns-clause-exact
+returns-clause-exact c = λ request read. read_once _ _ request (returns-clause-read c) read
+
+pub returns-clause-form : goal.returns-clause-form
+returns-clause-form c = λ form. own_read _ _ (returns-clause-read c) form
+
+pub returns-clause-read_form : goal.returns-clause-read_form
+returns-clause-read_form c = λ command is. own_command _ _ (returns-clause-read c) command is
+
+pub returns-clause-asked : goal.returns-clause-asked
+returns-clause-asked c = λ asked. wish_is_fault _ (read_taken _ _ (returns-clause-read c)) (asked_wish _ asked)
