@@ -12,7 +12,7 @@
 
 mod answers;
 pub mod callbacks;
-mod states;
+pub mod states;
 
 pub use answers::set_answer;
 pub use callbacks::{PROFILE, PROFILE_MASK, is_profile, profile_has_its_mask};

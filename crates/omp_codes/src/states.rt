@@ -4,37 +4,37 @@ ghost use Rattle.std.specs.Prelude.{◌≡◌};
 ghost use Rattle.omp_codes.specs.States.{next_of};
 
 /// `ompt_state_work_serial` of `ompt_state_t` (OpenMP 5.2, 19.4.4).
-const WORK_SERIAL: u32 = 0x000;
+pub const WORK_SERIAL: u32 = 0x000;
 
 /// `ompt_state_work_parallel`.
-const WORK_PARALLEL: u32 = 0x001;
+pub const WORK_PARALLEL: u32 = 0x001;
 
 /// `ompt_state_wait_barrier_implicit_parallel`.
-const WAIT_BARRIER_IMPLICIT_PARALLEL: u32 = 0x011;
+pub const WAIT_BARRIER_IMPLICIT_PARALLEL: u32 = 0x011;
 
 /// `ompt_state_wait_barrier_implicit_workshare`.
-const WAIT_BARRIER_IMPLICIT_WORKSHARE: u32 = 0x012;
+pub const WAIT_BARRIER_IMPLICIT_WORKSHARE: u32 = 0x012;
 
 /// `ompt_state_wait_barrier_explicit`.
-const WAIT_BARRIER_EXPLICIT: u32 = 0x014;
+pub const WAIT_BARRIER_EXPLICIT: u32 = 0x014;
 
 /// `ompt_state_wait_taskwait`.
-const WAIT_TASKWAIT: u32 = 0x020;
+pub const WAIT_TASKWAIT: u32 = 0x020;
 
 /// `ompt_state_wait_lock`.
-const WAIT_LOCK: u32 = 0x041;
+pub const WAIT_LOCK: u32 = 0x041;
 
 /// `ompt_state_wait_critical`.
-const WAIT_CRITICAL: u32 = 0x042;
+pub const WAIT_CRITICAL: u32 = 0x042;
 
 /// `ompt_state_idle`.
-const IDLE: u32 = 0x100;
+pub const IDLE: u32 = 0x100;
 
 /// `ompt_state_overhead`.
-const OVERHEAD: u32 = 0x101;
+pub const OVERHEAD: u32 = 0x101;
 
 /// `ompt_state_undefined`, from which an enumeration starts.
-const UNDEFINED: u32 = 0x102;
+pub const UNDEFINED: u32 = 0x102;
 
 /// The state after this one, as `ompt_enumerate_states` (OpenMP 5.2, 19.6.1.1) goes through them. None follows the last
 /// one, and none follows a number that is no state.
