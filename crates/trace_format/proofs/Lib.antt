@@ -48,3 +48,4 @@ pub mod HeaderPlaces
 pub mod RecordPlaces
 pub mod ArgumentPlaces
 pub mod Comes
+pub mod Unrefused

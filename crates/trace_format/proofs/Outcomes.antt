@@ -3,7 +3,6 @@ use Rattle.std.proofs.Common.{ℕ, ◌≡◌, ◌<◌, ◌≤◌, ◌+◌, ◌-�
 use Rattle.std.proofs.lemmas.List.{append-nil, take_rest}
 use Rattle.std.proofs.Math.Seq.{drop-append_seam}
 use Rattle.trace_format.specs.declared.item.Item.{Item}
-use Rattle.trace_format.specs.declared.item.Item.TheVariants as item
 use Rattle.trace_format.specs.declared.next.Coming.{Coming}
 use Rattle.trace_format.specs.declared.refusal.Reason.{Reason}
 use Rattle.trace_format.specs.declared.refusal.Reason.TheVariants.{AfterEnd}

@@ -1,7 +1,6 @@
 -- The steps of a reader, by what its fields are before and after.
-use Rattle.std.proofs.Common.{ℕ, ◌≡◌, ◌<◌, ◌≤◌, ◌+◌, inl, inr, Bool, true, false, List, [], ◌∷◌, length, Option, Some, None, refl, ap, sym, ◌∙◌, subst, arith}
+use Rattle.std.proofs.Common.{ℕ, ◌≡◌, ◌<◌, ◌≤◌, ◌+◌, inl, inr, Bool, true, false, List, [], length, Option, Some, None, refl, ap, sym, ◌∙◌, subst, arith}
 use Rattle.trace_format.specs.declared.item.Item.{Item}
-use Rattle.trace_format.specs.declared.item.Item.TheVariants as item
 use Rattle.trace_format.specs.declared.next.Coming.{Coming}
 use Rattle.trace_format.specs.declared.trace.Header.{Header}
 use Rattle.trace_format.specs.Accepting.{Next, next_in, next_of}

@@ -3,7 +3,7 @@
 ghost use Rattle.std.specs.Prelude.{◌≡◌, ◌≤◌, ℕ, List, ◌++◌, length};
 ghost use Rattle.trace_format.specs.declared.refusal.Refusal.{Refusal};
 ghost use Rattle.trace_format.specs.declared.trace.Trace.{Trace};
-ghost use Rattle.trace_format.specs.Refusing.{IsRefused};
+ghost use Rattle.trace_format.specs.Refusing.{IsRefused, IsTruncated};
 ghost use Rattle.trace_format.specs.Validity.{Writes};
 
 /// A trace is written in one way, no other trace is written so, and no trace's bytes begin with another's.
@@ -20,4 +20,9 @@ pub fn longest()
 /// Bytes are refused in one way at most.
 pub fn one_refusal()
     ensures { (bytes : List ℕ) (r s : Refusal) → IsRefused bytes r → IsRefused bytes s → r ≡ s }
+{}
+
+/// Bytes that are a trace are refused nowhere, and don't end too early.
+pub fn never_refused()
+    ensures { (trace : Trace) (bytes : List ℕ) (refusal : Refusal) → Writes trace bytes → (IsRefused bytes refusal → ⊥) × (IsTruncated bytes refusal → ⊥) }
 {}

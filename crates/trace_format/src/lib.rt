@@ -18,7 +18,7 @@
 //! - [`Reader::feed`] and [`Reader::end`], for all that was taken before: the items given are those whose last byte was taken,
 //!   whatever the pieces; bytes are refused exactly where the definition has it, with the last byte of the field that is wrong,
 //!   and then always; the end is `Ok` exactly where the bytes are a whole trace;
-//! - [`one_spelling`], [`one_refusal`] and [`longest`] are laws of the definitions.
+//! - [`one_spelling`], [`one_refusal`], [`never_refused`] and [`longest`] are laws of the definitions.
 //!
 //! Neither writing nor reading takes memory. That each item is one piece is tested alone (`trace_tests`). How fast the calls are
 //! isn't proved.
@@ -45,7 +45,7 @@ pub use checking::valid;
 pub use field::Field;
 pub use item::Item;
 pub use kind::Kind;
-pub use laws::{longest, one_refusal, one_spelling};
+pub use laws::{longest, never_refused, one_refusal, one_spelling};
 pub use reader::{Reader, Taken};
 pub use refusal::{Reason, Refusal};
 pub use trace::{

@@ -1,5 +1,5 @@
 -- What the sink has taken grows by item: the header, each event, and the end mark.
-use Rattle.std.proofs.Common.{◌≡◌, ap, ◌∙◌, subst, List, Ok, Err}
+use Rattle.std.proofs.Common.{◌≡◌, ap, ◌∙◌, subst}
 use Rattle.std.proofs.lemmas.Result.{on_err_weaker, on_ok_weaker}
 use Rattle.std.proofs.lemmas.List.{take_all}
 use Rattle.std.proofs.lemmas.List.Elements.{All-more, All-nil}
