@@ -1,5 +1,5 @@
 -- What was read and written so far, and how the copying of a trace ends by it.
-use Rattle.std.proofs.Common.{ℕ, ◌≡◌, ◌≢◌, ◌<◌, ◌+◌, ◌-◌, List, [], ◌++◌, length, Option, Some, None, inl, inr, refl, sym, ap, subst, ◌∙◌, append_assoc, length-append, arith}
+use Rattle.std.proofs.Common.{ℕ, ◌≡◌, ◌≢◌, ◌<◌, ◌-◌, List, [], ◌++◌, length, Option, Some, None, inl, inr, refl, sym, ap, subst, ◌∙◌, append_assoc, length-append, arith}
 use Rattle.std.proofs.KnownBytes.{Appends-kept, Appends-nil, Appends-trans, Consumes-kept, Consumes-nil, Consumes-trans, Consumes-whole}
 use Rattle.std.specs.Io.KnownBytes.{Appends, Consumes, IsAtEnd, Keeps}
 use Rattle.run_edges.specs.Edges.{AppendsFront}
@@ -14,8 +14,10 @@ use Rattle.trace_copy.specs.declared.copied.Copied.{Copied}
 use Rattle.trace_copy.specs.declared.copied.Copied.TheVariants.{Whole, Refused, ReadFault, WriteFault, Memory}
 use Rattle.trace_copy.specs.declared.form.Form.{Form}
 use Rattle.trace_copy.specs.Copying.{HasCopied, IsFront, IsInput, IsStopped}
-use Rattle.trace_copy.specs.Written.{last_end, last_line, written_at_end, written_of}
+use Rattle.trace_copy.specs.Ending.{last_end, last_line}
+use Rattle.trace_copy.specs.Written.{written_of, written_of_trace}
 use Rattle.trace_copy.proofs.Onward.{Came, front_behind, last_behind, written_behind}
+use Rattle.trace_copy.proofs.Traces.{written_read}
 
 -- bytes were read and taken, and what is said of the items that are whole in them was written
 abbrev pub Copies : Form → Reading → Option EndMark → (left rest held after : Option (List ℕ)) → Type 0
@@ -89,26 +91,24 @@ stopped_at form Whole bytes items left rest held between after read wrote stoppe
 stopped_at form (Refused refusal) bytes items left rest held between after read wrote (taken, behind, more, cut, refuses, are, one) =
     (taken, items ++ more, inl (front_from left rest bytes taken behind read cut, refuses), are, wrote_more form items more held between after wrote one)
 stopped_at form ReadFault bytes items left rest held between after read wrote stopped = absurd stopped
-stopped_at form WriteFault bytes items left rest held between after read wrote (taken, behind, more, cut, are, one) = (
-  taken,
-  items ++ more,
-  inl (
-    front_from left rest bytes taken behind read cut,
-    are,
-    front_behind held between after (written_of form items) (written_of form more) (written_of form (items ++ more)) (written_behind form items more)
-        wrote one,
-  ),
-)
-stopped_at form Memory bytes items left rest held between after read wrote (taken, behind, more, cut, are, one) = (
-  taken,
-  items ++ more,
-  inl (
-    front_from left rest bytes taken behind read cut,
-    are,
-    front_behind held between after (written_of form items) (written_of form more) (written_of form (items ++ more)) (written_behind form items more)
-        wrote one,
-  ),
-)
+stopped_at form WriteFault bytes items left rest held between after read wrote (taken, behind, more, cut, are, one) =
+    inl (
+      taken,
+      items ++ more,
+      front_from left rest bytes taken behind read cut,
+      are,
+      front_behind held between after (written_of form items) (written_of form more) (written_of form (items ++ more)) (written_behind form items more)
+          wrote one,
+    )
+stopped_at form Memory bytes items left rest held between after read wrote (taken, behind, more, cut, are, one) =
+    inl (
+      taken,
+      items ++ more,
+      front_from left rest bytes taken behind read cut,
+      are,
+      front_behind held between after (written_of form items) (written_of form more) (written_of form (items ++ more)) (written_behind form items more)
+          wrote one,
+    )
 
 pub copies_stopped :
     (form : Form) (stop : Copied) (old : Reading) (piece : List ℕ) (end : Option EndMark) (left mid rest held between after : Option (List ℕ))
@@ -150,10 +150,11 @@ copies_ended form Whole reading end left mid rest held between after (bytes, ite
     let found = whole refl bytes items has in
     let last = subst (λ (mark : Option EndMark). Appends between after (last_line form mark)) is found.1 in (
       bytes,
-      items,
+      found.0.trace,
       input_from left mid bytes read none,
-      found.0,
-      Appends-trans held between after (written_of form items) (last_line form (last_end None items)) wrote last,
+      found.0.writes,
+      subst (Appends held after) (written_read form found.0.trace items found.0.items_are)
+          (Appends-trans held between after (written_of form items) (last_line form (last_end None items)) wrote last),
     )
 copies_ended form (Refused refusal) reading end left mid rest held between after (bytes, items, has, read, is, wrote) none whole refused part ends =
     let found = refused refusal refl bytes items has in (
@@ -166,13 +167,13 @@ copies_ended form (Refused refusal) reading end left mid rest held between after
 copies_ended form ReadFault reading end left mid rest held between after copies none whole refused part ends = absurd (ends.0 refl)
 copies_ended form WriteFault reading end left mid rest held between after (bytes, items, has, read, is, wrote) none whole refused part ends =
     let found = part refl bytes items has in
-    let last = subst (λ (mark : Option EndMark). AppendsFront between after (last_line form mark)) is found.1 in (
+    let last = subst (λ (mark : Option EndMark). AppendsFront between after (last_line form mark)) is found.1 in
+    inr (
       bytes,
-      items,
-      inr (
-        input_from left mid bytes read none,
-        found.0,
-        front_behind held between after (written_of form items) (last_line form (last_end None items)) (written_at_end form items) refl wrote last,
-      ),
+      found.0.trace,
+      input_from left mid bytes read none,
+      found.0.writes,
+      front_behind held between after (written_of form items) (last_line form (last_end None items)) (written_of_trace form found.0.trace)
+          (sym (written_read form found.0.trace items found.0.items_are)) wrote last,
     )
 copies_ended form Memory reading end left mid rest held between after copies none whole refused part ends = absurd (ends.1 refl)

@@ -1,2 +1,4 @@
 pub mod Onward
+pub mod Traces
 pub mod Endings
+pub mod Migrating

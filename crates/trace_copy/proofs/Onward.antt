@@ -1,5 +1,5 @@
 -- What a piece gave, item by item: what was taken of it, the end mark that came last, and what was written.
-use Rattle.std.proofs.Common.{ℕ, ◌≡◌, ◌≤◌, ◌+◌, ◌-◌, ◌⊎◌, List, [], ◌∷◌, ◌++◌, length, take, drop, Option, Some, None, Result, Ok, Err, ⊎_elim, refl, sym, ap, subst, ◌∙◌, append_assoc, length-append, arith}
+use Rattle.std.proofs.Common.{ℕ, ◌≡◌, ◌+◌, ◌-◌, ◌⊎◌, List, [], ◌∷◌, ◌++◌, length, take, drop, Option, Some, ⊎_elim, refl, sym, ap, subst, ◌∙◌, append_assoc, length-append, arith}
 use Rattle.std.proofs.KnownBytes.{Appends-nil, Appends-trans}
 use Rattle.std.proofs.lemmas.Grind.{flat_map-append}
 use Rattle.std.proofs.lemmas.List.{append-nil, take-append-drop}
@@ -18,7 +18,8 @@ use Rattle.trace_copy.specs.declared.copied.Copied.TheVariants.{Refused, WriteFa
 use Rattle.trace_copy.specs.declared.form.Form.{Form}
 use Rattle.trace_copy.specs.declared.form.Form.TheVariants.{Lines, SecondVersion}
 use Rattle.trace_copy.specs.Copying.{IsStopped}
-use Rattle.trace_copy.specs.Written.{last_end, written_of, written_of_item}
+use Rattle.trace_copy.specs.Ending.{last_end}
+use Rattle.trace_copy.specs.Written.{written_of, written_of_item}
 
 -- what is written of the item that a call of a reader gives, if it gives one
 written_given : (form : Form) (it : Item) → written_of form (given it) ≡ written_of_item form it

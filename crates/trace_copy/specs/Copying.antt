@@ -4,12 +4,14 @@ use Rattle.std.specs.Io.KnownBytes.{Appends, Consumes}
 use Rattle.run_edges.specs.Edges.{AppendsFront}
 use Rattle.trace_format.specs.declared.item.Item.{Item}
 use Rattle.trace_format.specs.declared.refusal.Refusal.{Refusal}
-use Rattle.trace_format.specs.Items.{AreWhole, IsRead}
+use Rattle.trace_format.specs.declared.trace.Trace.{Trace}
+use Rattle.trace_format.specs.Items.{AreWhole}
 use Rattle.trace_format.specs.Refusing.{IsTruncated, Refuses}
+use Rattle.trace_format.specs.Validity.{Writes}
 use Rattle.trace_copy.specs.declared.form.Form.{Form}
 use Rattle.trace_copy.specs.declared.copied.Copied.{Copied}
 use Rattle.trace_copy.specs.declared.copied.Copied.TheVariants.{Whole, Refused, ReadFault, WriteFault, Memory}
-use Rattle.trace_copy.specs.Written.{written_at_end, written_of}
+use Rattle.trace_copy.specs.Written.{written_of, written_of_trace}
 
 -- the bytes are the whole input, where it is told, and they are a front of it
 abbrev pub IsInput : Option (List ℕ) → List ℕ → Type 0
@@ -26,19 +28,18 @@ AreItems bytes items = (begun : List ℕ) × AreWhole bytes items begun
 abbrev pub IsRefusedInput : Option (List ℕ) → List ℕ → Refusal → Type 0
 IsRefusedInput left taken refusal = (IsFront left taken × Refuses taken refusal) ⊎ (IsInput left taken × IsTruncated taken refusal)
 
--- what was written before a write or memory failed: a front of what is written of the items of a front of the input, or, of a whole input, a front
--- of all
+-- what was written before a write or memory failed: a front of what is written of the items of a front of the input, or, where the whole input is a
+-- trace, a front of what is written of it
 abbrev pub IsCutOff : Form → (left held after : Option (List ℕ)) → Type 0
 IsCutOff form left held after =
-    (taken : List ℕ) × (items : List Item) ×
-    ((IsFront left taken × AreItems taken items × AppendsFront held after (written_of form items))
-    ⊎ (IsInput left taken × IsRead taken items × AppendsFront held after (written_at_end form items)))
+    ((taken : List ℕ) × (items : List Item) × IsFront left taken × AreItems taken items × AppendsFront held after (written_of form items))
+    ⊎ ((taken : List ℕ) × (trace : Trace) × IsInput left taken × Writes trace taken × AppendsFront held after (written_of_trace form trace))
 
 -- By the end, over what the source has left before and after, and what the sink holds before and after. The whole input is a trace, and is written
 -- so; or the input is refused, or a read failed, and what is written is that of the items that are whole in what was taken.
 abbrev pub HasCopied : Form → Copied → (left rest held after : Option (List ℕ)) → Type 0
 HasCopied form Whole left rest held after =
-    (taken : List ℕ) × (items : List Item) × IsInput left taken × IsRead taken items × Appends held after (written_at_end form items)
+    (taken : List ℕ) × (trace : Trace) × IsInput left taken × Writes trace taken × Appends held after (written_of_trace form trace)
 HasCopied form (Refused refusal) left rest held after =
     (taken : List ℕ) × (items : List Item) × IsRefusedInput left taken refusal × AreItems taken items × Appends held after (written_of form items)
 HasCopied form ReadFault left rest held after =

@@ -1,6 +1,6 @@
 //! Reading a trace and writing it again.
 
-ghost use Rattle.std.specs.Prelude.{◌≡◌, ◌≢◌, ◌≤◌, ◌++◌, ◌⊎◌, ℕ, List, length, None, OnOk, Ok, Err};
+ghost use Rattle.std.specs.Prelude.{◌≡◌, ◌≢◌, ◌++◌, ℕ, List, None, OnOk, Ok, Err};
 ghost use Rattle.std.specs.Io.KnownBytes.{Appends, Keeps};
 ghost use Rattle.run_edges.specs.Edges.{AppendsFront, Rose};
 ghost use Rattle.trace_format.specs.declared.item.Item.{Item};
@@ -9,7 +9,8 @@ ghost use Rattle.trace_format.specs.Items.{IsRead};
 ghost use Rattle.trace_format.specs.Refusing.{IsTruncated};
 ghost use Rattle.trace_format.specs.Taking.{HasTaken};
 ghost use Rattle.trace_copy.specs.Copying.{HasCopied, IsStopped};
-ghost use Rattle.trace_copy.specs.Written.{last_end, last_line, written_of};
+ghost use Rattle.trace_copy.specs.Ending.{last_end, last_line};
+ghost use Rattle.trace_copy.specs.Written.{written_of};
 
 use crate::copied::Copied;
 use crate::form::Form;

@@ -1,17 +1,21 @@
 //! A trace that is read from a source and written again: as lines, or in the second version of the format.
 //!
 //! [`copy_trace`] reads pieces of at most 4,096 bytes, and writes what it says of each item as soon as the item is whole. The
-//! definitions stand in `specs/`: `Written` has what is written of items, `Copying` what the call has read and written, by how it ended.
+//! definitions stand in `specs/`: `Written` has what is written of a trace and of its items, `Copying` what the call has read and written,
+//! by how it ended. `Ending` serves the proofs.
 //!
 //! Proved by the contract of [`copy_trace`]:
 //!
-//! - at `Whole` the whole input is a trace, and what was written is what is defined of its items. The line of the end mark comes only
-//!   then;
+//! - at `Whole` the whole input is a trace, and what was written is what is defined of this trace: a line for each event and one for the
+//!   end mark, or the trace in the second version. The line of the end mark comes only then;
 //! - at `Refused` the input is refused so (`trace_format`), or is cut; at `ReadFault` a read failed, and was counted. What was
 //!   written is that of all items that are whole in what was taken;
 //! - at `WriteFault` a write failed, and was counted; what was written is a front of what is defined. So it is at `Memory`, which isn't
 //!   answered for the second version;
 //! - the call returns: each read takes a byte or ends it, and no bytes without a refusal are longer than the longest trace.
+//!
+//! [`migrated_once`] is a law of the definitions: what was migrated is a trace of the second version, and migrating it again changes
+//! nothing.
 //!
 //! Its memory doesn't grow with the trace: that isn't proved, but plain in the code.
 #![tactic(auto)]
@@ -19,8 +23,10 @@
 mod copied;
 mod copy;
 mod form;
+mod laws;
 mod put;
 
 pub use copied::Copied;
 pub use copy::copy_trace;
 pub use form::Form;
+pub use laws::migrated_once;

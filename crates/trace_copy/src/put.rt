@@ -1,11 +1,12 @@
 //! Writing what is said of an item.
 
-ghost use Rattle.std.specs.Prelude.{◌≡◌, ◌≢◌, ◌≤◌, ◌+◌, ◌++◌, [], ◌∷◌, codes, ◌⊎◌, length, OnOk, OnErr, Ok, Err};
+ghost use Rattle.std.specs.Prelude.{◌≡◌, ◌≢◌, ◌≤◌, ◌+◌, ◌++◌, ◌⊎◌, OnOk, OnErr, Ok, Err};
 ghost use Rattle.std.specs.Fmt.{decimal};
 ghost use Rattle.std.specs.Io.KnownBytes.{Appends};
 ghost use Rattle.arrayvec.specs.ArrayString.{array_string_len};
 ghost use Rattle.run_edges.specs.Edges.{Rose, AppendsFront};
-ghost use Rattle.trace_copy.specs.Written.{last_line, line_of_end, migrated, migrated_header, written_of_item};
+ghost use Rattle.trace_copy.specs.Ending.{last_line};
+ghost use Rattle.trace_copy.specs.Written.{line_of_end, migrated, migrated_header, written_of_item};
 
 use crate::copied::Copied;
 use crate::form::Form;

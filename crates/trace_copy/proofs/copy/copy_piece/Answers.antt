@@ -1,6 +1,5 @@
 use Rattle.std.proofs.Common.{◌≡◌, ◌++◌, ap, rules, subst, Err}
 use Rattle.std.proofs.lemmas.Result.{err_from_is_err_and}
-use Rattle.trace_format.specs.declared.item.Item.TheVariants as item
 use Rattle.trace_copy.specs.declared.copied.Copied.{Copied}
 use Rattle.trace_copy.specs.Copying.{IsStopped}
 use Rattle.trace_format.proofs.Feeding.{still_within}

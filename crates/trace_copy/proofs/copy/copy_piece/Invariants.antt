@@ -2,7 +2,8 @@ use Rattle.std.proofs.Common.{◌≡◌, ◌≤◌, ◌-◌, ◌++◌, ℕ, List
 use Rattle.std.specs.Io.KnownBytes.{Appends}
 use Rattle.trace_format.specs.declared.item.Item.{Item}
 use Rattle.trace_format.specs.Taking.{HasTaken}
-use Rattle.trace_copy.specs.Written.{last_end, written_of}
+use Rattle.trace_copy.specs.Ending.{last_end}
+use Rattle.trace_copy.specs.Written.{written_of}
 use Rattle.trace_copy.proofs.copy.copy_piece.Given as goal
 
 -- the piece was taken so far, and what is said of its items was written

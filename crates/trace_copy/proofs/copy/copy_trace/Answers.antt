@@ -1,4 +1,4 @@
-use Rattle.std.proofs.Common.{◌≡◌, ◌<◌, refl, take, length, arith, length-take-le, rules}
+use Rattle.std.proofs.Common.{◌<◌, refl, take, length, arith, length-take-le, rules}
 use Rattle.trace_copy.proofs.Endings.{copies_ended, copies_fewer, copies_more, copies_none, copies_stopped, copies_unfailed}
 use Rattle.trace_copy.proofs.copy.copy_trace.Goals as goal
 
