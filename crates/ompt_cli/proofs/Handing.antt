@@ -16,7 +16,7 @@ use Rattle.thread_run.specs.Driving.{called_for, record_of_first}
 use Rattle.ompt_cli.specs.Runs.{RunsParts}
 use Rattle.ompt_cli.specs.Guests.{GuestsServe, HandOut, guests_of}
 use Rattle.ompt_cli.proofs.Calls.{SameCalls, same-first, same-missed}
-use Rattle.ompt_cli.proofs.Listing.{nothing_called, silent-each}
+use Rattle.ompt_cli.proofs.Keeping.{nothing_called, silent-each}
 
 module _ {G : Type 0} {B : Type 0} (box : G → B) where
   -- one part more

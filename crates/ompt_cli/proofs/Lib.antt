@@ -2,9 +2,11 @@ pub mod Calls
 pub mod Runs
 pub mod Finishing
 pub mod Handing
-pub mod Listing
+pub mod Keeping
+pub mod Observed
 pub mod Ending
 pub mod Reading
 pub mod Walks
 pub mod Telling
 pub mod Recorded
+pub mod Traced

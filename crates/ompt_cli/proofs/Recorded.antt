@@ -10,14 +10,9 @@ use Rattle.omp_model.specs.Records.{records_of}
 use Rattle.omp_model.specs.State.{Run}
 use Rattle.run_trace.proofs.Heard.{few-records}
 use Rattle.tool_report.specs.Order.{AreShared}
-use Rattle.omp_codes.specs.declared.callbacks.TheConstants.{PROFILE_MASK}
-use Rattle.ompt_words.specs.declared.settings.Command.{Command}
-use Rattle.ompt_words.specs.declared.settings.Command.TheVariants.{List as Listing, Record as Recording, Run as Running}
-use Rattle.run_trace.specs.TraceOf.{trace_with}
-use Rattle.trace_format.specs.Fields.{fields_of, spelling}
 use Rattle.ompt_cli.specs.declared.end.End.{End}
 use Rattle.ompt_cli.specs.declared.end.End.TheVariants as end
-use Rattle.ompt_cli.specs.Commands.{EndsAs, IsSharedFew, events_text, unless_memory, written_by}
+use Rattle.ompt_cli.specs.Commands.{EndsAs, IsSharedFew, unless_memory}
 
 -- something is written of each run that found memory
 pub unless-found : (of : Cause) (lines : List ℕ) → of ≢ cause.Memory → unless_memory of lines ≡ lines
@@ -27,12 +22,6 @@ unless-found (cause.Trapped number) lines found = refl
 unless-found cause.Deadlock lines found = refl
 unless-found (cause.Limit number) lines found = refl
 unless-found cause.Memory lines found = absurd (found refl)
-
--- what is written of the events of a run is what its command writes
-pub events-written : (command : Command) (run : Run) (of : Cause) (H : List Entry) → command ≢ Running → run.mask ≡ PROFILE_MASK → events_text command run.threads of (records_of run H) ≡ written_by command run of H
-events-written Listing run of H other mask = refl
-events-written Recording run of H other mask = ap (λ (callbacks : ℕ). spelling (fields_of (trace_with run.threads callbacks of (records_of run H)))) (sym mask)
-events-written Running run of H other mask = absurd (other refl)
 
 -- an end that isn't want of memory tells of a run that found memory
 pub ends-found : (of : Cause) (told : End) → EndsAs of told → told ≢ end.Memory → of ≢ cause.Memory

@@ -8,15 +8,17 @@ use Rattle.omp_model.specs.State.{Run}
 use Rattle.omp_model.specs.Records.{records_of, lines_of}
 use Rattle.omp_model.specs.Legal.{after}
 use Rattle.team_run.specs.Program.{run_of_program}
-use Rattle.omp_codes.specs.declared.callbacks.TheConstants.{PROFILE_MASK}
 use Rattle.ompt_calls.specs.declared.event.EventRecord.{EventRecord}
+use Rattle.tool_report.specs.Generator.{generated, summary_of}
 use Rattle.tool_report.specs.Order.{AreShared}
+use Rattle.tool_report.specs.Profile.{profile_of}
+use Rattle.tool_report.specs.Timeline.{timeline_of}
 use Rattle.trace_format.specs.declared.trace.TheConstants.{SEQ_LIMIT}
 use Rattle.trace_format.specs.Fields.{fields_of, spelling}
-use Rattle.run_trace.specs.TraceOf.{trace_of, trace_with}
+use Rattle.run_trace.specs.TraceOf.{trace_of}
 use Rattle.omp_model.specs.declared.history.Entry.{Entry}
 use Rattle.ompt_words.specs.declared.settings.Command.{Command}
-use Rattle.ompt_words.specs.declared.settings.Command.TheVariants.{List as Listing, Record as Recording, Run as Running}
+use Rattle.ompt_words.specs.declared.settings.Command.TheVariants.{Generate as Generating, List as Listing, Profile as Profiling, Record as Recording, Run as Running, Timeline as Timelining}
 use Rattle.ompt_words.specs.declared.settings.Settings.{Settings}
 use Rattle.ompt_cli.specs.declared.end.Refusal.{Refusal}
 use Rattle.ompt_cli.specs.declared.end.End.{End}
@@ -36,22 +38,19 @@ unless_memory cause.Deadlock lines = lines
 unless_memory (cause.Limit number) lines = lines
 unless_memory cause.Memory lines = []
 
--- what a command writes of these events of a run with so many threads that ended in this cause, and with the callbacks of the profile registered
-abbrev pub events_text : Command → ℕ → Cause → List EventRecord → List ℕ
-events_text Listing threads cause events = lines_of events
-events_text Recording threads cause events = spelling (fields_of (trace_with threads PROFILE_MASK cause events))
-events_text Running threads cause events = []
-
 -- recorders have events between them that are few enough for a trace
 abbrev pub IsSharedFew : List (List EventRecord) → Type 0
 IsSharedFew parts = (events : List EventRecord) × AreShared events parts × (length events ≤ SEQ_LIMIT)
 
--- what a command writes of its run, which ended in this cause: a listing a line for each record, a recording the trace, and `run` what the program
--- printed
+-- what a command writes of its run, which ended in this cause: a listing a line for each record, a recording the trace, a profile the counts, a timeline
+-- the states, `run` what the program printed, and `gen` the summary
 abbrev pub written_by : Command → Run → Cause → List Entry → List ℕ
 written_by Listing run cause history = lines_of (records_of run history)
 written_by Recording run cause history = spelling (fields_of (trace_of run cause history))
+written_by Profiling run cause history = profile_of (records_of run history)
+written_by (Timelining columns) run cause history = timeline_of columns (records_of run history)
 written_by Running run cause history = (after run history).world.store.text
+written_by (Generating blocks) run cause history = summary_of (generated blocks) (records_of run history) (after run history).world.store.text
 
 -- what a command writes of its run, if there was one
 abbrev pub run_text : {Table : Type 0} {Behind : Table → Type 0} → Option (Report Table Behind) → List ℕ

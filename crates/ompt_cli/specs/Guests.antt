@@ -12,7 +12,7 @@ use Rattle.team_run.specs.Serving.{Becomes, mask_of}
 use Rattle.team_run.specs.Standing.{AreSilent}
 use Rattle.thread_run.specs.Driving.{called_for, record_of_first}
 use Rattle.ompt_words.specs.declared.settings.Command.{Command}
-use Rattle.ompt_words.specs.declared.settings.Command.TheVariants.{List as Listing, Record as Recording, Run as Running}
+use Rattle.ompt_words.specs.declared.settings.Command.TheVariants.{Generate as Generating, List as Listing, Profile as Profiling, Record as Recording, Run as Running, Timeline as Timelining}
 use Rattle.ompt_cli.specs.Runs.{AreMissed}
 
 -- guest 0 was started, with this answer and these callbacks registered, called for what thread 0 heard, and finished after all
@@ -33,10 +33,13 @@ pub record GuestsServe {B : Type 0} (stands_for : B → Record → Type 0) (seri
   pub rest : (k : ℕ) (d : B) → run.threads ≤ k → slice_index_or after k d ≡ slice_index_or guests k d
   pub guestless : (k : ℕ) → length guests ≤ k → k < run.threads → AreSilent (heard_of run history k)
 
--- what guests stand for after a command: a listing and a recording leave them as they were
+-- what guests stand for after a command: all but `run` leave them as they were
 abbrev pub GuestsAfter : {B : Type 0} → (B → Record → Type 0) → Command → Bool → Run → Cause → List Entry → List B → List B → Type 0
 GuestsAfter stands_for Listing serial run cause history guests after = after ≡ guests
 GuestsAfter stands_for Recording serial run cause history guests after = after ≡ guests
+GuestsAfter stands_for Profiling serial run cause history guests after = after ≡ guests
+GuestsAfter stands_for (Timelining columns) serial run cause history guests after = after ≡ guests
+GuestsAfter stands_for (Generating blocks) serial run cause history guests after = after ≡ guests
 GuestsAfter stands_for Running serial run cause history guests after = GuestsServe stands_for serial run cause history guests after
 
 -- the guests that these parts hold, in order

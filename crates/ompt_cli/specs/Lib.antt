@@ -5,4 +5,5 @@ pub mod Runs
 pub mod Guests
 pub mod Job
 pub mod Commands
+pub mod Reports
 pub mod Traces

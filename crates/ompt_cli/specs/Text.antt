@@ -14,6 +14,14 @@ use Rattle.c_syntax.specs.Derivation.{Spells as IsTreeOf}
 use Rattle.c_syntax.specs.Faults.{IsFault}
 use Rattle.c_check.specs.declared.fault.CheckFault.{CheckFault}
 use Rattle.c_check.specs.Checked.{rule_fault_in}
+use Rattle.tool_report.specs.Generator.{generated}
+use Rattle.ompt_words.specs.declared.settings.Command.{Command}
+use Rattle.ompt_words.specs.declared.settings.Command.TheVariants.{Generate}
+
+-- the text that a command runs: what the source has left, and of `gen` the generated program
+abbrev pub text_for : Command → Option (List ℕ) → Option (List ℕ)
+text_for (Generate blocks) left = Some (generated blocks)
+text_for other left = left
 
 -- the text has these tokens, and they are a program with this tree
 pub record HasTree (text : List ℕ) (tokens : List Token) (tree : Tree) : Type 0 where

@@ -28,6 +28,18 @@ pub(crate) fn without_run(end: End) -> Ended
     }
 }
 
+/// A command that has run.
+pub(crate) fn having_run(end: End, report: Report) -> Ended
+    ensures { result ≡ record { end = end; ran = Some report; shown = None; read = None } }
+{
+    Ended {
+        end,
+        ran: Some(report),
+        shown: None,
+        read: None,
+    }
+}
+
 /// A command that was to show this text.
 pub(crate) fn having_shown(end: End, text: String) -> Ended
     ensures { result ≡ record { end = end; ran = None; shown = Some text; read = None } }

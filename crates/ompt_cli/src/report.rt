@@ -15,7 +15,7 @@ pub struct Report {
     pub cause: Cause,
     /// The tree of the program that ran, for contracts.
     pub program: ProgramTree,
-    /// The callbacks that were registered, bit n for number n: for `list` and `record` [`PROFILE_MASK`](omp_codes::PROFILE_MASK).
+    /// The callbacks that were registered, bit n for number n: for all commands but `run` [`PROFILE_MASK`](omp_codes::PROFILE_MASK).
     pub mask: u64,
     /// How many threads there might be.
     pub threads: u8,

@@ -2,21 +2,65 @@
 
 ghost use Rattle.std.specs.Prelude.{ℕ, ◌≡◌, ◌≢◌, ◌≤◌, List, IfSome, IsSomeAnd, IfOk, IfErr, IsErrAnd, length};
 ghost use Rattle.run_edges.specs.Edges.{Rose};
-ghost use Rattle.ompt_cli.specs.Text.{IsProgram, IsReadAs, IsRefused, Spells};
+ghost use Rattle.ompt_cli.specs.Text.{IsProgram, IsReadAs, IsRefused, Spells, text_for};
+ghost use Rattle.tool_report.specs.Generator.{generated};
 ghost use Rattle.ompt_cli.specs.Commands.{IsBeforeRun, MayRefuse, MayRun};
 
 use crate::end::{End, Refusal, end_of_check_fault, end_of_fault, end_of_syntax_fault};
 use c_check::{Program, check};
 use c_syntax::{Tree, read_program};
 use c_tokens::tokens;
+use ompt_words::Command;
 use run_edges::{ReadAllFault, Source, read_all};
 use std::alloc::Global;
+use tool_report::generated_text;
 
 /// The length in bytes of the longest text that is read.
 const TEXT_LIMIT: u32 = 65_536;
 
+/// The program that the command runs: of `gen` the generated one, and nothing is read; of all others the one that the source has left.
+pub(crate) fn program_for<S: Source>(
+    alloc: Global,
+    command: Command,
+    source: &mut S,
+) -> Result<Program, End>
+    ensures program { IfOk result (λ program. IfSome (text_for command (S.left source.old)) (λ text. Spells text program)) }
+    ensures before { IfErr result IsBeforeRun }
+    ensures refused { (why : Refusal) → result ≡ Err (End.Refused why) →
+        IfSome (text_for command (S.left source.old)) (IsRefused why) }
+    ensures accepted { (why : Refusal) → IsSomeAnd (text_for command (S.left source.old)) (IsRefused why) →
+        IsErrAnd result (MayRefuse why) }
+    ensures runs { IsSomeAnd (text_for command (S.left source.old)) IsProgram → IfErr result MayRun }
+    ensures read { result ≡ Err End.ReadFault → Rose (S.faults source.old) (S.faults source.new) }
+    ensures steady { result ≢ Err End.ReadFault → S.faults source.new ≡ S.faults source.old }
+    ensures unread { (blocks : ℕ) → command ≡ Command.Generate blocks → source.new ≡ source.old }
+{
+    match command {
+        Command::Generate(blocks) => generated_program(alloc, blocks),
+        _ => read_program_of(alloc, source),
+    }
+}
+
+/// The program with so many generated blocks.
+fn generated_program(alloc: Global, blocks: u16) -> Result<Program, End>
+    ensures program { IfOk result (Spells (generated blocks)) }
+    ensures before { IfErr result IsBeforeRun }
+    ensures refused { (why : Refusal) → result ≡ Err (End.Refused why) → IsRefused why (generated blocks) }
+    ensures accepted { (why : Refusal) → IsRefused why (generated blocks) → IsErrAnd result (MayRefuse why) }
+    ensures runs { IsProgram (generated blocks) → IfErr result MayRun }
+    ensures read { result ≢ Err End.ReadFault }
+{
+    let Ok(text) = generated_text(alloc, blocks) else {
+        return Err(End::Memory);
+    };
+    if text.len() > TEXT_LIMIT as usize {
+        return Err(End::Refused(Refusal::TooLong));
+    }
+    program_of(alloc, &text)
+}
+
 /// Reads the text to its end. It spells the program, or the command ends for want of a program that runs.
-pub(crate) fn read_program_of<S: Source>(alloc: Global, source: &mut S) -> Result<Program, End>
+fn read_program_of<S: Source>(alloc: Global, source: &mut S) -> Result<Program, End>
     ensures program { IfOk result (λ program. IfSome (S.left source.old) (λ text. Spells text program)) }
     ensures before { IfErr result IsBeforeRun }
     ensures refused { (why : Refusal) → result ≡ Err (End.Refused why) →

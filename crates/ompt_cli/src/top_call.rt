@@ -9,23 +9,24 @@ ghost use Rattle.run_edges.specs.Edges.{Rose, AppendsFront};
 ghost use Rattle.ompt_words.specs.Answers.{AreReadAs, AreWrong, AskForText};
 ghost use Rattle.ompt_words.specs.Form.{AskInForm, InForm, own_settings};
 ghost use Rattle.ompt_cli.specs.Traces.{HasRead};
-ghost use Rattle.ompt_cli.specs.Words.{AskForRun, AskToRead, texts};
+ghost use Rattle.ompt_cli.specs.Words.{AskFor, AskForRun, AskToRead, texts};
 ghost use Rattle.run_trace.specs.TraceOf.{trace_of};
-ghost use Rattle.trace_format.specs.Validity.{IsTrace};
-ghost use Rattle.ompt_cli.specs.Text.{IsProgram, IsRefused, Spells};
+ghost use Rattle.trace_format.specs.Validity.{IsTrace, Writes};
+ghost use Rattle.trace_format.specs.declared.refusal.Refusal.{Refusal as TraceRefusal};
+ghost use Rattle.trace_format.specs.declared.trace.Trace.{Trace};
+ghost use Rattle.ompt_cli.specs.Text.{IsProgram, IsRefused, Spells, text_for};
 ghost use Rattle.ompt_cli.specs.Ends.{IsLost, IsQuiet, IsTold, status_of_lost};
 ghost use Rattle.team_run.specs.Standing.{HearsSilent};
 ghost use Rattle.ompt_cli.specs.Commands.{EndsAs, HasOutput, IsReading, IsShowing, IsUnread, MayRefuse, MayRun, out_of, run_of, settings_in};
 ghost use Rattle.ompt_cli.specs.Guests.{GuestsAfter};
 ghost use Rattle.ompt_cli.specs.Runs.{AreOutside, IsReturn, IsWhole};
 
+use crate::commands::run_command;
 use crate::end::{End, Refusal};
 use crate::ended::{Ended, having_read, having_shown, without_run};
-use crate::events::list_or_record;
 use crate::job::Job;
 use crate::report::Top;
-use crate::run::run;
-use crate::text::read_program_of;
+use crate::text::program_for;
 use crate::trace_commands::read_trace;
 use omp_codes::PROFILE_MASK;
 use omp_model::Cause;
@@ -36,10 +37,10 @@ use std::sync::Wait;
 use std::thread::Threads;
 use tool_api::GuestTool;
 
-/// Does what the words say: it reads the program from `source`, runs it, writes what is defined to `out`, and one line
-/// to `err` where the status isn't 0. For `run`, guest t is the part of thread t, and guest 0 is initialized; for `list` and
-/// `record` the guests come back as they were. `show` and `migrate` read a trace from `source`, and write it to `out` as it comes.
-/// Where the words ask for help or for the version, that text is written to `out`, and nothing is read.
+/// Does what the words say: it reads the program from `source`, or makes it for `gen`, runs it, writes what is defined to `out`, and one
+/// line to `err` where the status isn't 0. For `run`, guest t is the part of thread t, and guest 0 is initialized; for all other commands
+/// the guests come back as they were. `show` and `migrate` read a trace from `source`, and write it to `out` as it comes. Where the words
+/// ask for help or for the version, that text is written to `out`, and nothing is read.
 ///
 /// `words` don't contain the program's own name. With `--serial` one thread has all turns, and nothing is taken of `rt`; else each
 /// thread number has a thread of its own, the first one the caller's. No clause says that a run by threads comes back.
@@ -85,13 +86,15 @@ pub fn top<R: Threads + Wait + Sync, S: Source, O: Sink, E: Sink>(
         × IsReading result.end × IsNone result.ran × IsNone result.shown) }
     ensures copied { IfSome result.read (λ command.
         HasRead command result.end (S.left source.old) (S.left source.new) (O.held out.old) (O.held out.new)) }
+    ensures unrefused { IfSome result.read (λ command. (trace : Trace) → IsSomeAnd (S.left source.old) (Writes trace) → (refusal : TraceRefusal) →
+        result.end ≢ End.TraceRefused refusal) }
     ensures migrated { result.read ≡ Some TraceCommand.Migrate → result.end ≢ End.Memory }
 
-    // A text is refused for what it is.
-    ensures refused { (why : Refusal) → result.end ≡ End.Refused why →
-        IfSome (S.left source.old) (IsRefused why) }
-    ensures accepted { AskForRun (texts words.now) → (why : Refusal) →
-        IsSomeAnd (S.left source.old) (IsRefused why) → MayRefuse why result.end }
+    // A text is refused for what it is: what the source has left, or the program that is generated.
+    ensures refused { (why : Refusal) → result.end ≡ End.Refused why → (settings : Settings) × AreReadAs (texts words.now) (Request.Run settings)
+        × IfSome (text_for settings.command (S.left source.old)) (IsRefused why) }
+    ensures accepted { (settings : Settings) → AskFor (texts words.now) settings → (why : Refusal) →
+        IsSomeAnd (text_for settings.command (S.left source.old)) (IsRefused why) → MayRefuse why result.end }
 
     // Each fault was counted, and a count that is greater than before shows in how the command ended.
     ensures read { result.end ≡ End.ReadFault → Rose (S.faults source.old) (S.faults source.new) }
@@ -106,7 +109,9 @@ pub fn top<R: Threads + Wait + Sync, S: Source, O: Sink, E: Sink>(
     ensures own { (form : InForm (texts words.now)) →
         IfSome result.ran (λ report. settings_in report ≡ own_settings form) }
     ensures spelled { IfSome result.ran (λ report.
-        IfSome (S.left source.old) (λ text. Spells text report.program.tree)) }
+        IfSome (text_for report.command (S.left source.old)) (λ text. Spells text report.program.tree)) }
+    ensures generates { (settings : Settings) → AskFor (texts words.now) settings → (blocks : ℕ) → settings.command ≡ Command.Generate blocks →
+        source.new ≡ source.old }
     ensures mask { IfSome result.ran (λ report. report.command ≢ Command.Run → report.mask ≡ PROFILE_MASK) }
 
     // Its history is legal, and ends in the cause that is reported: whole exactly where main returned. No thread is inside a callback then.
@@ -119,7 +124,7 @@ pub fn top<R: Threads + Wait + Sync, S: Source, O: Sink, E: Sink>(
     ensures outside { IfSome result.ran (λ report. report.cause ≢ Cause.Memory → AreOutside (run_of report) report.history) }
     ensures serial { IfSome result.ran (λ report. report.serial ≡ true → Serial (run_of report) report.history) }
 
-    // A serial history is the one in which nothing is stored: for a listing and a recording, and where no tool stored anything.
+    // A serial history is the one in which nothing is stored: for all commands but `run`, and where no tool stored anything.
     ensures whole { IfSome result.ran (λ report. report.serial ≡ true → report.command ≢ Command.Run → report.cause ≢ Cause.Memory →
         report.history ≡ serial (run_of report)) }
     ensures silent_run { IfSome result.ran (λ report. report.serial ≡ true → report.cause ≢ Cause.Memory →
@@ -145,10 +150,11 @@ pub fn top<R: Threads + Wait + Sync, S: Source, O: Sink, E: Sink>(
     ensures memory { IfSome result.ran (λ report. report.command ≡ Command.Run → report.cause ≢ Cause.Memory →
         result.end ≢ End.Memory) }
     ensures begun { IfSome result.ran (λ report. report.cause ≡ Cause.Memory → report.history ≢ []) }
-    ensures runs { AskForRun (texts words.now) → IsSomeAnd (S.left source.old) IsProgram → MayRun result.end }
+    ensures runs { (settings : Settings) → AskFor (texts words.now) settings →
+        IsSomeAnd (text_for settings.command (S.left source.old)) IsProgram → MayRun result.end }
 
-    // Where no trace is read, what is written is the text that was asked for, the run's lines, its trace, or what its program printed. What is
-    // recorded is a trace of the format.
+    // Where no trace is read, what is written is the text that was asked for, or what the command writes of its run. What is recorded is a
+    // trace of the format.
     ensures listed { IsNone result.read → result.end ≢ End.WriteFault → result.end ≢ End.Memory →
         Appends (O.held out.old) (O.held out.new) (out_of result.shown result.ran) }
     ensures part { IsNone result.read → result.end ≡ End.WriteFault →
@@ -176,17 +182,12 @@ pub fn top<R: Threads + Wait + Sync, S: Source, O: Sink, E: Sink>(
         steps,
         serial,
     } = settings;
-    let program = match read_program_of(alloc, source) {
+    let program = match program_for(alloc, command, source) {
         Ok(program) => program,
         Err(end) => return tell(without_run(end), err),
     };
     let job = Job::new(program, threads, steps, serial);
-    match command {
-        Command::Run => tell(run(rt, alloc, job, guests, out), err),
-        Command::List | Command::Record => {
-            tell(list_or_record(rt, alloc, command, job, guests, out), err)
-        }
-    }
+    tell(run_command(rt, alloc, command, job, guests, out), err)
 }
 
 /// Writes the text that the words ask for.

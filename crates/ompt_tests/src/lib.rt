@@ -15,6 +15,8 @@ mod fixture;
 #[cfg(test)]
 mod gate;
 #[cfg(test)]
+mod generated;
+#[cfg(test)]
 mod listening;
 #[cfg(test)]
 mod parts;

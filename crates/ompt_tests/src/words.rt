@@ -49,6 +49,60 @@ const REQUESTS: &[(&str, Request)] = &[
             ..RUN
         }),
     ),
+    (
+        "profile --threads 2",
+        Request::Run(Settings {
+            command: Command::Profile,
+            threads: 2,
+            serial: false,
+            ..RUN
+        }),
+    ),
+    (
+        "timeline --serial",
+        Request::Run(Settings {
+            command: Command::Timeline(72),
+            ..RUN
+        }),
+    ),
+    (
+        "timeline --columns 10 --steps 2 --serial",
+        Request::Run(Settings {
+            command: Command::Timeline(10),
+            steps: 2,
+            ..RUN
+        }),
+    ),
+    (
+        "timeline --serial --columns=200",
+        Request::Run(Settings {
+            command: Command::Timeline(200),
+            ..RUN
+        }),
+    ),
+    (
+        "gen 1",
+        Request::Run(Settings {
+            command: Command::Generate(1),
+            ..RUN
+        }),
+    ),
+    (
+        "gen 400 --threads 16",
+        Request::Run(Settings {
+            command: Command::Generate(400),
+            threads: 16,
+            ..RUN
+        }),
+    ),
+    (
+        "gen --threads 16 +04",
+        Request::Run(Settings {
+            command: Command::Generate(4),
+            threads: 16,
+            ..RUN
+        }),
+    ),
     ("show", Request::Read(TraceCommand::Show)),
     ("migrate", Request::Read(TraceCommand::Migrate)),
 ];
@@ -75,6 +129,22 @@ const WRONG: &[&str] = &[
     "show run.trace",
     "show migrate",
     "migrate --steps 2",
+    "profile --columns 20",
+    "profile 4",
+    "timeline --columns 9",
+    "timeline --columns 201",
+    "timeline --columns 10 --columns 10",
+    "timeline 10",
+    "list --columns 20",
+    "gen",
+    "gen 0",
+    "gen 401",
+    "gen four",
+    "gen 4 5",
+    "gen 5 --serial",
+    "gen 5 --steps 3",
+    "gen 5 --columns 10",
+    "gen 5 --threads 17",
 ];
 
 /// Words that ask for a text, and its first line.
@@ -102,6 +172,19 @@ const SHOWN: &[(&str, &str)] = &[
         "Reads a trace and writes it in the second version of the format",
     ),
     ("migrate --version", "ompt-migrate 0.1.0"),
+    (
+        "profile --help",
+        "Runs a program and writes how many calls of each callback there were",
+    ),
+    (
+        "timeline --columns 10 -h",
+        "Runs a program and writes the states of its threads over the run",
+    ),
+    (
+        "gen --help",
+        "Generates a program, runs it serially, and writes a summary of the run",
+    ),
+    ("gen 4 --version", "ompt-gen 0.1.0"),
 ];
 
 #[test]

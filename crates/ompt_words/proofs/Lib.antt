@@ -2,6 +2,7 @@ pub mod Uses
 pub mod Options
 pub mod Levels
 pub mod Numbers
+pub mod RowIds
 pub mod Readings
 pub mod Choices
 pub mod Faults

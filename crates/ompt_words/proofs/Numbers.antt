@@ -23,6 +23,7 @@ record IsPlain (text : List ℕ) : Type 0 where
   no_minus : without_minus text ≡ text
   signed : signed_digits_value 10 text ≡ pos (digits_value 10 text)
 
+-- a text that begins with such a digit is plain
 plain : (text : List ℕ) → 48 < get_or text 0 0 → IsPlain text
 plain [] some = absurd (omega arith)
 plain (first ∷ rest) some =
@@ -36,6 +37,7 @@ plain (first ∷ rest) some =
       signed = rw (minus, plus) refl;
     }
 
+-- so a number in decimal is
 plain_decimal : (n : ℕ) → 0 < n → n < 2 ^ 64 → IsPlain (decimal n)
 plain_decimal n some small = plain (decimal n) (first_decimal n some small)
 
@@ -66,6 +68,7 @@ decimal_number low high default n some above below small =
 
 -- ---- what the getter reads
 
+-- a numeral passes the test of one
 digits_pass : (digits : List ℕ) → AllDigits 10 digits → list_all (λ d. nat_lt (digit_value d) 10) digits ≡ true
 digits_pass [] all = refl
 digits_pass (d ∷ digits) all = rw (lt-ltb (digit_value d) 10 all.0) (digits_pass digits all.1)
@@ -80,6 +83,7 @@ kept_number low high default (Some n) = if nat_le low n && nat_le n high then n 
 
 module _ {E : Type 0} (gives : List ℕ → Result ℕ E → Type 0) (bits low high default : ℕ)
     (parses : (text : List ℕ) (read : Result ℕ E) → gives text read → ParsesUnsigned bits 10 text read) (fits : high < 2 ^ bits) (narrow : 2 ^ bits ≤ 2 ^ 64) where
+  -- the number that is read of a text
   of_text : (text : List ℕ) (read : Option ℕ) → ReadsOne gives text read → kept_number low high default read ≡ number_in low high default (Some text)
   of_text text (Some n) reads =
       let is = parses text (Ok n) reads in

@@ -15,7 +15,9 @@ use Rattle.ompt_words.specs.declared.settings.Settings.{Settings}
 use Rattle.ompt_words.specs.declared.settings.Request.{Request}
 use Rattle.ompt_words.specs.declared.settings.Request.TheVariants as request
 use Rattle.ompt_words.specs.CommandLine.{ompt}
-use Rattle.ompt_words.specs.Form.{command_word, default_steps, default_threads, trace_word}
+use Rattle.ompt_words.specs.declared.settings.Command.{Command}
+use Rattle.ompt_words.specs.declared.settings.Command.TheVariants.{Generate, List as Listing, Profile, Record, Run, Timeline}
+use Rattle.ompt_words.specs.Form.{command_word, default_columns, default_steps, default_threads, runs_serially, trace_word}
 
 -- the text of an option in clap's matches, if the command that the words name has one
 abbrev pub matched_text : List Text → Text → Option Text
@@ -33,16 +35,26 @@ flag_in None = false
 flag_in (Some text) = bytes_eq text (codes "true")
 
 -- clap finds no fault in the words, and the command that they name has this name
-pub record Name (words : List Text) (command : List ℕ) : Type 0 where
+pub record NamesCommand (words : List Text) (command : List ℕ) : Type 0 where
   pub taken : fault_of ompt words ≡ []
   pub command_is : option_map (λ found. found.0) (subcommand_of ompt words) ≡ Some command
 
+-- the number of a command is that of the matches: its columns, or its blocks, which have to be given
+abbrev pub HasMatchedNumber : List Text → Command → Type 0
+HasMatchedNumber words Listing = ⊤
+HasMatchedNumber words Run = ⊤
+HasMatchedNumber words Record = ⊤
+HasMatchedNumber words Profile = ⊤
+HasMatchedNumber words (Timeline columns) = columns ≡ number_in 10 200 default_columns (matched_text words (codes "columns"))
+HasMatchedNumber words (Generate blocks) = blocks ≡ number_in 1 400 1 (matched_text words (codes "blocks"))
+
 -- clap finds no fault in the words, and these are the settings of its matches
 pub record HaveSettings (words : List Text) (settings : Settings) : Type 0 where
-  pub name : Name words (command_word settings.command)
+  pub name : NamesCommand words (command_word settings.command)
+  pub number : HasMatchedNumber words settings.command
   pub threads : settings.threads ≡ number_in 1 16 default_threads (matched_text words (codes "threads"))
   pub steps : settings.steps ≡ number_in 1 30000000 default_steps (matched_text words (codes "steps"))
-  pub serial : settings.serial ≡ flag_in (matched_text words (codes "serial"))
+  pub serial : settings.serial ≡ runs_serially settings.command (flag_in (matched_text words (codes "serial")))
   pub some_threads : 1 ≤ settings.threads
   pub few_threads : settings.threads ≤ 16
   pub some_steps : 1 ≤ settings.steps
@@ -51,7 +63,7 @@ pub record HaveSettings (words : List Text) (settings : Settings) : Type 0 where
 -- clap finds no fault in the words, and they ask for this
 abbrev pub AreReadAs : List Text → Request → Type 0
 AreReadAs words (request.Run settings) = HaveSettings words settings
-AreReadAs words (request.Read command) = Name words (trace_word command)
+AreReadAs words (request.Read command) = NamesCommand words (trace_word command)
 
 -- clap's answer is help or the version
 abbrev pub IsWish : ErrorKind → Type 0

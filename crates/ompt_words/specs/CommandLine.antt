@@ -25,9 +25,32 @@ steps_rule = record (new_rule (codes "steps")) {
 abbrev pub serial_rule : Rule
 serial_rule = record (new_rule (codes "serial")) { long = Some (codes "serial"); action = Some SetTrue }
 
+-- `--columns N`, where N is from 10 to 200
+abbrev pub columns_rule : Rule
+columns_rule = record (new_rule (codes "columns")) {
+  long = Some (codes "columns");
+  value_names = 1;
+  parser = Some (Signed (pos 10) (pos 200));
+}
+
+-- the number of blocks, from 1 to 400, which has to be given and has no option
+abbrev pub blocks_rule : Rule
+blocks_rule = record (new_rule (codes "blocks")) {
+  value_names = 1;
+  parser = Some (Signed (pos 1) (pos 400));
+  required = true;
+}
+
 -- a command that runs a program, with this name
 abbrev pub runner : Text → Shape
 runner name = record (new_shape name) { rules = threads_rule ∷ steps_rule ∷ serial_rule ∷ [] }
+
+-- `timeline`, which has its columns beside the options of such a command, and `gen`, which has the number of blocks and the threads
+abbrev pub timeline : Shape
+timeline = record (new_shape (codes "timeline")) { rules = threads_rule ∷ steps_rule ∷ serial_rule ∷ columns_rule ∷ [] }
+
+abbrev pub generator : Shape
+generator = record (new_shape (codes "gen")) { rules = blocks_rule ∷ threads_rule ∷ [] }
 
 -- the program itself: it needs a command, has a version, and `help` is no command of it
 abbrev pub program : App
@@ -45,9 +68,12 @@ program = record (new_app (codes "ompt")) {
 abbrev pub reader : Text → Shape
 reader name = new_shape name
 
--- the program with the commands that run a program, and with all
+-- the program with the first commands that run a program, with all of these, and with all
 abbrev pub runners : App
 runners = with_subcommand (with_subcommand (with_subcommand program (runner (codes "run"))) (runner (codes "list"))) (runner (codes "record"))
 
+abbrev pub reporters : App
+reporters = with_subcommand (with_subcommand (with_subcommand runners (runner (codes "profile"))) timeline) generator
+
 abbrev pub ompt : App
-ompt = with_subcommand (with_subcommand runners (reader (codes "show"))) (reader (codes "migrate"))
+ompt = with_subcommand (with_subcommand reporters (reader (codes "show"))) (reader (codes "migrate"))

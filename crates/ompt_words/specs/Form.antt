@@ -3,23 +3,37 @@ use Rattle.std.specs.Prelude.{ℕ, Bool, true, false, ⊤, ◌≡◌, ◌≢◌,
 use Rattle.std.specs.List.{All}
 use Rattle.std.specs.Fmt.{decimal}
 use Rattle.ompt_words.specs.declared.settings.Command.{Command}
-use Rattle.ompt_words.specs.declared.settings.Command.TheVariants.{List as Listing, Record, Run}
+use Rattle.ompt_words.specs.declared.settings.Command.TheVariants.{Generate, List as Listing, Profile, Record, Run, Timeline}
 use Rattle.ompt_words.specs.declared.settings.TraceCommand.{TraceCommand}
 use Rattle.ompt_words.specs.declared.settings.TraceCommand.TheVariants.{Migrate, Show}
 use Rattle.ompt_words.specs.declared.settings.Settings.{Settings}
 
--- an option: `--threads N`, `--steps N` or `--serial`
+-- an option: `--threads N`, `--steps N`, `--serial` or `--columns N`
 pub data Choice : Type 0 where
   Threads : ℕ → Choice
   Steps : ℕ → Choice
   Serial : Choice
+  Columns : ℕ → Choice
 
--- the word of a command
+-- the name of a command that runs a program
 abbrev pub command_word : Command → List ℕ
 command_word Listing = codes "list"
 command_word Run = codes "run"
 command_word Record = codes "record"
+command_word Profile = codes "profile"
+command_word (Timeline columns) = codes "timeline"
+command_word (Generate blocks) = codes "gen"
 
+-- its words before the options: the name, and directly behind `gen` the number of blocks
+abbrev pub command_words : Command → List (List ℕ)
+command_words Listing = codes "list" ∷ []
+command_words Run = codes "run" ∷ []
+command_words Record = codes "record" ∷ []
+command_words Profile = codes "profile" ∷ []
+command_words (Timeline columns) = codes "timeline" ∷ []
+command_words (Generate blocks) = codes "gen" ∷ decimal blocks ∷ []
+
+-- the name of a command that reads a trace
 abbrev pub trace_word : TraceCommand → List ℕ
 trace_word Show = codes "show"
 trace_word Migrate = codes "migrate"
@@ -29,6 +43,7 @@ abbrev pub option_word : Choice → List ℕ
 option_word (Threads n) = codes "--threads"
 option_word (Steps n) = codes "--steps"
 option_word Serial = codes "--serial"
+option_word (Columns n) = codes "--columns"
 
 -- the words of options: the word of each, and behind it its number in decimal
 abbrev pub option_words : List Choice → List (List ℕ)
@@ -36,21 +51,73 @@ option_words [] = []
 option_words (Threads n ∷ rest) = codes "--threads" ∷ decimal n ∷ option_words rest
 option_words (Steps n ∷ rest) = codes "--steps" ∷ decimal n ∷ option_words rest
 option_words (Serial ∷ rest) = codes "--serial" ∷ option_words rest
+option_words (Columns n ∷ rest) = codes "--columns" ∷ decimal n ∷ option_words rest
 
 -- the number of an option is within the limits
 abbrev pub IsInRange : Choice → Type 0
 IsInRange (Threads n) = (1 ≤ n) × (n ≤ 16)
 IsInRange (Steps n) = (1 ≤ n) × (n ≤ 30000000)
 IsInRange Serial = ⊤
+IsInRange (Columns n) = (10 ≤ n) × (n ≤ 200)
+
+-- a command that reads its program has the first three, `timeline` has all, and `gen` the threads alone
+abbrev pub IsReaders : Choice → Type 0
+IsReaders (Threads n) = ⊤
+IsReaders (Steps n) = ⊤
+IsReaders Serial = ⊤
+IsReaders (Columns n) = ⊥
+
+abbrev pub IsGenerators : Choice → Type 0
+IsGenerators (Threads n) = ⊤
+IsGenerators (Steps n) = ⊥
+IsGenerators Serial = ⊥
+IsGenerators (Columns n) = ⊥
+
+abbrev pub IsOptionOf : Command → Choice → Type 0
+IsOptionOf Listing choice = IsReaders choice
+IsOptionOf Run choice = IsReaders choice
+IsOptionOf Record choice = IsReaders choice
+IsOptionOf Profile choice = IsReaders choice
+IsOptionOf (Timeline columns) choice = ⊤
+IsOptionOf (Generate blocks) choice = IsGenerators choice
 
 -- no option stands twice
 abbrev pub AreDistinct : List Choice → Type 0
 AreDistinct [] = ⊤
 AreDistinct (choice ∷ rest) = All (λ other. option_word other ≢ option_word choice) rest × AreDistinct rest
 
--- the words are this command and these options, and then these words
+-- how many threads there may be, how many silent steps, and how many columns, where the words don't say
+abbrev pub default_threads : ℕ
+default_threads = 4
+
+abbrev pub default_steps : ℕ
+default_steps = 1000000
+
+abbrev pub default_columns : ℕ
+default_columns = 72
+
+-- how many columns the options ask for
+abbrev pub columns_of : List Choice → ℕ
+columns_of [] = default_columns
+columns_of (Threads n ∷ rest) = columns_of rest
+columns_of (Steps n ∷ rest) = columns_of rest
+columns_of (Serial ∷ rest) = columns_of rest
+columns_of (Columns n ∷ rest) = n
+
+-- the number of a command: the columns of a timeline are those of its options, and a program is generated of 1 to 400 blocks
+abbrev pub HasOwnNumber : Command → List Choice → Type 0
+HasOwnNumber Listing choices = ⊤
+HasOwnNumber Run choices = ⊤
+HasOwnNumber Record choices = ⊤
+HasOwnNumber Profile choices = ⊤
+HasOwnNumber (Timeline columns) choices = columns ≡ columns_of choices
+HasOwnNumber (Generate blocks) choices = (1 ≤ blocks) × (blocks ≤ 400)
+
+-- the words are this command and these options of it, and then these words
 pub record BeginInForm (words : List (List ℕ)) (command : Command) (choices : List Choice) (rest : List (List ℕ)) : Type 0 where
-  pub words_are : words ≡ command_word command ∷ option_words choices ++ rest
+  pub words_are : words ≡ command_words command ++ option_words choices ++ rest
+  pub number : HasOwnNumber command choices
+  pub own : All (IsOptionOf command) choices
   pub in_range : All IsInRange choices
   pub distinct : AreDistinct choices
 
@@ -64,19 +131,13 @@ pub record InForm (words : List (List ℕ)) : Type 0 where
 abbrev pub ReadInForm : List (List ℕ) → TraceCommand → Type 0
 ReadInForm words command = words ≡ trace_word command ∷ []
 
--- how many threads there may be, and how many silent steps, where the words don't say
-abbrev pub default_threads : ℕ
-default_threads = 4
-
-abbrev pub default_steps : ℕ
-default_steps = 1000000
-
 -- how many threads the options ask for
 abbrev pub threads_of : List Choice → ℕ
 threads_of [] = default_threads
 threads_of (Threads n ∷ rest) = n
 threads_of (Steps n ∷ rest) = threads_of rest
 threads_of (Serial ∷ rest) = threads_of rest
+threads_of (Columns n ∷ rest) = threads_of rest
 
 -- how many silent steps the options ask for
 abbrev pub steps_of : List Choice → ℕ
@@ -84,6 +145,7 @@ steps_of [] = default_steps
 steps_of (Threads n ∷ rest) = steps_of rest
 steps_of (Steps n ∷ rest) = n
 steps_of (Serial ∷ rest) = steps_of rest
+steps_of (Columns n ∷ rest) = steps_of rest
 
 -- whether the options have `--serial`
 abbrev pub serial_of : List Choice → Bool
@@ -91,6 +153,16 @@ serial_of [] = false
 serial_of (Threads n ∷ rest) = serial_of rest
 serial_of (Steps n ∷ rest) = serial_of rest
 serial_of (Serial ∷ rest) = true
+serial_of (Columns n ∷ rest) = serial_of rest
+
+-- whether a command runs serially, where its options say so or not: a generated program always does
+abbrev pub runs_serially : Command → Bool → Bool
+runs_serially Listing asked = asked
+runs_serially Run asked = asked
+runs_serially Record asked = asked
+runs_serially Profile asked = asked
+runs_serially (Timeline columns) asked = asked
+runs_serially (Generate blocks) asked = true
 
 -- the settings that words of the form write, with the defaults
 abbrev pub own_settings : {words : List (List ℕ)} → InForm words → Settings
@@ -98,7 +170,7 @@ own_settings form = record {
   command = form.command;
   threads = threads_of form.choices;
   steps = steps_of form.choices;
-  serial = serial_of form.choices;
+  serial = runs_serially form.command (serial_of form.choices);
 }
 
 -- the word asks for help or for the version
@@ -127,6 +199,13 @@ pub record AskOfTrace (words : List (List ℕ)) : Type 0 where
   pub request : IsRequest word
   pub words_are : words ≡ trace_word command ∷ word ∷ rest
 
+-- the words are `gen` alone, and then a word that asks so
+pub record AskOfGenerator (words : List (List ℕ)) : Type 0 where
+  pub word : List ℕ
+  pub rest : List (List ℕ)
+  pub request : IsRequest word
+  pub words_are : words ≡ codes "gen" ∷ word ∷ rest
+
 -- the words ask for help or for the version, with nothing before that isn't of the form
 abbrev pub AskInForm : List (List ℕ) → Type 0
-AskInForm words = AskFirst words ⊎ (AskLater words ⊎ AskOfTrace words)
+AskInForm words = AskFirst words ⊎ (AskLater words ⊎ (AskOfTrace words ⊎ AskOfGenerator words))

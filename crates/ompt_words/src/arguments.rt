@@ -2,7 +2,7 @@
 
 ghost use Rattle.std.specs.Prelude.{◌≡◌, false};
 ghost use Rattle.clap.specs.Words.{rule_of};
-ghost use Rattle.ompt_words.specs.CommandLine.{serial_rule, steps_rule, threads_rule};
+ghost use Rattle.ompt_words.specs.CommandLine.{blocks_rule, columns_rule, serial_rule, steps_rule, threads_rule};
 
 use clap::{Arg, ArgAction, value_parser};
 use std::alloc::Global;
@@ -42,4 +42,28 @@ pub(crate) fn serial<'a>(alloc: Global) -> Arg<'a>
         .long("serial")
         .action(ArgAction::SetTrue)
         .help("Takes the turns of all threads one after another")
+}
+
+/// `--columns N`.
+pub(crate) fn columns<'a>(alloc: Global) -> Arg<'a>
+    ensures rule { rule_of result ≡ columns_rule }
+    ensures local { result.global ≡ false }
+{
+    Arg::new(alloc, "columns")
+        .long("columns")
+        .value_name("N")
+        .value_parser(value_parser!(u8).range(10..=200))
+        .help("How many columns the report has, from 10 to 200 [default: 72]")
+}
+
+/// The number of blocks of a generated program.
+pub(crate) fn blocks<'a>(alloc: Global) -> Arg<'a>
+    ensures rule { rule_of result ≡ blocks_rule }
+    ensures local { result.global ≡ false }
+{
+    Arg::new(alloc, "blocks")
+        .value_name("BLOCKS")
+        .required(true)
+        .value_parser(value_parser!(u16).range(1..=400))
+        .help("How many blocks the program has, from 1 to 400")
 }

@@ -3,9 +3,9 @@
 ghost use Rattle.std.specs.Prelude.{◌≡◌, IfOk, false};
 ghost use Rattle.clap.specs.Words.{app_of, shape_of};
 ghost use Rattle.clap.specs.declared.builder.command.Command.TheViews.{out-Command};
-ghost use Rattle.ompt_words.specs.CommandLine.{ompt, program, reader, runner, runners};
+ghost use Rattle.ompt_words.specs.CommandLine.{generator, ompt, program, reader, reporters, runner, runners, timeline};
 
-use crate::arguments::{serial, steps, threads};
+use crate::arguments::{blocks, columns, serial, steps, threads};
 use clap::Command;
 use std::alloc::{AllocError, Global};
 
@@ -29,10 +29,27 @@ pub(crate) fn ompt_command<'a>(alloc: Global) -> Result<Command<'a>, AllocError>
         "Reads a trace and writes it in the second version of the format",
         "Example: ompt migrate < old.trace > new.trace",
     )?;
-    runners(alloc)?.subcommand(show)?.subcommand(migrate)
+    reporters(alloc)?.subcommand(show)?.subcommand(migrate)
 }
 
-/// The program with the commands that run a program.
+/// The program with all commands that run a program.
+fn reporters<'a>(alloc: Global) -> Result<Command<'a>, AllocError>
+    ensures app { IfOk result (λ command. app_of command ≡ reporters) }
+    ensures local { IfOk result (λ command. (out-Command command).has_globals ≡ false) }
+{
+    let profile = runner(
+        alloc,
+        "profile",
+        "Runs a program and writes how many calls of each callback there were",
+        "Example: ompt profile --threads 2 < program.c",
+    )?;
+    runners(alloc)?
+        .subcommand(profile)?
+        .subcommand(timeline(alloc)?)?
+        .subcommand(generator(alloc)?)
+}
+
+/// The program with the first commands that run a program.
 fn runners<'a>(alloc: Global) -> Result<Command<'a>, AllocError>
     ensures app { IfOk result (λ command. app_of command ≡ runners) }
     ensures local { IfOk result (λ command. (out-Command command).has_globals ≡ false) }
@@ -93,6 +110,32 @@ fn runner<'a>(
         .arg(threads(alloc))?
         .arg(steps(alloc))?
         .arg(serial(alloc))
+}
+
+/// The command that writes the states of threads: it has all options.
+fn timeline<'a>(alloc: Global) -> Result<Command<'a>, AllocError>
+    ensures shape { IfOk result (λ command. shape_of command ≡ timeline) }
+    ensures local { IfOk result (λ command. (out-Command command).has_globals ≡ false) }
+{
+    runner(
+        alloc,
+        "timeline",
+        "Runs a program and writes the states of its threads over the run",
+        "Example: ompt timeline --threads 2 --columns 100 < program.c",
+    )?
+    .arg(columns(alloc))
+}
+
+/// The command that generates a program: it reads none.
+fn generator<'a>(alloc: Global) -> Result<Command<'a>, AllocError>
+    ensures shape { IfOk result (λ command. shape_of command ≡ generator) }
+    ensures local { IfOk result (λ command. (out-Command command).has_globals ≡ false) }
+{
+    Command::new(alloc, "gen")
+        .about("Generates a program, runs it serially, and writes a summary of the run")
+        .after_help("Example: ompt gen 40 --threads 2")
+        .arg(blocks(alloc))?
+        .arg(threads(alloc))
 }
 
 /// A command that reads a trace.

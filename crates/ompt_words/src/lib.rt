@@ -7,7 +7,9 @@
 //! Proved over the definitions of `specs/`:
 //!
 //! - words of the form are never refused, and give their own values with the defaults. They are a command that runs a program, and
-//!   then `--threads N`, `--steps N` and `--serial` in any order, each at most once; or a command that reads a trace, alone (`Form`);
+//!   then its options in any order, each at most once; or a command that reads a trace, alone (`Form`). The options are `--threads N`,
+//!   `--steps N` and `--serial`, of `timeline` `--columns N` too, and of `gen`, which has its number of blocks before them, the threads
+//!   alone;
 //! - a request comes only where clap's rules find no fault in the words, and is that of its matches; such words are never refused.
 //!   Words are refused only where a fault is a mistake, and a text is shown only where a fault asks for it (`Answers`, over the
 //!   command of `CommandLine`);
@@ -25,4 +27,6 @@ mod settings;
 
 pub use fault::WordsFault;
 pub use read_words::request_of;
-pub use settings::{Command, DEFAULT_STEPS, DEFAULT_THREADS, Request, Settings, TraceCommand};
+pub use settings::{
+    Command, DEFAULT_COLUMNS, DEFAULT_STEPS, DEFAULT_THREADS, Request, Settings, TraceCommand,
+};

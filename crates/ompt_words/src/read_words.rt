@@ -1,14 +1,16 @@
 //! Words, and what they ask for.
 
-ghost use Rattle.std.specs.Prelude.{◌≡◌, ◌≤◌, IfOk, IsErrAnd, MatchResult, String, codes, string_bytes, map};
+ghost use Rattle.std.specs.Prelude.{◌≡◌, ◌≤◌, true, IfOk, IsErrAnd, MatchResult, String, codes, string_bytes, map};
 ghost use Rattle.std.specs.declared.alloc.Global.{Global};
 ghost use Rattle.clap.specs.Words.{found_of, one_text};
 ghost use Rattle.ompt_words.specs.Answers.{AreReadAs, AreWrong, AskForText, IsTextOrMemory, flag_in, number_in};
-ghost use Rattle.ompt_words.specs.Form.{AskInForm, InForm, ReadInForm, default_steps, default_threads, own_settings};
+ghost use Rattle.ompt_words.specs.Form.{AskInForm, InForm, ReadInForm, default_columns, default_steps, default_threads, own_settings};
 
 use crate::clap_command::ompt_command;
 use crate::fault::{WordsFault, fault_of};
-use crate::settings::{Command, DEFAULT_STEPS, DEFAULT_THREADS, Request, Settings, TraceCommand};
+use crate::settings::{
+    Command, DEFAULT_COLUMNS, DEFAULT_STEPS, DEFAULT_THREADS, Request, Settings, TraceCommand,
+};
 use clap::ArgMatches;
 use std::alloc::Global;
 
@@ -35,13 +37,33 @@ pub fn request_of(alloc: Global, words: &[String]) -> Result<Request, WordsFault
     Ok(match name {
         "show" => Request::Read(TraceCommand::Show),
         "migrate" => Request::Read(TraceCommand::Migrate),
+        "gen" => Request::Run(generator_settings(inner)),
         "run" => Request::Run(settings_in(Command::Run, inner)),
         "record" => Request::Run(settings_in(Command::Record, inner)),
+        "profile" => Request::Run(settings_in(Command::Profile, inner)),
+        "timeline" => Request::Run(settings_in(Command::Timeline(columns_in(inner)), inner)),
         _ => Request::Run(settings_in(Command::List, inner)),
     })
 }
 
-/// The settings of a command that runs a program, in its matches.
+/// The settings of a command that generates its program, in its matches.
+fn generator_settings(matches: &ArgMatches<'_>) -> Settings
+    ensures command { result.command ≡ Command.Generate (number_in 1 400 1 (one_text (found_of matches.now) (codes "blocks"))) }
+    ensures threads { result.threads ≡ number_in 1 16 default_threads (one_text (found_of matches.now) (codes "threads")) }
+    ensures steps { result.steps ≡ default_steps }
+    ensures serial { result.serial ≡ true }
+    ensures some { 1 ≤ result.threads }
+    ensures few { result.threads ≤ 16 }
+{
+    Settings {
+        command: Command::Generate(blocks_in(matches)),
+        threads: threads_in(matches),
+        steps: DEFAULT_STEPS,
+        serial: true,
+    }
+}
+
+/// The settings of a command that runs a program which it reads, in its matches.
 fn settings_in(command: Command, matches: &ArgMatches<'_>) -> Settings
     ensures command { result.command ≡ command }
     ensures threads { result.threads ≡ number_in 1 16 default_threads (one_text (found_of matches.now) (codes "threads")) }
@@ -81,6 +103,26 @@ fn steps_in(matches: &ArgMatches<'_>) -> u32
     match matches.get_one::<u32>("steps") {
         Some(steps) if 1 <= steps && steps <= 30_000_000 => steps,
         _ => DEFAULT_STEPS,
+    }
+}
+
+/// How many columns the matches of a command have.
+fn columns_in(matches: &ArgMatches<'_>) -> u8
+    ensures { result ≡ number_in 10 200 default_columns (one_text (found_of matches.now) (codes "columns")) }
+{
+    match matches.get_one::<u8>("columns") {
+        Some(columns) if 10 <= columns && columns <= 200 => columns,
+        _ => DEFAULT_COLUMNS,
+    }
+}
+
+/// How many blocks the matches of a command have.
+fn blocks_in(matches: &ArgMatches<'_>) -> u16
+    ensures { result ≡ number_in 1 400 1 (one_text (found_of matches.now) (codes "blocks")) }
+{
+    match matches.get_one::<u16>("blocks") {
+        Some(blocks) if 1 <= blocks && blocks <= 400 => blocks,
+        _ => 1,
     }
 }
 

@@ -6,6 +6,9 @@ pub const DEFAULT_THREADS: u8 = 4;
 /// How many silent steps a run may have where the words don't say.
 pub const DEFAULT_STEPS: u32 = 1_000_000;
 
+/// How many columns a timeline has where the words don't say.
+pub const DEFAULT_COLUMNS: u8 = 72;
+
 /// A command that runs a program.
 #[derive(Clone, Copy, PartialEq, Eq, Debug)]
 pub enum Command {
@@ -15,6 +18,12 @@ pub enum Command {
     Run,
     /// It writes the trace of the run.
     Record,
+    /// It writes how many calls of each callback there were.
+    Profile,
+    /// It writes the states of the threads over the run, in so many columns: 10 to 200.
+    Timeline(u8),
+    /// It makes a program with so many blocks, 1 to 400, runs it serially, and writes a summary of the run.
+    Generate(u16),
 }
 
 /// A command that reads a trace.

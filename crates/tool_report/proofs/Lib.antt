@@ -1,3 +1,14 @@
 pub mod Gathering
 pub mod Rising
-pub mod Standing
+pub mod Fresh
+pub mod Threads
+pub mod Padding
+pub mod Counting
+pub mod Ranges
+pub mod Shares
+pub mod Programs
+pub mod Fronts
+pub mod Spans
+pub mod Rows
+pub mod Places
+pub mod Kept

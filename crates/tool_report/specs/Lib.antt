@@ -1,2 +1,8 @@
-pub mod Recorder
 pub mod Order
+pub mod Counts
+pub mod Moments
+pub mod Standing
+pub mod Layout
+pub mod Profile
+pub mod Timeline
+pub mod Generator

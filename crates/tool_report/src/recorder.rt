@@ -1,22 +1,13 @@
 //! A part that keeps what it is told.
 
 ghost use Rattle.std.specs.Prelude.{◌≡◌, []};
-ghost use Rattle.tool_report.specs.Recorder.{RecorderFor};
+ghost use Rattle.tool_report.specs.Standing.{RecorderFor};
 
+use crate::shipped::{ACTIVE, NOTHING};
 use ompt_calls::{Call, EventRecord, Reply, Snapshot};
 use std::alloc::Global;
 use std::marker::Model;
 use tool_api::{Memory, Registrar, ToolPart};
-
-/// What a recorder answers to `initialize`: it is active.
-const ACTIVE: u32 = 1;
-
-/// The reply that stores nothing.
-const NOTHING: Reply = Reply {
-    first: None,
-    second: None,
-    third: None,
-};
 
 /// A part that keeps a record of each call of `callback`, in order. Contracts see it as that list.
 #[derive(Drop)]

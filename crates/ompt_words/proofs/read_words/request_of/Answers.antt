@@ -1,15 +1,16 @@
-use Rattle.std.proofs.Common.{◌≡◌, ◌∙◌, List, [], ap, codes, map, string_bytes, subst, sym, ℕ}
+use Rattle.std.proofs.Common.{◌≡◌, List, [], codes, map, string_bytes, subst, sym, ℕ}
 use Rattle.clap.specs.Kinds.{HasKind}
 use Rattle.clap.specs.Matches.{found_of}
 use Rattle.clap.specs.Walk.{rows_of}
 use Rattle.clap.specs.Words.{app_of, kind_of}
+use Rattle.clap.specs.declared.parser.matches.Found.{Found}
 use Rattle.ompt_words.specs.Answers.{AreReadAs, IsAnswerTo}
 use Rattle.ompt_words.specs.declared.fault.WordsFault.TheVariants.{Shown, Usage}
-use Rattle.ompt_words.specs.Form.{command_word}
+use Rattle.ompt_words.specs.declared.settings.Command.TheVariants.{List as Listing, Profile, Record, Run, Timeline}
 use Rattle.ompt_words.proofs.Choices.{asked_wish, form_clean, own_command, own_read, read_clean, read_once, read_taken}
-use Rattle.ompt_words.proofs.Faults.{asking_words, command_found, command_read, exact, only_memory, same_fault, settings_read, text_or_memory, wish_is_fault, wrong_words}
+use Rattle.ompt_words.proofs.Faults.{asking_words, command_found, command_read, exact, generator_read, only_memory, same_fault, settings_read, text_or_memory, wish_is_fault, wrong_words}
 use Rattle.ompt_words.proofs.Levels.{listing_left}
-use Rattle.ompt_words.proofs.read_words.request_of.Goals.{in-migrate, in-record, in-run, in-show, in_default-name}
+use Rattle.ompt_words.proofs.read_words.request_of.Goals.{in-gen, in-migrate, in-profile, in-record, in-run, in-show, in-timeline, in_default-name}
 use Rattle.ompt_words.proofs.read_words.request_of.Goals as goal
 
 pub returns-in-Err-clause-usage : goal.returns-in-Err-clause-usage
@@ -45,24 +46,39 @@ returns-in-Err-clause-asked c = λ asked.
 pub returns-clause-read : goal.returns-clause-read
 returns-clause-read c =
     let words : List (List ℕ) = map string_bytes c.args.words.now in
+    let name : List ℕ = c.in-Some.name.now in
+    let rows : Found = found_of c.in-Some.inner.now in
     let clean = exact (λ kinds. kinds ≡ []) (app_of c.in_ok-ompt_command.field-0) words c.in_ok-ompt_command.ensures.app c.in-Ok.ensures.kinds in
-    let found = command_found (app_of c.in_ok-ompt_command.field-0) words c.in-Ok.matches c.in-Some.name.now (rows_of (found_of c.in-Some.inner.now))
+    let found = command_found (app_of c.in_ok-ompt_command.field-0) words c.in-Ok.matches name (rows_of rows)
     c.in_ok-ompt_command.ensures.app c.in-Ok.ensures.matches c.in-Some.ensures.name c.in-Some.ensures.rows in
     elim c.match-name.branch [
-      | in-show w ↦ subst (AreReadAs words) (sym w.result-is) (command_read words c.in-Some.name.now (rows_of (found_of c.in-Some.inner.now)) (codes "show") clean found w.in-show.is)
-      | in-migrate w ↦ subst (AreReadAs words) (sym w.result-is) (command_read words c.in-Some.name.now (rows_of (found_of c.in-Some.inner.now)) (codes "migrate") clean found w.in-migrate.is)
+      | in-show w ↦ subst (AreReadAs words) (sym w.result-is) (command_read words name (rows_of rows) (codes "show") clean found w.in-show.is)
+      | in-migrate w ↦ subst (AreReadAs words) (sym w.result-is) (command_read words name (rows_of rows) (codes "migrate") clean found w.in-migrate.is)
+      | in-gen w ↦ subst (AreReadAs words) (sym w.result-is)
+          (generator_read words name rows w.generator_settings.result clean found w.in-gen.is w.generator_settings.ensures.command
+          w.generator_settings.ensures.threads w.generator_settings.ensures.steps w.generator_settings.ensures.serial
+          w.generator_settings.ensures.some w.generator_settings.ensures.few)
       | in-run w ↦ subst (AreReadAs words) (sym w.result-is)
-          (settings_read words c.in-Some.name.now (found_of c.in-Some.inner.now) w.settings_in.result clean found (w.in-run.is ∙ ap command_word (sym w.settings_in.ensures.command))
+          (settings_read words name rows w.settings_in.result Run clean found w.in-run.is w.settings_in.ensures.command tt
           w.settings_in.ensures.threads w.settings_in.ensures.steps w.settings_in.ensures.serial
           w.settings_in.ensures.some w.settings_in.ensures.few w.settings_in.ensures.some_steps w.settings_in.ensures.few_steps)
       | in-record w ↦ subst (AreReadAs words) (sym w.result-is)
-          (settings_read words c.in-Some.name.now (found_of c.in-Some.inner.now) w.settings_in-in-record.result clean found (w.in-record.is ∙ ap command_word (sym w.settings_in-in-record.ensures.command))
+          (settings_read words name rows w.settings_in-in-record.result Record clean found w.in-record.is w.settings_in-in-record.ensures.command tt
           w.settings_in-in-record.ensures.threads w.settings_in-in-record.ensures.steps w.settings_in-in-record.ensures.serial
           w.settings_in-in-record.ensures.some w.settings_in-in-record.ensures.few w.settings_in-in-record.ensures.some_steps w.settings_in-in-record.ensures.few_steps)
+      | in-profile w ↦ subst (AreReadAs words) (sym w.result-is)
+          (settings_read words name rows w.settings_in-in-profile.result Profile clean found w.in-profile.is w.settings_in-in-profile.ensures.command tt
+          w.settings_in-in-profile.ensures.threads w.settings_in-in-profile.ensures.steps w.settings_in-in-profile.ensures.serial
+          w.settings_in-in-profile.ensures.some w.settings_in-in-profile.ensures.few w.settings_in-in-profile.ensures.some_steps w.settings_in-in-profile.ensures.few_steps)
+      | in-timeline w ↦ subst (AreReadAs words) (sym w.result-is)
+          (settings_read words name rows w.settings_in-in-timeline.result (Timeline w.columns_in.result) clean found w.in-timeline.is w.settings_in-in-timeline.ensures.command w.columns_in.ensures
+          w.settings_in-in-timeline.ensures.threads w.settings_in-in-timeline.ensures.steps w.settings_in-in-timeline.ensures.serial
+          w.settings_in-in-timeline.ensures.some w.settings_in-in-timeline.ensures.few w.settings_in-in-timeline.ensures.some_steps w.settings_in-in-timeline.ensures.few_steps)
       | in_default-name w ↦
-          let list = listing_left words c.in-Some.name.now (rows_of (found_of c.in-Some.inner.now)) found w.in_default-name.not-show w.in_default-name.not-migrate w.in_default-name.not-run w.in_default-name.not-record in
+          let list = listing_left words name (rows_of rows) found w.in_default-name.not-show w.in_default-name.not-migrate w.in_default-name.not-gen w.in_default-name.not-run
+          w.in_default-name.not-record w.in_default-name.not-profile w.in_default-name.not-timeline in
           subst (AreReadAs words) (sym w.result-is)
-          (settings_read words c.in-Some.name.now (found_of c.in-Some.inner.now) w.settings_in-in_default-name.result clean found (list ∙ ap command_word (sym w.settings_in-in_default-name.ensures.command))
+          (settings_read words name rows w.settings_in-in_default-name.result Listing clean found list w.settings_in-in_default-name.ensures.command tt
           w.settings_in-in_default-name.ensures.threads w.settings_in-in_default-name.ensures.steps w.settings_in-in_default-name.ensures.serial
           w.settings_in-in_default-name.ensures.some w.settings_in-in_default-name.ensures.few w.settings_in-in_default-name.ensures.some_steps w.settings_in-in_default-name.ensures.few_steps)
     ]

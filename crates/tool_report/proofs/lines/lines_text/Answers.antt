@@ -1,8 +1,6 @@
-use Rattle.std.proofs.Common.{List, ap, ◌∙◌}
+use Rattle.std.proofs.Common.{ap, ◌∙◌}
 use Rattle.std.proofs.lemmas.Result.{IfOk-weaker}
-use Rattle.ompt_calls.specs.declared.event.EventRecord.{EventRecord}
 use Rattle.omp_model.specs.Records.{lines_of}
-use Rattle.tool_report.specs.Order.{AreShared}
 use Rattle.tool_report.proofs.lines.lines_text.Goals as goal
 
 pub returns : goal.returns

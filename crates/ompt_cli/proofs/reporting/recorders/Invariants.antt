@@ -1,0 +1,6 @@
+use Rattle.std.proofs.Common.{◌≡◌, [], replicate}
+use Rattle.ompt_cli.proofs.reporting.recorders.Given as goal
+
+-- as many as turns were made
+abbrev pub invariant-loop-thread : goal.invariant-loop-thread
+invariant-loop-thread l = l.parts.items ≡ replicate l._thread []

@@ -1,0 +1,10 @@
+use Rattle.std.proofs.Common.{◌∙◌, sym, subst, List, ℕ}
+use Rattle.std.specs.Prelude.{IsErrAnd}
+use Rattle.tool_report.specs.Generator.{generated}
+use Rattle.ompt_cli.specs.Commands.{MayRefuse}
+use Rattle.ompt_cli.specs.Text.{IsRefused}
+use Rattle.ompt_cli.proofs.text.generated_program.Goals as goal
+
+pub returns-clause-accepted : goal.returns-clause-accepted
+returns-clause-accepted c = λ why refused.
+    c.program_of.ensures.accepted why (subst (IsRefused why) (sym (c.deref.ensures.value ∙ c.in-Ok.ensures)) refused)

@@ -1,0 +1,115 @@
+//! A part that counts what it is told.
+
+ghost use Rattle.std.specs.Prelude.{◌≡◌, ◌<◌, [], slice_index_or};
+ghost use Rattle.omp_codes.specs.declared.callbacks.TheConstants.{PROFILE};
+ghost use Rattle.ompt_calls.specs.Number.{number_of};
+ghost use Rattle.tool_report.specs.Counts.{counts_of};
+ghost use Rattle.tool_report.specs.Standing.{ProfileFor};
+
+use crate::shipped::{ACTIVE, NOTHING};
+use ompt_calls::{Call, Reply, Snapshot};
+use std::alloc::AllocError;
+use std::marker::Model;
+use tool_api::{Memory, Registrar, ToolPart};
+
+/// How many callbacks the profile has.
+const CALLBACKS: usize = 17;
+
+/// A part that counts the calls of `callback`, and keeps nothing else of them. Contracts see it as that list of counts: one for each callback
+/// of the profile, by rising numbers.
+#[derive(Drop)]
+pub struct Profile {
+    /// The counts. A count that would pass its greatest value is answered as want of memory.
+    counts: [u64; CALLBACKS],
+}
+
+impl Model for Profile {
+    ghost use Rattle.std.specs.Prelude.{ℕ, List};
+
+    ghost Value = { List ℕ };
+
+    ghost view = { λ profile. profile.counts };
+}
+
+impl Profile {
+    /// A profile that was told nothing yet.
+    pub fn new() -> Profile
+        ensures { result ≡ counts_of [] }
+    {
+        Profile {
+            counts: [0; CALLBACKS],
+        }
+    }
+
+    /// How many calls of each callback of the profile there were, by rising numbers.
+    pub fn counts(&self) -> &[u64]
+        ensures { result.now ≡ self.now }
+    {
+        &self.counts
+    }
+
+    /// How many calls of the callback at this place of `PROFILE` there were, and 0 past the last place.
+    pub(crate) fn count(&self, place: usize) -> u64
+        ensures { result ≡ slice_index_or self.now place 0 }
+    {
+        if place < CALLBACKS {
+            self.counts[place]
+        } else {
+            0
+        }
+    }
+}
+
+impl ToolPart for Profile {
+    ghost stands_for = { ProfileFor };
+
+    ghost kind = { λ profile. 0 };
+
+    fn initialize(&mut self, registrar: &mut Registrar) -> u32 {
+        registrar.set_profile();
+        ACTIVE
+    }
+
+    fn callback(
+        &mut self,
+        _seq: u32,
+        _thread: u8,
+        call: &Call,
+        _snapshot: &Snapshot,
+    ) -> Result<Reply, Memory> {
+        let place = place_of(call);
+        let Some(count) = self.counts[place].checked_add(1) else {
+            return Err(AllocError);
+        };
+        self.counts[place] = count;
+        Ok(NOTHING)
+    }
+
+    fn finalize(&mut self) {}
+}
+
+/// The place of a call's callback among those of the profile.
+fn place_of(call: &Call) -> usize
+    ensures place { slice_index_or PROFILE result 0 ≡ number_of call.now }
+    ensures few { result < 17 }
+{
+    match call {
+        Call::ThreadBegin { .. } => 0,
+        Call::ThreadEnd { .. } => 1,
+        Call::ParallelBegin { .. } => 2,
+        Call::ParallelEnd { .. } => 3,
+        Call::TaskCreate { .. } => 4,
+        Call::TaskSchedule { .. } => 5,
+        Call::ImplicitTask { .. } => 6,
+        Call::SyncRegionWait { .. } => 7,
+        Call::MutexReleased { .. } => 8,
+        Call::Work { .. } => 9,
+        Call::Masked { .. } => 10,
+        Call::SyncRegion { .. } => 11,
+        Call::LockInit { .. } => 12,
+        Call::LockDestroy { .. } => 13,
+        Call::MutexAcquire { .. } => 14,
+        Call::MutexAcquired { .. } => 15,
+        Call::Dispatch { .. } => 16,
+    }
+}
