@@ -1,0 +1,6 @@
+pub mod Brackets
+pub mod Before
+pub mod Rules
+pub mod Nested
+pub mod Opened
+pub mod Checking
