@@ -7,7 +7,7 @@ use Rattle.ompt_calls.specs.declared.call.Call.{Call}
 use Rattle.ompt_calls.specs.declared.call.Call.TheVariants.{ParallelBegin, ParallelEnd, TaskCreate, TaskSchedule, ImplicitTask}
 use Rattle.ompt_calls.specs.declared.event.EventRecord.{EventRecord}
 use Rattle.trace_check.specs.declared.bracket.Bracket.{Bracket}
-use Rattle.trace_check.specs.declared.bracket.Bracket.TheVariants.{Parallel, Implicit, Explicit, Loop, Masking, Syncing, Waiting}
+use Rattle.trace_check.specs.declared.bracket.Bracket.TheVariants.{Parallel, Implicit, Explicit, Worksharing, Masking, Syncing, Waiting}
 use Rattle.trace_check.specs.Brackets.{current_in}
 use Rattle.trace_check.specs.Before.{Creation, Join, and_more, and_one, creation_of, creations, greatest_task, has_begun_region, has_ended_region, has_left, has_started, is_created, is_just, is_open_region, join_of, joins, left_task, opened, region_begun, region_ended, task_made, task_started}
 use Rattle.trace_check.specs.Rules.{keeps_creations, keeps_starts, keeps_teams, may_join}
@@ -17,17 +17,7 @@ use Rattle.trace_check.proofs.Once.{Once, has_closed, has_opened, marks, open_on
 use Rattle.trace_check.proofs.Names.{of_explicit, of_implicit}
 use Rattle.trace_check.proofs.Joined.{join_in, joins_made}
 use Rattle.trace_check.proofs.Implicit.{not_joined}
-
-left : (a b : Bool) → (a && b) ≡ true → a ≡ true
-left true b both = refl
-left false b both = cc
-
-right : (a b : Bool) → (a && b) ≡ true → b ≡ true
-right true b both = both
-right false b both = absurd (cc)
-
-apart : (b : Bool) → b ≡ true → b ≡ false → ⊥
-apart b holds fails = cc
+use Rattle.trace_check.proofs.Tests.{apart, left, right}
 
 -- ---- the region of a task that hasn't left is open
 
@@ -127,7 +117,7 @@ one_stands past task (other ∷ all) join found stood stays = by-test (other.tas
 abbrev is_number : ℕ → Creation → Bool
 is_number k creation = creation.task == k
 
-made_below : (k : ℕ) (past : List EventRecord) → is_created k past ≡ true → k ≤ greatest_task past
+pub made_below : (k : ℕ) (past : List EventRecord) → is_created k past ≡ true → k ≤ greatest_task past
 made_below k [] made = absurd (cc)
 made_below k (event ∷ past) made = by-call event.call made (made_below k past)
   where
@@ -210,7 +200,7 @@ marked_task k [] runs = absurd (cc)
 marked_task k (Implicit task ∷ brackets) runs = let e : task ≡ k = cc in let one : cond {A = ℕ} (task == k) 1 0 ≡ 1 = rw (eq-eqb task k e) refl in inl (omega (arith, one))
 marked_task k (Explicit prior next ∷ brackets) runs = let e : next ≡ k = cc in let one : cond {A = ℕ} (next == k) 1 0 ≡ 1 = rw (eq-eqb next k e) refl in inr (omega (arith, one))
 marked_task k (Parallel region ∷ brackets) runs = lifted_task k brackets (marked_task k brackets runs)
-marked_task k (Loop region task kind count ∷ brackets) runs = lifted_task k brackets (marked_task k brackets runs)
+marked_task k (Worksharing region task kind count ∷ brackets) runs = lifted_task k brackets (marked_task k brackets runs)
 marked_task k (Masking task ∷ brackets) runs = lifted_task k brackets (marked_task k brackets runs)
 marked_task k (Syncing task kind ∷ brackets) runs = lifted_task k brackets (marked_task k brackets runs)
 marked_task k (Waiting task kind ∷ brackets) runs = lifted_task k brackets (marked_task k brackets runs)

@@ -19,9 +19,7 @@ use Rattle.trace_check.proofs.Implicit.{joined_is, left_is, once_implicit}
 use Rattle.trace_check.proofs.Starts.{found_task, missing_any}
 use Rattle.trace_check.proofs.TeamTests.{sound_team}
 use Rattle.trace_check.proofs.Children.{all_stand, created_joined, marked_task, one_stands, started_created, there}
-
-apart : (b : Bool) → b ≡ true → b ≡ false → ⊥
-apart b holds fails = cc
+use Rattle.trace_check.proofs.Tests.{apart}
 
 -- ---- no child is left exactly where none is counted
 
@@ -72,7 +70,7 @@ unseated_stands k t past unbroken other runs unseated unknown = by-mark (marked_
         apart (is_created k past) made (missing_any k (creations past) (by-known (is_complete k past) (creation_in k (creations past)) whole unknown))
 
 -- one that has a place is in an open region
-pub seated_stands : (k t : ℕ) (past : List EventRecord) (join : Join) → Unbroken past → (1 == k) ≡ false → current_in (opened t past) ≡ Some k → join_in k (joins past) ≡ Some join → is_open_region join.region past ≡ true
+seated_stands : (k t : ℕ) (past : List EventRecord) (join : Join) → Unbroken past → (1 == k) ≡ false → current_in (opened t past) ≡ Some k → join_in k (joins past) ≡ Some join → is_open_region join.region past ≡ true
 seated_stands k t past join unbroken other runs found = by-mark (marked_task k (opened t past) runs)
   where
     by-mark : (1 ≤ marks (of_implicit k) (opened t past)) ⊎ (1 ≤ marks (of_explicit k) (opened t past)) → is_open_region join.region past ≡ true

@@ -3,7 +3,7 @@ use Rattle.std.proofs.Common.{◌≡◌, ℕ, ◌==◌, ◌&&◌, ◌||◌, Bool
 use Rattle.std.proofs.lemmas.Bool.{eqb-true}
 use Rattle.ompt_calls.specs.declared.event.EventRecord.{EventRecord}
 use Rattle.trace_check.specs.declared.bracket.Bracket.{Bracket}
-use Rattle.trace_check.specs.declared.bracket.Bracket.TheVariants.{Parallel, Implicit, Explicit, Loop, Masking, Syncing, Waiting}
+use Rattle.trace_check.specs.declared.bracket.Bracket.TheVariants.{Parallel, Implicit, Explicit, Worksharing, Masking, Syncing, Waiting}
 use Rattle.trace_check.specs.declared.change.Change.{Change}
 use Rattle.trace_check.specs.declared.change.Change.TheVariants.{Opens, Closes, Stays}
 use Rattle.trace_check.specs.declared.things.Current.{Current}
@@ -13,10 +13,7 @@ use Rattle.trace_check.specs.Rules.{has_no_child, may_change, may_open, may_pass
 use Rattle.trace_check.specs.Checking.{Unbroken, current_with, running}
 use Rattle.trace_check.proofs.Kept12.{KeepsAll, keeps_all}
 use Rattle.trace_check.proofs.Joined.{running_task}
-
-left : (a b : Bool) → (a && b) ≡ true → a ≡ true
-left true b both = refl
-left false b both = cc
+use Rattle.trace_check.proofs.Tests.{left}
 
 -- a wait was begun by the current task
 abbrev IsEntered : Bracket → Option ℕ → Type 0
@@ -24,7 +21,7 @@ IsEntered (Waiting task kind) running = running ≡ Some task
 IsEntered (Parallel region) running = Unit {0}
 IsEntered (Implicit task) running = Unit {0}
 IsEntered (Explicit prior next) running = Unit {0}
-IsEntered (Loop region task kind count) running = Unit {0}
+IsEntered (Worksharing region task kind count) running = Unit {0}
 IsEntered (Masking task) running = Unit {0}
 IsEntered (Syncing task kind) running = Unit {0}
 
@@ -41,7 +38,7 @@ enters past t (Waiting task kind) may = just_is task (current t past) may
 enters past t (Parallel region) may = tt
 enters past t (Implicit task) may = tt
 enters past t (Explicit prior next) may = tt
-enters past t (Loop region task kind count) may = tt
+enters past t (Worksharing region task kind count) may = tt
 enters past t (Masking task) may = tt
 enters past t (Syncing task kind) may = tt
 
@@ -70,7 +67,7 @@ waits_current (Waiting other like ∷ brackets) task kind sound is = sound.0 ∙
 waits_current (Parallel region ∷ brackets) task kind sound is = absurd (cc)
 waits_current (Implicit other ∷ brackets) task kind sound is = absurd (cc)
 waits_current (Explicit prior next ∷ brackets) task kind sound is = absurd (cc)
-waits_current (Loop region other like count ∷ brackets) task kind sound is = absurd (cc)
+waits_current (Worksharing region other like count ∷ brackets) task kind sound is = absurd (cc)
 waits_current (Masking other ∷ brackets) task kind sound is = absurd (cc)
 waits_current (Syncing other like ∷ brackets) task kind sound is = absurd (cc)
 

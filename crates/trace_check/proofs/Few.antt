@@ -34,7 +34,7 @@ use Rattle.trace_check.proofs.Verdicts.{holds, must-begin}
 -- ---- tests of lists
 
 -- one of two holds where both parts of the first do
-pub or-first : (a b rest : Bool) → a ≡ true → b ≡ true → ((a && b) || rest) ≡ true
+or-first : (a b rest : Bool) → a ≡ true → b ≡ true → ((a && b) || rest) ≡ true
 or-first true true rest first second = refl
 or-first true false rest first second = cc
 or-first false b rest first second = cc
@@ -45,7 +45,7 @@ or-rest true rest is = refl
 or-rest false rest is = is
 
 -- one of two holds, from one of two others
-pub or-more : (a b rest more : Bool) → (a ≡ true → b ≡ true) → (rest ≡ true → more ≡ true) → (a || rest) ≡ true → (b || more) ≡ true
+or-more : (a b rest more : Bool) → (a ≡ true → b ≡ true) → (rest ≡ true → more ≡ true) → (a || rest) ≡ true → (b || more) ≡ true
 or-more true b rest more first others is = rw (first refl) refl
 or-more false true rest more first others is = refl
 or-more false false rest more first others is = others is
@@ -164,7 +164,7 @@ some-else true v is = absurd cc
 some-else false v is = (refl, is)
 
 -- and in the first case only
-pub some-then : {V : Type 0} (b : Bool) (v : Option V) → is_some (if b then v else None) ≡ true → (b ≡ true) × (is_some v ≡ true)
+some-then : {V : Type 0} (b : Bool) (v : Option V) → is_some (if b then v else None) ≡ true → (b ≡ true) × (is_some v ≡ true)
 some-then true v is = (refl, is)
 some-then false v is = absurd cc
 
@@ -305,12 +305,12 @@ few-regions kept past ordered known =
 -- ---- implicit tasks
 
 -- what is found at an element, or later
-pub some-or : {V : Type 0} (b : Bool) (v : V) (o : Option V) (rest : Bool) → (is_some o ≡ true → rest ≡ true) → is_some (if b then Some v else o) ≡ true → (b || rest) ≡ true
+some-or : {V : Type 0} (b : Bool) (v : V) (o : Option V) (rest : Bool) → (is_some o ≡ true → rest ≡ true) → is_some (if b then Some v else o) ≡ true → (b || rest) ≡ true
 some-or true v o rest more is = refl
 some-or false v o rest more is = more is
 
 -- an index that is found is that of a join
-pub found-join : (index : ℕ) (js : List Join) → is_some (join_at index js) ≡ true → list_any (λ (join : Join). join.index == index) js ≡ true
+found-join : (index : ℕ) (js : List Join) → is_some (join_at index js) ≡ true → list_any (λ (join : Join). join.index == index) js ≡ true
 found-join index [] is = is
 found-join index (join ∷ js) is = some-or (join.index == index) join (join_at index js) (list_any (λ (join : Join). join.index == index) js) (found-join index js) is
 

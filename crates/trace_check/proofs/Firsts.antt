@@ -183,7 +183,7 @@ rises_behind (first ∷ newer) older rises = rises_behind newer older rises.1
 -- ---- the events in their order
 
 -- one more event stands last
-pub reversed_more : (past : List EventRecord) (event : EventRecord) → reverse (event ∷ past) ≡ reverse past ++ event ∷ []
+reversed_more : (past : List EventRecord) (event : EventRecord) → reverse (event ∷ past) ≡ reverse past ++ event ∷ []
 reversed_more past event = reverse-append (event ∷ []) past
 
 -- the last position is that of the last event

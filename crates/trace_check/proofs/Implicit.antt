@@ -7,7 +7,7 @@ use Rattle.std.proofs.lemmas.Bool.Decides.{nat_tests}
 use Rattle.ompt_calls.specs.declared.call.Call.{Call}
 use Rattle.ompt_calls.specs.declared.call.Call.TheVariants.{TaskSchedule, ImplicitTask, SyncRegionWait, Work, Masked, SyncRegion}
 use Rattle.ompt_calls.specs.declared.event.EventRecord.{EventRecord}
-use Rattle.trace_check.specs.declared.bracket.Bracket.TheVariants.{Parallel, Implicit, Explicit, Loop, Masking, Syncing, Waiting}
+use Rattle.trace_check.specs.declared.bracket.Bracket.TheVariants.{Parallel, Implicit, Explicit, Worksharing, Masking, Syncing, Waiting}
 use Rattle.trace_check.specs.declared.change.Change.TheVariants.{Opens, Closes, Stays}
 use Rattle.trace_check.specs.Brackets.{change_of}
 use Rattle.trace_check.specs.Before.{Join, and_more, events_of, greatest_task, has_left, is_just, is_open_region, join_of, joins, left_task}
@@ -17,14 +17,7 @@ use Rattle.trace_check.proofs.Kept12.{KeepsAll, keeps_all}
 use Rattle.trace_check.proofs.Once.{Alike, Fresh, Once, closes_by, has_closed, has_opened, once, opens_by}
 use Rattle.trace_check.proofs.Names.{no_close, no_endpoint, no_return, no_status, of_implicit}
 use Rattle.trace_check.proofs.Joined.{is_made, join_in, joins_made}
-
-left : (a b : Bool) → (a && b) ≡ true → a ≡ true
-left true b both = refl
-left false b both = cc
-
-right : (a b : Bool) → (a && b) ≡ true → b ≡ true
-right true b both = both
-right false b both = absurd (cc)
+use Rattle.trace_check.proofs.Tests.{left, right}
 
 abbrev has_task : ℕ → Option Join → Bool
 has_task k None = false
@@ -55,7 +48,7 @@ opens_implicit k past t (ImplicitTask endpoint region task actual index flags) o
     by-tests false f false s same keep = refl
 opens_implicit k past t (TaskSchedule prior status next) other keeps = no_status (of_implicit k) status prior.identity next.identity (λ a b. refl)
 opens_implicit k past t (SyncRegionWait kind endpoint region task codeptr) other keeps = no_endpoint (of_implicit k) endpoint (Waiting task.identity kind) refl
-opens_implicit k past t (Work kind endpoint region task count codeptr) other keeps = no_endpoint (of_implicit k) endpoint (Loop region.identity task.identity kind count) refl
+opens_implicit k past t (Work kind endpoint region task count codeptr) other keeps = no_endpoint (of_implicit k) endpoint (Worksharing region.identity task.identity kind count) refl
 opens_implicit k past t (Masked endpoint region task codeptr) other keeps = no_endpoint (of_implicit k) endpoint (Masking task.identity) refl
 opens_implicit k past t (SyncRegion kind endpoint region task codeptr) other keeps = no_endpoint (of_implicit k) endpoint (Syncing task.identity kind) refl
 opens_implicit k past t call other keeps = refl
@@ -73,7 +66,7 @@ closes_implicit k (ImplicitTask endpoint region task actual index flags) = by-te
     by-test false false apart = refl
 closes_implicit k (TaskSchedule prior status next) = no_return (of_implicit k) status prior.identity next.identity (λ a b. refl)
 closes_implicit k (SyncRegionWait kind endpoint region task codeptr) = no_close (of_implicit k) endpoint (Waiting task.identity kind) refl
-closes_implicit k (Work kind endpoint region task count codeptr) = no_close (of_implicit k) endpoint (Loop region.identity task.identity kind count) refl
+closes_implicit k (Work kind endpoint region task count codeptr) = no_close (of_implicit k) endpoint (Worksharing region.identity task.identity kind count) refl
 closes_implicit k (Masked endpoint region task codeptr) = no_close (of_implicit k) endpoint (Masking task.identity) refl
 closes_implicit k (SyncRegion kind endpoint region task codeptr) = no_close (of_implicit k) endpoint (Syncing task.identity kind) refl
 closes_implicit k call = refl
@@ -100,7 +93,7 @@ alike_implicit : (k : ℕ) → Alike (of_implicit k)
 alike_implicit k (Implicit task) (Implicit ended) same = ap (λ (n : ℕ). n == k) (eqb-true task ended same)
 alike_implicit k (Implicit task) (Parallel ended) same = absurd (cc)
 alike_implicit k (Implicit task) (Explicit prior next) same = absurd (cc)
-alike_implicit k (Implicit task) (Loop others other kind count) same = absurd (cc)
+alike_implicit k (Implicit task) (Worksharing others other kind count) same = absurd (cc)
 alike_implicit k (Implicit task) (Masking other) same = absurd (cc)
 alike_implicit k (Implicit task) (Syncing other kind) same = absurd (cc)
 alike_implicit k (Implicit task) (Waiting other kind) same = absurd (cc)
@@ -108,8 +101,8 @@ alike_implicit k (Parallel region) (Parallel ended) same = refl
 alike_implicit k (Parallel region) ended same = absurd (cc)
 alike_implicit k (Explicit prior next) (Explicit others ended) same = refl
 alike_implicit k (Explicit prior next) ended same = absurd (cc)
-alike_implicit k (Loop region task kind count) (Loop others other like more) same = refl
-alike_implicit k (Loop region task kind count) ended same = absurd (cc)
+alike_implicit k (Worksharing region task kind count) (Worksharing others other like more) same = refl
+alike_implicit k (Worksharing region task kind count) ended same = absurd (cc)
 alike_implicit k (Masking task) (Masking ended) same = refl
 alike_implicit k (Masking task) ended same = absurd (cc)
 alike_implicit k (Syncing task kind) (Syncing other like) same = refl

@@ -17,14 +17,7 @@ use Rattle.trace_check.specs.Rules.{have_waited, may_join, may_pass}
 use Rattle.trace_check.specs.Checking.{Unbroken, current_with, join_at, member_known, member_of, running, seat_in, team_size}
 use Rattle.trace_check.proofs.Kept12.{KeepsAll, keeps_all}
 use Rattle.trace_check.proofs.TeamTests.{SoundTeam, by_join, is_beside, sound_team}
-
-left : (a b : Bool) → (a && b) ≡ true → a ≡ true
-left true b both = refl
-left false b both = cc
-
-right : (a b : Bool) → (a && b) ≡ true → b ≡ true
-right true b both = both
-right false b both = absurd (cc)
+use Rattle.trace_check.proofs.Tests.{left, right}
 
 abbrev pub is_other : ℕ → Join → Bool
 is_other task join = not (join.task == task)
@@ -109,7 +102,7 @@ none_other f task (join ∷ all) others = by-test (join.task == task) (left _ _ 
     by-test false apart rest = rest
 
 -- what holds of a join of the task holds of its join
-pub any_of : (f : Join → Bool) (task : ℕ) (all : List Join) → Distinct all → list_any (λ (join : Join). (join.task == task) && f join) all ≡ by_join f (join_in task all)
+any_of : (f : Join → Bool) (task : ℕ) (all : List Join) → Distinct all → list_any (λ (join : Join). (join.task == task) && f join) all ≡ by_join f (join_in task all)
 any_of f task [] sound = refl
 any_of f task (join ∷ all) sound = by-test (join.task == task) refl (f join) refl (any_of f task all sound.1)
   where

@@ -1,12 +1,12 @@
 -- The brackets of one region and of one task are opened once.
 use Rattle.std.proofs.Common.{◌≡◌, ℕ, ◌+◌, ◌≤◌, ◌==◌, ◌&&◌, ◌||◌, Bool, true, false, cond, not, max, List, [], ◌∷◌, Some, None, refl, sym, ◌∙◌, ap, subst, arith}
-use Rattle.std.proofs.lemmas.Bool.{eqb-true}
+use Rattle.std.proofs.lemmas.Bool.{eqb-true, eq-eqb}
 use Rattle.std.proofs.lemmas.Bool.Decides.{nat_tests}
 use Rattle.ompt_calls.specs.declared.call.Call.{Call}
 use Rattle.ompt_calls.specs.declared.call.Call.TheVariants.{ThreadBegin, ParallelBegin, TaskSchedule, ImplicitTask, SyncRegionWait, Work, Masked, SyncRegion}
 use Rattle.ompt_calls.specs.declared.event.EventRecord.{EventRecord}
 use Rattle.trace_check.specs.declared.bracket.Bracket.{Bracket}
-use Rattle.trace_check.specs.declared.bracket.Bracket.TheVariants.{Parallel, Implicit, Explicit, Loop, Masking, Syncing, Waiting}
+use Rattle.trace_check.specs.declared.bracket.Bracket.TheVariants.{Parallel, Implicit, Explicit, Worksharing, Masking, Syncing, Waiting}
 use Rattle.trace_check.specs.declared.change.Change.TheVariants.{Opens, Closes, Stays}
 use Rattle.trace_check.specs.Brackets.{at_endpoint, at_status, change_of, is_innermost}
 use Rattle.trace_check.specs.Before.{greatest_region, has_begun_region, has_ended_region, has_started, is_complete, is_created, is_just, is_open_region, opened, region_begun, region_ended, region_made, task_completed, task_started}
@@ -16,7 +16,7 @@ use Rattle.trace_check.proofs.Kept12.{KeepsAll}
 use Rattle.trace_check.proofs.Once.{Alike, Fresh, Once, closes_by, has_closed, has_opened, marks, once, open_on, opens_by, share}
 
 -- the brackets of a region, of an implicit task, and of a created one
-abbrev pub of_region : ℕ → Bracket → Bool
+abbrev of_region : ℕ → Bracket → Bool
 of_region r (Parallel region) = region == r
 of_region r other = false
 
@@ -68,7 +68,7 @@ opens_region r (ThreadBegin kind thread) = refl
 opens_region r (TaskSchedule prior status next) = no_status (of_region r) status prior.identity next.identity (λ a b. refl)
 opens_region r (ImplicitTask endpoint region task actual index flags) = no_endpoint (of_region r) endpoint (Implicit task.identity) refl
 opens_region r (SyncRegionWait kind endpoint region task codeptr) = no_endpoint (of_region r) endpoint (Waiting task.identity kind) refl
-opens_region r (Work kind endpoint region task count codeptr) = no_endpoint (of_region r) endpoint (Loop region.identity task.identity kind count) refl
+opens_region r (Work kind endpoint region task count codeptr) = no_endpoint (of_region r) endpoint (Worksharing region.identity task.identity kind count) refl
 opens_region r (Masked endpoint region task codeptr) = no_endpoint (of_region r) endpoint (Masking task.identity) refl
 opens_region r (SyncRegion kind endpoint region task codeptr) = no_endpoint (of_region r) endpoint (Syncing task.identity kind) refl
 opens_region r other = refl
@@ -78,7 +78,7 @@ closes_region r (ThreadBegin kind thread) = refl
 closes_region r (TaskSchedule prior status next) = no_return (of_region r) status prior.identity next.identity (λ a b. refl)
 closes_region r (ImplicitTask endpoint region task actual index flags) = no_close (of_region r) endpoint (Implicit task.identity) refl
 closes_region r (SyncRegionWait kind endpoint region task codeptr) = no_close (of_region r) endpoint (Waiting task.identity kind) refl
-closes_region r (Work kind endpoint region task count codeptr) = no_close (of_region r) endpoint (Loop region.identity task.identity kind count) refl
+closes_region r (Work kind endpoint region task count codeptr) = no_close (of_region r) endpoint (Worksharing region.identity task.identity kind count) refl
 closes_region r (Masked endpoint region task codeptr) = no_close (of_region r) endpoint (Masking task.identity) refl
 closes_region r (SyncRegion kind endpoint region task codeptr) = no_close (of_region r) endpoint (Syncing task.identity kind) refl
 closes_region r other = refl
@@ -95,7 +95,7 @@ alike_region : (r : ℕ) → Alike (of_region r)
 alike_region r (Parallel region) (Parallel ended) same = ap (λ (n : ℕ). n == r) (eqb-true region ended same)
 alike_region r (Parallel region) (Implicit task) same = absurd (cc)
 alike_region r (Parallel region) (Explicit prior next) same = absurd (cc)
-alike_region r (Parallel region) (Loop others task kind count) same = absurd (cc)
+alike_region r (Parallel region) (Worksharing others task kind count) same = absurd (cc)
 alike_region r (Parallel region) (Masking task) same = absurd (cc)
 alike_region r (Parallel region) (Syncing task kind) same = absurd (cc)
 alike_region r (Parallel region) (Waiting task kind) same = absurd (cc)
@@ -103,8 +103,8 @@ alike_region r (Implicit task) (Implicit ended) same = refl
 alike_region r (Implicit task) ended same = absurd (cc)
 alike_region r (Explicit prior next) (Explicit others ended) same = refl
 alike_region r (Explicit prior next) ended same = absurd (cc)
-alike_region r (Loop region task kind count) (Loop others other like more) same = refl
-alike_region r (Loop region task kind count) ended same = absurd (cc)
+alike_region r (Worksharing region task kind count) (Worksharing others other like more) same = refl
+alike_region r (Worksharing region task kind count) ended same = absurd (cc)
 alike_region r (Masking task) (Masking ended) same = refl
 alike_region r (Masking task) ended same = absurd (cc)
 alike_region r (Syncing task kind) (Syncing other like) same = refl
@@ -118,7 +118,7 @@ marked r [] is = absurd (cc)
 marked r (Parallel region ∷ brackets) is = let one : cond {A = ℕ} (region == r) 1 0 ≡ 1 = rw is refl in omega (arith, one)
 marked r (Implicit task ∷ brackets) is = absurd (cc)
 marked r (Explicit prior next ∷ brackets) is = absurd (cc)
-marked r (Loop region task kind count ∷ brackets) is = absurd (cc)
+marked r (Worksharing region task kind count ∷ brackets) is = absurd (cc)
 marked r (Masking task ∷ brackets) is = absurd (cc)
 marked r (Syncing task kind ∷ brackets) is = absurd (cc)
 marked r (Waiting task kind ∷ brackets) is = absurd (cc)
@@ -153,11 +153,19 @@ fresh_region r past event unbroken all opens =
         begun_is r past ∙ none region.identity true (has_begun_region r past) (left (region.identity == greatest_region past + 1) _ keeps) is (begun_below r past)
     by-call other is keeps = absurd (cc)
 
-pub once_region : (r : ℕ) (past : List EventRecord) → Unbroken past → Once (of_region r) past
+once_region : (r : ℕ) (past : List EventRecord) → Unbroken past → Once (of_region r) past
 once_region r past unbroken = once (of_region r) (alike_region r) (fresh_region r) past unbroken
 
+-- a region that begins hasn't begun or ended
+pub region_fresh : (r : ℕ) (past : List EventRecord) (event : EventRecord) → Unbroken past → KeepsAll past event → region_begun event.call ≡ Some r
+    → (has_begun_region r past ≡ false) × (has_ended_region r past ≡ false)
+region_fresh r past event unbroken all begins =
+    let opens : opens_by (of_region r) (change_of event.call) ≡ true = opens_region r event.call ∙ (ap (is_just r) begins ∙ eq-eqb r r refl) in
+    let unopened : has_opened (of_region r) past ≡ false = fresh_region r past event unbroken all opens in
+    (sym (begun_is r past) ∙ unopened, sym (ended_is r past) ∙ (once_region r past unbroken).before_close unopened)
+
 -- the region of a bracket is open
-pub region_is_open : (r t : ℕ) (past : List EventRecord) → Unbroken past → 1 ≤ marks (of_region r) (opened t past) → is_open_region r past ≡ true
+region_is_open : (r t : ℕ) (past : List EventRecord) → Unbroken past → 1 ≤ marks (of_region r) (opened t past) → is_open_region r past ≡ true
 region_is_open r t past unbroken some =
     let all : Once (of_region r) past = once_region r past unbroken in
     by-tests (has_begun_region r past) (has_ended_region r past)
@@ -191,7 +199,7 @@ opens_explicit k (TaskSchedule prior status next) = by-test (status == 7) (statu
     by-test false false = refl
 opens_explicit k (ImplicitTask endpoint region task actual index flags) = no_endpoint (of_explicit k) endpoint (Implicit task.identity) refl
 opens_explicit k (SyncRegionWait kind endpoint region task codeptr) = no_endpoint (of_explicit k) endpoint (Waiting task.identity kind) refl
-opens_explicit k (Work kind endpoint region task count codeptr) = no_endpoint (of_explicit k) endpoint (Loop region.identity task.identity kind count) refl
+opens_explicit k (Work kind endpoint region task count codeptr) = no_endpoint (of_explicit k) endpoint (Worksharing region.identity task.identity kind count) refl
 opens_explicit k (Masked endpoint region task codeptr) = no_endpoint (of_explicit k) endpoint (Masking task.identity) refl
 opens_explicit k (SyncRegion kind endpoint region task codeptr) = no_endpoint (of_explicit k) endpoint (Syncing task.identity kind) refl
 opens_explicit k other = refl
@@ -216,7 +224,7 @@ closes_explicit k (TaskSchedule prior status next) = by-status status
     by-status s = by-test (s == 7) (s == 1) (apart_status s)
 closes_explicit k (ImplicitTask endpoint region task actual index flags) = no_close (of_explicit k) endpoint (Implicit task.identity) refl
 closes_explicit k (SyncRegionWait kind endpoint region task codeptr) = no_close (of_explicit k) endpoint (Waiting task.identity kind) refl
-closes_explicit k (Work kind endpoint region task count codeptr) = no_close (of_explicit k) endpoint (Loop region.identity task.identity kind count) refl
+closes_explicit k (Work kind endpoint region task count codeptr) = no_close (of_explicit k) endpoint (Worksharing region.identity task.identity kind count) refl
 closes_explicit k (Masked endpoint region task codeptr) = no_close (of_explicit k) endpoint (Masking task.identity) refl
 closes_explicit k (SyncRegion kind endpoint region task codeptr) = no_close (of_explicit k) endpoint (Syncing task.identity kind) refl
 closes_explicit k other = refl
@@ -237,7 +245,7 @@ alike_explicit k (Explicit prior next) (Explicit others ended) same = ap (λ (n 
     second false b both = absurd (cc)
 alike_explicit k (Explicit prior next) (Parallel ended) same = absurd (cc)
 alike_explicit k (Explicit prior next) (Implicit ended) same = absurd (cc)
-alike_explicit k (Explicit prior next) (Loop others task kind count) same = absurd (cc)
+alike_explicit k (Explicit prior next) (Worksharing others task kind count) same = absurd (cc)
 alike_explicit k (Explicit prior next) (Masking task) same = absurd (cc)
 alike_explicit k (Explicit prior next) (Syncing task kind) same = absurd (cc)
 alike_explicit k (Explicit prior next) (Waiting task kind) same = absurd (cc)
@@ -245,8 +253,8 @@ alike_explicit k (Parallel region) (Parallel ended) same = refl
 alike_explicit k (Parallel region) ended same = absurd (cc)
 alike_explicit k (Implicit task) (Implicit ended) same = refl
 alike_explicit k (Implicit task) ended same = absurd (cc)
-alike_explicit k (Loop region task kind count) (Loop others other like more) same = refl
-alike_explicit k (Loop region task kind count) ended same = absurd (cc)
+alike_explicit k (Worksharing region task kind count) (Worksharing others other like more) same = refl
+alike_explicit k (Worksharing region task kind count) ended same = absurd (cc)
 alike_explicit k (Masking task) (Masking ended) same = refl
 alike_explicit k (Masking task) ended same = absurd (cc)
 alike_explicit k (Syncing task kind) (Syncing other like) same = refl

@@ -32,7 +32,7 @@ has_closed fits [] = false
 has_closed fits (event ∷ past) = closes_by fits (change_of event.call) || has_closed fits past
 
 -- the thread on which it is open
-abbrev pub open_after : Bool → Bool → ℕ → Option ℕ → Option ℕ
+abbrev open_after : Bool → Bool → ℕ → Option ℕ → Option ℕ
 open_after true closes t before = Some t
 open_after false true t before = None
 open_after false false t before = before

@@ -20,7 +20,7 @@ found_task k (other ∷ all) creation is = by-test (other.task == k) refl (found
     by-test true same rest found = let e : other ≡ creation = cc in sym (ap (λ (c : Creation). c.task) e) ∙ eqb-true other.task k same
     by-test false same rest found = rest found
 
-found_any : (k : ℕ) (all : List Creation) (creation : Creation) → creation_in k all ≡ Some creation → list_any (is_task k) all ≡ true
+pub found_any : (k : ℕ) (all : List Creation) (creation : Creation) → creation_in k all ≡ Some creation → list_any (is_task k) all ≡ true
 found_any k [] creation is = absurd (cc)
 found_any k (other ∷ all) creation is = by-test (other.task == k) (found_any k all creation) is
   where

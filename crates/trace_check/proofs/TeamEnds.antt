@@ -16,17 +16,7 @@ use Rattle.trace_check.specs.Before.{Join, has_left, joins_of}
 use Rattle.trace_check.specs.Checking.{KnownMembers, OpenRegion, Unbroken, has_left_in, join_at, member_known, member_of, team_size}
 use Rattle.trace_check.proofs.Joined.{not_at}
 use Rattle.trace_check.proofs.TeamTests.{SoundTeam, all_same, by_join, is_beside, sound_team}
-
-left : (a b : Bool) → (a && b) ≡ true → a ≡ true
-left true b both = refl
-left false b both = cc
-
-right : (a b : Bool) → (a && b) ≡ true → b ≡ true
-right true b both = both
-right false b both = absurd (cc)
-
-apart : (b : Bool) → b ≡ true → b ≡ false → ⊥
-apart b holds fails = cc
+use Rattle.trace_check.proofs.Tests.{apart, left, right}
 
 both_so : (a b : Bool) → (a ≡ true → b ≡ true) → (b ≡ true → a ≡ true) → a ≡ b
 both_so true true there back = refl
@@ -50,6 +40,22 @@ sized n [] sound size = refl
 sized n (join ∷ team) sound size =
     let is : join.actual ≡ n = cc in
     rw (eq-eqb join.actual n is, beside_size join.index join.actual n team is sound.0) refl
+
+-- no index of the size or above it has a join
+pub none_above : (n i : ℕ) (team : List Join) → SoundTeam team → team_size team ≡ Some n → n ≤ i → join_at i team ≡ None
+none_above n i team sound size above = by-list team sound (sized n team sound size)
+  where
+    other : (index actual : ℕ) → nat_lt index actual ≡ true → (actual == n) ≡ true → (index == i) ≡ false
+    other index actual below is = grind (arith, nat_tests)
+
+    by-test : (join : Join) (team : List Join) (b : Bool) → b ≡ false → join_at i team ≡ None → cond b (Some join) (join_at i team) ≡ None
+    by-test join team true apart rest = absurd (cc)
+    by-test join team false apart rest = rest
+
+    by-list : (team : List Join) → SoundTeam team → list_all (has_size n) team ≡ true → join_at i team ≡ None
+    by-list [] sound size = refl
+    by-list (join ∷ team) sound size =
+        by-test join team (join.index == i) (other join.index join.actual sound.1 (left (has_size n join) _ size)) (by-list team sound.2 (right (has_size n join) _ size))
 
 -- a test of the join, where there is one
 abbrev or_none : (Join → Bool) → Option Join → Bool

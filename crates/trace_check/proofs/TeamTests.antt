@@ -13,6 +13,7 @@ use Rattle.trace_check.specs.Before.{Join, and_more, greatest_task, is_open_regi
 use Rattle.trace_check.specs.Rules.{have_waited, may_join}
 use Rattle.trace_check.specs.Checking.{KnownMembers, OpenRegion, Unbroken, fits_size, has_waited_in, join_at, member_known, member_of, team_size}
 use Rattle.trace_check.proofs.Kept12.{KeepsAll, keeps_all}
+use Rattle.trace_check.proofs.Tests.{left, right}
 
 -- another index and the same size
 abbrev pub is_beside : ℕ → ℕ → Join → Bool
@@ -21,14 +22,6 @@ is_beside index actual other = not (other.index == index) && (other.actual == ac
 abbrev pub SoundTeam : List Join → Type 0
 SoundTeam [] = Unit {0}
 SoundTeam (join ∷ team) = (list_all (is_beside join.index join.actual) team ≡ true) × (nat_lt join.index join.actual ≡ true) × SoundTeam team
-
-left : (a b : Bool) → (a && b) ≡ true → a ≡ true
-left true b both = refl
-left false b both = cc
-
-right : (a b : Bool) → (a && b) ≡ true → b ≡ true
-right true b both = both
-right false b both = absurd (cc)
 
 same_size : (index actual : ℕ) (team : List Join) → list_all (is_beside index actual) team ≡ true → (v : ℕ) → actual ≡ v → fits_size (team_size team) v ≡ true
 same_size index actual [] beside v is = refl
@@ -70,7 +63,7 @@ none_beside f index actual (join ∷ team) beside =
     by-test true apart rest = absurd (cc)
     by-test false apart rest = rest
 
-pub any_at : (f : Join → Bool) (index : ℕ) (team : List Join) → SoundTeam team → list_any (λ (join : Join). (join.index == index) && f join) team ≡ by_join f (join_at index team)
+any_at : (f : Join → Bool) (index : ℕ) (team : List Join) → SoundTeam team → list_any (λ (join : Join). (join.index == index) && f join) team ≡ by_join f (join_at index team)
 any_at f index [] sound = refl
 any_at f index (join ∷ team) sound = by-test (join.index == index) refl (f join) refl (any_at f index team sound.2)
   where
@@ -86,7 +79,7 @@ pub all_mono : (p q : ℕ → Bool) → ((n : ℕ) → p n ≡ true → q n ≡ 
 all_mono p q more [] holds = refl
 all_mono p q more (x ∷ xs) holds = rw (more x (left (p x) _ holds), all_mono p q more xs (right (p x) _ holds)) refl
 
-any_mono : (p q : Join → Bool) → ((join : Join) → p join ≡ true → q join ≡ true) → (team : List Join) → list_any p team ≡ true → list_any q team ≡ true
+pub any_mono : (p q : Join → Bool) → ((join : Join) → p join ≡ true → q join ≡ true) → (team : List Join) → list_any p team ≡ true → list_any q team ≡ true
 any_mono p q more [] holds = holds
 any_mono p q more (join ∷ team) holds = by-tests (p join) (q join) (more join) holds (any_mono p q more team)
   where
@@ -104,7 +97,7 @@ all_same p q a zero limit few same = refl
 all_same p q a (suc n) limit few same = rw (same a (omega arith), all_same p q (a + 1) n limit (omega arith) same) refl
 
 -- more waits than these are these waits
-pub waited_less : (past : List EventRecord) (r actual waits more : ℕ) → waits ≤ more → have_waited past r actual more ≡ true → have_waited past r actual waits ≡ true
+waited_less : (past : List EventRecord) (r actual waits more : ℕ) → waits ≤ more → have_waited past r actual more ≡ true → have_waited past r actual waits ≡ true
 waited_less past r actual waits more less holds =
     all_mono _ _ (λ index. any_mono _ _ (λ join. at-join (join.index == index) (waits_of join.task past)) (joins_of r past)) (range_with_len 0 actual) holds
   where
@@ -116,7 +109,7 @@ waited_less past r actual waits more less holds =
     at-join false w holds = holds
 
 -- what is kept of an index of an open region tells of its waits
-pub waited_at : (past : List EventRecord) (r index waits : ℕ) → Unbroken past → is_open_region r past ≡ true
+waited_at : (past : List EventRecord) (r index waits : ℕ) → Unbroken past → is_open_region r past ≡ true
     → has_waited_in waits (member_known r index past) ≡ list_any (λ (join : Join). (join.index == index) && nat_le waits (waits_of join.task past)) (joins_of r past)
 waited_at past r index waits unbroken is-open =
     rw is-open (at-join (join_at index (joins_of r past)) ∙ sym (any_at (λ (join : Join). nat_le waits (waits_of join.task past)) index (joins_of r past) (sound_team r past unbroken)))
@@ -149,7 +142,7 @@ each_waited members r n actual waits past region known unbroken is-open kept is 
 -- ---- the begin of an implicit task
 
 -- a new index of the team's size is beside all
-pub beside_all : (index actual : ℕ) (team : List Join) → SoundTeam team
+beside_all : (index actual : ℕ) (team : List Join) → SoundTeam team
     → list_all (is_beside index actual) team ≡ (fits_size (team_size team) actual && not (is_some (join_at index team)))
 beside_all index actual [] sound = refl
 beside_all index actual (join ∷ team) sound = by-test (join.index == index) (join.actual == actual) refl (beside_all index actual team sound.2) (same_size join.index join.actual team sound.0)
@@ -163,7 +156,7 @@ beside_all index actual (join ∷ team) sound = by-test (join.index == index) (j
     by-test false true is rest size = rw (rest, size actual (eqb-true join.actual actual is)) refl
 
 -- whether a task may join an open region, by what is kept of the region and of the index
-pub may_join_is : (join : Join) (past : List EventRecord) (region : Region) → OpenRegion join.region past region → Unbroken past
+may_join_is : (join : Join) (past : List EventRecord) (region : Region) → OpenRegion join.region past region → Unbroken past
     → may_join past (Some join) ≡ ((join.task == greatest_task past + 1) && (nat_lt join.index join.actual && (fits_size region.actual join.actual && not (is_some (member_known join.region join.index past)))))
 may_join_is join past region kept unbroken =
     rw (kept.is_open, kept.actual) (ap (λ (b : Bool). (join.task == greatest_task past + 1) && (nat_lt join.index join.actual && b))

@@ -7,7 +7,7 @@ use Rattle.trace_format.specs.declared.trace.Header.{Header}
 use Rattle.trace_check.specs.declared.breach.Breach.{Breach}
 use Rattle.trace_check.specs.declared.checker.Checker.{Checker}
 use Rattle.trace_check.specs.declared.kept.Kept.{Kept}
-use Rattle.trace_check.specs.Checking.{Checks, FirstIn, IsKnown, KeptSo, KeptWhole, Rises, Unbroken, is_after, is_broken, kept_by, newest_seq}
+use Rattle.trace_check.specs.Checking.{Checks, FirstIn, IsKnown, KeptSo, KeptWhole, Rises, is_after, kept_by, newest_seq}
 use Rattle.trace_check.specs.Rules.{first_broken}
 
 -- the events and one more, the newest first
@@ -74,27 +74,7 @@ pub keeps_now : (kept learned : Kept) (header : Header) (past : List EventRecord
     first_broken past event ≡ None → IsKnown learned (event ∷ past) → KeptSo learned None header (event ∷ past)
 keeps_now kept learned header past event whole none known = record { whole = whole.whole; unbroken = (none, whole.unbroken); known = known }
 
--- one that is not learned, where all is known as before
-still-so : (kept learned : Kept) (known : Option Breach) (header : Header) (past : List EventRecord) → is_some known ≡ false →
-    (IsKnown kept past → Unbroken past → IsKnown learned past) → KeptSo kept known header past → KeptSo learned known header past
-still-so kept learned None header past none still so = record { whole = so.whole; unbroken = so.unbroken; known = still so.known so.unbroken }
-still-so kept learned (Some breach) header past none still so = absurd cc
-
--- and the checker checks the same events
-pub checks_still : (checker : Checker) (learned : Kept) (header : Header) (events : List EventRecord) → is_some checker.breach ≡ false →
-    ((past : List EventRecord) → IsKnown checker.kept past → Unbroken past → IsKnown learned past) → Checks checker header events →
-    Checks (record { kept = learned; breach = checker.breach; last = checker.last }) header events
-checks_still checker learned header events none still checks = record {
-  last = checks.last;
-  rises = checks.rises;
-  kept_so = still-so checker.kept learned checker.breach header (reverse events) none (still (reverse events)) checks.kept_so;
-}
-
 -- where a rule is broken nothing is kept
-forgets : (kept : Kept) (known : Option Breach) (header : Header) (past : List EventRecord) → KeptSo kept known header past → is_some known ≡ true → kept_by kept ≡ 0
+pub forgets : (kept : Kept) (known : Option Breach) (header : Header) (past : List EventRecord) → KeptSo kept known header past → is_some known ≡ true → kept_by kept ≡ 0
 forgets kept None header past so is = cc
 forgets kept (Some breach) header past so is = so.none
-
--- a checker that knows a breach keeps nothing
-pub keeps_nothing : (checker : Checker) (header : Header) (events : List EventRecord) → Checks checker header events → is_broken checker ≡ true → kept_by checker.kept ≡ 0
-keeps_nothing checker header events checks is = forgets checker.kept checker.breach header (reverse events) checks.kept_so is

@@ -1,5 +1,5 @@
 -- What a checker's verdict says of the events that it was told of.
-use Rattle.std.proofs.Common.{◌≡◌, ℕ, suc, zero, ◌<◌, ◌≤◌, ◌==◌, ◌&&◌, ◌||◌, ◌⊎◌, Bool, true, false, not, if◌then◌else◌, List, [], ◌∷◌, ◌++◌, reverse, Option, Some, None, inl, inr, refl, sym, ap, subst, ◌∙◌, arith}
+use Rattle.std.proofs.Common.{◌≡◌, ℕ, suc, zero, ◌<◌, ◌≤◌, ◌==◌, ◌&&◌, ◌||◌, ◌⊎◌, Bool, true, false, not, if◌then◌else◌, List, [], ◌∷◌, ◌++◌, reverse, is_some, Option, Some, None, inl, inr, refl, sym, ap, subst, ◌∙◌, arith}
 use Rattle.std.specs.List.{list_all}
 use Rattle.std.specs.Option.{unwrap_or}
 use Rattle.std.proofs.lemmas.Bool.Decides.{eqb_tells, nat_tests}
@@ -12,9 +12,10 @@ use Rattle.trace_format.specs.declared.trace.Header.{Header}
 use Rattle.trace_check.specs.declared.breach.Breach.{Breach}
 use Rattle.trace_check.specs.declared.checker.Checker.{Checker}
 use Rattle.trace_check.specs.Before.{events_of, has_ended, is_begin, is_end, is_just, is_of}
-use Rattle.trace_check.specs.Checking.{BrokenIn, Checks, KeptBroken, KeptSo, KeptWhole, PartialMask, Rises, Unbroken, newest_seq}
+use Rattle.trace_check.specs.Checking.{BreaksOne, BrokenIn, Checks, KeptBroken, KeptSo, KeptWhole, PartialMask, Rises, Unbroken, entries_of, newest_seq}
 use Rattle.trace_check.specs.Nested.{Broken, BrokenAt, BrokenMask, IsFirstBreach, Nested, has_returned, is_closed, is_whole_mask, last_seq}
 use Rattle.trace_check.specs.Rules.{first_broken, keeps, keeps_dispatches, keeps_threads}
+use Rattle.trace_check.proofs.Telling.{forgets}
 use Rattle.trace_check.proofs.Firsts.{Apart, BreaksIn, apart, breaks_from, breaks_in, broken_at, earlier, first_breaks, first_least, first_to, keeps_each, last_newest, later, rises_before, rises_behind, same, unbroken_at}
 
 -- ---- which breach is first
@@ -323,3 +324,19 @@ told_nested checker header events end is checks closed rule seq (inl mask) = not
 told_nested checker header events end is checks closed rule seq (inr (inl at)) = none-at events rule seq (of-none checker header events is checks).unbroken at
 told_nested checker header events end is checks closed rule seq (inr (inr last)) =
     let wrong : true ≡ false = sym (closed (of-none checker header events is checks) last.returned) ∙ last.open_still in cc
+
+-- ---- what is kept then
+
+-- where nothing is broken neither the mask nor an event breaks a rule
+none-broken : (checker : Checker) (header : Header) (events : List EventRecord) → checker.breach ≡ None → Checks checker header events → BreaksOne header events → ⊥
+none-broken checker header events is checks (rule, seq, inl mask) = not-partial header rule seq (of-none checker header events is checks).whole mask
+none-broken checker header events is checks (rule, seq, inr at) = none-at events rule seq (of-none checker header events is checks).unbroken at
+
+-- so a checker of events of which one breaks a rule keeps nothing
+pub keeps_nothing : (checker : Checker) (header : Header) (events : List EventRecord) → Checks checker header events → BreaksOne header events → entries_of checker ≡ 0
+keeps_nothing checker header events checks breaks = by-breach checker.breach refl
+  where
+    by-breach : (breach : Option Breach) → checker.breach ≡ breach → entries_of checker ≡ 0
+    by-breach None is = absurd (none-broken checker header events is checks breaks)
+    by-breach (Some breach) is =
+        forgets checker.kept checker.breach header (reverse events) checks.kept_so (subst (λ (found : Option Breach). is_some found ≡ true) (sym is) refl)

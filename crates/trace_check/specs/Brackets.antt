@@ -3,7 +3,7 @@ use Rattle.std.specs.Prelude.{ℕ, ◌==◌, ◌&&◌, Bool, false, List, [], �
 use Rattle.ompt_calls.specs.declared.call.Call.{Call}
 use Rattle.ompt_calls.specs.declared.call.Call.TheVariants.{ThreadBegin, ThreadEnd, ParallelBegin, ParallelEnd, TaskCreate, TaskSchedule, ImplicitTask, SyncRegionWait, MutexReleased, Work, Masked, SyncRegion, LockInit, LockDestroy, MutexAcquire, MutexAcquired, Dispatch}
 use Rattle.trace_check.specs.declared.bracket.Bracket.{Bracket}
-use Rattle.trace_check.specs.declared.bracket.Bracket.TheVariants.{Parallel, Implicit, Explicit, Loop, Masking, Syncing, Waiting}
+use Rattle.trace_check.specs.declared.bracket.Bracket.TheVariants.{Parallel, Implicit, Explicit, Worksharing, Masking, Syncing, Waiting}
 use Rattle.trace_check.specs.declared.change.Change.{Change}
 use Rattle.trace_check.specs.declared.change.Change.TheVariants.{Opens, Closes, Stays}
 
@@ -25,7 +25,7 @@ change_of (TaskSchedule prior status next) = at_status status prior.identity nex
 change_of (ImplicitTask endpoint region task actual index flags) = at_endpoint endpoint (Implicit task.identity)
 change_of (SyncRegionWait kind endpoint region task codeptr) = at_endpoint endpoint (Waiting task.identity kind)
 change_of (MutexReleased kind wait_id codeptr) = Stays
-change_of (Work kind endpoint region task count codeptr) = at_endpoint endpoint (Loop region.identity task.identity kind count)
+change_of (Work kind endpoint region task count codeptr) = at_endpoint endpoint (Worksharing region.identity task.identity kind count)
 change_of (Masked endpoint region task codeptr) = at_endpoint endpoint (Masking task.identity)
 change_of (SyncRegion kind endpoint region task codeptr) = at_endpoint endpoint (Syncing task.identity kind)
 change_of (LockInit kind hint variant wait_id codeptr) = Stays
@@ -45,7 +45,7 @@ abbrev pub is_match : Bracket → Bracket → Bool
 is_match (Parallel region) (Parallel other) = region == other
 is_match (Implicit task) (Implicit other) = task == other
 is_match (Explicit prior next) (Explicit others other) = (prior == others) && (next == other)
-is_match (Loop region task kind count) (Loop others other like more) = (task == other) && (kind == like)
+is_match (Worksharing region task kind count) (Worksharing others other like more) = (task == other) && (kind == like)
 is_match (Masking task) (Masking other) = task == other
 is_match (Syncing task kind) (Syncing other like) = (task == other) && (kind == like)
 is_match (Waiting task kind) (Waiting other like) = (task == other) && (kind == like)
@@ -61,7 +61,7 @@ current_in [] = None
 current_in (Parallel region ∷ rest) = current_in rest
 current_in (Implicit task ∷ rest) = Some task
 current_in (Explicit prior next ∷ rest) = Some next
-current_in (Loop region task kind count ∷ rest) = current_in rest
+current_in (Worksharing region task kind count ∷ rest) = current_in rest
 current_in (Masking task ∷ rest) = current_in rest
 current_in (Syncing task kind ∷ rest) = current_in rest
 current_in (Waiting task kind ∷ rest) = current_in rest

@@ -3,7 +3,7 @@ use Rattle.std.specs.Prelude.{ℕ, ◌≡◌, ◌+◌, ◌*◌, ◌<◌, ◌≤�
 use Rattle.std.specs.Ordering.{nat_cmp}
 use Rattle.std.specs.BTreeMap.{BTreeMap, IsOrdered, btree_map_len, get}
 use Rattle.ompt_calls.specs.declared.call.Call.{Call}
-use Rattle.ompt_calls.specs.declared.call.Call.TheVariants.{MutexAcquire}
+use Rattle.ompt_calls.specs.declared.call.Call.TheVariants.{ImplicitTask, MutexAcquire, SyncRegionWait, TaskSchedule}
 use Rattle.ompt_calls.specs.declared.event.EventRecord.{EventRecord}
 use Rattle.trace_format.specs.declared.trace.Header.{Header}
 use Rattle.trace_check.specs.declared.bracket.Bracket.{Bracket}
@@ -21,9 +21,9 @@ use Rattle.trace_check.specs.declared.things.Thread.{Thread}
 use Rattle.trace_check.specs.declared.change.Change.{Change}
 use Rattle.trace_check.specs.declared.change.Change.TheVariants.{Opens, Closes, Stays}
 use Rattle.trace_check.specs.Brackets.{current_in}
-use Rattle.trace_check.specs.Before.{Creation, Join, creations, events_of, greatest_region, greatest_task, has_ended, has_left, has_started, holder, is_complete, is_open_region, joins, joins_of, latest, opened, waits_of}
+use Rattle.trace_check.specs.Before.{Creation, Join, creations, events_of, greatest_region, greatest_task, has_ended, has_left, has_started, holder, is_barrier, is_complete, is_open_region, joins, joins_of, latest, opened, waits_of}
 use Rattle.trace_check.specs.Rules.{first_broken, have_waited}
-use Rattle.trace_check.specs.Nested.{is_whole_mask}
+use Rattle.trace_check.specs.Nested.{BrokenAt, BrokenMask, is_whole_mask}
 
 -- no event breaks a rule
 abbrev pub Unbroken : List EventRecord → Type 0
@@ -168,6 +168,38 @@ pub record IsKnown (kept : Kept) (past : List EventRecord) : Type 0 where
   pub brackets : KnownBrackets kept.brackets past
   pub things : KnownThings kept past
 
+-- what is kept of regions and tasks after an event that breaks no rule, where it was kept before it
+abbrev pub Learns : Kept → Kept → EventRecord → Type 0
+Learns old new event = (past : List EventRecord) → KnownThings old past → Unbroken past → first_broken past event ≡ None → KnownThings new (event ∷ past)
+
+-- the same where the event's thread runs this task before it
+abbrev pub LearnsOf : Option Current → Kept → Kept → EventRecord → Type 0
+LearnsOf current old new event =
+    (past : List EventRecord) → current ≡ running (joins past) (opened event.thread past) → KnownThings old past → Unbroken past
+    → first_broken past event ≡ None → KnownThings new (event ∷ past)
+
+-- what is kept of them is kept still
+abbrev pub LearnsNothing : Kept → Kept → Type 0
+LearnsNothing old new = (past : List EventRecord) → KnownThings old past → KnownThings new past
+
+-- the end of a wait at a barrier
+abbrev pub passes_barrier : Call → Bool
+passes_barrier (SyncRegionWait kind endpoint region task codeptr) = (endpoint == 2) && is_barrier kind
+passes_barrier other = false
+
+-- the task that a thread runs after the begin of a bracket, with the one that it ran before
+abbrev pub current_after : Call → Option Current → Option Current
+current_after (ImplicitTask endpoint region task actual index flags) before =
+    Some (record { task = task.identity; seat = if flags == 1 then None else Some (record { region = region.identity; index = index }) })
+current_after (TaskSchedule prior status next) before = Some (record { task = next.identity; seat = None })
+current_after other before = before
+
+-- what opens a bracket
+abbrev pub is_opening : Change → Bool
+is_opening (Opens bracket) = true
+is_opening (Closes bracket) = false
+is_opening Stays = false
+
 -- the keys of each map ascend
 pub record AreOrdered (kept : Kept) : Type 0 where
   pub threads : IsOrdered nat_cmp kept.threads
@@ -218,6 +250,46 @@ seat_children kept task (Some seat) = member_children (get nat_cmp kept.members 
 -- how many tasks with this creator aren't complete, as it is kept
 abbrev pub children_kept : Kept → Current → ℕ
 children_kept kept current = if current.task == 1 then kept.children else seat_children kept current.task current.seat
+
+-- ---- the counts of children, put anew
+
+-- whether a task has this place in a team, or none
+abbrev pub is_seat : ℕ → ℕ → Option Seat → Bool
+is_seat r index None = false
+is_seat r index (Some seat) = (seat.region == r) && (seat.index == index)
+
+abbrev pub is_unseated : Option Seat → Bool
+is_unseated None = true
+is_unseated (Some seat) = false
+
+-- whether its count is kept with this implicit task, or with this created one. That of the initial task is kept for itself
+abbrev pub counts_in_team : Current → ℕ → ℕ → Bool
+counts_in_team current r index = not (current.task == 1) && is_seat r index current.seat
+
+abbrev pub counts_alone : Current → ℕ → Bool
+counts_alone current task = not (current.task == 1) && (is_unseated current.seat && (current.task == task))
+
+-- the same with another count
+abbrev pub member_with : ℕ → Option Member → Option Member
+member_with children None = None
+member_with children (Some member) = Some (record { task = member.task; left = member.left; waits = member.waits; children = children })
+
+abbrev pub created_with : ℕ → Option Created → Option Created
+created_with children None = None
+created_with children (Some created) = Some (record { creator = created.creator; started = created.started; children = children })
+
+-- all is as before but for the count of this task
+pub record PutsChildren (old new : Kept) (current : Current) (count : ℕ) : Type 0 where
+  pub regions : new.regions ≡ old.regions
+  pub held : new.held ≡ old.held
+  pub greatest_region : new.greatest_region ≡ old.greatest_region
+  pub greatest_task : new.greatest_task ≡ old.greatest_task
+  pub children : new.children ≡ (if current.task == 1 then count else old.children)
+  pub members : (r index : ℕ) → index < 4294967296 → get nat_cmp new.members (r * 4294967296 + index)
+      ≡ (if counts_in_team current r index then member_with count (get nat_cmp old.members (r * 4294967296 + index))
+      else get nat_cmp old.members (r * 4294967296 + index))
+  pub created : (task : ℕ) → get nat_cmp new.created task
+      ≡ (if counts_alone current task then created_with count (get nat_cmp old.created task) else get nat_cmp old.created task)
 
 -- ---- a checker
 
@@ -273,5 +345,10 @@ pub record Checks (checker : Checker) (header : Header) (events : List EventReco
   pub rises : Rises (reverse events)
   pub kept_so : KeptSo checker.kept checker.breach header (reverse events)
 
-abbrev pub is_broken : Checker → Bool
-is_broken checker = is_some checker.breach
+-- how many entries its lists have
+abbrev pub entries_of : Checker → ℕ
+entries_of checker = kept_by checker.kept
+
+-- the mask or an event breaks a rule
+abbrev pub BreaksOne : Header → List EventRecord → Type 0
+BreaksOne header events = (rule seq : ℕ) × (BrokenMask header rule seq ⊎ BrokenAt events rule seq)

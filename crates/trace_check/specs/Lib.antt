@@ -4,3 +4,5 @@ pub mod Rules
 pub mod Nested
 pub mod Opened
 pub mod Checking
+pub mod Answering
+pub mod Items

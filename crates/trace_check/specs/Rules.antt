@@ -5,7 +5,7 @@ use Rattle.ompt_calls.specs.declared.call.Call.{Call}
 use Rattle.ompt_calls.specs.declared.call.Call.TheVariants.{ThreadBegin, ParallelBegin, ParallelEnd, TaskCreate, TaskSchedule, ImplicitTask, SyncRegionWait, MutexReleased, MutexAcquire, MutexAcquired, Dispatch}
 use Rattle.ompt_calls.specs.declared.event.EventRecord.{EventRecord}
 use Rattle.trace_check.specs.declared.bracket.Bracket.{Bracket}
-use Rattle.trace_check.specs.declared.bracket.Bracket.TheVariants.{Parallel, Implicit, Explicit, Loop, Masking, Syncing, Waiting}
+use Rattle.trace_check.specs.declared.bracket.Bracket.TheVariants.{Parallel, Implicit, Explicit, Worksharing, Masking, Syncing, Waiting}
 use Rattle.trace_check.specs.declared.change.Change.{Change}
 use Rattle.trace_check.specs.declared.change.Change.TheVariants.{Opens, Closes, Stays}
 use Rattle.trace_check.specs.Brackets.{change_of, is_innermost}
@@ -55,7 +55,7 @@ abbrev pub may_open : List EventRecord → ℕ → Bracket → Bool
 may_open past t (Parallel region) = true
 may_open past t (Implicit task) = true
 may_open past t (Explicit prior next) = is_just prior (current t past)
-may_open past t (Loop region task kind count) = is_just task (current t past)
+may_open past t (Worksharing region task kind count) = is_just task (current t past)
 may_open past t (Masking task) = is_just task (current t past)
 may_open past t (Syncing task kind) = is_just task (current t past)
 may_open past t (Waiting task kind) = is_just task (current t past)
@@ -126,10 +126,10 @@ keeps_waits past (SyncRegionWait kind endpoint region task codeptr) =
     not (endpoint == 2) || ((not (is_barrier kind) || may_pass past task.identity) && (not (kind == 5) || has_no_child past task.identity))
 keeps_waits past other = true
 
--- rule 14: a dispatch stands in a work of its region and task, a chunk in a loop and a section in sections, and a chunk ends within the loop
+-- rule 14: a dispatch stands directly in a work of its region and task, a chunk in a loop and a section in sections, and a chunk ends within the loop
 abbrev pub is_work_of : ℕ → ℕ → ℕ → ℕ → ℕ → List Bracket → Bool
 is_work_of region task kind start iterations [] = false
-is_work_of region task kind start iterations (Loop others other like count ∷ rest) =
+is_work_of region task kind start iterations (Worksharing others other like count ∷ rest) =
     (others == region) && ((other == task)
     && (((kind == 3) && ((like == 1) && nat_le (start + iterations) count)) || ((kind == 2) && (like == 2))))
 is_work_of region task kind start iterations (bracket ∷ rest) = false

@@ -11,8 +11,8 @@ pub enum Bracket {
     Implicit(u32),
     /// From the switch from a task, to another one, to the completion of that one.
     Explicit(u32, u32),
-    /// A worksharing region or loop: its parallel region, task, kind and count.
-    Loop(u32, u32, u32, u64),
+    /// A work that is shared, as a loop, sections or a single: its parallel region, task, kind and count.
+    Worksharing(u32, u32, u32, u64),
     /// A masked region of this task.
     Masking(u32),
     /// A synchronization region of this task, of this kind.

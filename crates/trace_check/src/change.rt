@@ -58,7 +58,7 @@ pub(crate) fn change_of(call: &Call) -> Change
             ..
         } => at_endpoint(
             *endpoint,
-            Bracket::Loop(region.identity, task.identity, *kind, *count),
+            Bracket::Worksharing(region.identity, task.identity, *kind, *count),
         ),
         Call::Masked { endpoint, task, .. } => {
             at_endpoint(*endpoint, Bracket::Masking(task.identity))
@@ -103,7 +103,7 @@ pub(crate) fn is_match(begun: Bracket, ended: Bracket) -> bool
         (Bracket::Explicit(prior, next), Bracket::Explicit(others, other)) => {
             prior == others && next == other
         }
-        (Bracket::Loop(_, task, kind, _), Bracket::Loop(_, other, like, _)) => {
+        (Bracket::Worksharing(_, task, kind, _), Bracket::Worksharing(_, other, like, _)) => {
             task == other && kind == like
         }
         (Bracket::Masking(task), Bracket::Masking(other)) => task == other,

@@ -1,9 +1,9 @@
 //! The checker.
 
-ghost use Rattle.std.specs.Prelude.{◌≡◌, ◌<◌, ◌≤◌, ◌+◌, ◌++◌, ◌∷◌, [], List, IfSome, MatchResult, OnErr, OnOk, None, Some, reverse, true};
+ghost use Rattle.std.specs.Prelude.{◌≡◌, ◌<◌, ◌≤◌, ◌+◌, ◌++◌, ◌∷◌, [], List, IfSome, MatchResult, OnErr, OnOk, None, Some, min, reverse};
 ghost use Rattle.ompt_calls.specs.declared.event.EventRecord.{EventRecord};
 ghost use Rattle.trace_check.specs.Before.{is_just};
-ghost use Rattle.trace_check.specs.Checking.{Checks, is_broken};
+ghost use Rattle.trace_check.specs.Checking.{BreaksOne, Checks, entries_of};
 ghost use Rattle.trace_check.specs.Nested.{IsFirstBreach, Nested, has_returned, is_whole_mask};
 ghost use Rattle.trace_check.specs.Opened.{open_of};
 ghost use Rattle.trace_format.specs.declared.trace.Header.{Header as HeaderOf};
@@ -47,11 +47,15 @@ impl Checker {
         }
     }
 
-    /// Takes the next event, whose position is greater than that of the last one. Where it finds no memory it has taken none.
+    /// Takes the next event. Where its position is greater than that of the last one, the checker checks one event more. Where it finds no memory it has
+    /// taken none.
     pub fn step(&mut self, event: &EventRecord) -> Result<(), AllocError>
-        requires rises { IfSome self.old.last (λ last. last < event.now.seq) }
         ensures last { OnOk result (self.new.last ≡ Some event.now.seq) }
         ensures stays { OnErr result (self.new.last ≡ self.old.last) }
+        ensures checks { OnOk result ((header : HeaderOf) (events : List EventRecord) → Checks self.old header events →
+            IfSome self.old.last (λ last. last < event.now.seq) → Checks self.new header (events ++ event.now ∷ [])) }
+        ensures unchanged { OnErr result ((header : HeaderOf) (events : List EventRecord) → Checks self.old header events →
+            Checks self.new header events) }
     {
         if self.breach.is_none() {
             match self.kept.first_broken(event) {
@@ -97,11 +101,13 @@ impl Checker {
         }
     }
 
-    /// How much it keeps: the sum of the lengths of its lists. It is at most what the trace has open, and nothing once a rule is broken.
-    #[tactic(auto, using(crate::proofs::Few::keeps_few, crate::proofs::Telling::keeps_nothing))]
+    /// How much it keeps: the sum of the lengths of its lists, or the greatest number where that is less. It is at most what the trace has open, and
+    /// nothing once a rule is broken.
+    #[tactic(auto, using(crate::proofs::Verdicts::keeps_nothing))]
     pub fn kept(&self) -> usize
+        ensures sum { result ≡ min (entries_of self.now) 18446744073709551615 }
         ensures few { (header : HeaderOf) (events : List EventRecord) → Checks self.now header events → result ≤ open_of (reverse events) + 16 }
-        ensures none { (header : HeaderOf) (events : List EventRecord) → Checks self.now header events → is_broken self.now ≡ true → result ≡ 0 }
+        ensures none { (header : HeaderOf) (events : List EventRecord) → Checks self.now header events → BreaksOne header events → result ≡ 0 }
     {
         self.kept.length()
     }

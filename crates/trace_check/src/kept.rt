@@ -1,6 +1,6 @@
 //! All that is kept of what a trace has open.
 
-ghost use Rattle.std.specs.Prelude.{◌≡◌, ◌≤◌, List, []};
+ghost use Rattle.std.specs.Prelude.{◌≡◌, List, [], min};
 ghost use Rattle.std.specs.BTreeMap.{IsOrdered, values};
 ghost use Rattle.std.specs.List.{list_all};
 ghost use Rattle.std.specs.Ordering.{nat_cmp};
@@ -106,8 +106,7 @@ impl Kept {
 
     /// The sum of the lengths, or the greatest number where that is less.
     pub fn length(&self) -> usize
-        ensures at_most { result ≤ kept_by self.now }
-        ensures none { kept_by self.now ≡ 0 → result ≡ 0 }
+        ensures sum { result ≡ min (kept_by self.now) 18446744073709551615 }
         ensures ordered { AreOrdered self.now }
     {
         self.threads

@@ -1,12 +1,13 @@
 //! What an event adds to what is kept.
 
-ghost use Rattle.std.specs.Prelude.{◌≡◌, ◌∷◌, ◌+◌, List, None, OnErr, OnOk, Some};
+ghost use Rattle.std.specs.Prelude.{◌≡◌, ◌∷◌, ◌||◌, ℕ, List, None, OnErr, OnOk, Some, is_some, true, false};
 ghost use Rattle.std.specs.Ordering.{nat_cmp};
 ghost use Rattle.std.specs.BTreeMap.{get};
 ghost use Rattle.trace_check.specs.Brackets.{change_of};
 ghost use Rattle.trace_check.specs.declared.change.Change.TheVariants.{Opens, Stays};
 ghost use Rattle.ompt_calls.specs.declared.event.EventRecord.{EventRecord};
-ghost use Rattle.trace_check.specs.Checking.{IsKnown, Unbroken};
+ghost use Rattle.trace_check.specs.Before.{creation_of, is_end, join_of, region_begun, task_started, waiter};
+ghost use Rattle.trace_check.specs.Checking.{IsKnown, Learns, LearnsNothing, LearnsOf, PutsChildren, Unbroken, asked_in, current_after, is_opening};
 ghost use Rattle.trace_check.specs.Rules.{first_broken};
 
 use crate::bracket::Bracket;
@@ -22,7 +23,11 @@ use std::alloc::AllocError;
 
 impl Kept {
     /// Learns of an event that breaks no rule. Where it finds no memory, or a count would pass the greatest value, all is known as before.
-    pub fn learn(&mut self, event: &EventRecord) -> Result<(), AllocError> {
+    pub fn learn(&mut self, event: &EventRecord) -> Result<(), AllocError>
+        ensures learned { OnOk result ((past : List EventRecord) → IsKnown self.old past → Unbroken past → first_broken past event.now ≡ None →
+            IsKnown self.new (event.now ∷ past)) }
+        ensures unchanged { OnErr result ((past : List EventRecord) → IsKnown self.old past → Unbroken past → IsKnown self.new past) }
+    {
         let Some(thread) = self.threads.get(&event.thread).copied() else {
             self.threads.insert(event.thread, Thread::begun())?;
             return Ok(());
@@ -46,6 +51,9 @@ impl Kept {
     ) -> Result<(), AllocError>
         requires known { get nat_cmp self.old.threads event.now.thread ≡ Some thread }
         requires opens { change_of event.now.call ≡ Opens bracket }
+        ensures learned { OnOk result ((past : List EventRecord) → IsKnown self.old past → Unbroken past → first_broken past event.now ≡ None →
+            IsKnown self.new (event.now ∷ past)) }
+        ensures unchanged { OnErr result ((past : List EventRecord) → IsKnown self.old past → Unbroken past → IsKnown self.new past) }
     {
         let depth = thread.depth.checked_add(1).ok_or(AllocError)?;
         let key = bracket_key(event.thread, thread.depth);
@@ -54,12 +62,12 @@ impl Kept {
             before: thread.current,
         };
         self.brackets.insert(key, opened)?;
-        if let Err(error) = self.enter(&event.call, thread.current) {
+        if let Err(error) = self.enter(event, thread.current) {
             let _opened = self.brackets.remove(&key);
             return Err(error);
         }
         let next = Thread {
-            current: current_in(&event.call, thread.current),
+            current: current_after(&event.call, thread.current),
             depth,
             ..thread.after(&event.call)
         };
@@ -71,27 +79,46 @@ impl Kept {
     fn stay(&mut self, event: &EventRecord, thread: Thread) -> Result<(), AllocError>
         requires known { get nat_cmp self.old.threads event.now.thread ≡ Some thread }
         requires stays { change_of event.now.call ≡ Stays }
+        ensures learned { OnOk result ((past : List EventRecord) → IsKnown self.old past → Unbroken past → first_broken past event.now ≡ None →
+            IsKnown self.new (event.now ∷ past)) }
+        ensures unchanged { OnErr result ((past : List EventRecord) → IsKnown self.old past → Unbroken past → IsKnown self.new past) }
     {
-        match &event.call {
-            Call::TaskCreate { fresh, .. } => self.create(fresh.identity, thread.current)?,
-            Call::MutexAcquired { wait_id, .. } => {
-                self.held.insert(*wait_id, event.thread)?;
-            }
-            Call::MutexReleased { wait_id, .. } => {
-                let _holder = self.held.remove(wait_id);
-            }
-            _ => {}
-        }
+        self.note(event, thread.current)?;
         put_thread(&mut self.threads, event.thread, thread.after(&event.call));
         Ok(())
     }
 
-    /// Learns what the begin of a bracket tells of regions and tasks.
-    fn enter(&mut self, call: &Call, current: Option<Current>) -> Result<(), AllocError>
+    /// Learns what an event that leaves the brackets tells of tasks, and of what is held.
+    fn note(&mut self, event: &EventRecord, current: Option<Current>) -> Result<(), AllocError>
+        requires stays { change_of event.now.call ≡ Stays }
         ensures threads { self.new.threads ≡ self.old.threads }
         ensures brackets { self.new.brackets ≡ self.old.brackets }
+        ensures learned { OnOk result (LearnsOf current self.old self.new event.now) }
+        ensures unchanged { OnErr result (LearnsNothing self.old self.new) }
     {
-        match call {
+        match &event.call {
+            Call::TaskCreate { fresh, .. } => self.create(fresh.identity, current),
+            Call::MutexAcquired { wait_id, .. } => {
+                self.held.insert(*wait_id, event.thread)?;
+                Ok(())
+            }
+            Call::MutexReleased { wait_id, .. } => {
+                let _holder = self.held.remove(wait_id);
+                Ok(())
+            }
+            _ => Ok(()),
+        }
+    }
+
+    /// Learns what the begin of a bracket tells of regions and tasks.
+    fn enter(&mut self, event: &EventRecord, current: Option<Current>) -> Result<(), AllocError>
+        requires opens { is_opening (change_of event.now.call) ≡ true }
+        ensures threads { self.new.threads ≡ self.old.threads }
+        ensures brackets { self.new.brackets ≡ self.old.brackets }
+        ensures learned { OnOk result (LearnsOf current self.old self.new event.now) }
+        ensures unchanged { OnErr result (LearnsNothing self.old self.new) }
+    {
+        match &event.call {
             Call::ParallelBegin { region, .. } => self.begin_region(region.identity),
             Call::ImplicitTask {
                 region,
@@ -100,7 +127,10 @@ impl Kept {
                 index,
                 flags,
                 ..
-            } if *flags != INITIAL => {
+            } => {
+                if *flags == INITIAL {
+                    return Ok(());
+                }
                 let seat = Seat {
                     region: region.identity,
                     index: *index,
@@ -111,7 +141,13 @@ impl Kept {
                 self.start(next.identity);
                 Ok(())
             }
-            Call::SyncRegionWait { kind, .. } if is_barrier(*kind) => self.begin_wait(current),
+            Call::SyncRegionWait { kind, .. } => {
+                if is_barrier(*kind) {
+                    self.begin_wait(current)
+                } else {
+                    Ok(())
+                }
+            }
             _ => Ok(()),
         }
     }
@@ -120,6 +156,8 @@ impl Kept {
     fn begin_region(&mut self, region: u32) -> Result<(), AllocError>
         ensures threads { self.new.threads ≡ self.old.threads }
         ensures brackets { self.new.brackets ≡ self.old.brackets }
+        ensures learned { OnOk result ((event : EventRecord) → region_begun event.call ≡ Some region → Learns self.old self.new event) }
+        ensures unchanged { OnErr result (LearnsNothing self.old self.new) }
     {
         let begun = Region {
             actual: None,
@@ -135,6 +173,10 @@ impl Kept {
     fn join(&mut self, seat: Seat, task: u32, actual: u32) -> Result<(), AllocError>
         ensures threads { self.new.threads ≡ self.old.threads }
         ensures brackets { self.new.brackets ≡ self.old.brackets }
+        ensures learned { OnOk result ((event : EventRecord) →
+            join_of event.call ≡ Some (record { region = seat.region; task = task; actual = actual; index = seat.index }) →
+            Learns self.old self.new event) }
+        ensures unchanged { OnErr result (LearnsNothing self.old self.new) }
     {
         let Some(open) = self.regions.get(&seat.region).copied() else {
             return Ok(());
@@ -151,7 +193,8 @@ impl Kept {
         let joined = Region {
             actual: Some(actual),
             had,
-            ..open
+            // The new one has begun none.
+            waited: 0,
         };
         put_region(&mut self.regions, seat.region, joined);
         self.greatest_task = task;
@@ -162,6 +205,7 @@ impl Kept {
     fn start(&mut self, task: u32)
         ensures threads { self.new.threads ≡ self.old.threads }
         ensures brackets { self.new.brackets ≡ self.old.brackets }
+        ensures learned { (event : EventRecord) → task_started event.call ≡ Some task → Learns self.old self.new event }
     {
         if let Some(created) = self.created.get(&task).copied() {
             let started = Created {
@@ -176,14 +220,13 @@ impl Kept {
     fn begin_wait(&mut self, current: Option<Current>) -> Result<(), AllocError>
         ensures threads { self.new.threads ≡ self.old.threads }
         ensures brackets { self.new.brackets ≡ self.old.brackets }
+        ensures learned { OnOk result ((event : EventRecord) → is_some (waiter event.call) ≡ true → LearnsOf current self.old self.new event) }
+        ensures unchanged { OnErr result (LearnsNothing self.old self.new) }
     {
-        let Some(
-            Current {
-                seat: Some(seat),
-                ..
-            },
-        ) = current
-        else {
+        let Some(current) = current else {
+            return Ok(());
+        };
+        let Some(seat) = current.seat else {
             return Ok(());
         };
         let key = member_key(seat.region, seat.index);
@@ -199,6 +242,9 @@ impl Kept {
     fn create(&mut self, task: u32, creator: Option<Current>) -> Result<(), AllocError>
         ensures threads { self.new.threads ≡ self.old.threads }
         ensures brackets { self.new.brackets ≡ self.old.brackets }
+        ensures learned { OnOk result ((event : EventRecord) → (before : ℕ) →
+            creation_of event.call ≡ Some (record { creator = before; task = task }) → LearnsOf creator self.old self.new event) }
+        ensures unchanged { OnErr result (LearnsNothing self.old self.new) }
     {
         let Some(creator) = creator else {
             return Ok(());
@@ -219,6 +265,7 @@ impl Kept {
     pub fn put_children(&mut self, creator: Current, children: u64)
         ensures threads { self.new.threads ≡ self.old.threads }
         ensures brackets { self.new.brackets ≡ self.old.brackets }
+        ensures puts { PutsChildren self.old self.new creator children }
     {
         if creator.task == INITIAL_TASK {
             self.children = children;
@@ -248,7 +295,9 @@ impl Kept {
 }
 
 /// The task that a thread runs after the begin of a bracket, with the one that it ran before.
-fn current_in(call: &Call, before: Option<Current>) -> Option<Current> {
+fn current_after(call: &Call, before: Option<Current>) -> Option<Current>
+    ensures { result ≡ current_after call.now before }
+{
     match call {
         Call::ImplicitTask {
             region,
@@ -280,7 +329,9 @@ fn current_in(call: &Call, before: Option<Current>) -> Option<Current> {
 
 impl Thread {
     /// A thread that had its begin.
-    fn begun() -> Thread {
+    fn begun() -> Thread
+        ensures { result ≡ record { ended = false; later = false; asked = None; current = None; depth = 0 } }
+    {
         Thread {
             ended: false,
             later: false,
@@ -291,7 +342,13 @@ impl Thread {
     }
 
     /// The thread after a later event, which leaves its brackets as they are.
-    pub fn after(self, call: &Call) -> Thread {
+    pub fn after(self, call: &Call) -> Thread
+        ensures ended { result.ended ≡ self.ended || is_end call.now }
+        ensures later { result.later ≡ true }
+        ensures asked { result.asked ≡ asked_in (Some call.now) }
+        ensures current { result.current ≡ self.current }
+        ensures depth { result.depth ≡ self.depth }
+    {
         let asked = match call {
             Call::MutexAcquire { kind, wait_id, .. } => Some(Asked {
                 kind: *kind,

@@ -1,11 +1,12 @@
 //! What the end of a bracket takes from what is kept.
 
-ghost use Rattle.std.specs.Prelude.{◌≡◌, ◌∷◌, List, None, Some, true};
+ghost use Rattle.std.specs.Prelude.{◌≡◌, ◌∷◌, List, None, Some, is_some, true};
 ghost use Rattle.std.specs.Ordering.{nat_cmp};
 ghost use Rattle.std.specs.BTreeMap.{get};
 ghost use Rattle.ompt_calls.specs.declared.event.EventRecord.{EventRecord};
 ghost use Rattle.trace_check.specs.Brackets.{change_of};
-ghost use Rattle.trace_check.specs.Checking.{IsKnown, Unbroken, is_closing};
+ghost use Rattle.trace_check.specs.Before.{left_task, region_ended, task_completed};
+ghost use Rattle.trace_check.specs.Checking.{IsKnown, Learns, LearnsOf, Unbroken, is_closing, passes_barrier};
 ghost use Rattle.trace_check.specs.Rules.{first_broken};
 
 use crate::kept::Kept;
@@ -20,10 +21,12 @@ impl Kept {
     pub fn close(&mut self, event: &EventRecord, thread: Thread)
         requires known { get nat_cmp self.old.threads event.now.thread ≡ Some thread }
         requires closes { is_closing (change_of event.now.call) ≡ true }
+        ensures learned { (past : List EventRecord) → IsKnown self.old past → Unbroken past → first_broken past event.now ≡ None →
+            IsKnown self.new (event.now ∷ past) }
     {
         let depth = thread.depth.saturating_sub(1);
         let opened = self.brackets.remove(&bracket_key(event.thread, depth));
-        self.leave(&event.call, thread.current);
+        self.leave(event, thread.current);
         let next = Thread {
             current: match opened {
                 Some(opened) => opened.before,
@@ -36,15 +39,21 @@ impl Kept {
     }
 
     /// Learns what the end of a bracket tells of regions and tasks.
-    fn leave(&mut self, call: &Call, current: Option<Current>)
+    fn leave(&mut self, event: &EventRecord, current: Option<Current>)
+        requires closes { is_closing (change_of event.now.call) ≡ true }
         ensures threads { self.new.threads ≡ self.old.threads }
         ensures brackets { self.new.brackets ≡ self.old.brackets }
+        ensures learned { LearnsOf current self.old self.new event.now }
     {
-        match call {
+        match &event.call {
             Call::ParallelEnd { region, .. } => self.end_region(region.identity),
             Call::ImplicitTask { .. } => self.leave_team(current),
             Call::TaskSchedule { prior, .. } => self.complete(prior.identity),
-            Call::SyncRegionWait { kind, .. } if is_barrier(*kind) => self.pass(current),
+            Call::SyncRegionWait { kind, .. } => {
+                if is_barrier(*kind) {
+                    self.pass(current);
+                }
+            }
             _ => {}
         }
     }
@@ -53,18 +62,16 @@ impl Kept {
     fn end_region(&mut self, region: u32)
         ensures threads { self.new.threads ≡ self.old.threads }
         ensures brackets { self.new.brackets ≡ self.old.brackets }
+        ensures learned { (event : EventRecord) → region_ended event.call ≡ Some region → Learns self.old self.new event }
     {
-        let ended = self.regions.remove(&region);
-        if let Some(
-            Region {
-                actual: Some(actual),
-                ..
-            },
-        ) = ended
-        {
-            for index in 0..actual {
-                let _member = self.members.remove(&member_key(region, index));
-            }
+        let Some(ended) = self.regions.remove(&region) else {
+            return;
+        };
+        let Some(actual) = ended.actual else {
+            return;
+        };
+        for index in 0..actual {
+            let _member = self.members.remove(&member_key(region, index));
         }
     }
 
@@ -72,14 +79,12 @@ impl Kept {
     fn leave_team(&mut self, current: Option<Current>)
         ensures threads { self.new.threads ≡ self.old.threads }
         ensures brackets { self.new.brackets ≡ self.old.brackets }
+        ensures learned { (event : EventRecord) → is_some (left_task event.call) ≡ true → LearnsOf current self.old self.new event }
     {
-        let Some(
-            Current {
-                seat: Some(seat),
-                ..
-            },
-        ) = current
-        else {
+        let Some(current) = current else {
+            return;
+        };
+        let Some(seat) = current.seat else {
             return;
         };
         let key = member_key(seat.region, seat.index);
@@ -99,6 +104,7 @@ impl Kept {
     fn complete(&mut self, task: u32)
         ensures threads { self.new.threads ≡ self.old.threads }
         ensures brackets { self.new.brackets ≡ self.old.brackets }
+        ensures learned { (event : EventRecord) → task_completed event.call ≡ Some task → Learns self.old self.new event }
     {
         if let Some(created) = self.created.remove(&task) {
             let children = self.children_of(created.creator);
@@ -110,6 +116,7 @@ impl Kept {
     fn pass(&mut self, current: Option<Current>)
         ensures threads { self.new.threads ≡ self.old.threads }
         ensures brackets { self.new.brackets ≡ self.old.brackets }
+        ensures learned { (event : EventRecord) → passes_barrier event.call ≡ true → LearnsOf current self.old self.new event }
     {
         let Some(
             Current {

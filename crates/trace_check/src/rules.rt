@@ -122,8 +122,8 @@ impl Kept {
         }
     }
 
-    /// Rule 14: a dispatch stands in a work of its region and task, a chunk in a loop and a section in sections, and a chunk ends within the
-    /// loop.
+    /// Rule 14: a dispatch stands directly in a work of its region and task, a chunk in a loop and a section in sections, and a chunk ends
+    /// within the loop.
     fn keeps_dispatches(&self, number: u8, thread: Option<Thread>, call: &Call) -> bool
         ensures { (past : List EventRecord) → IsKnown self.now past → thread ≡ thread_known number past → result ≡ keeps_dispatches past number call.now }
     {
@@ -135,7 +135,7 @@ impl Kept {
                 start,
                 iterations,
             } => match self.innermost(number, thread) {
-                Some(Bracket::Loop(others, other, like, count)) => {
+                Some(Bracket::Worksharing(others, other, like, count)) => {
                     others == region.identity
                         && other == task.identity
                         && ((*kind == CHUNK
@@ -223,7 +223,7 @@ fn may_open(number: u8, thread: Option<Thread>, bracket: Bracket) -> bool
     match bracket {
         Bracket::Parallel(_) | Bracket::Implicit(_) => true,
         Bracket::Explicit(task, _)
-        | Bracket::Loop(_, task, _, _)
+        | Bracket::Worksharing(_, task, _, _)
         | Bracket::Masking(task)
         | Bracket::Syncing(task, _)
         | Bracket::Waiting(task, _) => is_current(number, thread, task),

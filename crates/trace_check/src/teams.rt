@@ -6,7 +6,7 @@ ghost use Rattle.std.specs.List.{list_all, range_with_len};
 ghost use Rattle.std.specs.BTreeMap.{get};
 ghost use Rattle.ompt_calls.specs.declared.event.EventRecord.{EventRecord};
 ghost use Rattle.trace_check.specs.Before.{events_of, is_barrier, is_open_region, join_of, joins, joins_of, opened};
-ghost use Rattle.trace_check.specs.Checking.{IsKnown, Unbroken, children_kept, children_of, fits_size, has_left_in, has_waited_in, running, team_size, thread_known};
+ghost use Rattle.trace_check.specs.Checking.{IsKnown, KnownThings, Unbroken, children_kept, children_of, fits_size, has_left_in, has_waited_in, running, team_size, thread_known};
 ghost use Rattle.trace_check.specs.Rules.{begins_initial, has_no_child, have_waited, is_initial, keeps_brackets, keeps_tasks, keeps_teams, keeps_waits, may_join, may_pass};
 
 use crate::change::{BEGIN, END};
@@ -213,7 +213,7 @@ impl Kept {
     /// How many of the tasks that this one created aren't complete.
     pub fn children_of(&self, current: Current) -> u64
         ensures kept { result ≡ children_kept self.now current }
-        ensures counted { (past : List EventRecord) → (t : ℕ) → IsKnown self.now past → Unbroken past → running (joins past) (opened t past) ≡ Some current →
+        ensures counted { (past : List EventRecord) → (t : ℕ) → KnownThings self.now past → Unbroken past → running (joins past) (opened t past) ≡ Some current →
             result ≡ children_of current.task past }
     {
         if current.task == INITIAL_TASK {

@@ -1,6 +1,8 @@
 use Rattle.std.proofs.Common.{◌≡◌}
 use Rattle.trace_check.proofs.kept.Kept.end_region.Given as goal
+use Rattle.trace_check.proofs.EndedRegion.{TakenOut}
 
--- the threads and their brackets stay
+-- the members below the index are taken out, and all else stays
 abbrev pub invariant-loop-index : goal.invariant-loop-index
-invariant-loop-index l = (l.self.threads ≡ l.fn.self.threads) × (l.self.brackets ≡ l.fn.self.brackets)
+invariant-loop-index l =
+    (l.self ≡ record l.initial.self { members = l.self.members }) × TakenOut l.initial.self.members l.self.members l.region l.index

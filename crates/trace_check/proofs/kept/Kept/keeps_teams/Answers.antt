@@ -4,9 +4,7 @@ use Rattle.trace_check.specs.Checking.{IsRegion, OpenRegion}
 use Rattle.trace_check.proofs.kept.Kept.keeps_teams.Goals as goal
 use Rattle.trace_check.proofs.Names.{ends_open}
 use Rattle.trace_check.proofs.TeamEnds.{team_left}
-
-apart : (b : Bool) → b ≡ true → b ≡ false → ⊥
-apart b holds fails = cc
+use Rattle.trace_check.proofs.Tests.{apart}
 
 pub returns-then-open-from : goal.returns-then-open-from
 returns-then-open-from c = λ past t known unbroken keeps.
