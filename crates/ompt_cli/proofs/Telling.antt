@@ -109,6 +109,7 @@ lost-write (end.Trapped number) before now steady rose = absurd (omega (arith, s
 lost-write end.Deadlock before now steady rose = absurd (omega (arith, steady (λ is. cc), rose))
 lost-write (end.Limit number) before now steady rose = absurd (omega (arith, steady (λ is. cc), rose))
 lost-write (end.TraceRefused refusal) before now steady rose = absurd (omega (arith, steady (λ is. cc), rose))
+lost-write (end.Broken breach) before now steady rose = absurd (omega (arith, steady (λ is. cc), rose))
 lost-write end.ReadFault before now steady rose = absurd (omega (arith, steady (λ is. cc), rose))
 lost-write end.Memory before now steady rose = absurd (omega (arith, steady (λ is. cc), rose))
 
@@ -125,6 +126,7 @@ lost-read (end.Trapped number) before now steady rose = absurd (omega (arith, st
 lost-read end.Deadlock before now steady rose = absurd (omega (arith, steady (λ is. cc), rose))
 lost-read (end.Limit number) before now steady rose = absurd (omega (arith, steady (λ is. cc), rose))
 lost-read (end.TraceRefused refusal) before now steady rose = absurd (omega (arith, steady (λ is. cc), rose))
+lost-read (end.Broken breach) before now steady rose = absurd (omega (arith, steady (λ is. cc), rose))
 lost-read end.WriteFault before now steady rose = absurd (omega (arith, steady (λ is. cc), rose))
 lost-read end.Memory before now steady rose = absurd (omega (arith, steady (λ is. cc), rose))
 
@@ -140,6 +142,7 @@ after-may (end.Trapped number) after = tt
 after-may end.Deadlock after = tt
 after-may (end.Limit number) after = tt
 after-may (end.TraceRefused refusal) after = after
+after-may (end.Broken breach) after = after
 after-may end.ReadFault after = absurd after
 after-may end.WriteFault after = tt
 after-may end.Memory after = tt

@@ -22,7 +22,7 @@ use Rattle.ompt_words.specs.declared.settings.Command.TheVariants.{Generate as G
 use Rattle.ompt_words.specs.declared.settings.Settings.{Settings}
 use Rattle.ompt_cli.specs.declared.end.Refusal.{Refusal}
 use Rattle.ompt_cli.specs.declared.end.End.{End}
-use Rattle.ompt_cli.specs.declared.end.End.TheVariants.{Done, Returned, Shown, Read, TraceRefused, Usage, Refused, Trapped, Deadlock, Limit, ReadFault, WriteFault, Memory}
+use Rattle.ompt_cli.specs.declared.end.End.TheVariants.{Done, Returned, Shown, Read, TraceRefused, Broken, Usage, Refused, Trapped, Deadlock, Limit, ReadFault, WriteFault, Memory}
 use Rattle.ompt_cli.specs.declared.report.Report.{Report}
 
 -- the run that a report is of. A guest is a box of a vtable and what lies behind it
@@ -82,6 +82,7 @@ MayRefuse why (Trapped number) = ⊥
 MayRefuse why Deadlock = ⊥
 MayRefuse why (Limit number) = ⊥
 MayRefuse why (TraceRefused refusal) = ⊥
+MayRefuse why (Broken breach) = ⊥
 MayRefuse why ReadFault = ⊤
 MayRefuse why WriteFault = ⊥
 MayRefuse why Memory = ⊤
@@ -98,6 +99,7 @@ MayRun (Trapped number) = ⊤
 MayRun Deadlock = ⊤
 MayRun (Limit number) = ⊤
 MayRun (TraceRefused refusal) = ⊥
+MayRun (Broken breach) = ⊥
 MayRun ReadFault = ⊤
 MayRun WriteFault = ⊤
 MayRun Memory = ⊤
@@ -114,6 +116,7 @@ IsUnread (Trapped number) = ⊥
 IsUnread Deadlock = ⊥
 IsUnread (Limit number) = ⊥
 IsUnread (TraceRefused refusal) = ⊥
+IsUnread (Broken breach) = ⊥
 IsUnread ReadFault = ⊥
 IsUnread WriteFault = ⊤
 IsUnread Memory = ⊤
@@ -130,6 +133,7 @@ IsShowing (Trapped number) = ⊥
 IsShowing Deadlock = ⊥
 IsShowing (Limit number) = ⊥
 IsShowing (TraceRefused refusal) = ⊥
+IsShowing (Broken breach) = ⊥
 IsShowing ReadFault = ⊥
 IsShowing WriteFault = ⊤
 IsShowing Memory = ⊤
@@ -146,6 +150,7 @@ IsReading (Trapped number) = ⊥
 IsReading Deadlock = ⊥
 IsReading (Limit number) = ⊥
 IsReading (TraceRefused refusal) = ⊤
+IsReading (Broken breach) = ⊤
 IsReading ReadFault = ⊤
 IsReading WriteFault = ⊤
 IsReading Memory = ⊤
@@ -162,6 +167,7 @@ IsBeforeRun (Trapped number) = ⊥
 IsBeforeRun Deadlock = ⊥
 IsBeforeRun (Limit number) = ⊥
 IsBeforeRun (TraceRefused refusal) = ⊥
+IsBeforeRun (Broken breach) = ⊥
 IsBeforeRun ReadFault = ⊤
 IsBeforeRun WriteFault = ⊥
 IsBeforeRun Memory = ⊤
@@ -178,6 +184,7 @@ IsAfterRun (Trapped number) = ⊤
 IsAfterRun Deadlock = ⊤
 IsAfterRun (Limit number) = ⊤
 IsAfterRun (TraceRefused refusal) = ⊥
+IsAfterRun (Broken breach) = ⊥
 IsAfterRun ReadFault = ⊥
 IsAfterRun WriteFault = ⊤
 IsAfterRun Memory = ⊤
@@ -194,6 +201,7 @@ TellsRun (Trapped number) = ⊤
 TellsRun Deadlock = ⊤
 TellsRun (Limit number) = ⊤
 TellsRun (TraceRefused refusal) = ⊥
+TellsRun (Broken breach) = ⊥
 TellsRun ReadFault = ⊥
 TellsRun WriteFault = ⊥
 TellsRun Memory = ⊥
@@ -210,6 +218,7 @@ EndsWith whole (Trapped number) = whole ≡ Trapped number
 EndsWith whole Deadlock = whole ≡ Deadlock
 EndsWith whole (Limit number) = whole ≡ Limit number
 EndsWith whole (TraceRefused refusal) = ⊥
+EndsWith whole (Broken breach) = ⊥
 EndsWith whole ReadFault = ⊥
 EndsWith whole WriteFault = ⊤
 EndsWith whole Memory = ⊤

@@ -17,8 +17,9 @@ use Rattle.c_check.specs.Faults.{fault_number as rule_number, fault_spot as rule
 use Rattle.std.specs.Fmt.{decimal, signed_decimal}
 use Rattle.trace_format.specs.declared.refusal.Refusal.{Refusal as TraceRefusal}
 use Rattle.trace_format.specs.Refusing.{number_of_reason}
+use Rattle.trace_check.specs.declared.breach.Breach.{Breach}
 use Rattle.ompt_cli.specs.declared.end.End.{End}
-use Rattle.ompt_cli.specs.declared.end.End.TheVariants.{Done, Returned, Shown, Read, TraceRefused, Usage, Refused, Trapped, Deadlock, Limit, ReadFault, WriteFault, Memory}
+use Rattle.ompt_cli.specs.declared.end.End.TheVariants.{Done, Returned, Shown, Read, TraceRefused, Broken, Usage, Refused, Trapped, Deadlock, Limit, ReadFault, WriteFault, Memory}
 
 abbrev pub status_of : End → ℕ
 status_of Done = 0
@@ -31,6 +32,7 @@ status_of (Trapped number) = 4
 status_of Deadlock = 5
 status_of (Limit number) = 6
 status_of (TraceRefused refusal) = 7
+status_of (Broken breach) = 7
 status_of ReadFault = 8
 status_of WriteFault = 9
 status_of Memory = 10
@@ -73,6 +75,10 @@ refusal_text why = refusal_at (refusal_number why) (refusal_spot why)
 abbrev pub trace_refusal_text : TraceRefusal → List ℕ
 trace_refusal_text refusal = codes "trace refused " ++ decimal (number_of_reason refusal.reason) ++ codes " at " ++ decimal refusal.offset
 
+-- the line that tells the first breach of a trace, without its newline
+abbrev pub breach_text : Breach → List ℕ
+breach_text breach = codes "breach " ++ decimal breach.rule ++ codes " at " ++ decimal breach.seq
+
 -- the names of the limits, which have the numbers 1 to 7
 abbrev pub limit_text : ℕ → List ℕ
 limit_text number =
@@ -90,6 +96,7 @@ line_of_end (Trapped number) = codes "trapped " ++ decimal number ++ 10 ∷ []
 line_of_end Deadlock = codes "deadlock" ++ 10 ∷ []
 line_of_end (Limit number) = limit_text number ++ 10 ∷ []
 line_of_end (TraceRefused refusal) = trace_refusal_text refusal ++ 10 ∷ []
+line_of_end (Broken breach) = breach_text breach ++ 10 ∷ []
 line_of_end ReadFault = codes "read fault" ++ 10 ∷ []
 line_of_end WriteFault = codes "write fault" ++ 10 ∷ []
 line_of_end Memory = codes "memory" ++ 10 ∷ []
@@ -110,6 +117,7 @@ status_of_lost (Trapped number) = 9
 status_of_lost Deadlock = 9
 status_of_lost (Limit number) = 9
 status_of_lost (TraceRefused refusal) = 9
+status_of_lost (Broken breach) = 9
 status_of_lost ReadFault = 9
 status_of_lost WriteFault = 9
 status_of_lost Memory = 10

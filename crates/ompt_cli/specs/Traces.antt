@@ -1,31 +1,60 @@
--- What a command that reads a trace does: it copies it in a form of its own.
-use Rattle.std.specs.Prelude.{ℕ, List, Option}
+-- What a command that reads a trace has read and written, by how it ended.
+use Rattle.std.specs.Prelude.{ℕ, List, [], ◌∷◌, ◌++◌, Option, codes}
+use Rattle.std.specs.Io.KnownBytes.{Appends, Keeps}
+use Rattle.run_edges.specs.Edges.{AppendsFront}
+use Rattle.trace_check.specs.declared.checked.Checked.TheVariants as checked
+use Rattle.trace_check.specs.Answering.{HasChecked}
 use Rattle.trace_copy.specs.declared.copied.Copied.TheVariants as copied
 use Rattle.trace_copy.specs.declared.form.Form.{Form}
 use Rattle.trace_copy.specs.declared.form.Form.TheVariants.{Lines, SecondVersion}
 use Rattle.trace_copy.specs.Copying.{HasCopied}
 use Rattle.ompt_words.specs.declared.settings.TraceCommand.{TraceCommand}
-use Rattle.ompt_words.specs.declared.settings.TraceCommand.TheVariants.{Migrate, Show}
+use Rattle.ompt_words.specs.declared.settings.TraceCommand.TheVariants.{Check, Migrate, Show}
 use Rattle.ompt_cli.specs.declared.end.End.{End}
-use Rattle.ompt_cli.specs.declared.end.End.TheVariants.{Done, Returned, Shown, Read, TraceRefused, Usage, Refused, Trapped, Deadlock, Limit, ReadFault, WriteFault, Memory}
+use Rattle.ompt_cli.specs.declared.end.End.TheVariants.{Done, Returned, Shown, Read, TraceRefused, Broken, Usage, Refused, Trapped, Deadlock, Limit, ReadFault, WriteFault, Memory}
 
--- the form in which a command writes a trace
-abbrev pub form_of : TraceCommand → Form
-form_of Show = Lines
-form_of Migrate = SecondVersion
+-- Over what the source has left before and after, and what the output holds before and after.
 
--- what the command has read and written, by its end, over what the source has left before and after, and what the output holds before and after
+-- a trace was copied in this form
+abbrev pub HasWritten : Form → End → (left rest held after : Option (List ℕ)) → Type 0
+HasWritten form Done left rest held after = ⊥
+HasWritten form (Returned value) left rest held after = ⊥
+HasWritten form Shown left rest held after = ⊥
+HasWritten form Read left rest held after = HasCopied form copied.Whole left rest held after
+HasWritten form Usage left rest held after = ⊥
+HasWritten form (Refused why) left rest held after = ⊥
+HasWritten form (Trapped number) left rest held after = ⊥
+HasWritten form Deadlock left rest held after = ⊥
+HasWritten form (Limit number) left rest held after = ⊥
+HasWritten form (TraceRefused refusal) left rest held after = HasCopied form (copied.Refused refusal) left rest held after
+HasWritten form (Broken breach) left rest held after = ⊥
+HasWritten form ReadFault left rest held after = HasCopied form copied.ReadFault left rest held after
+HasWritten form WriteFault left rest held after = HasCopied form copied.WriteFault left rest held after
+HasWritten form Memory left rest held after = HasCopied form copied.Memory left rest held after
+
+-- what is written of a trace that is nested
+abbrev pub ok_text : List ℕ
+ok_text = codes "ok" ++ 10 ∷ []
+
+-- a trace was checked, and nothing is written but where it is nested
+abbrev pub HasJudged : End → (left rest held after : Option (List ℕ)) → Type 0
+HasJudged Done left rest held after = ⊥
+HasJudged (Returned value) left rest held after = ⊥
+HasJudged Shown left rest held after = ⊥
+HasJudged Read left rest held after = HasChecked checked.Nested left rest × Appends held after ok_text
+HasJudged Usage left rest held after = ⊥
+HasJudged (Refused why) left rest held after = ⊥
+HasJudged (Trapped number) left rest held after = ⊥
+HasJudged Deadlock left rest held after = ⊥
+HasJudged (Limit number) left rest held after = ⊥
+HasJudged (TraceRefused refusal) left rest held after = HasChecked (checked.Refused refusal) left rest × Keeps held after
+HasJudged (Broken breach) left rest held after = HasChecked (checked.Broken breach) left rest × Keeps held after
+HasJudged ReadFault left rest held after = HasChecked checked.ReadFault left rest × Keeps held after
+HasJudged WriteFault left rest held after = HasChecked checked.Nested left rest × AppendsFront held after ok_text
+HasJudged Memory left rest held after = HasChecked checked.Memory left rest × Keeps held after
+
+-- what the command has read and written
 abbrev pub HasRead : TraceCommand → End → (left rest held after : Option (List ℕ)) → Type 0
-HasRead command Done left rest held after = ⊥
-HasRead command (Returned value) left rest held after = ⊥
-HasRead command Shown left rest held after = ⊥
-HasRead command Read left rest held after = HasCopied (form_of command) copied.Whole left rest held after
-HasRead command Usage left rest held after = ⊥
-HasRead command (Refused why) left rest held after = ⊥
-HasRead command (Trapped number) left rest held after = ⊥
-HasRead command Deadlock left rest held after = ⊥
-HasRead command (Limit number) left rest held after = ⊥
-HasRead command (TraceRefused refusal) left rest held after = HasCopied (form_of command) (copied.Refused refusal) left rest held after
-HasRead command ReadFault left rest held after = HasCopied (form_of command) copied.ReadFault left rest held after
-HasRead command WriteFault left rest held after = HasCopied (form_of command) copied.WriteFault left rest held after
-HasRead command Memory left rest held after = HasCopied (form_of command) copied.Memory left rest held after
+HasRead Show end left rest held after = HasWritten Lines end left rest held after
+HasRead Migrate end left rest held after = HasWritten SecondVersion end left rest held after
+HasRead Check end left rest held after = HasJudged end left rest held after

@@ -3,13 +3,14 @@
 ghost use Rattle.std.specs.Prelude.{◌≡◌, ◌≤◌, ◌+◌, ◌∷◌, ◌++◌, [], codes, length};
 ghost use Rattle.std.specs.Fmt.{decimal, signed_decimal};
 ghost use Rattle.arrayvec.specs.ArrayString.{array_string_len};
-ghost use Rattle.ompt_cli.specs.Ends.{end_of_check_fault, end_of_fault, end_of_syntax_fault, line_of_end, refusal_number, refusal_spot, refusal_text, status_of, trace_refusal_text};
+ghost use Rattle.ompt_cli.specs.Ends.{breach_text, end_of_check_fault, end_of_fault, end_of_syntax_fault, line_of_end, refusal_number, refusal_spot, refusal_text, status_of, trace_refusal_text};
 
 use arrayvec::ArrayString;
 use c_check::CheckFault;
 use c_syntax::SyntaxFault;
 use c_tokens::{NOWHERE, Spot, TokenFault};
 use itoa::Buffer;
+use trace_check::Breach;
 
 /// Why a text is refused.
 #[derive(Clone, Copy, PartialEq, Eq)]
@@ -48,6 +49,8 @@ pub enum End {
     Limit(u8),
     /// The trace is refused.
     TraceRefused(trace_format::Refusal),
+    /// The trace isn't nested, and this is its first breach.
+    Broken(Breach),
     /// A read failed.
     ReadFault,
     /// A write failed.
@@ -69,7 +72,7 @@ impl End {
             End::Trapped(_) => 4,
             End::Deadlock => 5,
             End::Limit(_) => 6,
-            End::TraceRefused(_) => 7,
+            End::TraceRefused(_) | End::Broken(_) => 7,
             End::ReadFault => 8,
             End::WriteFault => 9,
             End::Memory => 10,
@@ -97,6 +100,7 @@ impl End {
             End::Limit(6) => line_of("limit depth\n"),
             End::Limit(_) => line_of("limit text\n"),
             End::TraceRefused(refusal) => line_of_trace_refused(refusal),
+            End::Broken(breach) => line_of_breach(breach),
             End::ReadFault => line_of("read fault\n"),
             End::WriteFault => line_of("write fault\n"),
             End::Memory => line_of("memory\n"),
@@ -206,6 +210,18 @@ fn line_of_trace_refused(refusal: trace_format::Refusal) -> ArrayString<160>
     push_number(&mut line, u32::from(refusal.reason.number()));
     line.push_str(" at ");
     line.push_str(digits.format(refusal.offset));
+    line.push_str("\n");
+    line
+}
+
+/// The line that tells a breach.
+fn line_of_breach(breach: Breach) -> ArrayString<160>
+    ensures { result.bytes ≡ breach_text breach ++ 10 ∷ [] }
+{
+    let mut line = line_of("breach ");
+    push_number(&mut line, u32::from(breach.rule));
+    line.push_str(" at ");
+    push_number(&mut line, breach.seq);
     line.push_str("\n");
     line
 }

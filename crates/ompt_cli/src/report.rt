@@ -37,7 +37,7 @@ pub struct Top {
     /// How the command ended, before its line was told.
     pub end: End,
     /// The report of the run. It is there at the ends `Done`, `Returned`, `Trapped`, `Deadlock`, `Limit` and `WriteFault`, and
-    /// isn't at `Usage`, `Shown`, `Read`, `Refused`, `TraceRefused` and `ReadFault`, nor at a `WriteFault` where a text was to be
+    /// isn't at `Usage`, `Shown`, `Read`, `Refused`, `TraceRefused`, `Broken` and `ReadFault`, nor at a `WriteFault` where a text was to be
     /// shown or a trace was read. At `Memory` it may be there; where its cause is want of memory, its history has an entry.
     pub ran: Option<Report>,
     /// The text that the words asked for: help or the version. It is there at the end `Shown`, and at a `WriteFault` where it

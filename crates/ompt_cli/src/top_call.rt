@@ -11,6 +11,8 @@ ghost use Rattle.ompt_words.specs.Form.{AskInForm, InForm, own_settings};
 ghost use Rattle.ompt_cli.specs.Traces.{HasRead};
 ghost use Rattle.ompt_cli.specs.Words.{AskFor, AskForRun, AskToRead, texts};
 ghost use Rattle.run_trace.specs.TraceOf.{trace_of};
+ghost use Rattle.trace_check.specs.Nested.{Nested};
+ghost use Rattle.trace_check.specs.declared.breach.Breach.{Breach};
 ghost use Rattle.trace_format.specs.Validity.{IsTrace, Writes};
 ghost use Rattle.trace_format.specs.declared.refusal.Refusal.{Refusal as TraceRefusal};
 ghost use Rattle.trace_format.specs.declared.trace.Trace.{Trace};
@@ -39,8 +41,8 @@ use tool_api::GuestTool;
 
 /// Does what the words say: it reads the program from `source`, or makes it for `gen`, runs it, writes what is defined to `out`, and one
 /// line to `err` where the status isn't 0. For `run`, guest t is the part of thread t, and guest 0 is initialized; for all other commands
-/// the guests come back as they were. `show` and `migrate` read a trace from `source`, and write it to `out` as it comes. Where the words
-/// ask for help or for the version, that text is written to `out`, and nothing is read.
+/// the guests come back as they were. `show` and `migrate` read a trace from `source`, and write it to `out` as it comes; `check` reads one,
+/// and writes `ok` where it is nested. Where the words ask for help or for the version, that text is written to `out`, and nothing is read.
 ///
 /// `words` don't contain the program's own name. With `--serial` one thread has all turns, and nothing is taken of `rt`; else each
 /// thread number has a thread of its own, the first one the caller's. No clause says that a run by threads comes back.
@@ -78,7 +80,7 @@ pub fn top<R: Threads + Wait + Sync, S: Source, O: Sink, E: Sink>(
     ensures help { AskInForm (texts words.now) → IsShowing result.end }
 
     // A trace is read only where the words ask for it, and for no others. What was read and written is defined for each end: the trace was read to
-    // its end, or it is refused, or a read, a write or memory failed. `migrate` takes no memory.
+    // its end, or it is refused or isn't nested, or a read, a write or memory failed. `migrate` takes no memory.
     ensures reads { (command : TraceCommand) → AskToRead (texts words.now) command →
         (result.read ≡ Some command) ⊎ ((result.end ≡ End.Memory) × (source.new ≡ source.old) × (out.new ≡ out.old)
         × IsNone result.ran × IsNone result.shown × IsNone result.read) }
@@ -88,6 +90,8 @@ pub fn top<R: Threads + Wait + Sync, S: Source, O: Sink, E: Sink>(
         HasRead command result.end (S.left source.old) (S.left source.new) (O.held out.old) (O.held out.new)) }
     ensures unrefused { IfSome result.read (λ command. (trace : Trace) → IsSomeAnd (S.left source.old) (Writes trace) → (refusal : TraceRefusal) →
         result.end ≢ End.TraceRefused refusal) }
+    ensures unbroken { IfSome result.read (λ command. (trace : Trace) → IsSomeAnd (S.left source.old) (Writes trace) →
+        Nested trace.header trace.events trace.end → (breach : Breach) → result.end ≢ End.Broken breach) }
     ensures migrated { result.read ≡ Some TraceCommand.Migrate → result.end ≢ End.Memory }
 
     // A text is refused for what it is: what the source has left, or the program that is generated.

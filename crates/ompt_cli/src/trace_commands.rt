@@ -1,14 +1,16 @@
-//! The commands that read a trace: `show` and `migrate`.
+//! The commands that read a trace: `show`, `migrate` and `check`.
 
-ghost use Rattle.std.specs.Prelude.{◌≡◌, ◌≢◌};
-ghost use Rattle.run_edges.specs.Edges.{Rose};
+ghost use Rattle.std.specs.Prelude.{◌≡◌, ◌≢◌, ◌⊎◌};
+ghost use Rattle.std.specs.Io.KnownBytes.{Appends};
+ghost use Rattle.run_edges.specs.Edges.{AppendsFront, Rose};
 ghost use Rattle.ompt_cli.specs.Commands.{IsReading};
-ghost use Rattle.ompt_cli.specs.Traces.{HasRead, form_of};
+ghost use Rattle.ompt_cli.specs.Traces.{HasJudged, HasRead, HasWritten, ok_text};
 
 use crate::end::End;
 use ompt_words::TraceCommand;
-use run_edges::{Sink, Source};
+use run_edges::{Sink, Source, write_all};
 use std::alloc::Global;
+use trace_check::{Checked, check_trace};
 use trace_copy::{Copied, Form, copy_trace};
 
 /// Reads a trace from the source, and writes what the command says of it.
@@ -26,7 +28,24 @@ pub(crate) fn read_trace<S: Source, O: Sink>(
     ensures unread { result ≢ End.ReadFault → S.faults source.new ≡ S.faults source.old }
     ensures steady { result ≢ End.WriteFault → O.faults out.new ≡ O.faults out.old }
 {
-    match copy_trace(alloc, form_of(command), source, out) {
+    match command {
+        TraceCommand::Show => copy(alloc, Form::Lines, source, out),
+        TraceCommand::Migrate => copy(alloc, Form::SecondVersion, source, out),
+        TraceCommand::Check => check(alloc, source, out),
+    }
+}
+
+/// Reads a trace, and writes it in this form.
+fn copy<S: Source, O: Sink>(alloc: Global, form: Form, source: &mut S, out: &mut O) -> End
+    ensures end { IsReading result }
+    ensures copied { HasWritten form result (S.left source.old) (S.left source.new) (O.held out.old) (O.held out.new) }
+    ensures memory { form ≡ Form.SecondVersion → result ≢ End.Memory }
+    ensures read { result ≡ End.ReadFault → Rose (S.faults source.old) (S.faults source.new) }
+    ensures write { result ≡ End.WriteFault → Rose (O.faults out.old) (O.faults out.new) }
+    ensures unread { result ≢ End.ReadFault → S.faults source.new ≡ S.faults source.old }
+    ensures steady { result ≢ End.WriteFault → O.faults out.new ≡ O.faults out.old }
+{
+    match copy_trace(alloc, form, source, out) {
         Copied::Whole => End::Read,
         Copied::Refused(refusal) => End::TraceRefused(refusal),
         Copied::ReadFault => End::ReadFault,
@@ -35,12 +54,34 @@ pub(crate) fn read_trace<S: Source, O: Sink>(
     }
 }
 
-/// The form in which the command writes a trace.
-fn form_of(command: TraceCommand) -> Form
-    ensures { result ≡ form_of command }
+/// Reads a trace, and writes `ok` where it is nested.
+fn check<S: Source, O: Sink>(alloc: Global, source: &mut S, out: &mut O) -> End
+    ensures end { IsReading result }
+    ensures judged { HasJudged result (S.left source.old) (S.left source.new) (O.held out.old) (O.held out.new) }
+    ensures read { result ≡ End.ReadFault → Rose (S.faults source.old) (S.faults source.new) }
+    ensures write { result ≡ End.WriteFault → Rose (O.faults out.old) (O.faults out.new) }
+    ensures unread { result ≢ End.ReadFault → S.faults source.new ≡ S.faults source.old }
+    ensures steady { result ≢ End.WriteFault → O.faults out.new ≡ O.faults out.old }
 {
-    match command {
-        TraceCommand::Show => Form::Lines,
-        TraceCommand::Migrate => Form::SecondVersion,
+    match check_trace(alloc, source) {
+        Checked::Nested => write_ok(out),
+        Checked::Broken(breach) => End::Broken(breach),
+        Checked::Refused(refusal) => End::TraceRefused(refusal),
+        Checked::ReadFault => End::ReadFault,
+        Checked::Memory => End::Memory,
+    }
+}
+
+/// Writes that a trace is nested.
+fn write_ok<O: Sink>(out: &mut O) -> End
+    ensures end { (result ≡ End.Read) ⊎ (result ≡ End.WriteFault) }
+    ensures whole { result ≢ End.WriteFault → Appends (O.held out.old) (O.held out.new) ok_text }
+    ensures part { result ≡ End.WriteFault → AppendsFront (O.held out.old) (O.held out.new) ok_text }
+    ensures write { result ≡ End.WriteFault → Rose (O.faults out.old) (O.faults out.new) }
+    ensures steady { result ≢ End.WriteFault → O.faults out.new ≡ O.faults out.old }
+{
+    match write_all(out, b"ok\n") {
+        Ok(()) => End::Read,
+        Err(_) => End::WriteFault,
     }
 }

@@ -5,6 +5,8 @@
 #[cfg(test)]
 mod calls;
 #[cfg(test)]
+mod checking;
+#[cfg(test)]
 mod codes;
 #[cfg(test)]
 mod counts;

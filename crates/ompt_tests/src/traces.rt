@@ -1,5 +1,5 @@
-//! What is reported of commands that record, show and migrate traces. What they write is told by rows of `run_tables`, but for a trace that
-//! is shown after it was recorded by threads.
+//! What is reported of commands that record, show, migrate and check traces. What they write is told by rows of `run_tables`, but for traces
+//! that were recorded by threads.
 
 use crate::fixture::*;
 use ompt_cli::{Command, End, TraceCommand};
@@ -8,7 +8,7 @@ use std::test::Fail;
 /// Words that record on one thread.
 const RECORD: &[&str] = &["record", "--serial", "--threads", "1"];
 
-/// What is recorded of the program that does nothing can be shown and migrated. The report of a recording is that of a run; where a trace was
+/// What is recorded of the program that does nothing can be shown, migrated and checked. The report of a recording is that of a run; where a trace was
 /// read there is none.
 #[test]
 fn a_recorded_trace_is_read(rt: HostRuntime) -> Result<(), Fail> {
@@ -20,6 +20,7 @@ fn a_recorded_trace_is_read(rt: HostRuntime) -> Result<(), Fail> {
     for (word, command) in [
         ("show", TraceCommand::Show),
         ("migrate", TraceCommand::Migrate),
+        ("check", TraceCommand::Check),
     ] {
         let mut source = source_of(&rt, recorded.out.bytes())?;
         let told = tell(&rt, &[word], &mut source)?;
@@ -31,12 +32,14 @@ fn a_recorded_trace_is_read(rt: HostRuntime) -> Result<(), Fail> {
     Ok(())
 }
 
-/// What threads record is a trace, with a line for each event of a region of two.
+/// What threads record is a trace that is nested, with a line for each event of a region of two.
 #[test]
 fn what_threads_record_is_shown(rt: HostRuntime) -> Result<(), Fail> {
     let mut source = source_of(&rt, REGION_OF_TWO)?;
     let told = tell(&rt, &["record", "--threads", "2"], &mut source)?;
     assert!(rt; told.status == 0);
+    let mut recorded = source_of(&rt, told.out.bytes())?;
+    assert!(rt; tell(&rt, &["check"], &mut recorded)?.end == End::Read);
     let mut recorded = source_of(&rt, told.out.bytes())?;
     let told = tell(&rt, &["show"], &mut recorded)?;
     assert!(rt; told.status == 0);

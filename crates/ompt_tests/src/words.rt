@@ -105,6 +105,7 @@ const REQUESTS: &[(&str, Request)] = &[
     ),
     ("show", Request::Read(TraceCommand::Show)),
     ("migrate", Request::Read(TraceCommand::Migrate)),
+    ("check", Request::Read(TraceCommand::Check)),
 ];
 
 /// Words that are refused.
@@ -129,6 +130,8 @@ const WRONG: &[&str] = &[
     "show run.trace",
     "show migrate",
     "migrate --steps 2",
+    "check run.trace",
+    "check --serial",
     "profile --columns 20",
     "profile 4",
     "timeline --columns 9",
@@ -172,6 +175,10 @@ const SHOWN: &[(&str, &str)] = &[
         "Reads a trace and writes it in the second version of the format",
     ),
     ("migrate --version", "ompt-migrate 0.1.0"),
+    (
+        "check --help",
+        "Reads a trace and says whether it is nested",
+    ),
     (
         "profile --help",
         "Runs a program and writes how many calls of each callback there were",

@@ -17,7 +17,7 @@ use Rattle.ompt_words.specs.declared.settings.Settings.{Settings}
 use Rattle.ompt_words.specs.declared.settings.Command.{Command}
 use Rattle.ompt_words.specs.declared.settings.Command.TheVariants.{Generate, List as Listing, Profile, Record, Run, Timeline}
 use Rattle.ompt_words.specs.declared.settings.TraceCommand.{TraceCommand}
-use Rattle.ompt_words.specs.declared.settings.TraceCommand.TheVariants.{Migrate, Show}
+use Rattle.ompt_words.specs.declared.settings.TraceCommand.TheVariants.{Check, Migrate, Show}
 use Rattle.ompt_words.specs.declared.settings.Request.{Request}
 use Rattle.ompt_words.specs.declared.settings.Request.TheVariants as request
 use Rattle.ompt_words.proofs.Uses.{AreTaken, Takes, Use, id_of, position_after, row_of, words_of}
@@ -227,14 +227,15 @@ same_command words a b same one other = absurd (distinct (command_word a) (comma
 -- the same of the commands that read a trace
 same_reader : (a b : TraceCommand) → trace_word a ≡ trace_word b → a ≡ b
 same_reader Show Show same = refl
-same_reader Show Migrate same = absurd cc
-same_reader Migrate Show same = absurd cc
 same_reader Migrate Migrate same = refl
+same_reader Check Check same = refl
+same_reader a b same = absurd (distinct (trace_word a) (trace_word b) refl refl same)
 
 -- no command of the one kind has the word of one of the other
 words_differ : (other : TraceCommand) (command : Command) → command_word command ≡ trace_word other → ⊥
 words_differ Show Listing same = distinct (codes "list") (codes "show") refl refl same
 words_differ Migrate Listing same = distinct (codes "list") (codes "migrate") refl refl same
+words_differ Check Listing same = distinct (codes "list") (codes "check") refl refl same
 words_differ other command same = distinct (command_word command) (trace_word other) refl refl same
 
 -- the words name one command

@@ -21,7 +21,7 @@ use Rattle.ompt_words.specs.Form.{IsRequest, command_word, trace_word}
 use Rattle.ompt_words.specs.declared.settings.Command.{Command}
 use Rattle.ompt_words.specs.declared.settings.Command.TheVariants.{Generate, List as Listing, Profile, Record, Run, Timeline}
 use Rattle.ompt_words.specs.declared.settings.TraceCommand.{TraceCommand}
-use Rattle.ompt_words.specs.declared.settings.TraceCommand.TheVariants.{Migrate, Show}
+use Rattle.ompt_words.specs.declared.settings.TraceCommand.TheVariants.{Check, Migrate, Show}
 use Rattle.ompt_words.proofs.Uses.{AreTaken, IsBetween, Use, Walks, row_of, standing, walks, words_of}
 use Rattle.ompt_words.proofs.Options.{IsOneWish, asked_between, leaf, rules_of}
 use Rattle.clap.specs.declared.error.kind.ErrorKind.TheVariants.{DisplayHelp, DisplayVersion}
@@ -275,35 +275,41 @@ trace_walk : (command : TraceCommand) (words : List Text) → walk top.rules (na
 unfolding clap_on_literals
 trace_walk Show words = stopped_walk top.rules (names_of (built ompt)) nothing_held idle 1 false (codes "show") [] words
 trace_walk Migrate words = stopped_walk top.rules (names_of (built ompt)) nothing_held idle 1 false (codes "migrate") [] words
+trace_walk Check words = stopped_walk top.rules (names_of (built ompt)) nothing_held idle 1 false (codes "check") [] words
 
 -- and is no fault
 trace_walk_clean : (command : TraceCommand) (words : List Text) → walk_fault top (names_of (built ompt)) (walk_from nothing_held) (trace_word command ∷ words) ≡ []
 unfolding clap_on_literals
 trace_walk_clean Show words = stopped_fault top (names_of (built ompt)) (walk_from nothing_held) (codes "show", []) words
 trace_walk_clean Migrate words = stopped_fault top (names_of (built ompt)) (walk_from nothing_held) (codes "migrate", []) words
+trace_walk_clean Check words = stopped_fault top (names_of (built ompt)) (walk_from nothing_held) (codes "check", []) words
 
 -- alone such a command has no fault
 pub trace_clean : (command : TraceCommand) → fault_of ompt (trace_word command ∷ []) ≡ []
 unfolding clap_on_literals
 trace_clean Show = refl
 trace_clean Migrate = refl
+trace_clean Check = refl
 
 -- and it is the command of the matches
 pub trace_matched : (command : TraceCommand) → option_map (λ found. found.0) (subcommand_of ompt (trace_word command ∷ [])) ≡ Some (trace_word command)
 unfolding clap_on_literals
 trace_matched Show = refl
 trace_matched Migrate = refl
+trace_matched Check = refl
+
+-- its level is that of a command with its name and no options
+trace_level : (command : TraceCommand) (words : List Text) → entered_fault (built ompt) (Some (trace_word command, words)) ≡ level_fault (reader_leaf (trace_word command)) [] nothing_held words false []
+trace_level Show words = refl
+trace_level Migrate words = refl
+trace_level Check words = refl
 
 -- one that is asked for help or the version has that one answer
 pub trace_asked : (command : TraceCommand) (word : Text) (rest : List Text) → IsRequest word → IsOneWish (fault_of ompt (trace_word command ∷ word ∷ rest))
-trace_asked Show word rest request =
-    let one : IsOneWish (level_fault (reader_leaf (codes "show")) [] nothing_held (word ∷ rest) false []) = reader_asked (codes "show") word rest request in
-    subst IsOneWish (sym (built_asked (built ompt) (codes "show" ∷ word ∷ rest) (entering (codes "show") (word ∷ rest))
-    (trace_walk Show (word ∷ rest)) (trace_walk_clean Show (word ∷ rest)) _ one refl)) one
-trace_asked Migrate word rest request =
-    let one : IsOneWish (level_fault (reader_leaf (codes "migrate")) [] nothing_held (word ∷ rest) false []) = reader_asked (codes "migrate") word rest request in
-    subst IsOneWish (sym (built_asked (built ompt) (codes "migrate" ∷ word ∷ rest) (entering (codes "migrate") (word ∷ rest))
-    (trace_walk Migrate (word ∷ rest)) (trace_walk_clean Migrate (word ∷ rest)) _ one refl)) one
+trace_asked command word rest request =
+    let one : IsOneWish (level_fault (reader_leaf (trace_word command)) [] nothing_held (word ∷ rest) false []) = reader_asked (trace_word command) word rest request in
+    subst IsOneWish (sym (built_asked (built ompt) (trace_word command ∷ word ∷ rest) (entering (trace_word command) (word ∷ rest))
+    (trace_walk command (word ∷ rest)) (trace_walk_clean command (word ∷ rest)) _ one (trace_level command (word ∷ rest)))) one
 
 -- ---- what the matches are
 
@@ -372,15 +378,15 @@ entered_name : (a : App) (stop : Option (Text × List Text)) (name : Text) (rows
 entered_name a None name rows is = absurd (nothing-some is)
 entered_name a (Some at) name rows is = entered_in (λ s. answers_to at.0 (label_of s)) a.subs at.1 name rows is
 
--- the command of the matches is one of the eight
+-- the command of the matches is one of the nine
 pub matched_name : (words : List Text) (name : Text) (rows : List Row) → subcommand_of ompt words ≡ Some (name, rows) → IsEnteredIn name rows (built ompt).subs
 matched_name words name rows is = entered_name (built ompt) (stop_after top.rules (names_of (built ompt)) (argument_words ompt words)) name rows is
 
--- a name of one of the eight, and of no other than `list`, is that
+-- a name of one of the nine, and of no other than `list`, is that
 pub listing_left : (words : List Text) (name : Text) (rows : List Row) → subcommand_of ompt words ≡ Some (name, rows)
-    → name ≢ codes "show" → name ≢ codes "migrate" → name ≢ codes "gen" → name ≢ codes "run" → name ≢ codes "record" → name ≢ codes "profile" → name ≢ codes "timeline"
+    → name ≢ codes "show" → name ≢ codes "migrate" → name ≢ codes "check" → name ≢ codes "gen" → name ≢ codes "run" → name ≢ codes "record" → name ≢ codes "profile" → name ≢ codes "timeline"
     → name ≡ codes "list"
-listing_left words name rows is no_show no_migrate no_gen no_run no_record no_profile no_timeline = by (matched_name words name rows is)
+listing_left words name rows is no_show no_migrate no_check no_gen no_run no_record no_profile no_timeline = by (matched_name words name rows is)
   where
     by : IsEnteredIn name rows (built ompt).subs → name ≡ codes "list"
     by (inl run) = absurd (no_run run.is_name)
@@ -391,7 +397,8 @@ listing_left words name rows is no_show no_migrate no_gen no_run no_record no_pr
     by (inr (inr (inr (inr (inr (inl gen)))))) = absurd (no_gen gen.is_name)
     by (inr (inr (inr (inr (inr (inr (inl show))))))) = absurd (no_show show.is_name)
     by (inr (inr (inr (inr (inr (inr (inr (inl migrate)))))))) = absurd (no_migrate migrate.is_name)
-    by (inr (inr (inr (inr (inr (inr (inr (inr none)))))))) = absurd none
+    by (inr (inr (inr (inr (inr (inr (inr (inr (inl check))))))))) = absurd (no_check check.is_name)
+    by (inr (inr (inr (inr (inr (inr (inr (inr (inr none))))))))) = absurd none
 
 -- two texts of which the one isn't the other by a test
 pub distinct : (a b : Text) → bytes_eq a a ≡ true → bytes_eq a b ≡ false → a ≡ b → ⊥
@@ -414,7 +421,8 @@ generator_left words name rows is gen = by (matched_name words name rows is)
     by (inr (inr (inr (inr (inr (inl found)))))) = found
     by (inr (inr (inr (inr (inr (inr (inl show))))))) = absurd (other (codes "show") refl show.is_name)
     by (inr (inr (inr (inr (inr (inr (inr (inl migrate)))))))) = absurd (other (codes "migrate") refl migrate.is_name)
-    by (inr (inr (inr (inr (inr (inr (inr (inr none)))))))) = absurd none
+    by (inr (inr (inr (inr (inr (inr (inr (inr (inl check))))))))) = absurd (other (codes "check") refl check.is_name)
+    by (inr (inr (inr (inr (inr (inr (inr (inr (inr none))))))))) = absurd none
 
 -- the name in the matches is that in their rows
 name_in_rows : {Z : Type 0} (found : Option (Box SubCommand Z)) → option_map (λ b. (out-SubCommand (box_value b)).name.now) found ≡ option_map (λ p. p.0) (subcommand_rows found)

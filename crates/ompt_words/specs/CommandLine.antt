@@ -76,4 +76,4 @@ abbrev pub reporters : App
 reporters = with_subcommand (with_subcommand (with_subcommand runners (runner (codes "profile"))) timeline) generator
 
 abbrev pub ompt : App
-ompt = with_subcommand (with_subcommand reporters (reader (codes "show"))) (reader (codes "migrate"))
+ompt = with_subcommand (with_subcommand (with_subcommand reporters (reader (codes "show"))) (reader (codes "migrate"))) (reader (codes "check"))

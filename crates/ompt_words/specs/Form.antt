@@ -5,7 +5,7 @@ use Rattle.std.specs.Fmt.{decimal}
 use Rattle.ompt_words.specs.declared.settings.Command.{Command}
 use Rattle.ompt_words.specs.declared.settings.Command.TheVariants.{Generate, List as Listing, Profile, Record, Run, Timeline}
 use Rattle.ompt_words.specs.declared.settings.TraceCommand.{TraceCommand}
-use Rattle.ompt_words.specs.declared.settings.TraceCommand.TheVariants.{Migrate, Show}
+use Rattle.ompt_words.specs.declared.settings.TraceCommand.TheVariants.{Check, Migrate, Show}
 use Rattle.ompt_words.specs.declared.settings.Settings.{Settings}
 
 -- an option: `--threads N`, `--steps N`, `--serial` or `--columns N`
@@ -37,6 +37,7 @@ command_words (Generate blocks) = codes "gen" ∷ decimal blocks ∷ []
 abbrev pub trace_word : TraceCommand → List ℕ
 trace_word Show = codes "show"
 trace_word Migrate = codes "migrate"
+trace_word Check = codes "check"
 
 -- the word of an option
 abbrev pub option_word : Choice → List ℕ

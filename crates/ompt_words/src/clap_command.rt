@@ -29,7 +29,16 @@ pub(crate) fn ompt_command<'a>(alloc: Global) -> Result<Command<'a>, AllocError>
         "Reads a trace and writes it in the second version of the format",
         "Example: ompt migrate < old.trace > new.trace",
     )?;
-    reporters(alloc)?.subcommand(show)?.subcommand(migrate)
+    let check = reader(
+        alloc,
+        "check",
+        "Reads a trace and says whether it is nested",
+        "Example: ompt check < run.trace",
+    )?;
+    reporters(alloc)?
+        .subcommand(show)?
+        .subcommand(migrate)?
+        .subcommand(check)
 }
 
 /// The program with all commands that run a program.

@@ -37,6 +37,7 @@ pub fn request_of(alloc: Global, words: &[String]) -> Result<Request, WordsFault
     Ok(match name {
         "show" => Request::Read(TraceCommand::Show),
         "migrate" => Request::Read(TraceCommand::Migrate),
+        "check" => Request::Read(TraceCommand::Check),
         "gen" => Request::Run(generator_settings(inner)),
         "run" => Request::Run(settings_in(Command::Run, inner)),
         "record" => Request::Run(settings_in(Command::Record, inner)),

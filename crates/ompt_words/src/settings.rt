@@ -33,6 +33,8 @@ pub enum TraceCommand {
     Show,
     /// It writes the trace in the second version of the format.
     Migrate,
+    /// It says whether the trace is nested.
+    Check,
 }
 
 /// How a program is to run.

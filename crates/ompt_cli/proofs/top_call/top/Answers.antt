@@ -6,7 +6,7 @@ use Rattle.ompt_cli.specs.Commands.{IsAfterRun, run_of, settings_in}
 use Rattle.ompt_cli.specs.Text.{IsRefused, Spells, text_for}
 use Rattle.ompt_cli.proofs.Finishing.{finished}
 use Rattle.ompt_cli.proofs.Telling.{after-may, asked-settings, ends-done, ends-found, ends-limit, ends-returned, ends-stuck, ends-trapped, is-none, err-end, lost-read, lost-write, none-if, not-reading, not-running, not-shown, not-usage, ok-not-refused, read-as, same-settings, settings-as, spells-as, where_some, where_when}
-use Rattle.ompt_cli.proofs.Traced.{trace_unrefused}
+use Rattle.ompt_cli.proofs.Traced.{trace_unbroken, trace_unrefused}
 use Rattle.ompt_cli.specs.declared.end.End.TheVariants.{ReadFault}
 use Rattle.ompt_cli.proofs.top_call.top.Goals as goal
 
@@ -32,6 +32,10 @@ returns-clause-copied g c =
 
 pub returns-clause-unrefused : goal.returns-clause-unrefused
 returns-clause-unrefused g c =
+    rw c.tell-2.ensures.read (none-if _ c.run_command.result.read c.run_command.ensures.alone.1)
+
+pub returns-clause-unbroken : goal.returns-clause-unbroken
+returns-clause-unbroken g c =
     rw c.tell-2.ensures.read (none-if _ c.run_command.result.read c.run_command.ensures.alone.1)
 
 pub returns-clause-lost : goal.returns-clause-lost
@@ -199,6 +203,10 @@ returns-clause-help g c =
 pub returns-in-Ok-Read-clause-unrefused : goal.returns-in-Ok-Read-clause-unrefused
 returns-in-Ok-Read-clause-unrefused g c =
     rw (c.tell.ensures.end, c.tell.ensures.read, c.having_read.ensures) (λ trace is refusal same. trace_unrefused c.in-Ok-Read.command _ _ _ _ c.read_trace-end.result trace refusal is c.read_trace-end.ensures.copied same)
+
+pub returns-in-Ok-Read-clause-unbroken : goal.returns-in-Ok-Read-clause-unbroken
+returns-in-Ok-Read-clause-unbroken g c =
+    rw (c.tell.ensures.end, c.tell.ensures.read, c.having_read.ensures) (λ trace is nested breach same. trace_unbroken c.in-Ok-Read.command _ _ _ _ c.read_trace-end.result trace breach is nested c.read_trace-end.ensures.copied same)
 
 pub returns-in-Err-clause-unread : goal.returns-in-Err-clause-unread
 returns-in-Err-clause-unread g c =
