@@ -17,7 +17,7 @@ use Rattle.c_syntax.specs.Tree.{Tree, before}
 use Rattle.c_syntax.specs.Tree.Children.{Over, Child, Absent}
 use Rattle.c_syntax.specs.Grammar.{choice}
 use Rattle.c_syntax.specs.Derivation.{Opened, made, opened_at, with_child}
-use Rattle.c_grammar.specs.Productions.{Block, ConditionPart, Construct, Expression, FirstPart, Is, Items, NoElse, Statement, ThirdPart, Value, kids, made_at, maybe, standalone_word}
+use Rattle.c_grammar.specs.Productions.{Block, ConditionPart, Construct, Expression, FirstPart, Is, Items, NoElse, Statement, StepPart, Value, kids, made_at, maybe, standalone_word}
 use Rattle.c_grammar.proofs.CallMeaning.{ReadsCondition, ReadsFirst, ReadsStatement, ReadsThird}
 use Rattle.c_grammar.proofs.CallRows.{by_name}
 use Rattle.c_grammar.proofs.ClauseFolds.{Does, did}
@@ -118,7 +118,7 @@ module _ (limit depth : ℕ) (next : Effect) (word : Word) (own : Opened) (outer
   -- `for`
   for_body : (first one two : Word) (words second third rest : List Word) (begins tests steps : Option Tree) → Is term.For word → depth < limit → Is term.OpenParen first
       → FirstPart limit (depth + 1) words (one ∷ second) begins → Is term.Semicolon one → ConditionPart limit (depth + 1) second (two ∷ third) tests → Is term.Semicolon two
-      → ThirdPart limit (depth + 1) third rest steps
+      → StepPart limit (depth + 1) third rest steps
       → Expects term.CloseParen (ReadsStatement limit (Makes node.For (Rises next))) (depth + 1) head.Outside rest
       (with_child steps (with_child tests (with_child begins begun)) ∷ own ∷ outer)
       → Done (first ∷ words)

@@ -8,7 +8,7 @@ use Rattle.c_syntax.specs.declared.node.NodeKind.TheVariants as node
 use Rattle.c_syntax.specs.Words.{Word}
 use Rattle.c_syntax.specs.Tree.{Tree}
 use Rattle.c_syntax.specs.Derivation.{Opened, is_name, keep, opened_at, with_child}
-use Rattle.c_grammar.specs.Productions.{ArgumentsPart, Call, ConditionPart, Expression, FirstPart, Local, Locals, Locks, MoreArguments, MoreLocals, MoreNames, Place, Statement, StepOf, ThirdPart, Value, over_one, over_two}
+use Rattle.c_grammar.specs.Productions.{ArgumentsPart, Call, ConditionPart, Expression, FirstPart, Local, Locals, Locks, MoreArguments, MoreLocals, MoreNames, Place, Statement, StepOf, StepPart, Value, over_one, over_two}
 use Rattle.c_grammar.proofs.Effects.{Effect}
 use Rattle.c_grammar.proofs.Pushing.{plus}
 use Rattle.c_grammar.proofs.Standing.{AddsAll, AddsMaybe, AddsOne}
@@ -67,7 +67,7 @@ abbrev pub ReadsCondition : ℕ → Effect → Effect
 ReadsCondition limit next depth at words nodes = AddsMaybe head.Outside (ConditionPart limit depth) next depth at words nodes
 
 abbrev pub ReadsThird : ℕ → Effect → Effect
-ReadsThird limit next depth at words nodes = AddsMaybe head.Outside (ThirdPart limit depth) next depth at words nodes
+ReadsThird limit next depth at words nodes = AddsMaybe head.Outside (StepPart limit depth) next depth at words nodes
 
 -- what is assigned to a place: an expression, which makes a step, or a call
 pub data Assigned (limit depth : ℕ) (left : Tree) : List Word → List Word → Tree → Type 0 where

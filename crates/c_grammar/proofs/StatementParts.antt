@@ -19,7 +19,7 @@ use Rattle.c_syntax.specs.Tree.{Tree, children_from}
 use Rattle.c_syntax.specs.Tree.Children.{Over, Child, Absent}
 use Rattle.c_syntax.specs.Grammar.{choice}
 use Rattle.c_syntax.specs.Derivation.{Derives, Opened, is_name, opened_at}
-use Rattle.c_grammar.specs.Productions.{Block, ConditionPart, Construct, DirectiveOf, Expression, FirstPart, Is, Items, Locals, Locks, MoreSections, NoElse, Section, Sections, Statement, ThirdPart, Value, is_sections, kids, made_at, maybe, standalone_word}
+use Rattle.c_grammar.specs.Productions.{Block, ConditionPart, Construct, DirectiveOf, Expression, FirstPart, Is, Items, Locals, Locks, MoreSections, NoElse, Section, Sections, Statement, StepPart, Value, is_sections, kids, made_at, maybe, standalone_word}
 use Rattle.c_grammar.proofs.Pushing.{Ends, all_added, all_added-pushed, is_end, plus}
 use Rattle.c_grammar.proofs.Expressions.{expression_derives}
 use Rattle.c_grammar.proofs.CallWords.{value_derives}
@@ -311,7 +311,7 @@ make_loop {limit} {depth} {at} {left} {words} {whole} {own} {outer} word begins 
 -- `for`
 loop_reads : {limit depth : ℕ} {words second third behind rest : List Word} {word first one two last : Word} {begins tests steps : Option Tree} {tree : Tree} → Is term.For word → depth < limit
     → Is term.OpenParen first → FirstPart limit (depth + 1) words (one ∷ second) begins → Is term.Semicolon one → ConditionPart limit (depth + 1) second (two ∷ third) tests → Is term.Semicolon two
-    → ThirdPart limit (depth + 1) third (last ∷ behind) steps → Is term.CloseParen last → StatementReads limit (depth + 1) behind rest tree
+    → StepPart limit (depth + 1) third (last ∷ behind) steps → Is term.CloseParen last → StatementReads limit (depth + 1) behind rest tree
     → PlainReads limit depth (word ∷ first ∷ words) rest (made_at kind.For word (maybe begins (maybe tests (maybe steps (Child tree Over)))))
 loop_reads {word = word} {begins = begins} {tests = tests} {steps = steps} {tree = tree} loops low opens start one condition two step closes statement =
     record {

@@ -11,7 +11,7 @@ use Rattle.c_syntax.specs.declared.term.Term.TheVariants as term
 use Rattle.c_syntax.specs.Words.{Word}
 use Rattle.c_syntax.specs.Tree.{Tree}
 use Rattle.c_syntax.specs.Derivation.{Opened, is_name, opened_at, with_child}
-use Rattle.c_grammar.specs.Productions.{ConditionPart, FirstPart, StepOf, ThirdPart, bump_sign, kids, made_at, name_node, over_one, over_two, setting_sign}
+use Rattle.c_grammar.specs.Productions.{ConditionPart, FirstPart, StepOf, StepPart, bump_sign, kids, made_at, name_node, over_one, over_two, setting_sign}
 use Rattle.c_grammar.proofs.CallMeaning.{Holds, ReadsCondition, ReadsFirst, ReadsStepRest, ReadsThird}
 use Rattle.c_grammar.proofs.CallRows.{name_taken}
 use Rattle.c_grammar.proofs.Effects.{Effect, Expects, Takes, Opens, Makes, Joins, Wraps, Skips}
@@ -107,18 +107,18 @@ condition_some limit next depth at words nodes reads Stands.stands =
     (one.0, Some one.1, ConditionPart.some one.2, one.3)
 
 pub third_none : (limit : ℕ) (next : Effect) (depth : ℕ) (at : Head) (words : List Word) (nodes : List Opened) → Skips next depth at words nodes → ReadsThird limit next depth at words nodes
-third_none limit next depth at words nodes goes Stands.stands = (words, None, ThirdPart.none, goes)
+third_none limit next depth at words nodes goes Stands.stands = (words, None, StepPart.none, goes)
 
 pub third_place : (limit : ℕ) (next : Effect) (depth : ℕ) (at : Head) (words : List Word) (nodes : List Opened) → ReadsPlace limit (ReadsStepRest limit next) depth at words nodes
     → ReadsThird limit next depth at words nodes
 third_place limit next depth at words [] reads stands = elim stands [ ]
 third_place limit next depth at words (own ∷ outer) reads Stands.stands =
     let step = step_from_place limit next depth words own outer reads in
-    (step.0, Some step.1, ThirdPart.some step.2, step.3)
+    (step.0, Some step.1, StepPart.some step.2, step.3)
 
 pub third_bump : (limit : ℕ) (which : Bump) (next : Effect) (depth : ℕ) (at : Head) (words : List Word) (nodes : List Opened) → ReadsBefore limit which next depth at words nodes
     → ReadsThird limit next depth at words nodes
 third_bump limit which next depth at words [] reads stands = elim stands [ ]
 third_bump limit which next depth at words (own ∷ outer) reads Stands.stands =
     let step = step_from_bump limit which next depth words own outer reads in
-    (step.0, Some step.1, ThirdPart.some step.2, step.3)
+    (step.0, Some step.1, StepPart.some step.2, step.3)

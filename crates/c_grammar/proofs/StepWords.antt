@@ -18,7 +18,7 @@ use Rattle.c_syntax.specs.Words.{Word}
 use Rattle.c_syntax.specs.Tree.{Tree}
 use Rattle.c_syntax.specs.Grammar.{choice, step_rest}
 use Rattle.c_syntax.specs.Derivation.{Derives, Opened, is_name}
-use Rattle.c_grammar.specs.Productions.{ConditionPart, FirstPart, Place, StepOf, ThirdPart, bump_sign, setting_sign}
+use Rattle.c_grammar.specs.Productions.{ConditionPart, FirstPart, Place, StepOf, StepPart, bump_sign, setting_sign}
 use Rattle.c_grammar.proofs.Expressions.{expression_derives, place_derives}
 use Rattle.c_grammar.proofs.FirstSteps.{condition_expression, first-named, third-named}
 use Rattle.c_grammar.proofs.FirstWords.{bare-apart, ends-no_index, expression-begins, no_bracket}
@@ -97,7 +97,7 @@ condition_derives {words = words} (ConditionPart.some expression) ends more =
 
 -- what it does behind each turn
 pub third_derives : {limit depth : ℕ} {words rest : List Word} {child : Option Tree} {whole : Tree} {steps : List Step} {own : Opened} {outer : List Opened} {last : Word}
-    → ThirdPart limit depth words (last ∷ rest) child → last.term ≡ term.CloseParen → Derives limit steps depth head.Outside (last ∷ rest) (plus child (own ∷ outer)) whole
+    → StepPart limit depth words (last ∷ rest) child → last.term ≡ term.CloseParen → Derives limit steps depth head.Outside (last ∷ rest) (plus child (own ∷ outer)) whole
     → Derives limit (Read sort.StepPart ∷ steps) depth head.Outside words (own ∷ outer) whole
-third_derives ThirdPart.none ends more = read_term term.CloseParen ends refl (Derives.skip more)
-third_derives (ThirdPart.some step) ends more = step_derives sort.StepPart third-named third-bumped step (ap is_end ends) more
+third_derives StepPart.none ends more = read_term term.CloseParen ends refl (Derives.skip more)
+third_derives (StepPart.some step) ends more = step_derives sort.StepPart third-named third-bumped step (ap is_end ends) more

@@ -103,6 +103,13 @@ abbrev pub unary_sign : UnaryOp → Term
 unary_sign unary.Negate = term.Minus
 unary_sign unary.Not = term.Not
 
+-- a node over one, and over two: it begins where the first of them does
+abbrev pub over_one : NodeKind → Tree → Tree
+over_one kind tree = Node kind (spot_of tree) 0 0 [] (kids (tree ∷ []))
+
+abbrev pub over_two : NodeKind → Tree → Tree → Tree
+over_two kind left right = Node kind (spot_of left) 0 0 [] (kids (left ∷ right ∷ []))
+
 mutual
   -- what operators of this rank and of greater ones join, from the left: an expression is of rank 0, a conjunction of 1, an equality of 2, a comparison of
   -- 3, a sum of 4, a product of 5, and an operand of 6
@@ -111,7 +118,7 @@ mutual
     above : {limit rank depth : ℕ} {at : Head} {words rest : List Word} {tree : Tree} → rank < 6 → Ranked limit (rank + 1) depth at words rest tree → Ranked limit rank depth at words rest tree
     joined : {limit depth : ℕ} {at : Head} {words behind rest : List Word} {word : Word} {left right : Tree} → (operator : BinaryOp)
         → Ranked limit (rank_of operator) depth at words (word ∷ behind) left → Is (sign_of operator) word → Ranked limit (rank_of operator + 1) depth at behind rest right
-        → Ranked limit (rank_of operator) depth at words rest (Node (node.Binary operator) (spot_of left) 0 0 [] (kids (left ∷ right ∷ [])))
+        → Ranked limit (rank_of operator) depth at words rest (over_two (node.Binary operator) left right)
 
   -- operand = ( "-" | "!" ) operand | Number | place | parenthesis | getter
   pub data Operand : (limit depth : ℕ) → Head → List Word → List Word → Tree → Type 0 where
@@ -138,13 +145,6 @@ mutual
 
 abbrev pub Expression : (limit depth : ℕ) → Head → List Word → List Word → Tree → Type 0
 Expression limit depth at words rest tree = Ranked limit 0 depth at words rest tree
-
--- a node over one, and over two: it begins where the first of them does
-abbrev pub over_one : NodeKind → Tree → Tree
-over_one kind tree = Node kind (spot_of tree) 0 0 [] (kids (tree ∷ []))
-
-abbrev pub over_two : NodeKind → Tree → Tree → Tree
-over_two kind left right = Node kind (spot_of left) 0 0 [] (kids (left ∷ right ∷ []))
 
 -- a child that may be absent, before others
 abbrev pub maybe : Option Tree → Children → Children
@@ -258,14 +258,15 @@ pub data FirstPart : (limit depth : ℕ) → List Word → List Word → Option 
       → Expression limit depth head.Outside words rest tree → FirstPart limit depth (word ∷ name ∷ equals ∷ words) rest (Some (made_at node.Init word (kids (name_node name ∷ tree ∷ []))))
   stepped : {limit depth : ℕ} {words rest : List Word} {tree : Tree} → StepOf limit depth words rest tree → FirstPart limit depth words rest (Some tree)
 
--- [ expression ], and [ step ]
+-- [ expression ], the condition of a loop
 pub data ConditionPart : (limit depth : ℕ) → List Word → List Word → Option Tree → Type 0 where
   none : {limit depth : ℕ} {rest : List Word} → ConditionPart limit depth rest rest None
   some : {limit depth : ℕ} {words rest : List Word} {tree : Tree} → Expression limit depth head.Outside words rest tree → ConditionPart limit depth words rest (Some tree)
 
-pub data ThirdPart : (limit depth : ℕ) → List Word → List Word → Option Tree → Type 0 where
-  none : {limit depth : ℕ} {rest : List Word} → ThirdPart limit depth rest rest None
-  some : {limit depth : ℕ} {words rest : List Word} {tree : Tree} → StepOf limit depth words rest tree → ThirdPart limit depth words rest (Some tree)
+-- [ step ], the last in the head of a loop
+pub data StepPart : (limit depth : ℕ) → List Word → List Word → Option Tree → Type 0 where
+  none : {limit depth : ℕ} {rest : List Word} → StepPart limit depth rest rest None
+  some : {limit depth : ℕ} {words rest : List Word} {tree : Tree} → StepOf limit depth words rest tree → StepPart limit depth words rest (Some tree)
 
 -- ---- clauses
 
@@ -450,6 +451,7 @@ mutual
   pub data Statement : (limit depth : ℕ) → List Word → List Word → Tree → Type 0 where
     empty : {limit depth : ℕ} {rest : List Word} {word : Word} → Is term.Semicolon word → Statement limit depth (word ∷ rest) rest (made_at node.Empty word Over)
     braced : {limit depth : ℕ} {words rest : List Word} {tree : Tree} → Block limit depth words rest tree → Statement limit depth words rest tree
+    -- if = "if" "(" expression ")" statement [ "else" statement ]
     if_alone : {limit depth : ℕ} {words behind rest : List Word} {word first last : Word} {condition tree : Tree} → Is term.If word → depth < limit → Is term.OpenParen first
         → Expression limit (depth + 1) head.Outside words (last ∷ behind) condition → Is term.CloseParen last → Statement limit (depth + 1) behind rest tree → NoElse rest
         → Statement limit depth (word ∷ first ∷ words) rest (made_at node.If word (Child condition (Child tree (Absent Over))))
@@ -457,26 +459,34 @@ mutual
         → Expression limit (depth + 1) head.Outside words (last ∷ behind) condition → Is term.CloseParen last → Statement limit (depth + 1) behind (other ∷ middle) tree
         → Is term.Else other → Statement limit (depth + 1) middle rest second
         → Statement limit depth (word ∷ first ∷ words) rest (made_at node.If word (kids (condition ∷ tree ∷ second ∷ [])))
+    -- while = "while" "(" expression ")" statement
     while : {limit depth : ℕ} {words behind rest : List Word} {word first last : Word} {condition tree : Tree} → Is term.While word → depth < limit → Is term.OpenParen first
         → Expression limit (depth + 1) head.Outside words (last ∷ behind) condition → Is term.CloseParen last → Statement limit (depth + 1) behind rest tree
         → Statement limit depth (word ∷ first ∷ words) rest (made_at node.While word (kids (condition ∷ tree ∷ [])))
+    -- for = "for" "(" [ first ] ";" [ expression ] ";" [ step ] ")" statement
     loop : {limit depth : ℕ} {words second third behind rest : List Word} {word first one two last : Word} {begins tests steps : Option Tree} {tree : Tree} → Is term.For word → depth < limit
         → Is term.OpenParen first → FirstPart limit (depth + 1) words (one ∷ second) begins → Is term.Semicolon one → ConditionPart limit (depth + 1) second (two ∷ third) tests → Is term.Semicolon two
-        → ThirdPart limit (depth + 1) third (last ∷ behind) steps → Is term.CloseParen last → Statement limit (depth + 1) behind rest tree
+        → StepPart limit (depth + 1) third (last ∷ behind) steps → Is term.CloseParen last → Statement limit (depth + 1) behind rest tree
         → Statement limit depth (word ∷ first ∷ words) rest (made_at node.For word (maybe begins (maybe tests (maybe steps (Child tree Over)))))
+    -- return = "return" [ value ] ";"
     returns : {limit depth : ℕ} {rest : List Word} {word last : Word} → Is term.Return word → Is term.Semicolon last
         → Statement limit depth (word ∷ last ∷ rest) rest (made_at node.Return word Over)
     returns_value : {limit depth : ℕ} {words rest : List Word} {word last : Word} {tree : Tree} → Is term.Return word → Value limit depth words (last ∷ rest) tree → Is term.Semicolon last
         → Statement limit depth (word ∷ words) rest (made_at node.Return word (kids (tree ∷ [])))
+    -- set_call = place "=" call ";"
     set_call : {limit depth : ℕ} {words behind rest : List Word} {equals last : Word} {left right : Tree} → Place limit depth head.Outside words (equals ∷ behind) left → Is term.Set equals
         → Call limit depth behind (last ∷ rest) right → Is term.Semicolon last → Statement limit depth words rest (over_two node.SetCall left right)
+    -- called = call ";"
     called : {limit depth : ℕ} {words rest : List Word} {last : Word} {tree : Tree} → Call limit depth words (last ∷ rest) tree → Is term.Semicolon last
         → Statement limit depth words rest (over_one node.Called tree)
+    -- stepped = step ";"
     stepped : {limit depth : ℕ} {words rest : List Word} {last : Word} {tree : Tree} → StepOf limit depth words (last ∷ rest) tree → Is term.Semicolon last
         → Statement limit depth words rest (over_one node.Step tree)
+    -- print = "printf" "(" Text [ "," arguments ] ")" ";", which is the text and { "," expression }
     print : {limit depth : ℕ} {words rest : List Word} {word first told last end : Word} {trees : List Tree} → Is term.Printf word → Is term.OpenParen first → Is term.Text told
         → MoreArguments limit depth words (last ∷ end ∷ rest) trees → Is term.CloseParen last → Is term.Semicolon end
         → Statement limit depth (word ∷ first ∷ told ∷ words) rest (Node node.Print word.spot 0 0 told.text (kids trees))
+    -- lock_call = lock_routine lock ";"
     locking : {limit depth : ℕ} {words rest : List Word} {word last : Word} {tree : Tree} → (which : LockCall) → Is (routine_word which) word → Lock words (last ∷ rest) tree
         → Is term.Semicolon last → Statement limit depth (word ∷ words) rest (made_at (node.LockCall which) word (kids (tree ∷ [])))
     construct : {limit depth : ℕ} {words rest : List Word} {tree : Tree} → Construct limit depth words rest tree → Statement limit depth words rest tree
