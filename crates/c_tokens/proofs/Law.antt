@@ -29,7 +29,7 @@ begins-some test (byte ∷ bytes) begun = omega arith
 some_from : (bytes : List ℕ) (first : ℕ) (more : List ℕ) → bytes ≡ first ∷ more → 1 ≤ length bytes
 some_from bytes first more same = omega (arith, ap length same)
 
-passed-some : (in_line : Line) (bytes rest : List ℕ) → IsPassed in_line bytes rest → 1 ≤ length bytes
+pub passed-some : (in_line : Line) (bytes rest : List ℕ) → IsPassed in_line bytes rest → 1 ≤ length bytes
 passed-some line.Fresh bytes rest (inl (byte, same, blank)) = some_from bytes byte [] same
 passed-some line.Begun bytes rest (inl (byte, same, blank)) = some_from bytes byte [] same
 passed-some line.Directive bytes rest (inl (byte, same, blank, other)) = some_from bytes byte [] same
@@ -60,13 +60,13 @@ scan-front front rest place it same some counted fits =
     ∙ ap (λ (end : List ℕ). found it place (scan end 0 (places_after (take (item_len it) text) (place_in it place)))) (drop_at front rest (item_len it) counted)
     ∙ ap (λ (begin : List ℕ). found it place (scan rest 0 (places_after begin (place_in it place)))) (take_at front rest (item_len it) counted)
 
-scan-passed : (front rest : List ℕ) (place : Place) → item_of place.line (front ++ rest) ≡ item.Blank (length front) → 1 ≤ length front → scan (front ++ rest) 0 place ≡ with_front [] (scan rest 0 (places_after front place))
+pub scan-passed : (front rest : List ℕ) (place : Place) → item_of place.line (front ++ rest) ≡ item.Blank (length front) → 1 ≤ length front → scan (front ++ rest) 0 place ≡ with_front [] (scan rest 0 (places_after front place))
 scan-passed front rest place same some = scan-front front rest place (item.Blank (length front)) same some refl (some, omega (arith, length-append front rest))
 
-scan-token : (kind : TokenKind) (front rest : List ℕ) (place : Place) → item_of place.line (front ++ rest) ≡ item.Token kind (length front) → 1 ≤ length front → scan (front ++ rest) 0 place ≡ with_front (token_at kind place (length front) ∷ []) (scan rest 0 (places_after front (record place { line = line_with kind place.line })))
+pub scan-token : (kind : TokenKind) (front rest : List ℕ) (place : Place) → item_of place.line (front ++ rest) ≡ item.Token kind (length front) → 1 ≤ length front → scan (front ++ rest) 0 place ≡ with_front (token_at kind place (length front) ∷ []) (scan rest 0 (places_after front (record place { line = line_with kind place.line })))
 scan-token kind front rest place same some = scan-front front rest place (item.Token kind (length front)) same some refl (some, omega (arith, length-append front rest))
 
-scan-end : (rest : List ℕ) (place : Place) → item_of place.line (newline ∷ rest) ≡ item.DirectiveEnd → scan (newline ∷ rest) 0 place ≡ with_front (token_at kind.PragmaEnd place 0 ∷ []) (scan rest 0 (place_after newline (record place { line = line.Fresh })))
+pub scan-end : (rest : List ℕ) (place : Place) → item_of place.line (newline ∷ rest) ≡ item.DirectiveEnd → scan (newline ∷ rest) 0 place ≡ with_front (token_at kind.PragmaEnd place 0 ∷ []) (scan rest 0 (place_after newline (record place { line = line.Fresh })))
 scan-end rest place same = scan-front (newline ∷ []) rest place item.DirectiveEnd same (omega arith) refl (omega arith)
 
 -- what stands in front of tokens
@@ -77,7 +77,7 @@ front-some front (Err fault) tokens whole = absurd (cc)
 Reads-as : (place : Place) (text : List ℕ) (tokens other : List Token) → tokens ≡ other → Reads place text other → Reads place text tokens
 Reads-as place text tokens other same reads = subst (Reads place text) (sym same) reads
 
-scan-fault : (byte : ℕ) (bytes : List ℕ) (place : Place) (flaw : Flaw) (offset : ℕ) → item_of place.line (byte ∷ bytes) ≡ item.Fault flaw offset → scan (byte ∷ bytes) 0 place ≡ Err (fault_at flaw place offset)
+pub scan-fault : (byte : ℕ) (bytes : List ℕ) (place : Place) (flaw : Flaw) (offset : ℕ) → item_of place.line (byte ∷ bytes) ≡ item.Fault flaw offset → scan (byte ∷ bytes) 0 place ≡ Err (fault_at flaw place offset)
 unfolding scan
 scan-fault byte bytes place flaw offset same = ap (λ (i : Item). found i place (scan bytes (item_len i - 1) (place_after byte (place_in i place)))) same
 

@@ -8,7 +8,10 @@ pub mod Hashes
 pub mod Texts
 pub mod Pieces
 pub mod Fronts
+pub mod BadTexts
+pub mod Flaws
 pub mod Law
+pub mod Ending
 pub mod Spans
 pub mod Spots
 pub mod NameCounts

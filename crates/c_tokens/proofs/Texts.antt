@@ -18,7 +18,7 @@ pub record Quoted (at : ℕ) (escaped : Bool) (bytes : List ℕ) (count : ℕ) :
   pub counted : at + length inside + 1 ≡ count
   pub quoted : IsQuoted (from escaped inside)
 
-IsQuoted-plain : (byte : ℕ) (bytes : List ℕ) → IsPlain byte → IsQuoted bytes → IsQuoted (byte ∷ bytes)
+pub IsQuoted-plain : (byte : ℕ) (bytes : List ℕ) → IsPlain byte → IsQuoted bytes → IsQuoted (byte ∷ bytes)
 IsQuoted-plain byte [] plain more = plain
 IsQuoted-plain byte (next ∷ bytes) plain more = inl (plain, more)
 
@@ -46,7 +46,7 @@ text_found at false (byte ∷ bytes) count found =
     longer at false false byte bytes count more (IsQuoted-plain byte more.inside (eqb-false byte quote not_quote, eqb-false byte backslash not_escape, not_control) more.quoted))))
     found
 
-plain_read : (at byte : ℕ) (bytes : List ℕ) → IsPlain byte → text_end at false (byte ∷ bytes) ≡ text_end (at + 1) false bytes
+pub plain_read : (at byte : ℕ) (bytes : List ℕ) → IsPlain byte → text_end at false (byte ∷ bytes) ≡ text_end (at + 1) false bytes
 plain_read at byte bytes (not_quote, not_escape, not_control) = rw (ne_eqb byte quote not_quote, ne_eqb byte backslash not_escape, not_control) refl
 
 pub text_read : (at : ℕ) (inside rest : List ℕ) → IsQuoted inside → text_end at false (inside ++ quote ∷ rest) ≡ Ok (at + length inside + 1)

@@ -9,4 +9,5 @@ pub mod Tails
 pub mod Items
 pub mod Tokens
 pub mod Pieces
+pub mod Ending
 pub mod Faults

@@ -5,18 +5,22 @@
 //! its line are tokens too, up to a token without bytes at the end of the line; a backslash before that end, and a comment, carry
 //! the line on. Any other line that begins with `#` is one token. The last token is the end of the text.
 //!
-//! Two definitions say what the tokens of a text are. `tokens_of` in `specs/Tokens.antt` computes them, from the item that stands
-//! at the front of the bytes. `Reads` in `specs/Pieces.antt` is for a reader: it says of each blank, comment and token by itself which
-//! bytes it has, and what may follow it. Proved:
+//! Two definitions say what a text has. `tokens_of` in `specs/Tokens.antt` computes its tokens or its fault, from the item that stands
+//! at the front of the bytes. The other is for a reader, and is two relations. `Reads` in `specs/Pieces.antt` says of each blank,
+//! comment and token by itself which bytes it has, and what may follow it. `EndsIn` in `specs/Ending.antt` is built of the same pieces,
+//! up to where none of them stands, and says by the first bytes there which fault that is, and where. Proved:
 //!
-//! - [`tokens`] answers `Ok` with the list that `tokens_of` has, and a fault, with its place, that `tokens_of` has. It may
-//!   answer want of memory at any time; rows of `text_tables` show that it doesn't where there is enough;
+//! - [`tokens`] answers `Ok` with the list that `tokens_of` has, and a fault, with its place, that `tokens_of` has. So the text is read as
+//!   that list, or ends in that fault. It may answer want of memory at any time; rows of `text_tables` show that it doesn't where
+//!   there is enough;
 //! - the two definitions have the same lists, by [`tokens_are_read`] and [`reading_is_tokens`], and each text has one at most, by
-//!   [`one_list_of_tokens`]. That `tokens_of` answers one list or one fault is plain, since it is a function.
+//!   [`one_list_of_tokens`]. They have the same faults, by [`faults_end_the_reading`];
+//! - each text is read as tokens or ends in a fault, and never both, and it ends in one fault at most, by [`read_or_ended`].
 //!
 //! [`TokenFault::number`] and [`TokenFault::spot`] tell a fault, as `specs/Faults.antt` says.
 //!
-//! That the fault is the first in the text is in the definition: `scan` goes through the text, and stops at it.
+//! That the fault is the first in the text is in both definitions: what stands before it is read piece by piece, and behind it nothing
+//! is.
 //!
 //! Time grows linearly with the text. That is no clause, and neither is where memory is wanting.
 //!
@@ -37,6 +41,8 @@ mod tail;
 mod token;
 mod word;
 
-pub use laws::{one_list_of_tokens, reading_is_tokens, tokens_are_read};
+pub use laws::{
+    faults_end_the_reading, one_list_of_tokens, read_or_ended, reading_is_tokens, tokens_are_read,
+};
 pub use scan::tokens;
 pub use token::{NOWHERE, Spot, Token, TokenFault, TokenKind};

@@ -1,6 +1,7 @@
 //! The tokens of a text.
 
 ghost use Rattle.std.specs.Prelude.{◌≡◌, ◌≢◌, ◌≤◌, ◌+◌, ◌++◌, ◌∷◌, [], Ok, Err, IfOk, IfErr, OnOk, length, vec_len};
+ghost use Rattle.c_tokens.specs.Ending.{EndsIn};
 ghost use Rattle.c_tokens.specs.Pieces.{Reads};
 ghost use Rattle.c_tokens.specs.Tokens.{Bounded, beginning, closing, fault_at, front_of, item_len, token_at, tokens_of};
 
@@ -16,6 +17,7 @@ pub fn tokens(alloc: Global, text: &[u8]) -> Result<Vec<Token>, TokenFault>
     ensures tokens { IfOk result (λ found. tokens_of text.now ≡ Ok found.items) }
     ensures read { IfOk result (λ found. Reads beginning text.now found.items) }
     ensures fault { IfErr result (λ fault. fault ≢ TokenFault.Memory → tokens_of text.now ≡ Err fault) }
+    ensures ended { IfErr result (λ fault. fault ≢ TokenFault.Memory → EndsIn beginning text.now fault) }
 {
     let tails = tails_of(alloc, text).map_err(|_| TokenFault::Memory)?;
     let mut found = Vec::new(alloc);

@@ -3,6 +3,7 @@ use Rattle.c_tokens.specs.Tokens.{places_after}
 use Rattle.c_tokens.specs.declared.place.Place.{Place}
 use Rattle.std.proofs.lemmas.Grind.{common_steps}
 use Rattle.c_tokens.proofs.Ends.{AreTails-end}
+use Rattle.c_tokens.proofs.Ending.{scan-ends}
 use Rattle.c_tokens.proofs.Law.{scan-reads}
 use Rattle.c_tokens.proofs.Scanning.{end-read, fault-read, item-read}
 use Rattle.c_tokens.proofs.scan.tokens.Goals as goal
@@ -11,6 +12,9 @@ pub returns-in-Fault-clause-fault : goal.returns-in-Fault-clause-fault
 returns-in-Fault-clause-fault c = λ named.
     let some : 0 < length c.loop-rest.rest.now = grind arith in
     fault-read _ c.loop-rest.found.items c.loop-rest.rest.now c.loop-rest.place c.loop-rest.invariant.tokens some c.item_at-item.result c.in-Fault.flaw c.in-Fault.offset _ c.item_at-item.ensures.item c.item_at-item.ensures.fits c.in-Fault.is c.fault_at.ensures.fault
+
+pub returns-in-Fault-clause-ended : goal.returns-in-Fault-clause-ended
+returns-in-Fault-clause-ended c = λ named. scan-ends c.args.text.now _ (returns-in-Fault-clause-fault c named)
 
 pub loop-rest-preserved : goal.loop-rest-preserved
 loop-rest-preserved c =
