@@ -8,8 +8,10 @@ use Rattle.c_syntax.specs.declared.node.NodeKind.TheVariants as node
 use Rattle.c_syntax.specs.Words.{Word}
 use Rattle.c_syntax.specs.Tree.{Tree, kind_of}
 use Rattle.c_syntax.specs.Numbered.{TreeView, root_tree}
-use Rattle.c_syntax.specs.Derivation.{Derives, Opened, Spells}
+use Rattle.c_syntax.specs.Productions.{IsProgram, depth_limit}
+use Rattle.c_syntax.specs.Derivation.{Derives, Opened}
 use Rattle.c_syntax.specs.Derivation.Derives.{over, expect, deepen, rise, take, in_head, read, open_node, make, join, wrap, skip}
+use Rattle.c_syntax.proofs.ProgramWords.{program_derives}
 use Rattle.c_model.specs.Formed.{IsProgramFormed}
 use Rattle.c_model.proofs.Grammar.{IsGood, Leads, is_program, never}
 use Rattle.c_model.proofs.GrammarRules.{RuleFor, rule}
@@ -33,8 +35,8 @@ program-kind : (kind : NodeKind) → IsTrue (is_program kind) → kind ≡ node.
 program-kind node.Program is = refl
 program-kind other is = never is
 
-pub spelled_is_formed : (words : List Word) (program : TreeView) → Spells words (root_tree program) → IsProgramFormed program
+pub spelled_is_formed : (words : List Word) (program : TreeView) → IsProgram depth_limit words (root_tree program) → IsProgramFormed program
 unfolding Leads
 spelled_is_formed words program spells =
-    let is : IsGood (root_tree program) = good spells (λ tree is formed. record { kind = program-kind (kind_of tree) is; formed = formed }) in
+    let is : IsGood (root_tree program) = good (program_derives depth_limit words (root_tree program) spells) (λ tree is formed. record { kind = program-kind (kind_of tree) is; formed = formed }) in
     record { kind = is.kind; formed = is.formed }

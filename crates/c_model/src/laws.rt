@@ -2,7 +2,7 @@
 
 ghost use Rattle.std.specs.Prelude.{◌≡◌, ◌<◌, ◌≤◌, ◌++◌, ℕ, ℤ, Bool, List, [], length, Ok, pos, unwrap_or};
 ghost use Rattle.std.specs.List.{All, Contains};
-ghost use Rattle.c_syntax.specs.Derivation.{Spells};
+ghost use Rattle.c_syntax.specs.Productions.{IsProgram, depth_limit};
 ghost use Rattle.c_syntax.specs.Numbered.{TreeView, root_tree};
 ghost use Rattle.c_syntax.specs.Words.{Word};
 ghost use Rattle.c_syntax.specs.Tree.{Tree as Part, name_of};
@@ -113,7 +113,7 @@ pub fn no_environment_grows_past_the_width()
 /// The nodes of the tree that words spell have the forms of a program's nodes: what stands below which, and what of it may be missing. Statements and
 /// expressions are taken together, and what a construct executes may be missing.
 pub fn spelled_trees_are_formed()
-    ensures { (words : List Word) (program : TreeView) → Spells words (root_tree program) → IsProgramFormed program }
+    ensures { (words : List Word) (program : TreeView) → IsProgram depth_limit words (root_tree program) → IsProgramFormed program }
 {}
 
 /// No task of a program that breaks no rule uses a name that isn't in scope, or calls what is no function of the file with so many parameters, neither
@@ -121,7 +121,7 @@ pub fn spelled_trees_are_formed()
 /// each answer and behind each event that a step comes to. The code of a member of a team begins so, where that of the task is so that forks the
 /// region, and the code of an explicit task, where the creating task has come to its creation.
 pub fn no_task_uses_an_unknown_name()
-    ensures checked { (words : List Word) (program : TreeView) → Spells words (root_tree program) → Checked program → IsWellScoped program }
+    ensures checked { (words : List Word) (program : TreeView) → IsProgram depth_limit words (root_tree program) → Checked program → IsWellScoped program }
     ensures main { (program : TreeView) → IsWellScoped program → IsScoped program (main_task program) }
     ensures step { (program : TreeView) (view : Seen) (now next : Moment) → IsWellScoped program → IsScoped program now.task →
         silent program view now ≡ StepsTo next → IsScoped program next.task }

@@ -1,7 +1,7 @@
 -- The slots of names by the numbers of the nodes where they stand.
 use Rattle.std.proofs.Common.{◌≡◌, ℕ, ◌+◌, ◌<◌, [], ◌∷◌, ◌++◌, length, map, take, get_or}
 use Rattle.std.proofs.lemmas.List.{get_or-map, map_more}
-use Rattle.c_syntax.specs.Derivation.{nothing}
+use Rattle.c_syntax.specs.Tree.{nothing}
 use Rattle.c_syntax.specs.Numbered.{TreeView, tree_at}
 use Rattle.c_check.specs.Seen.{slot_of_name}
 

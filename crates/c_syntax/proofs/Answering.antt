@@ -12,7 +12,9 @@ use Rattle.c_syntax.specs.declared.fault.SyntaxFault.{SyntaxFault}
 use Rattle.c_syntax.specs.declared.fault.SyntaxFault.TheVariants as fault
 use Rattle.c_syntax.specs.Words.{Word, words_of}
 use Rattle.c_syntax.specs.Grammar.{choice}
-use Rattle.c_syntax.specs.Derivation.{depth_limit, fits, is_outside, made, result_of}
+use Rattle.c_syntax.specs.Productions.{depth_limit}
+use Rattle.c_syntax.specs.WordClasses.{is_outside}
+use Rattle.c_syntax.specs.Derivation.{fits, made, result_of}
 use Rattle.c_syntax.specs.Faults.{IsAnswered, IsFault, fault_of}
 use Rattle.c_syntax.specs.Reading.{Faces, Reaches, State, weight}
 use Rattle.c_syntax.proofs.Terms.{same-or-not}

@@ -19,7 +19,8 @@ use Rattle.c_syntax.specs.Heads.{behind}
 use Rattle.c_syntax.specs.Words.{Word}
 use Rattle.c_syntax.specs.Tree.{Tree}
 use Rattle.c_syntax.specs.Grammar.{choice}
-use Rattle.c_syntax.specs.Derivation.{Derives, Opened, fits, kept, made, joined, wrapped, skipped, opened_at, result_of, nowhere, program_steps}
+use Rattle.c_tokens.specs.Faults.{nowhere}
+use Rattle.c_syntax.specs.Derivation.{Derives, Opened, fits, kept, made, joined, wrapped, skipped, opened_at, result_of, program_steps}
 use Rattle.c_syntax.specs.Closing.{opener, sample, opens, followers, IsAmong, is_shallow, is_plain, last_steps, IsHeld, IsLeft}
 use Rattle.c_syntax.proofs.Terms.{same, same-true, every, every-among, both-left, both-right}
 

@@ -2,7 +2,6 @@
 use Rattle.std.proofs.Common.{ℕ, ◌≡◌, ◌+◌, ◌<◌, ◌≤◌, Bool, true, false, ◌||◌, IsTrue, List, [], ◌∷◌, ◌++◌, Option, Some, None, length, refl, ap, subst, ◌∙◌, arith, length-append}
 use Rattle.std.proofs.lemmas.Bool.{false≢true}
 use Rattle.c_tokens.specs.declared.token.Spot.{Spot}
-use Rattle.c_tokens.specs.declared.token.Token.{Token}
 use Rattle.c_syntax.specs.declared.node.NodeKind.{NodeKind}
 use Rattle.c_syntax.specs.declared.term.Term.{Term}
 use Rattle.c_syntax.specs.declared.grammar.Class.{Class}
@@ -11,13 +10,16 @@ use Rattle.c_syntax.specs.declared.grammar.Step.{Step}
 use Rattle.c_syntax.specs.declared.grammar.Step.TheVariants.{Expect, Deepen, Rise, Take, InHead, Read, Open, Make, Join, Wrap, Skip}
 use Rattle.c_syntax.specs.declared.head.Head.{Head}
 use Rattle.c_syntax.specs.Words.{Word, words_of}
-use Rattle.c_syntax.specs.Tree.{Tree, Children, before, children_from, spot_of}
+use Rattle.c_syntax.specs.Tree.{Tree, Children, before, children_from, spot_of, nothing}
 use Rattle.c_syntax.specs.Tree.Tree.{Node}
 use Rattle.c_syntax.specs.Tree.Children.{Over, Child, Absent}
-use Rattle.c_syntax.specs.Derivation.{Derives, Opened, Spells, closed, join_children, joined, kept, made, name_in, newest, nothing, opened_at, outermost, program_steps, result_of, skipped, wrap_children, wrapped}
-use Rattle.c_syntax.specs.Places.{HasOneConstructAPlace, IsTreeOf, is_construct, nodes_below, nodes_of}
+use Rattle.c_syntax.specs.Derivation.{Derives, Opened, SpellsWithin, closed, join_children, joined, kept, made, name_in, newest, opened_at, outermost, program_steps, result_of, skipped, wrap_children, wrapped}
+use Rattle.c_syntax.specs.Productions.{depth_limit}
+use Rattle.c_syntax.specs.Texts.{Spells}
+use Rattle.c_syntax.specs.Places.{HasOneConstructAPlace, is_construct, nodes_below, nodes_of}
 use Rattle.c_syntax.proofs.Terms.{negated, negated-true, both-left, both-right}
 use Rattle.c_syntax.proofs.Leading.{IsFresh, is_led, is_open, is_pragma, led-append, led-behind, led-choice, led-fresh}
+use Rattle.c_syntax.proofs.ProgramWords.{program_derives}
 use Rattle.c_syntax.proofs.Fates.{are_right, are_right-append, before_word, ended_by, fates, fates-append, first_of, is_right, is_some, is_within, length-before_word, length-rest, length-within, may-become, rest_of, right-choice}
 use Rattle.c_syntax.proofs.WordSpots.{words-own}
 use Rattle.c_syntax.proofs.SpotCounts.{at_spot, at_spot-less, constructs-apart, constructs_at, constructs_at-append, heads_at, heads_at-one}
@@ -248,13 +250,13 @@ module _ (place : Spot) where
       omega (arith, further, held-skipped (fates steps) nodes)
 
   -- no more constructs of a program stand at a spot than heads of directives
-  spells-heads : (words : List Word) (tree : Tree) → Spells words tree → constructs_at place (nodes_of tree) ≤ heads_at place words
+  spells-heads : (words : List Word) (tree : Tree) → SpellsWithin depth_limit words tree → constructs_at place (nodes_of tree) ≤ heads_at place words
   unfolding in_tree
   spells-heads words tree spells =
       let beginning : Suits false program_steps words outermost = record { led = refl; at_word = tt; right = refl; fewer = omega arith } in
       omega (arith, derives-held spells false beginning)
 
-pub one-construct : (text : List ℕ) (tokens : List Token) (tree : Tree) → IsTreeOf text tokens tree → HasOneConstructAPlace tree
-one-construct text tokens tree is =
-    let words : List Word = words_of text tokens in
-    constructs-apart (nodes_of tree) (λ place. omega (arith, spells-heads place words tree is.spells, heads_at-one place words (words-own text tokens is.tokens_of_text)))
+pub one-construct : (text : List ℕ) (tree : Tree) → Spells text tree → HasOneConstructAPlace tree
+one-construct text tree is =
+    let words : List Word = words_of text is.tokens in
+    constructs-apart (nodes_of tree) (λ place. omega (arith, spells-heads place words tree (program_derives depth_limit words tree is.spelled), heads_at-one place words (words-own text is.tokens is.tokens_are)))

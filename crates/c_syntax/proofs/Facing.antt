@@ -19,7 +19,9 @@ use Rattle.c_syntax.specs.Heads.{behind}
 use Rattle.c_syntax.specs.Words.{Word}
 use Rattle.c_syntax.specs.Tree.{Tree}
 use Rattle.c_syntax.specs.Grammar.{choice}
-use Rattle.c_syntax.specs.Derivation.{Derives, is_outside, fits, kept, made, joined, wrapped, skipped, opened_at, result_of, outermost, program_steps, SpellsWithin, Spells, CanGoOn, depth_limit}
+use Rattle.c_syntax.specs.Productions.{GoesOn, IsProgram, depth_limit}
+use Rattle.c_syntax.specs.WordClasses.{is_outside}
+use Rattle.c_syntax.specs.Derivation.{Derives, fits, kept, made, joined, wrapped, skipped, opened_at, result_of, outermost, program_steps, SpellsWithin, CanGoOn}
 use Rattle.c_syntax.specs.Closing.{is_end, is_plain, last_step, IsHeld, IsLeft, IsReady}
 use Rattle.c_syntax.specs.Faults.{left_off, is_odd_at, is_unknown_at, fault_of, IsFaultAt, IsFault}
 use Rattle.c_syntax.specs.Reading.{State, From, Leaves, Reaches, Faces}
@@ -28,6 +30,8 @@ use Rattle.c_syntax.proofs.Limits.{within-wider}
 use Rattle.c_syntax.proofs.Leaving.{leaves-as, leaves-read, leaves-see}
 use Rattle.c_syntax.proofs.Completing.{left-completed}
 use Rattle.c_syntax.proofs.Readying.{ready-held, ready-read}
+use Rattle.c_syntax.proofs.ProgramMeaning.{derives_program}
+use Rattle.c_syntax.proofs.GoingOn.{goes_by_productions, goes_by_table}
 
 -- the last of some words, or a word where there is none
 abbrev last_of : Word → List Word → Word
@@ -194,12 +198,12 @@ reaches-take {before} {word} {state} {steps} {which} faces same fit =
 pub reaches-end : (before : List Word) (word : Word) {state : State} → Reaches (before ++ word ∷ []) state → word.term ≡ term.End → state.steps ≡ last_step
 reaches-end before word reaches end = reaches.ended before word refl end
 
-pub reaches-spells : {words : List Word} {state : State} → Reaches words state → state.steps ≡ last_step → Spells words (result_of (made node.Program state.nodes))
+pub reaches-spells : {words : List Word} {state : State} → Reaches words state → state.steps ≡ last_step → IsProgram depth_limit words (result_of (made node.Program state.nodes))
 reaches-spells {words} {state} reaches same =
     let tree = result_of (made node.Program state.nodes) in
     let last : From depth_limit (record state { steps = last_step }) [] tree = Derives.make (Derives.over refl) in
     let now : From depth_limit state [] tree = subst (λ steps. Derives depth_limit steps state.depth state.at [] state.nodes tree) (sym same) last in
-    subst (λ all. SpellsWithin depth_limit all tree) (append-nil words) (reaches.leaves.back depth_limit [] tree (omega arith) now)
+    derives_program depth_limit words tree (subst (λ all. SpellsWithin depth_limit all tree) (append-nil words) (reaches.leaves.back depth_limit [] tree (omega arith) now))
 
 -- the words that may not follow
 
@@ -211,16 +215,16 @@ never-on {before} {word} {state} leaves never limit (more, tree, spells) =
     let whole = subst (λ words. SpellsWithin limit words tree) (append_assoc before (word ∷ []) more) spells in
     never (limit + depth_limit) more tree (leaves.onward (limit + depth_limit) more tree wide (within-wider wider whole))
 
-fault-at : (before : List Word) (word : Word) → ((limit : ℕ) → CanGoOn limit (before ++ word ∷ []) → ⊥) → (odd unknown : Bool) → (if odd then fault.OutOfProfile word.spot else if unknown then fault.UnknownDirective word.spot else fault.Unexpected word.spot) ≡ fault_of (left_off head.Outside before) word → IsFaultAt before word (if odd then fault.OutOfProfile word.spot else if unknown then fault.UnknownDirective word.spot else fault.Unexpected word.spot)
+fault-at : (before : List Word) (word : Word) → ((limit : ℕ) → GoesOn limit (before ++ word ∷ []) → ⊥) → (odd unknown : Bool) → (if odd then fault.OutOfProfile word.spot else if unknown then fault.UnknownDirective word.spot else fault.Unexpected word.spot) ≡ fault_of (left_off head.Outside before) word → IsFaultAt before word (if odd then fault.OutOfProfile word.spot else if unknown then fault.UnknownDirective word.spot else fault.Unexpected word.spot)
 fault-at before word never true unknown same = (same, never)
 fault-at before word never false true same = (same, never)
 fault-at before word never false false same = (same, never)
 
 refused : {before : List Word} {word : Word} {state : State} → Faces before word state → ((limit : ℕ) (more : List Word) (tree : Tree) → From limit state (word ∷ more) tree → ⊥) → (after : List Word) → IsFault (before ++ word ∷ after) (fault_of state.at word)
 refused {before} {word} {state} faces never after =
-    let none = never-on faces.leaves never in
+    let none : (limit : ℕ) → GoesOn limit (before ++ word ∷ []) → ⊥ = λ limit goes. never-on faces.leaves never limit (goes_by_table limit (before ++ word ∷ []) goes) in
     let place = left_off head.Outside before in
-    let found : IsFault (before ++ word ∷ after) (fault_of place word) = (before, word, after, refl, faces.goes_on, none depth_limit, fault-at before word none (is_odd_at place word.term) (is_unknown_at place word.term) refl) in
+    let found : IsFault (before ++ word ∷ after) (fault_of place word) = (before, word, after, refl, goes_by_productions depth_limit before faces.goes_on, none depth_limit, fault-at before word none (is_odd_at place word.term) (is_unknown_at place word.term) refl) in
     subst (λ at. IsFault (before ++ word ∷ after) (fault_of at word)) (sym faces.leaves.at) found
 
 -- the place in the head of a directive that a fault goes by is that of the words before
@@ -250,7 +254,8 @@ refuses-none faces same after = refused (faces-as faces same) (λ limit more tre
 
 -- only the limit keeps the word from being read: a wider one lets it, and what follows can be completed
 pub refuses-depth : {before : List Word} {word : Word} {state : State} {steps : List Step} {term : Term} → Faces before word state → state.steps ≡ Deepen term ∷ steps → word.term ≡ term → depth_limit ≤ state.depth → (after : List Word) → IsFault (before ++ word ∷ after) (fault.TooDeep word.spot)
-refuses-depth {before} {word} {state} {steps} {term} faces same fit deep after = (before, word, after, refl, faces.goes_on, never, (refl, (state.depth + 1, on)))
+refuses-depth {before} {word} {state} {steps} {term} faces same fit deep after =
+    (before, word, after, refl, goes_by_productions depth_limit before faces.goes_on, λ goes. never (goes_by_table depth_limit (before ++ word ∷ []) goes), (refl, (state.depth + 1, goes_by_productions (state.depth + 1) (before ++ word ∷ []) on)))
   where
     now : Faces before word (record state { steps = Deepen term ∷ steps })
     now = faces-as faces same

@@ -8,8 +8,8 @@ use Rattle.std.proofs.lemmas.List.Elements.{All-drop, All-take}
 use Rattle.std.proofs.Math.Seq.{drop-append_seam, take-append_seam}
 use Rattle.c_syntax.specs.declared.growth.OpenNode.{OpenNode}
 use Rattle.c_syntax.specs.declared.node.NodeKind.{NodeKind}
-use Rattle.c_syntax.specs.Tree.{Tree}
-use Rattle.c_syntax.specs.Derivation.{Opened, join_children, joined, newest, nothing, result_of, wrap_children, wrapped}
+use Rattle.c_syntax.specs.Tree.{Tree, nothing}
+use Rattle.c_syntax.specs.Derivation.{Opened, join_children, joined, newest, result_of, wrap_children, wrapped}
 use Rattle.c_syntax.specs.LastChildren.{last_of, last_two_of}
 use Rattle.c_syntax.specs.Numbered.{tree_at}
 use Rattle.c_syntax.specs.Nodes.{IsBelow}

@@ -6,7 +6,8 @@ use Rattle.c_syntax.specs.declared.head.Head.TheVariants as head
 use Rattle.c_syntax.specs.Heads.{behind}
 use Rattle.c_syntax.specs.Words.{Word}
 use Rattle.c_syntax.specs.Tree.{Tree}
-use Rattle.c_syntax.specs.Derivation.{SpellsWithin, depth_limit}
+use Rattle.c_syntax.specs.Productions.{depth_limit}
+use Rattle.c_syntax.specs.Derivation.{SpellsWithin}
 use Rattle.c_syntax.specs.Faults.{left_off}
 use Rattle.c_syntax.specs.Reading.{State, From, Leaves}
 

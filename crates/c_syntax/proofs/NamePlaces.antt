@@ -4,7 +4,6 @@ use Rattle.std.specs.Prelude.{All}
 use Rattle.std.proofs.lemmas.Bool.{false≢true}
 use Rattle.std.proofs.lemmas.List.Elements.{All-append, All-cons, All-contains, All-head, All-nil, All-tail, All-weaker}
 use Rattle.c_tokens.specs.declared.token.Spot.{Spot}
-use Rattle.c_tokens.specs.declared.token.Token.{Token}
 use Rattle.c_syntax.specs.declared.node.NodeKind.{NodeKind}
 use Rattle.c_syntax.specs.declared.node.NodeKind.TheVariants as node
 use Rattle.c_syntax.specs.declared.grammar.Class.{Class}
@@ -13,11 +12,14 @@ use Rattle.c_syntax.specs.declared.grammar.Step.{Step}
 use Rattle.c_syntax.specs.declared.grammar.Step.TheVariants.{Expect, Deepen, Rise, Take, InHead, Read, Open, Make, Join, Wrap, Skip}
 use Rattle.c_syntax.specs.declared.head.Head.{Head}
 use Rattle.c_syntax.specs.Words.{Word, words_of}
-use Rattle.c_syntax.specs.Tree.{Tree, Children, before, children_from, name_of, spot_of}
+use Rattle.c_syntax.specs.Tree.{Tree, Children, before, children_from, name_of, spot_of, nothing}
 use Rattle.c_syntax.specs.Tree.Tree.{Node}
 use Rattle.c_syntax.specs.Tree.Children.{Over, Child, Absent}
-use Rattle.c_syntax.specs.Derivation.{Derives, Opened, closed, fits, join_children, joined, kept, made, name_in, newest, nothing, result_of, skipped, wrap_children, wrapped}
-use Rattle.c_syntax.specs.Places.{HasOneNameAPlace, IsTreeOf, nodes_below, nodes_of}
+use Rattle.c_syntax.specs.Derivation.{Derives, Opened, closed, fits, join_children, joined, kept, made, name_in, newest, result_of, skipped, wrap_children, wrapped}
+use Rattle.c_syntax.specs.Places.{HasOneNameAPlace, nodes_below, nodes_of}
+use Rattle.c_syntax.specs.Productions.{depth_limit}
+use Rattle.c_syntax.specs.Texts.{Spells}
+use Rattle.c_syntax.proofs.ProgramWords.{program_derives}
 use Rattle.c_syntax.proofs.Leading.{IsFresh, is_led, is_naming, led-append, led-behind, led-choice, led-fresh}
 use Rattle.c_syntax.proofs.WordSpots.{HaveOwnSpots, IsIn, all-themselves, getter-bytes, has_bytes, name_at-bytes, same-word, words-own}
 
@@ -172,13 +174,13 @@ names-same words spot place name other own same some also (inl none) two = absur
 names-same words spot place name other own same some also one (inl none) = absurd (also none)
 names-same words spot place name other own same some also (inr one) (inr two) = values-same words spot place name other own same one two
 
-pub one-name : (text : List ℕ) (tokens : List Token) (tree : Tree) → IsTreeOf text tokens tree → HasOneNameAPlace tree
+pub one-name : (text : List ℕ) (tree : Tree) → Spells text tree → HasOneNameAPlace tree
 unfolding Says
-one-name text tokens tree is one other there here some also same =
-    let words : List Word = words_of text tokens in
+one-name text tree is one other there here some also same =
+    let words : List Word = words_of text is.tokens in
     let says : All (λ word. IsTrue (has_bytes word.term) → IsWordAt words word.spot word.value) words =
     All-weaker (λ word. IsIn word words) (λ word. IsTrue (has_bytes word.term) → IsWordAt words word.spot word.value) (λ word among full. record { word = word; among = among; full = full; here = refl; valued = refl }) words (all-themselves words) in
-    let named = derives-named (IsWordAt words) is.spells false refl tt says (inl refl, tt, tt) in
+    let named = derives-named (IsWordAt words) (program_derives depth_limit words tree is.spelled) false refl tt says (inl refl, tt, tt) in
     let P : Tree → Type 0 = λ it. IsNamed (IsWordAt words) (spot_of it) (name_of it) in
-    names-same words (spot_of one) (spot_of other) (name_of one) (name_of other) (words-own text tokens is.tokens_of_text) same some also
+    names-same words (spot_of one) (spot_of other) (name_of one) (name_of other) (words-own text is.tokens is.tokens_are) same some also
     (All-contains P (nodes_of tree) one named there) (All-contains P (nodes_of tree) other named here)

@@ -11,7 +11,8 @@ use Rattle.c_syntax.specs.Heads.{behind}
 use Rattle.c_syntax.specs.Words.{Word}
 use Rattle.c_syntax.specs.Tree.{Tree}
 use Rattle.c_syntax.specs.Grammar.{choice}
-use Rattle.c_syntax.specs.Derivation.{Derives, Opened, is_outside, fits, kept, made, joined, wrapped, skipped, opened_at, result_of}
+use Rattle.c_syntax.specs.WordClasses.{is_outside}
+use Rattle.c_syntax.specs.Derivation.{Derives, Opened, fits, kept, made, joined, wrapped, skipped, opened_at, result_of}
 
 pub over-back : {limit depth : ℕ} {at : Head} {nodes : List Opened} {tree : Tree} → Derives limit [] depth at [] nodes tree → result_of nodes ≡ tree
 over-back (Derives.over same) = same

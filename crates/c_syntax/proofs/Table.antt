@@ -8,10 +8,9 @@ use Rattle.std.proofs.Math.Seq.{drop-append_seam, get_or-append_seam}
 use Rattle.std.proofs.lemmas.Bool.{cases_lt}
 use Rattle.std.proofs.Math.Nat.{min-le_left}
 use Rattle.c_syntax.specs.declared.nodes.Node as row
-use Rattle.c_syntax.specs.Tree.{Tree, Children, at_place, child_of}
+use Rattle.c_syntax.specs.Tree.{Tree, Children, at_place, child_of, nothing}
 use Rattle.c_syntax.specs.Tree.Tree.{Node}
 use Rattle.c_syntax.specs.Tree.Children.{Child, Absent}
-use Rattle.c_syntax.specs.Derivation.{nothing}
 use Rattle.c_syntax.specs.Numbered.{tree_at, children_at}
 use Rattle.c_syntax.specs.Nodes.{AreNodes, IsBelow, IsNode, tree_of, trees_behind}
 

@@ -7,10 +7,13 @@ use Rattle.c_syntax.specs.declared.fault.SyntaxFault.{SyntaxFault}
 use Rattle.c_syntax.specs.declared.fault.SyntaxFault.TheVariants as fault
 use Rattle.c_syntax.specs.Words.{Word}
 use Rattle.c_syntax.specs.Tree.{Tree}
-use Rattle.c_syntax.specs.Derivation.{Derives, Opened, SpellsWithin, Spells, CanGoOn, depth_limit}
+use Rattle.c_syntax.specs.Productions.{GoesOn, IsProgram, depth_limit}
+use Rattle.c_syntax.specs.Derivation.{Derives, Opened}
 use Rattle.c_syntax.specs.Faults.{IsFaultAt, IsFault}
 use Rattle.c_syntax.proofs.Steps.{over-back, expect-back, deepen-back, take-back, rise-back, in_head-back, open-back, make-back, join-back, wrap-back, skip-back, read-as}
+use Rattle.c_syntax.proofs.ProgramWords.{program_derives}
 
+-- the table derives one tree
 tree-one : {limit depth : ℕ} {at : Head} {steps : List Step} {words : List Word} {nodes : List Opened} {first second : Tree} → Derives limit steps depth at words nodes first → Derives limit steps depth at words nodes second → first ≡ second
 tree-one (Derives.over same) other = sym same ∙ over-back other
 tree-one (Derives.expect same rest) other = tree-one rest (expect-back other).1
@@ -25,17 +28,18 @@ tree-one (Derives.join rest) other = tree-one rest (join-back other)
 tree-one (Derives.wrap rest) other = tree-one rest (wrap-back other)
 tree-one (Derives.skip rest) other = tree-one rest (skip-back other)
 
-pub spells-one : (words : List Word) (first second : Tree) → Spells words first → Spells words second → first ≡ second
-spells-one words first second one other = tree-one one other
+-- .. and so do the productions
+pub program-one : (limit : ℕ) (words : List Word) (first second : Tree) → IsProgram limit words first → IsProgram limit words second → first ≡ second
+program-one limit words first second one other = tree-one (program_derives limit words first one) (program_derives limit words second other)
 
 -- what can be completed can be completed at each of its words
-pub front-goes-on : (limit : ℕ) (front more : List Word) → CanGoOn limit (front ++ more) → CanGoOn limit front
-front-goes-on limit front more (rest, tree, spells) = (more ++ rest, tree, subst (λ words. SpellsWithin limit words tree) (append_assoc front more rest) spells)
+pub front-goes-on : (limit : ℕ) (front more : List Word) → GoesOn limit (front ++ more) → GoesOn limit front
+front-goes-on limit front more (rest, tree, spells) = (more ++ rest, tree, subst (λ words. IsProgram limit words tree) (append_assoc front more rest) spells)
 
-pub spells-no_fault : (words : List Word) (tree : Tree) (found : SyntaxFault) → Spells words tree → IsFault words found → ⊥
-spells-no_fault words tree found spells (before, word, after, same, goes, stops, is) =
-    let whole = subst (λ all. SpellsWithin depth_limit all tree) same spells in
-    stops (after, tree, subst (λ all. SpellsWithin depth_limit all tree) (sym (append_assoc before (word ∷ []) after)) whole)
+pub program-no_fault : (words : List Word) (tree : Tree) (found : SyntaxFault) → IsProgram depth_limit words tree → IsFault words found → ⊥
+program-no_fault words tree found spells (before, word, after, same, goes, stops, is) =
+    let whole = subst (λ all. IsProgram depth_limit all tree) same spells in
+    stops (after, tree, subst (λ all. IsProgram depth_limit all tree) (sym (append_assoc before (word ∷ []) after)) whole)
 
 first-one : {first second : Word} {more further : List Word} → first ∷ more ≡ second ∷ further → first ≡ second
 first-one same = cc
@@ -69,5 +73,5 @@ fault-one words first second (before, word, after, same, goes, stops, is) (betwe
   where
     at-places : (before ≡ between) × (word ≡ other) ⊎ (((more : List Word) × (between ≡ (before ++ word ∷ []) ++ more)) ⊎ ((more : List Word) × (before ≡ (between ++ other ∷ []) ++ more))) → first ≡ second
     at-places (inl (place, one)) = fault-same between other first second (subst (λ which. IsFaultAt between which first) one (subst (λ front. IsFaultAt front word first) place is)) is_too
-    at-places (inr (inl (more, behind))) = absurd (stops (front-goes-on depth_limit (before ++ word ∷ []) more (subst (CanGoOn depth_limit) behind goes_too)))
-    at-places (inr (inr (more, behind))) = absurd (stops_too (front-goes-on depth_limit (between ++ other ∷ []) more (subst (CanGoOn depth_limit) behind goes)))
+    at-places (inr (inl (more, behind))) = absurd (stops (front-goes-on depth_limit (before ++ word ∷ []) more (subst (GoesOn depth_limit) behind goes_too)))
+    at-places (inr (inr (more, behind))) = absurd (stops_too (front-goes-on depth_limit (between ++ other ∷ []) more (subst (GoesOn depth_limit) behind goes)))

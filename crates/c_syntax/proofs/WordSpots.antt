@@ -17,7 +17,7 @@ use Rattle.c_syntax.specs.declared.node.Getter.TheVariants as getter
 use Rattle.c_syntax.specs.declared.head.Head.{Head}
 use Rattle.c_syntax.specs.declared.head.Head.TheVariants as head
 use Rattle.c_syntax.specs.Words.{Word, bytes_of, names_with, term_of, words_from, words_of}
-use Rattle.c_syntax.specs.Derivation.{is_getter, is_name, is_name_at, is_word}
+use Rattle.c_syntax.specs.WordClasses.{is_getter, is_name, is_name_at, is_word}
 
 -- all words but the ends of directives and of the text
 abbrev pub has_bytes : Term → Bool

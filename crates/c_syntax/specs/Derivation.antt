@@ -1,10 +1,10 @@
--- What words a program is: those that the grammar's steps read one after another, and the tree that the steps make on the way.
-use Rattle.std.specs.Prelude.{ℕ, ◌≡◌, ◌<◌, ◌+◌, ◌-◌, Bool, true, false, ◌||◌, if◌then◌else◌, IsTrue, List, [], ◌∷◌, ◌++◌, Option, Some, None}
+-- The table at work: which words its steps read one after another, and the tree that they make on the way. It serves the reader and proofs: what a program
+-- is stands in `Productions`, and that the table derives the same trees is proved.
+use Rattle.std.specs.Prelude.{ℕ, ◌≡◌, ◌<◌, ◌+◌, ◌-◌, Bool, true, false, IsTrue, List, [], ◌∷◌, ◌++◌, Option, Some, None}
 use Rattle.c_tokens.specs.declared.token.Spot.{Spot}
+use Rattle.c_tokens.specs.Faults.{nowhere}
 use Rattle.c_syntax.specs.declared.node.NodeKind.{NodeKind}
 use Rattle.c_syntax.specs.declared.node.NodeKind.TheVariants as node
-use Rattle.c_syntax.specs.declared.node.Getter.{Getter}
-use Rattle.c_syntax.specs.declared.node.Getter.TheVariants as getter
 use Rattle.c_syntax.specs.declared.term.Term.{Term}
 use Rattle.c_syntax.specs.declared.term.Term.TheVariants as term
 use Rattle.c_syntax.specs.declared.grammar.Class.{Class}
@@ -17,80 +17,10 @@ use Rattle.c_syntax.specs.declared.head.Head.{Head}
 use Rattle.c_syntax.specs.declared.head.Head.TheVariants as head
 use Rattle.c_syntax.specs.Heads.{behind}
 use Rattle.c_syntax.specs.Words.{Word}
-use Rattle.c_syntax.specs.Tree.{Tree, children_from, spot_of}
+use Rattle.c_syntax.specs.WordClasses.{is_getter, is_name_at, is_outside}
+use Rattle.c_syntax.specs.Tree.{Tree, children_from, nothing, over_one, over_two}
 use Rattle.c_syntax.specs.Tree.Tree.{Node}
-use Rattle.c_syntax.specs.Tree.Children.{Over, Child}
 use Rattle.c_syntax.specs.Grammar.{choice}
-
--- the words that are names in the code: all but those of the language and of C
-abbrev pub is_name : Term → Bool
-is_name term.Parallel = true
-is_name term.Sections = true
-is_name term.Single = true
-is_name term.Masked = true
-is_name term.Master = true
-is_name term.Critical = true
-is_name term.Task = true
-is_name term.Barrier = true
-is_name term.Taskwait = true
-is_name term.Section = true
-is_name term.NumThreads = true
-is_name term.Shared = true
-is_name term.Private = true
-is_name term.Firstprivate = true
-is_name term.Reduction = true
-is_name term.Schedule = true
-is_name term.Nowait = true
-is_name term.None = true
-is_name term.Max = true
-is_name term.Min = true
-is_name term.Dynamic = true
-is_name term.Guided = true
-is_name term.OddDirective = true
-is_name term.OddClause = true
-is_name term.Ordered = true
-is_name term.OddName = true
-is_name term.Name = true
-is_name other = false
-
--- the routines that give a number
-abbrev pub is_routine : Term → Bool
-is_routine term.GetThreadNum = true
-is_routine term.GetNumThreads = true
-is_routine term.GetMaxThreads = true
-is_routine other = false
-
--- the other words of the language and of C
-abbrev pub is_reserved : Term → Bool
-is_reserved term.Int = true
-is_reserved term.Void = true
-is_reserved term.If = true
-is_reserved term.Else = true
-is_reserved term.While = true
-is_reserved term.For = true
-is_reserved term.Return = true
-is_reserved term.Printf = true
-is_reserved term.LockType = true
-is_reserved term.InitLock = true
-is_reserved term.DestroyLock = true
-is_reserved term.SetLock = true
-is_reserved term.UnsetLock = true
-is_reserved term.TestLock = true
-is_reserved term.Default = true
-is_reserved term.Static = true
-is_reserved term.OddWord = true
-is_reserved other = false
-
-abbrev pub is_word : Term → Bool
-is_word word = is_name word || (is_reserved word || is_routine word)
-
-abbrev pub is_outside : Head → Bool
-is_outside head.Outside = true
-is_outside other = false
-
--- in the head of a directive each word is a name
-abbrev pub is_name_at : Head → Term → Bool
-is_name_at at word = if is_outside at then is_name word else is_word word
 
 abbrev pub is_number : Term → Bool
 is_number term.Number = true
@@ -99,12 +29,6 @@ is_number other = false
 abbrev pub is_text : Term → Bool
 is_text term.Text = true
 is_text other = false
-
-abbrev pub is_getter : Getter → Term → Bool
-is_getter getter.ThreadNum term.GetThreadNum = true
-is_getter getter.NumThreads term.GetNumThreads = true
-is_getter getter.MaxThreads term.GetMaxThreads = true
-is_getter which other = false
 
 -- the words of a class
 abbrev pub fits : Head → Class → Term → Bool
@@ -151,13 +75,6 @@ made kind [] = []
 made kind (node ∷ []) = node ∷ []
 made kind (node ∷ parent ∷ outer) = with_child (Some (closed kind node)) parent ∷ outer
 
--- a node over two, and over one: it begins where the first of them does
-abbrev pub over_two : NodeKind → Tree → Tree → Tree
-over_two kind left right = Node kind (spot_of left) 0 0 [] (Child left (Child right Over))
-
-abbrev pub over_one : NodeKind → Tree → Tree
-over_one kind inner = Node kind (spot_of inner) 0 0 [] (Child inner Over)
-
 abbrev pub join_children : NodeKind → List (Option Tree) → List (Option Tree)
 join_children kind (Some right ∷ Some left ∷ older) = Some (over_two kind left right) ∷ older
 join_children kind other = other
@@ -178,14 +95,7 @@ abbrev pub skipped : List Opened → List Opened
 skipped [] = []
 skipped (node ∷ outer) = with_child None node ∷ outer
 
-abbrev pub nowhere : Spot
-nowhere = record { line = 0; column = 0 }
-
--- the tree that was made last in the innermost open node, which for a program is the one that takes its tree; a program without
--- anything where none was made
-abbrev pub nothing : Tree
-nothing = Node node.Program nowhere 0 0 [] Over
-
+-- the tree that was made last in the innermost open node, which for a program is the one that takes its tree
 abbrev pub newest : List (Option Tree) → Tree
 newest (Some tree ∷ older) = tree
 newest other = nothing
@@ -220,12 +130,6 @@ outermost = opened_at nowhere ∷ []
 -- the words are a program with this tree, and no node of it is deeper than the limit
 abbrev pub SpellsWithin : ℕ → List Word → Tree → Type 0
 SpellsWithin limit words tree = Derives limit program_steps 0 head.Outside words outermost tree
-
-abbrev pub depth_limit : ℕ
-depth_limit = 64
-
-abbrev pub Spells : List Word → Tree → Type 0
-Spells words tree = SpellsWithin depth_limit words tree
 
 -- some words more make the words a program
 abbrev pub CanGoOn : ℕ → List Word → Type 0

@@ -10,8 +10,9 @@ use Rattle.c_syntax.specs.declared.term.Term.{Term}
 use Rattle.c_syntax.specs.declared.term.Term.TheVariants as term
 use Rattle.c_syntax.specs.Heads.{behind}
 use Rattle.c_syntax.specs.Words.{Word}
+use Rattle.c_syntax.specs.WordClasses.{is_word}
 use Rattle.c_syntax.specs.Tree.{Tree}
-use Rattle.c_syntax.specs.Derivation.{CanGoOn, Spells, depth_limit, is_word}
+use Rattle.c_syntax.specs.Productions.{GoesOn, IsProgram, depth_limit}
 
 -- where some words leave off
 abbrev pub left_off : Head → List Word → Head
@@ -70,17 +71,17 @@ fault_of at word = if is_odd_at at word.term then fault.OutOfProfile word.spot e
 
 -- a word that may not follow: with no limit of the depth it may, or it may not at all
 abbrev pub IsFaultAt : List Word → Word → SyntaxFault → Type 0
-IsFaultAt before word (fault.TooDeep spot) = (spot ≡ word.spot) × ((limit : ℕ) × CanGoOn limit (before ++ word ∷ []))
+IsFaultAt before word (fault.TooDeep spot) = (spot ≡ word.spot) × ((limit : ℕ) × GoesOn limit (before ++ word ∷ []))
 IsFaultAt before word fault.Memory = ⊥
-IsFaultAt before word found = (found ≡ fault_of (left_off head.Outside before) word) × ((limit : ℕ) → CanGoOn limit (before ++ word ∷ []) → ⊥)
+IsFaultAt before word found = (found ≡ fault_of (left_off head.Outside before) word) × ((limit : ℕ) → GoesOn limit (before ++ word ∷ []) → ⊥)
 
 -- The words before the fault can be completed to a program, and with the word at which it stands they can't.
 abbrev pub IsFault : List Word → SyntaxFault → Type 0
-IsFault words found = (before : List Word) × (word : Word) × (after : List Word) × (words ≡ before ++ word ∷ after) × CanGoOn depth_limit before × (CanGoOn depth_limit (before ++ word ∷ []) → ⊥) × IsFaultAt before word found
+IsFault words found = (before : List Word) × (word : Word) × (after : List Word) × (words ≡ before ++ word ∷ after) × GoesOn depth_limit before × (GoesOn depth_limit (before ++ word ∷ []) → ⊥) × IsFaultAt before word found
 
 -- the words are a program, or have a fault
 abbrev pub IsAnswered : List Word → Type 0
-IsAnswered words = ((tree : Tree) × Spells words tree) ⊎ ((found : SyntaxFault) × IsFault words found)
+IsAnswered words = ((tree : Tree) × IsProgram depth_limit words tree) ⊎ ((found : SyntaxFault) × IsFault words found)
 
 -- want of memory has no number and no place
 abbrev pub fault_number : SyntaxFault → ℕ

@@ -2,12 +2,14 @@ pub mod Words
 pub mod Lexemes
 pub mod Names
 pub mod WordViews
+pub mod WordClasses
 pub mod Tree
+pub mod Productions
 pub mod Grammar
 pub mod Heads
+pub mod Faults
 pub mod Derivation
 pub mod Closing
-pub mod Faults
 pub mod Reading
 pub mod Numbered
 pub mod Nodes
@@ -16,4 +18,5 @@ pub mod Growth
 pub mod Codes
 pub mod ReaderViews
 pub mod LastChildren
+pub mod Texts
 pub mod Places

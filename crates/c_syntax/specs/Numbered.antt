@@ -1,9 +1,8 @@
 -- Trees by their numbers, in a list: a tree and its children have numbers of their own.
 use Rattle.std.specs.Prelude.{ℕ, List, [], ◌∷◌, Option, Some, None, slice_index_or}
 use Rattle.c_tokens.specs.declared.token.Spot.{Spot}
-use Rattle.c_syntax.specs.Tree.{Tree, Children}
+use Rattle.c_syntax.specs.Tree.{Tree, Children, nothing}
 use Rattle.c_syntax.specs.Tree.Children.{Over, Child, Absent}
-use Rattle.c_syntax.specs.Derivation.{nothing}
 
 -- the tree with a number; a program without anything where there is none
 abbrev pub tree_at : List Tree → ℕ → Tree

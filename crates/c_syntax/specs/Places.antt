@@ -1,21 +1,12 @@
 -- What stands where in the tree of a text: a spot tells the name of a node that has one, and it tells a construct from all others.
-use Rattle.std.specs.Prelude.{ℕ, ◌≡◌, ◌≢◌, Bool, true, false, List, [], ◌∷◌, ◌++◌, Ok, map, filter}
+use Rattle.std.specs.Prelude.{◌≡◌, ◌≢◌, Bool, true, false, List, [], ◌∷◌, ◌++◌, map, filter}
 use Rattle.std.specs.List.{AllPairs, Contains}
 use Rattle.c_tokens.specs.declared.token.Spot.{Spot}
-use Rattle.c_tokens.specs.declared.token.Token.{Token}
-use Rattle.c_tokens.specs.Tokens.{tokens_of}
 use Rattle.c_syntax.specs.declared.node.NodeKind.{NodeKind}
 use Rattle.c_syntax.specs.declared.node.NodeKind.TheVariants as node
-use Rattle.c_syntax.specs.Words.{words_of}
 use Rattle.c_syntax.specs.Tree.{Tree, Children, kind_of, name_of, spot_of}
 use Rattle.c_syntax.specs.Tree.Tree.{Node}
 use Rattle.c_syntax.specs.Tree.Children.{Over, Child, Absent}
-use Rattle.c_syntax.specs.Derivation.{Spells}
-
--- the tree of a text that has these tokens
-pub record IsTreeOf (text : List ℕ) (tokens : List Token) (tree : Tree) : Type 0 where
-  pub tokens_of_text : tokens_of text ≡ Ok tokens
-  pub spells : Spells (words_of text tokens) tree
 
 unfoldable mutual
   -- the nodes of a tree in the order of the text, each before those below it

@@ -9,7 +9,8 @@ use Rattle.c_syntax.specs.declared.grammar.Step.{Step}
 use Rattle.c_syntax.specs.declared.grammar.Step.TheVariants.{Expect, Deepen, Take, Read}
 use Rattle.c_syntax.specs.Words.{Word}
 use Rattle.c_syntax.specs.Tree.{Tree}
-use Rattle.c_syntax.specs.Derivation.{CanGoOn, Derives, Opened, SpellsWithin, depth_limit}
+use Rattle.c_syntax.specs.Productions.{depth_limit}
+use Rattle.c_syntax.specs.Derivation.{CanGoOn, Derives, Opened, SpellsWithin}
 use Rattle.c_syntax.specs.Faults.{left_off}
 use Rattle.c_syntax.specs.Closing.{IsLeft, IsReady, last_step, opener}
 

@@ -1,7 +1,9 @@
 -- The tree of a program: nodes with their children in order, of which some may be absent.
 use Rattle.std.specs.Prelude.{ℕ, zero, suc, List, [], ◌∷◌, Option, Some, None}
 use Rattle.c_tokens.specs.declared.token.Spot.{Spot}
+use Rattle.c_tokens.specs.Faults.{nowhere}
 use Rattle.c_syntax.specs.declared.node.NodeKind.{NodeKind}
+use Rattle.c_syntax.specs.declared.node.NodeKind.TheVariants as node
 
 mutual
   pub data Tree : Type 0 where
@@ -51,3 +53,14 @@ before (Some tree ∷ older) children = before older (Child tree children)
 
 abbrev pub children_from : List (Option Tree) → Children
 children_from newest = before newest Over
+
+-- a program without anything
+abbrev pub nothing : Tree
+nothing = Node node.Program nowhere 0 0 [] Over
+
+-- a node over one, and over two: it begins where the first of them does
+abbrev pub over_one : NodeKind → Tree → Tree
+over_one kind inner = Node kind (spot_of inner) 0 0 [] (Child inner Over)
+
+abbrev pub over_two : NodeKind → Tree → Tree → Tree
+over_two kind left right = Node kind (spot_of left) 0 0 [] (Child left (Child right Over))

@@ -1,7 +1,8 @@
 //! Where words leave off: in the head of a directive, or outside.
 
 ghost use Rattle.std.specs.Prelude.{◌≡◌, ◌<◌, ◌≤◌, ◌+◌, ◌-◌, ◌^◌};
-ghost use Rattle.c_syntax.specs.Derivation.{fits, is_getter, is_name, is_name_at, is_number, is_outside, is_reserved, is_routine, is_text, is_word};
+ghost use Rattle.c_syntax.specs.WordClasses.{is_getter, is_name, is_name_at, is_outside, is_reserved, is_routine, is_word};
+ghost use Rattle.c_syntax.specs.Derivation.{fits, is_number, is_text};
 ghost use Rattle.c_syntax.specs.Heads.{behind, behind_bare, behind_clause, behind_directive, behind_inside, behind_outside, behind_schedule, behind_word, parentheses_of};
 
 use crate::grammar::Class;

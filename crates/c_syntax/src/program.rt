@@ -3,9 +3,8 @@
 ghost use Rattle.std.specs.Prelude.{◌≡◌, ◌≢◌, ◌∷◌, ◌++◌, [], List, All, IfOk, IfErr, OnOk, Ok, length, map};
 ghost use Rattle.c_tokens.specs.declared.token.Token.{Token};
 ghost use Rattle.c_tokens.specs.Tokens.{tokens_of};
-ghost use Rattle.c_syntax.specs.Words.{main_of, words_of};
-ghost use Rattle.c_syntax.specs.Derivation.{Spells};
-ghost use Rattle.c_syntax.specs.Faults.{IsFault};
+ghost use Rattle.c_syntax.specs.Words.{main_of};
+ghost use Rattle.c_syntax.specs.Texts.{HasSyntaxFault, Spells};
 ghost use Rattle.c_syntax.specs.Numbered.{root_tree};
 ghost use Rattle.c_syntax.specs.Reading.{Reaches};
 ghost use Rattle.c_syntax.specs.ReaderViews.{MayFault, beginning, state_of};
@@ -23,13 +22,13 @@ use std::alloc::Global;
 pub fn read_program(alloc: Global, text: &[u8], tokens: &[Token]) -> Result<Tree, SyntaxFault>
     requires tokens { tokens_of text.now ≡ Ok tokens.now }
 
-    // The words of the text are a program, and this is its tree.
-    ensures tree { IfOk result (λ tree. Spells (words_of text.now tokens.now) (root_tree tree)) }
+    // The words of the text are a program by the productions, and this is its tree.
+    ensures tree { IfOk result (λ tree. Spells text.now (root_tree tree)) }
     ensures main { IfOk result (λ tree. tree.main ≡ main_of text.now tokens.now) }
     ensures end { IfOk result (λ tree. (front : List Token) (last : Token) → tokens.now ≡ front ++ last ∷ [] → tree.end ≡ last.spot) }
 
     // The words before the fault can be completed to a program, and with the one at the fault they can't.
-    ensures fault { IfErr result (λ fault. fault ≢ SyntaxFault.Memory → IsFault (words_of text.now tokens.now) fault) }
+    ensures fault { IfErr result (λ fault. fault ≢ SyntaxFault.Memory → HasSyntaxFault text.now fault) }
 {
     let Ok(words) = words_of(alloc, text, tokens) else {
         return Err(SyntaxFault::Memory);

@@ -7,13 +7,13 @@ use Rattle.c_tokens.specs.declared.token.TokenFault.TheVariants as fault
 use Rattle.c_tokens.specs.Tokens.{tokens_of}
 use Rattle.c_syntax.specs.declared.fault.SyntaxFault.{SyntaxFault}
 use Rattle.c_syntax.specs.declared.fault.SyntaxFault.TheVariants as syntax
-use Rattle.c_syntax.specs.Words.{main_of, words_of}
+use Rattle.c_syntax.specs.Words.{main_of}
 use Rattle.c_syntax.specs.Tree.{Tree}
-use Rattle.c_syntax.specs.Faults.{IsFault}
+use Rattle.c_syntax.specs.Texts.{HasSyntaxFault}
 use Rattle.c_tokens.proofs.Spans.{tokens-end}
 use Rattle.c_syntax.specs.Numbered.{TreeView, root_tree}
 use Rattle.c_check.specs.Checked.{rule_fault, rule_fault_in}
-use Rattle.c_syntax.proofs.Unique.{fault-one, spells-no_fault, spells-one}
+use Rattle.c_syntax.proofs.OneAnswer.{fault_one, not_both, tree_one}
 use Rattle.c_check.specs.declared.fault.CheckFault.{CheckFault}
 use Rattle.c_check.specs.declared.fault.CheckFault.TheVariants as rule
 use Rattle.ompt_cli.specs.declared.end.Refusal.{Refusal}
@@ -32,31 +32,21 @@ module _ (text : List ℕ) where
   tree-one : (tokens others : List Token) (first second : Tree) → HasTree text tokens first → HasTree text others second → rule_broken text tokens first ≡ rule_broken text others second
   tree-one tokens others first second one other =
       let same = tokens-one tokens others one.tokens_are other.tokens_are in
-      let tree = spells-one (words_of text others) first second (subst (λ list. HasTree text list first) same one).tree_is other.tree_is in
+      let tree = tree_one text first second one.tree_is other.tree_is in
       cc
-
-  no-tree : (tokens others : List Token) (tree : Tree) (found : SyntaxFault) → HasTree text tokens tree → tokens_of text ≡ Ok others → IsFault (words_of text others) found → ⊥
-  no-tree tokens others tree found spells are fault =
-      let same = tokens-one tokens others spells.tokens_are are in
-      spells-no_fault (words_of text others) tree found (subst (λ list. HasTree text list tree) same spells).tree_is fault
-
-  syntax-one : (tokens others : List Token) (first second : SyntaxFault) → tokens_of text ≡ Ok tokens → IsFault (words_of text tokens) first → tokens_of text ≡ Ok others → IsFault (words_of text others) second → first ≡ second
-  syntax-one tokens others first second are one are_too other =
-      let same = tokens-one tokens others are are_too in
-      fault-one (words_of text others) first second (subst (λ list. IsFault (words_of text list) first) same one) other
 
   -- it is refused for one thing
   pub refusal-one : (first second : Refusal) → IsRefused first text → IsRefused second text → first ≡ second
   refusal-one (Tokens found) (Tokens other) has too = let one = has.1 in let two = too.1 in cc
-  refusal-one (Tokens found) (Syntax other) has too = let one = has.1 in let two = too.1.1 in cc
+  refusal-one (Tokens found) (Syntax other) has too = let one = has.1 in let two = too.1.tokens_are in cc
   refusal-one (Tokens found) (Rule other) has too = let one = has.1 in let two = too.1.2.tokens_are in cc
   refusal-one (Tokens found) TooLong has over = absurd (omega (arith, has.0, over))
-  refusal-one (Syntax found) (Tokens other) has too = let one = has.1.1 in let two = too.1 in cc
-  refusal-one (Syntax found) (Syntax other) has too = ap Syntax (syntax-one has.1.0 too.1.0 found other has.1.1 has.1.2 too.1.1 too.1.2)
-  refusal-one (Syntax found) (Rule other) has too = absurd (no-tree too.1.0 has.1.0 too.1.1 found too.1.2 has.1.1 has.1.2)
+  refusal-one (Syntax found) (Tokens other) has too = let one = has.1.tokens_are in let two = too.1 in cc
+  refusal-one (Syntax found) (Syntax other) has too = ap Syntax (fault_one text found other has.1 too.1)
+  refusal-one (Syntax found) (Rule other) has too = absurd (not_both text too.1.1 found too.1.2.tree_is has.1)
   refusal-one (Syntax found) TooLong has over = absurd (omega (arith, has.0, over))
   refusal-one (Rule found) (Tokens other) has too = let one = has.1.2.tokens_are in let two = too.1 in cc
-  refusal-one (Rule found) (Syntax other) has too = absurd (no-tree has.1.0 too.1.0 has.1.1 other has.1.2 too.1.1 too.1.2)
+  refusal-one (Rule found) (Syntax other) has too = absurd (not_both text has.1.1 other has.1.2.tree_is too.1)
   refusal-one (Rule found) (Rule other) has too =
       let same = tree-one has.1.0 too.1.0 has.1.1 too.1.1 has.1.2 too.1.2 in
       let one = has.1.3 in
@@ -77,7 +67,7 @@ module _ (text : List ℕ) where
   -- and for nothing where it spells a program
   pub program-not_refused : (why : Refusal) → IsProgram text → IsRefused why text → ⊥
   program-not_refused (Tokens found) program other = let one = program.1.read.has.tokens_are in let two = other.1 in cc
-  program-not_refused (Syntax found) program other = no-tree program.1.read.tokens other.1.0 (root_tree program.0) found program.1.read.has other.1.1 other.1.2
+  program-not_refused (Syntax found) program other = not_both text (root_tree program.0) found program.1.read.has.tree_is other.1
   program-not_refused (Rule found) program other =
       let same = tree-one program.1.read.tokens other.1.0 (root_tree program.0) other.1.1 program.1.read.has other.1.2 in
       let one = rule-is program.0 program.1.read None program.1.keeps in
@@ -96,18 +86,18 @@ module _ (text : List ℕ) where
   tokens-accepted short (fault.BadNumber spot) known why refused = found-accepted _ why (short, known (λ same. cc)) refused
 
   -- what is refused for this fault of the grammar, if it is one
-  module _ (list : List Token) (short : length text ≤ 65536) (are : tokens_of text ≡ Ok list) where
-    syntax-ends : (P : End → Type 0) → P Memory → ((found : SyntaxFault) → IsRefused (Syntax found) text → P (Refused (Syntax found))) → (found : SyntaxFault) → (found ≢ syntax.Memory → IsFault (words_of text list) found) → P (end_of_syntax_fault found)
+  module _ (short : length text ≤ 65536) where
+    syntax-ends : (P : End → Type 0) → P Memory → ((found : SyntaxFault) → IsRefused (Syntax found) text → P (Refused (Syntax found))) → (found : SyntaxFault) → (found ≢ syntax.Memory → HasSyntaxFault text found) → P (end_of_syntax_fault found)
     syntax-ends P memory other syntax.Memory known = memory
-    syntax-ends P memory other (syntax.Unexpected spot) known = other _ (short, (list, are, known (λ same. cc)))
-    syntax-ends P memory other (syntax.UnknownDirective spot) known = other _ (short, (list, are, known (λ same. cc)))
-    syntax-ends P memory other (syntax.OutOfProfile spot) known = other _ (short, (list, are, known (λ same. cc)))
-    syntax-ends P memory other (syntax.TooDeep spot) known = other _ (short, (list, are, known (λ same. cc)))
+    syntax-ends P memory other (syntax.Unexpected spot) known = other _ (short, known (λ same. cc))
+    syntax-ends P memory other (syntax.UnknownDirective spot) known = other _ (short, known (λ same. cc))
+    syntax-ends P memory other (syntax.OutOfProfile spot) known = other _ (short, known (λ same. cc))
+    syntax-ends P memory other (syntax.TooDeep spot) known = other _ (short, known (λ same. cc))
 
-    pub syntax-accepted : (found : SyntaxFault) → (found ≢ syntax.Memory → IsFault (words_of text list) found) → (why : Refusal) → IsRefused why text → MayRefuse why (end_of_syntax_fault found)
+    pub syntax-accepted : (found : SyntaxFault) → (found ≢ syntax.Memory → HasSyntaxFault text found) → (why : Refusal) → IsRefused why text → MayRefuse why (end_of_syntax_fault found)
     syntax-accepted found known why refused = syntax-ends (MayRefuse why) tt (λ one has. found-accepted (Syntax one) why has refused) found known
 
-    pub syntax-runs : (found : SyntaxFault) → (found ≢ syntax.Memory → IsFault (words_of text list) found) → IsProgram text → MayRun (end_of_syntax_fault found)
+    pub syntax-runs : (found : SyntaxFault) → (found ≢ syntax.Memory → HasSyntaxFault text found) → IsProgram text → MayRun (end_of_syntax_fault found)
     syntax-runs found known program = syntax-ends MayRun tt (λ one has. program-not_refused (Syntax one) program has) found known
 
   -- what was read of a text

@@ -7,11 +7,10 @@ use Rattle.c_tokens.specs.declared.token.Token.{Token}
 use Rattle.c_tokens.specs.declared.token.TokenFault.{TokenFault}
 use Rattle.c_tokens.specs.Tokens.{tokens_of}
 use Rattle.c_syntax.specs.declared.fault.SyntaxFault.{SyntaxFault}
-use Rattle.c_syntax.specs.Words.{main_of, words_of}
+use Rattle.c_syntax.specs.Words.{main_of}
 use Rattle.c_syntax.specs.Tree.{Tree}
 use Rattle.c_syntax.specs.Numbered.{TreeView, root_tree}
-use Rattle.c_syntax.specs.Derivation.{Spells as IsTreeOf}
-use Rattle.c_syntax.specs.Faults.{IsFault}
+use Rattle.c_syntax.specs.Texts.{HasSyntaxFault, Spells as IsTreeOf}
 use Rattle.c_check.specs.declared.fault.CheckFault.{CheckFault}
 use Rattle.c_check.specs.Checked.{rule_fault_in}
 use Rattle.tool_report.specs.Generator.{generated}
@@ -23,10 +22,10 @@ abbrev pub text_for : Command → Option (List ℕ) → Option (List ℕ)
 text_for (Generate blocks) left = Some (generated blocks)
 text_for other left = left
 
--- the text has these tokens, and they are a program with this tree
+-- the text has these tokens, and is a program by the grammar with this tree
 pub record HasTree (text : List ℕ) (tokens : List Token) (tree : Tree) : Type 0 where
   pub tokens_are : tokens_of text ≡ Ok tokens
-  pub tree_is : IsTreeOf (words_of text tokens) tree
+  pub tree_is : IsTreeOf text tree
 
 -- where a text with these tokens ends: at the last of them
 abbrev pub end_at : Spot → List Token → Spot
@@ -57,10 +56,6 @@ pub record Spells (text : List ℕ) (program : TreeView) : Type 0 where
 abbrev pub HasFault : TokenFault → List ℕ → Type 0
 HasFault fault text = (length text ≤ 65536) × (tokens_of text ≡ Err fault)
 
--- the text isn't too long and has tokens, and the fault of these is this one
-abbrev pub HasSyntaxFault : SyntaxFault → List ℕ → Type 0
-HasSyntaxFault fault text = (length text ≤ 65536) × ((tokens : List Token) × (tokens_of text ≡ Ok tokens) × IsFault (words_of text tokens) fault)
-
 -- the text isn't too long and is a program by the grammar, and the first rule that it breaks is broken so
 abbrev pub HasCheckFault : CheckFault → List ℕ → Type 0
 HasCheckFault fault text =
@@ -69,7 +64,7 @@ HasCheckFault fault text =
 -- the text is refused for this: it is too long, or else its tokens have a fault, or else it is no program, or else it breaks a rule
 abbrev pub IsRefused : Refusal → List ℕ → Type 0
 IsRefused (Tokens found) text = HasFault found text
-IsRefused (Syntax found) text = HasSyntaxFault found text
+IsRefused (Syntax found) text = (length text ≤ 65536) × HasSyntaxFault text found
 IsRefused (Rule found) text = HasCheckFault found text
 IsRefused TooLong text = 65536 < length text
 

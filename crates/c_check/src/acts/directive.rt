@@ -2,8 +2,7 @@
 
 ghost use Rattle.std.specs.Prelude.{◌≡◌, ◌<◌, ◌&&◌, None, not, length, if◌then◌else◌, unwrap_or, IfOk, IfSome, OnErr};
 ghost use Rattle.std.specs.Option.{option_map};
-ghost use Rattle.c_syntax.specs.Tree.{children_of};
-ghost use Rattle.c_syntax.specs.Derivation.{nothing};
+ghost use Rattle.c_syntax.specs.Tree.{children_of, nothing};
 ghost use Rattle.c_syntax.specs.Numbered.{tree_at};
 ghost use Rattle.c_check.specs.Clauses as clauses;
 ghost use Rattle.c_check.specs.Statements as statements;

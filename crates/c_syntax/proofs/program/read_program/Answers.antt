@@ -1,29 +1,30 @@
-use Rattle.std.proofs.Common.{◌≡◌, ◌≢◌, List, map, Result, Err, sym, ap, subst, ◌∙◌, refl}
+use Rattle.std.proofs.Common.{ℕ, ◌≡◌, ◌≢◌, List, Ok, map, Result, Err, sym, ap, subst, ◌∙◌, refl}
 use Rattle.std.proofs.lemmas.Result.{err_from_is_err_and}
 use Rattle.std.specs.Result.{IfErr}
+use Rattle.c_tokens.specs.declared.token.Token.{Token}
+use Rattle.c_tokens.specs.Tokens.{tokens_of}
 use Rattle.c_syntax.specs.declared.tree.Tree as code
 use Rattle.c_syntax.specs.declared.fault.SyntaxFault.{SyntaxFault}
 use Rattle.c_syntax.specs.declared.fault.SyntaxFault.TheVariants as fault
-use Rattle.c_syntax.specs.Derivation.{Spells}
-use Rattle.c_syntax.specs.Faults.{IsFault}
 use Rattle.c_syntax.specs.Reading.{Reaches}
 use Rattle.c_syntax.specs.ReaderViews.{MayFault, state_of}
-use Rattle.c_syntax.specs.Words.{Word, words_of}
+use Rattle.c_syntax.specs.Words.{words_of}
 use Rattle.c_syntax.specs.WordViews.{word_view}
+use Rattle.c_syntax.specs.Texts.{HasSyntaxFault, Spells}
 use Rattle.c_syntax.proofs.Facing.{reaches-end, reaches-spells}
 use Rattle.c_syntax.proofs.WordLists.{words_of-end}
 use Rattle.c_syntax.proofs.program.read_program.Goals as goal
 
--- the fault of the words is the answer
-passed_on : (words : List Word) (result : Result code.Tree SyntaxFault) (found other : SyntaxFault) → result ≡ Err other → found ≡ other → (found ≢ fault.Memory → IsFault words found) → IfErr result (λ one. one ≢ fault.Memory → IsFault words one)
-passed_on words result found other is same may = subst (λ one. IfErr one (λ it. it ≢ fault.Memory → IsFault words it)) (sym is) (subst (λ one. one ≢ fault.Memory → IsFault words one) same may)
+-- the fault of the text is the answer
+passed_on : (text : List ℕ) (result : Result code.Tree SyntaxFault) (found other : SyntaxFault) → result ≡ Err other → found ≡ other → (found ≢ fault.Memory → HasSyntaxFault text found) → IfErr result (λ one. one ≢ fault.Memory → HasSyntaxFault text one)
+passed_on text result found other is same may = subst (λ one. IfErr one (λ it. it ≢ fault.Memory → HasSyntaxFault text it)) (sym is) (subst (λ one. one ≢ fault.Memory → HasSyntaxFault text one) same may)
 
-is-fault : (words : List Word) (found : SyntaxFault) → MayFault words found → found ≢ fault.Memory → IsFault words found
-is-fault words fault.Memory may other = absurd (other refl)
-is-fault words (fault.Unexpected spot) may other = may
-is-fault words (fault.OutOfProfile spot) may other = may
-is-fault words (fault.UnknownDirective spot) may other = may
-is-fault words (fault.TooDeep spot) may other = may
+is-fault : (text : List ℕ) (tokens : List Token) → tokens_of text ≡ Ok tokens → (found : SyntaxFault) → MayFault (words_of text tokens) found → found ≢ fault.Memory → HasSyntaxFault text found
+is-fault text tokens are fault.Memory may other = absurd (other refl)
+is-fault text tokens are (fault.Unexpected spot) may other = record { tokens = tokens; tokens_are = are; fault = may }
+is-fault text tokens are (fault.OutOfProfile spot) may other = record { tokens = tokens; tokens_are = are; fault = may }
+is-fault text tokens are (fault.UnknownDirective spot) may other = record { tokens = tokens; tokens_are = are; fault = may }
+is-fault text tokens are (fault.TooDeep spot) may other = record { tokens = tokens; tokens_are = are; fault = may }
 
 pub returns-in_err-read_words-clause-fault : goal.returns-in_err-read_words-clause-fault
 returns-in_err-read_words-clause-fault c =
@@ -31,7 +32,7 @@ returns-in_err-read_words-clause-fault c =
     let found = c.in_err-read_words.field-0.0 in
     let same : map (word_view text) c.deref.result.now ≡ words_of text c.args.tokens.now = ap (map (word_view text)) c.deref.ensures.value ∙ c.in-Ok.ensures.words in
     let p = err_from_is_err_and c.from_residual.result c.from_residual.ensures.1 in
-    passed_on _ c.from_residual.result found p.0 p.1 (sym p.2) (is-fault _ found (subst (λ words. MayFault words found) same c.in_err-read_words.ensures.fault))
+    passed_on text c.from_residual.result found p.0 p.1 (sym p.2) (is-fault text c.args.tokens.now c.requires.tokens found (subst (λ words. MayFault words found) same c.in_err-read_words.ensures.fault))
 
 pub returns-in-Ok-finish-clause-tree : goal.returns-in-Ok-finish-clause-tree
 returns-in-Ok-finish-clause-tree c =
@@ -40,5 +41,5 @@ returns-in-Ok-finish-clause-tree c =
     let state = state_of c.read_words.new.reader in
     let all : Reaches (words_of text c.args.tokens.now) state = subst (λ words. Reaches words state) c.in-Ok.ensures.words (subst (λ items. Reaches (map (word_view text) items) state) c.deref.ensures.value c.in_ok-read_words.ensures.read) in
     let parted = subst (λ words. Reaches words state) ended.parts all in
-    subst (λ tree. Spells (words_of text c.args.tokens.now) tree) (sym c.in-Ok-finish.ensures.tree)
-    (reaches-spells all (reaches-end ended.front ended.last parted ended.is_end))
+    subst (Spells text) (sym c.in-Ok-finish.ensures.tree)
+    (record { tokens = c.args.tokens.now; tokens_are = c.requires.tokens; spelled = reaches-spells all (reaches-end ended.front ended.last parted ended.is_end) })

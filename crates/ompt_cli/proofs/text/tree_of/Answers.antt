@@ -17,8 +17,8 @@ returns-in-Ok-read_program-clause-tree c =
 
 pub returns-clause-accepted : goal.returns-clause-accepted
 returns-clause-accepted c =
-    rw c.end_of_syntax_fault.ensures (syntax-accepted c.args.text.now c.in-Ok.tokens.items c.requires c.in-Ok.ensures.tokens c.in-Err-read_program.fault (rw c.deref.ensures.value at c.in-Err-read_program.ensures.fault))
+    rw c.end_of_syntax_fault.ensures (syntax-accepted c.args.text.now c.requires c.in-Err-read_program.fault c.in-Err-read_program.ensures.fault)
 
 pub returns-clause-runs : goal.returns-clause-runs
 returns-clause-runs c =
-    rw c.end_of_syntax_fault.ensures (syntax-runs c.args.text.now c.in-Ok.tokens.items c.requires c.in-Ok.ensures.tokens c.in-Err-read_program.fault (rw c.deref.ensures.value at c.in-Err-read_program.ensures.fault))
+    rw c.end_of_syntax_fault.ensures (syntax-runs c.args.text.now c.requires c.in-Err-read_program.fault c.in-Err-read_program.ensures.fault)

@@ -1,6 +1,6 @@
 use Rattle.std.proofs.Common.{◌<◌, ◌∷◌, [], length, None, ap, ◌∙◌, arith, length-append}
 use Rattle.std.proofs.Math.Seq.{get_or-append_seam}
-use Rattle.c_syntax.specs.Derivation.{nothing}
+use Rattle.c_syntax.specs.Tree.{nothing}
 use Rattle.c_syntax.specs.Nodes.{IsBelow}
 use Rattle.c_syntax.specs.Numbered.{root_tree}
 use Rattle.c_syntax.proofs.Joining.{All-ends, ends-one, result-none, result-some}

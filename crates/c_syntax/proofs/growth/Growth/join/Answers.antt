@@ -1,5 +1,6 @@
 use Rattle.std.proofs.Common.{◌≡◌, ◌-◌, length, take, Some, refl, ◌∙◌, arith}
-use Rattle.c_syntax.specs.Derivation.{joined, over_two}
+use Rattle.c_syntax.specs.Tree.{over_two}
+use Rattle.c_syntax.specs.Derivation.{joined}
 use Rattle.c_syntax.specs.Nodes.{IsBelow}
 use Rattle.c_syntax.specs.Numbered.{tree_at}
 use Rattle.c_syntax.proofs.Opening.{Puts}

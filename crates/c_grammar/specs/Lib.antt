@@ -1,2 +1,0 @@
-pub mod Productions
-pub mod Texts
