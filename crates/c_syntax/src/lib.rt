@@ -6,7 +6,8 @@
 //!
 //! The definitions:
 //!
-//! - `specs/Words.antt`: what a token is to the grammar. All names have numbers, in the order in which they first appear;
+//! - `specs/Words.antt`: what a token is to the grammar, by the tables of words in `src/word_table.rt`, which the code looks up too.
+//!   All names have numbers, in the order in which they first appear;
 //! - `specs/Tree.antt`: trees;
 //! - `specs/Grammar.antt`: the grammar, as rules. A rule says by which steps a sort of text is read where a certain word is next;
 //! - `specs/Derivation.antt`: `Derives` says which words some steps read and which tree they make, and `Spells` that words are a
@@ -54,6 +55,7 @@ mod rules;
 mod term;
 mod tree;
 mod word;
+mod word_table;
 mod words;
 
 pub use fault::SyntaxFault;
