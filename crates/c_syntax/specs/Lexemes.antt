@@ -1,11 +1,8 @@
 -- The names that the grammar has a use for, by their length.
-use Rattle.std.specs.Prelude.{ℕ, ◌==◌, List, ◌++◌, length, filter}
+use Rattle.std.specs.Prelude.{ℕ, ◌==◌, List, length, filter}
 use Rattle.std.specs.Borrow.{Bor}
 use Rattle.c_syntax.specs.declared.term.Term.{Term}
-use Rattle.c_syntax.specs.Words.{Row, code_words, directive_words, odd_clauses, odd_directives, odd_words, row}
-
-abbrev pub name_rows : List Row
-name_rows = code_words ++ odd_words ++ directive_words ++ odd_directives ++ odd_clauses
+use Rattle.c_syntax.specs.Words.{Row, name_rows, row}
 
 abbrev pub rows_of_len : ℕ → List Row
 rows_of_len len = filter (λ first. length first.bytes == len) name_rows

@@ -6,8 +6,9 @@
 //!
 //! The definitions that the public clauses rest on, and that a reader is to believe:
 //!
-//! - `specs/Words.antt`: what a token is to the grammar. All names have numbers, in the order in which they first appear.
-//!   `specs/WordClasses.antt`: which words are names, and which are routines;
+//! - `specs/Words.antt`: what a token is to the grammar, by the tables of words in `src/word_table.rt`, which the code looks up too.
+//!   All names have numbers, in the order in which they first appear. `specs/WordClasses.antt`: which words are names, and which are
+//!   routines;
 //! - `specs/Tree.antt`: trees. `specs/Numbered.antt`: trees by their numbers, as a [`Tree`] has them;
 //! - `specs/Productions.antt`: the grammar. Each production is a relation, or a case of one, between the words from where it begins,
 //!   the words behind it, and what it makes. The ranks of operators, the nearest `if` of an `else`, the comma before a clause and the
@@ -63,6 +64,7 @@ mod rules;
 mod term;
 mod tree;
 mod word;
+mod word_table;
 mod words;
 
 pub use fault::SyntaxFault;

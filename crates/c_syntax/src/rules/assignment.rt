@@ -9,85 +9,95 @@ use crate::grammar::{Class, Sort, Step};
 use crate::node::{Bump, NodeKind, Setting, Side};
 use crate::term::Term;
 
+/// An expression that a unary part begins, and what follows it.
+macro_rules! expression {
+    ($($after:expr),*) => {
+        Some(&[
+            Step::Read(Sort::Unary),
+            Step::Read(Sort::ProdTail),
+            Step::Read(Sort::SumTail),
+            Step::Read(Sort::RelTail),
+            Step::Read(Sort::EqualTail),
+            Step::Read(Sort::AndTail),
+            Step::Read(Sort::OrTail),
+            $($after),*
+        ])
+    };
+}
+
+/// The rest of an expression whose first part is the place of a name that was read, and what follows it.
+macro_rules! rest_of_expression {
+    ($($after:expr),*) => {
+        Some(&[
+            Step::Read(Sort::IndexPart),
+            Step::Make(NodeKind::Place),
+            Step::Read(Sort::ProdTail),
+            Step::Read(Sort::SumTail),
+            Step::Read(Sort::RelTail),
+            Step::Read(Sort::EqualTail),
+            Step::Read(Sort::AndTail),
+            Step::Read(Sort::OrTail),
+            $($after),*
+        ])
+    };
+}
+
+/// `( arguments )` behind the name of a function, and what follows.
+macro_rules! rest_of_call {
+    ($($after:expr),*) => {
+        Some(&[
+            Step::Expect(Term::OpenParen),
+            Step::Read(Sort::Args),
+            Step::Expect(Term::CloseParen),
+            Step::Make(NodeKind::Call),
+            $($after),*
+        ])
+    };
+}
+
+/// What sets a place to an expression, and what follows.
+macro_rules! sets {
+    ($operator:ident, $setting:ident $(, $after:expr)*) => {
+        Some(&[
+            Step::Expect(Term::$operator),
+            Step::Read(Sort::Expr),
+            Step::Join(NodeKind::Assign(Setting::$setting)),
+            $($after),*
+        ])
+    };
+}
+
+/// `++` or `--` behind a place, and what follows.
+macro_rules! bumps {
+    ($operator:ident, $bump:ident $(, $after:expr)*) => {
+        Some(&[
+            Step::Expect(Term::$operator),
+            Step::Wrap(NodeKind::Bump(Bump::$bump, Side::Behind)),
+            $($after),*
+        ])
+    };
+}
+
+/// A step as a statement.
+macro_rules! statement_that {
+    ($step:ident, $operator:ident, $how:ident) => {
+        $step!($operator, $how, Step::Wrap(NodeKind::Step), Step::Expect(Term::Semicolon))
+    };
+}
+
 /// `right = expression | call`. A name may begin either.
 pub(super) fn right(next: Term) -> Rule
     ensures { option_copied result ≡ right next }
 {
     match next {
-        Term::TestLock => Some(&[
-            Step::Open,
-            Step::Expect(Term::TestLock),
-            Step::Expect(Term::OpenParen),
-            Step::Expect(Term::Ampersand),
-            Step::Open,
-            Step::Take(Class::Name),
-            Step::Make(NodeKind::Name),
-            Step::Expect(Term::CloseParen),
-            Step::Make(NodeKind::TestLock),
-        ]),
-        Term::Number => Some(&[
-            Step::Read(Sort::Unary),
-            Step::Read(Sort::ProdTail),
-            Step::Read(Sort::SumTail),
-            Step::Read(Sort::RelTail),
-            Step::Read(Sort::EqualTail),
-            Step::Read(Sort::AndTail),
-            Step::Read(Sort::OrTail),
-        ]),
-        Term::OpenParen => Some(&[
-            Step::Read(Sort::Unary),
-            Step::Read(Sort::ProdTail),
-            Step::Read(Sort::SumTail),
-            Step::Read(Sort::RelTail),
-            Step::Read(Sort::EqualTail),
-            Step::Read(Sort::AndTail),
-            Step::Read(Sort::OrTail),
-        ]),
-        Term::Minus => Some(&[
-            Step::Read(Sort::Unary),
-            Step::Read(Sort::ProdTail),
-            Step::Read(Sort::SumTail),
-            Step::Read(Sort::RelTail),
-            Step::Read(Sort::EqualTail),
-            Step::Read(Sort::AndTail),
-            Step::Read(Sort::OrTail),
-        ]),
-        Term::Not => Some(&[
-            Step::Read(Sort::Unary),
-            Step::Read(Sort::ProdTail),
-            Step::Read(Sort::SumTail),
-            Step::Read(Sort::RelTail),
-            Step::Read(Sort::EqualTail),
-            Step::Read(Sort::AndTail),
-            Step::Read(Sort::OrTail),
-        ]),
-        Term::GetThreadNum => Some(&[
-            Step::Read(Sort::Unary),
-            Step::Read(Sort::ProdTail),
-            Step::Read(Sort::SumTail),
-            Step::Read(Sort::RelTail),
-            Step::Read(Sort::EqualTail),
-            Step::Read(Sort::AndTail),
-            Step::Read(Sort::OrTail),
-        ]),
-        Term::GetNumThreads => Some(&[
-            Step::Read(Sort::Unary),
-            Step::Read(Sort::ProdTail),
-            Step::Read(Sort::SumTail),
-            Step::Read(Sort::RelTail),
-            Step::Read(Sort::EqualTail),
-            Step::Read(Sort::AndTail),
-            Step::Read(Sort::OrTail),
-        ]),
-        Term::GetMaxThreads => Some(&[
-            Step::Read(Sort::Unary),
-            Step::Read(Sort::ProdTail),
-            Step::Read(Sort::SumTail),
-            Step::Read(Sort::RelTail),
-            Step::Read(Sort::EqualTail),
-            Step::Read(Sort::AndTail),
-            Step::Read(Sort::OrTail),
-        ]),
+        Term::TestLock => lock_call!([], TestLock, Step::Make(NodeKind::TestLock)),
+        Term::Number
+        | Term::OpenParen
+        | Term::Minus
+        | Term::Not
+        | Term::GetThreadNum
+        | Term::GetNumThreads
+        | Term::GetMaxThreads => expression!(),
         _ => Some(&[
             Step::Open,
             Step::Take(Class::Name),
@@ -101,22 +111,8 @@ pub(super) fn after_right_name(next: Term) -> Rule
     ensures { option_copied result ≡ after_right_name next }
 {
     match next {
-        Term::OpenParen => Some(&[
-            Step::Expect(Term::OpenParen),
-            Step::Read(Sort::Args),
-            Step::Expect(Term::CloseParen),
-            Step::Make(NodeKind::Call),
-        ]),
-        _ => Some(&[
-            Step::Read(Sort::IndexPart),
-            Step::Make(NodeKind::Place),
-            Step::Read(Sort::ProdTail),
-            Step::Read(Sort::SumTail),
-            Step::Read(Sort::RelTail),
-            Step::Read(Sort::EqualTail),
-            Step::Read(Sort::AndTail),
-            Step::Read(Sort::OrTail),
-        ]),
+        Term::OpenParen => rest_of_call!(),
+        _ => rest_of_expression!(),
     }
 }
 
@@ -125,14 +121,10 @@ pub(super) fn after_statement_name(next: Term) -> Rule
     ensures { option_copied result ≡ after_statement_name next }
 {
     match next {
-        Term::OpenParen => Some(&[
-            Step::Expect(Term::OpenParen),
-            Step::Read(Sort::Args),
-            Step::Expect(Term::CloseParen),
-            Step::Make(NodeKind::Call),
+        Term::OpenParen => rest_of_call!(
             Step::Wrap(NodeKind::Called),
-            Step::Expect(Term::Semicolon),
-        ]),
+            Step::Expect(Term::Semicolon)
+        ),
         _ => Some(&[
             Step::Read(Sort::IndexPart),
             Step::Make(NodeKind::Place),
@@ -151,53 +143,13 @@ pub(super) fn after_place(next: Term) -> Rule
             Step::Read(Sort::AssignRight),
             Step::Expect(Term::Semicolon),
         ]),
-        Term::PlusSet => Some(&[
-            Step::Expect(Term::PlusSet),
-            Step::Read(Sort::Expr),
-            Step::Join(NodeKind::Assign(Setting::Add)),
-            Step::Wrap(NodeKind::Step),
-            Step::Expect(Term::Semicolon),
-        ]),
-        Term::MinusSet => Some(&[
-            Step::Expect(Term::MinusSet),
-            Step::Read(Sort::Expr),
-            Step::Join(NodeKind::Assign(Setting::Subtract)),
-            Step::Wrap(NodeKind::Step),
-            Step::Expect(Term::Semicolon),
-        ]),
-        Term::TimesSet => Some(&[
-            Step::Expect(Term::TimesSet),
-            Step::Read(Sort::Expr),
-            Step::Join(NodeKind::Assign(Setting::Multiply)),
-            Step::Wrap(NodeKind::Step),
-            Step::Expect(Term::Semicolon),
-        ]),
-        Term::SlashSet => Some(&[
-            Step::Expect(Term::SlashSet),
-            Step::Read(Sort::Expr),
-            Step::Join(NodeKind::Assign(Setting::Divide)),
-            Step::Wrap(NodeKind::Step),
-            Step::Expect(Term::Semicolon),
-        ]),
-        Term::PercentSet => Some(&[
-            Step::Expect(Term::PercentSet),
-            Step::Read(Sort::Expr),
-            Step::Join(NodeKind::Assign(Setting::Remainder)),
-            Step::Wrap(NodeKind::Step),
-            Step::Expect(Term::Semicolon),
-        ]),
-        Term::PlusPlus => Some(&[
-            Step::Expect(Term::PlusPlus),
-            Step::Wrap(NodeKind::Bump(Bump::Increment, Side::Behind)),
-            Step::Wrap(NodeKind::Step),
-            Step::Expect(Term::Semicolon),
-        ]),
-        Term::MinusMinus => Some(&[
-            Step::Expect(Term::MinusMinus),
-            Step::Wrap(NodeKind::Bump(Bump::Decrement, Side::Behind)),
-            Step::Wrap(NodeKind::Step),
-            Step::Expect(Term::Semicolon),
-        ]),
+        Term::PlusSet => statement_that!(sets, PlusSet, Add),
+        Term::MinusSet => statement_that!(sets, MinusSet, Subtract),
+        Term::TimesSet => statement_that!(sets, TimesSet, Multiply),
+        Term::SlashSet => statement_that!(sets, SlashSet, Divide),
+        Term::PercentSet => statement_that!(sets, PercentSet, Remainder),
+        Term::PlusPlus => statement_that!(bumps, PlusPlus, Increment),
+        Term::MinusMinus => statement_that!(bumps, MinusMinus, Decrement),
         _ => None,
     }
 }
@@ -207,95 +159,24 @@ pub(super) fn assign_right(next: Term) -> Rule
     ensures { option_copied result ≡ assign_right next }
 {
     match next {
-        Term::TestLock => Some(&[
-            Step::Open,
-            Step::Expect(Term::TestLock),
-            Step::Expect(Term::OpenParen),
-            Step::Expect(Term::Ampersand),
-            Step::Open,
-            Step::Take(Class::Name),
-            Step::Make(NodeKind::Name),
-            Step::Expect(Term::CloseParen),
+        Term::TestLock => lock_call!(
+            [],
+            TestLock,
             Step::Make(NodeKind::TestLock),
-            Step::Join(NodeKind::SetCall),
-        ]),
-        Term::Number => Some(&[
-            Step::Read(Sort::Unary),
-            Step::Read(Sort::ProdTail),
-            Step::Read(Sort::SumTail),
-            Step::Read(Sort::RelTail),
-            Step::Read(Sort::EqualTail),
-            Step::Read(Sort::AndTail),
-            Step::Read(Sort::OrTail),
-            Step::Join(NodeKind::Assign(Setting::Plain)),
-            Step::Wrap(NodeKind::Step),
-        ]),
-        Term::OpenParen => Some(&[
-            Step::Read(Sort::Unary),
-            Step::Read(Sort::ProdTail),
-            Step::Read(Sort::SumTail),
-            Step::Read(Sort::RelTail),
-            Step::Read(Sort::EqualTail),
-            Step::Read(Sort::AndTail),
-            Step::Read(Sort::OrTail),
-            Step::Join(NodeKind::Assign(Setting::Plain)),
-            Step::Wrap(NodeKind::Step),
-        ]),
-        Term::Minus => Some(&[
-            Step::Read(Sort::Unary),
-            Step::Read(Sort::ProdTail),
-            Step::Read(Sort::SumTail),
-            Step::Read(Sort::RelTail),
-            Step::Read(Sort::EqualTail),
-            Step::Read(Sort::AndTail),
-            Step::Read(Sort::OrTail),
-            Step::Join(NodeKind::Assign(Setting::Plain)),
-            Step::Wrap(NodeKind::Step),
-        ]),
-        Term::Not => Some(&[
-            Step::Read(Sort::Unary),
-            Step::Read(Sort::ProdTail),
-            Step::Read(Sort::SumTail),
-            Step::Read(Sort::RelTail),
-            Step::Read(Sort::EqualTail),
-            Step::Read(Sort::AndTail),
-            Step::Read(Sort::OrTail),
-            Step::Join(NodeKind::Assign(Setting::Plain)),
-            Step::Wrap(NodeKind::Step),
-        ]),
-        Term::GetThreadNum => Some(&[
-            Step::Read(Sort::Unary),
-            Step::Read(Sort::ProdTail),
-            Step::Read(Sort::SumTail),
-            Step::Read(Sort::RelTail),
-            Step::Read(Sort::EqualTail),
-            Step::Read(Sort::AndTail),
-            Step::Read(Sort::OrTail),
-            Step::Join(NodeKind::Assign(Setting::Plain)),
-            Step::Wrap(NodeKind::Step),
-        ]),
-        Term::GetNumThreads => Some(&[
-            Step::Read(Sort::Unary),
-            Step::Read(Sort::ProdTail),
-            Step::Read(Sort::SumTail),
-            Step::Read(Sort::RelTail),
-            Step::Read(Sort::EqualTail),
-            Step::Read(Sort::AndTail),
-            Step::Read(Sort::OrTail),
-            Step::Join(NodeKind::Assign(Setting::Plain)),
-            Step::Wrap(NodeKind::Step),
-        ]),
-        Term::GetMaxThreads => Some(&[
-            Step::Read(Sort::Unary),
-            Step::Read(Sort::ProdTail),
-            Step::Read(Sort::SumTail),
-            Step::Read(Sort::RelTail),
-            Step::Read(Sort::EqualTail),
-            Step::Read(Sort::AndTail),
-            Step::Read(Sort::OrTail),
-            Step::Join(NodeKind::Assign(Setting::Plain)),
-            Step::Wrap(NodeKind::Step),
-        ]),
+            Step::Join(NodeKind::SetCall)
+        ),
+        Term::Number
+        | Term::OpenParen
+        | Term::Minus
+        | Term::Not
+        | Term::GetThreadNum
+        | Term::GetNumThreads
+        | Term::GetMaxThreads => {
+            expression!(
+                Step::Join(NodeKind::Assign(Setting::Plain)),
+                Step::Wrap(NodeKind::Step)
+            )
+        }
         _ => Some(&[
             Step::Open,
             Step::Take(Class::Name),
@@ -309,25 +190,11 @@ pub(super) fn after_assign_name(next: Term) -> Rule
     ensures { option_copied result ≡ after_assign_name next }
 {
     match next {
-        Term::OpenParen => Some(&[
-            Step::Expect(Term::OpenParen),
-            Step::Read(Sort::Args),
-            Step::Expect(Term::CloseParen),
-            Step::Make(NodeKind::Call),
-            Step::Join(NodeKind::SetCall),
-        ]),
-        _ => Some(&[
-            Step::Read(Sort::IndexPart),
-            Step::Make(NodeKind::Place),
-            Step::Read(Sort::ProdTail),
-            Step::Read(Sort::SumTail),
-            Step::Read(Sort::RelTail),
-            Step::Read(Sort::EqualTail),
-            Step::Read(Sort::AndTail),
-            Step::Read(Sort::OrTail),
+        Term::OpenParen => rest_of_call!(Step::Join(NodeKind::SetCall)),
+        _ => rest_of_expression!(
             Step::Join(NodeKind::Assign(Setting::Plain)),
-            Step::Wrap(NodeKind::Step),
-        ]),
+            Step::Wrap(NodeKind::Step)
+        ),
     }
 }
 
@@ -336,44 +203,14 @@ pub(super) fn step_rest(next: Term) -> Rule
     ensures { option_copied result ≡ step_rest next }
 {
     match next {
-        Term::Set => Some(&[
-            Step::Expect(Term::Set),
-            Step::Read(Sort::Expr),
-            Step::Join(NodeKind::Assign(Setting::Plain)),
-        ]),
-        Term::PlusSet => Some(&[
-            Step::Expect(Term::PlusSet),
-            Step::Read(Sort::Expr),
-            Step::Join(NodeKind::Assign(Setting::Add)),
-        ]),
-        Term::MinusSet => Some(&[
-            Step::Expect(Term::MinusSet),
-            Step::Read(Sort::Expr),
-            Step::Join(NodeKind::Assign(Setting::Subtract)),
-        ]),
-        Term::TimesSet => Some(&[
-            Step::Expect(Term::TimesSet),
-            Step::Read(Sort::Expr),
-            Step::Join(NodeKind::Assign(Setting::Multiply)),
-        ]),
-        Term::SlashSet => Some(&[
-            Step::Expect(Term::SlashSet),
-            Step::Read(Sort::Expr),
-            Step::Join(NodeKind::Assign(Setting::Divide)),
-        ]),
-        Term::PercentSet => Some(&[
-            Step::Expect(Term::PercentSet),
-            Step::Read(Sort::Expr),
-            Step::Join(NodeKind::Assign(Setting::Remainder)),
-        ]),
-        Term::PlusPlus => Some(&[
-            Step::Expect(Term::PlusPlus),
-            Step::Wrap(NodeKind::Bump(Bump::Increment, Side::Behind)),
-        ]),
-        Term::MinusMinus => Some(&[
-            Step::Expect(Term::MinusMinus),
-            Step::Wrap(NodeKind::Bump(Bump::Decrement, Side::Behind)),
-        ]),
+        Term::Set => sets!(Set, Plain),
+        Term::PlusSet => sets!(PlusSet, Add),
+        Term::MinusSet => sets!(MinusSet, Subtract),
+        Term::TimesSet => sets!(TimesSet, Multiply),
+        Term::SlashSet => sets!(SlashSet, Divide),
+        Term::PercentSet => sets!(PercentSet, Remainder),
+        Term::PlusPlus => bumps!(PlusPlus, Increment),
+        Term::MinusMinus => bumps!(MinusMinus, Decrement),
         _ => None,
     }
 }

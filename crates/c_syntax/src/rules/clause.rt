@@ -9,126 +9,109 @@ use crate::grammar::{Class, Sort, Step};
 use crate::node::{Data, Default, Directive, Lead, NodeKind, ReductionOp, ScheduleKind};
 use crate::term::Term;
 
+/// A clause with what stands before it, and the further clauses.
+macro_rules! clause_and_more {
+    ($directive:ident, $lead:ident $(, $before:expr)?) => {
+        Some(&[
+            $($before,)?
+            Step::Read(Sort::Clause(Directive::$directive)),
+            Step::Wrap(NodeKind::Clause(Lead::$lead)),
+            Step::Read(Sort::Clauses(Directive::$directive)),
+        ])
+    };
+}
+
+/// The clauses of a directive where a comma is next.
+macro_rules! clauses_after_comma {
+    ($directive:ident) => {
+        clause_and_more!($directive, Comma, Step::Expect(Term::Comma))
+    };
+}
+
+/// The clauses of a directive where a clause is next.
+macro_rules! clauses_after_blank {
+    ($directive:ident) => {
+        clause_and_more!($directive, Blank)
+    };
+}
+
+/// The rule that a macro writes for the directive.
+macro_rules! rule_of {
+    ($directive:expr, $rule:ident) => {
+        match $directive {
+            Directive::Parallel => $rule!(Parallel),
+            Directive::For => $rule!(For),
+            Directive::Sections => $rule!(Sections),
+            Directive::Single => $rule!(Single),
+            Directive::ParallelFor => $rule!(ParallelFor),
+            Directive::ParallelSections => $rule!(ParallelSections),
+            Directive::Masked => $rule!(Masked),
+            Directive::Master => $rule!(Master),
+            Directive::Critical => $rule!(Critical),
+            Directive::Task => $rule!(Task),
+        }
+    };
+}
+
+/// The operator of a reduction and its names.
+macro_rules! reduction {
+    ($operator:ident, $kind:ident) => {
+        Some(&[
+            Step::Expect(Term::$operator),
+            Step::Expect(Term::Colon),
+            Step::Read(Sort::Names),
+            Step::Expect(Term::CloseParen),
+            Step::Make(NodeKind::Reduction(ReductionOp::$kind)),
+        ])
+    };
+}
+
+/// The kind of a schedule and its chunk.
+macro_rules! schedule {
+    ($kind:ident) => {
+        Some(&[
+            Step::Expect(Term::$kind),
+            Step::Read(Sort::ChunkPart),
+            Step::Expect(Term::CloseParen),
+            Step::Make(NodeKind::Schedule(ScheduleKind::$kind)),
+        ])
+    };
+}
+
+/// `word ( part )`, which is a clause of this kind.
+macro_rules! clause_with {
+    ($word:ident, $part:ident, $kind:expr) => {
+        Some(&[
+            Step::Open,
+            Step::Expect(Term::$word),
+            Step::Expect(Term::OpenParen),
+            Step::Read(Sort::$part),
+            Step::Expect(Term::CloseParen),
+            Step::Make($kind),
+        ])
+    };
+}
+
+/// `word (` and what goes on by a word of its own.
+macro_rules! clause_by_word {
+    ($word:ident, $part:ident) => {
+        Some(&[
+            Step::Open,
+            Step::Expect(Term::$word),
+            Step::Expect(Term::OpenParen),
+            Step::Read(Sort::$part),
+        ])
+    };
+}
+
 /// `{ [ , ] clause }`.
 pub(super) fn clauses(directive: Directive, next: Term) -> Rule
     ensures { option_copied result ≡ clauses directive next }
 {
     match next {
         Term::PragmaEnd => Some(&[]),
-        Term::Comma => match directive {
-            Directive::Parallel => Some(&[
-                Step::Expect(Term::Comma),
-                Step::Read(Sort::Clause(Directive::Parallel)),
-                Step::Wrap(NodeKind::Clause(Lead::Comma)),
-                Step::Read(Sort::Clauses(Directive::Parallel)),
-            ]),
-            Directive::For => Some(&[
-                Step::Expect(Term::Comma),
-                Step::Read(Sort::Clause(Directive::For)),
-                Step::Wrap(NodeKind::Clause(Lead::Comma)),
-                Step::Read(Sort::Clauses(Directive::For)),
-            ]),
-            Directive::Sections => Some(&[
-                Step::Expect(Term::Comma),
-                Step::Read(Sort::Clause(Directive::Sections)),
-                Step::Wrap(NodeKind::Clause(Lead::Comma)),
-                Step::Read(Sort::Clauses(Directive::Sections)),
-            ]),
-            Directive::Single => Some(&[
-                Step::Expect(Term::Comma),
-                Step::Read(Sort::Clause(Directive::Single)),
-                Step::Wrap(NodeKind::Clause(Lead::Comma)),
-                Step::Read(Sort::Clauses(Directive::Single)),
-            ]),
-            Directive::ParallelFor => Some(&[
-                Step::Expect(Term::Comma),
-                Step::Read(Sort::Clause(Directive::ParallelFor)),
-                Step::Wrap(NodeKind::Clause(Lead::Comma)),
-                Step::Read(Sort::Clauses(Directive::ParallelFor)),
-            ]),
-            Directive::ParallelSections => Some(&[
-                Step::Expect(Term::Comma),
-                Step::Read(Sort::Clause(Directive::ParallelSections)),
-                Step::Wrap(NodeKind::Clause(Lead::Comma)),
-                Step::Read(Sort::Clauses(Directive::ParallelSections)),
-            ]),
-            Directive::Masked => Some(&[
-                Step::Expect(Term::Comma),
-                Step::Read(Sort::Clause(Directive::Masked)),
-                Step::Wrap(NodeKind::Clause(Lead::Comma)),
-                Step::Read(Sort::Clauses(Directive::Masked)),
-            ]),
-            Directive::Master => Some(&[
-                Step::Expect(Term::Comma),
-                Step::Read(Sort::Clause(Directive::Master)),
-                Step::Wrap(NodeKind::Clause(Lead::Comma)),
-                Step::Read(Sort::Clauses(Directive::Master)),
-            ]),
-            Directive::Critical => Some(&[
-                Step::Expect(Term::Comma),
-                Step::Read(Sort::Clause(Directive::Critical)),
-                Step::Wrap(NodeKind::Clause(Lead::Comma)),
-                Step::Read(Sort::Clauses(Directive::Critical)),
-            ]),
-            Directive::Task => Some(&[
-                Step::Expect(Term::Comma),
-                Step::Read(Sort::Clause(Directive::Task)),
-                Step::Wrap(NodeKind::Clause(Lead::Comma)),
-                Step::Read(Sort::Clauses(Directive::Task)),
-            ]),
-        },
-        _ => match directive {
-            Directive::Parallel => Some(&[
-                Step::Read(Sort::Clause(Directive::Parallel)),
-                Step::Wrap(NodeKind::Clause(Lead::Blank)),
-                Step::Read(Sort::Clauses(Directive::Parallel)),
-            ]),
-            Directive::For => Some(&[
-                Step::Read(Sort::Clause(Directive::For)),
-                Step::Wrap(NodeKind::Clause(Lead::Blank)),
-                Step::Read(Sort::Clauses(Directive::For)),
-            ]),
-            Directive::Sections => Some(&[
-                Step::Read(Sort::Clause(Directive::Sections)),
-                Step::Wrap(NodeKind::Clause(Lead::Blank)),
-                Step::Read(Sort::Clauses(Directive::Sections)),
-            ]),
-            Directive::Single => Some(&[
-                Step::Read(Sort::Clause(Directive::Single)),
-                Step::Wrap(NodeKind::Clause(Lead::Blank)),
-                Step::Read(Sort::Clauses(Directive::Single)),
-            ]),
-            Directive::ParallelFor => Some(&[
-                Step::Read(Sort::Clause(Directive::ParallelFor)),
-                Step::Wrap(NodeKind::Clause(Lead::Blank)),
-                Step::Read(Sort::Clauses(Directive::ParallelFor)),
-            ]),
-            Directive::ParallelSections => Some(&[
-                Step::Read(Sort::Clause(Directive::ParallelSections)),
-                Step::Wrap(NodeKind::Clause(Lead::Blank)),
-                Step::Read(Sort::Clauses(Directive::ParallelSections)),
-            ]),
-            Directive::Masked => Some(&[
-                Step::Read(Sort::Clause(Directive::Masked)),
-                Step::Wrap(NodeKind::Clause(Lead::Blank)),
-                Step::Read(Sort::Clauses(Directive::Masked)),
-            ]),
-            Directive::Master => Some(&[
-                Step::Read(Sort::Clause(Directive::Master)),
-                Step::Wrap(NodeKind::Clause(Lead::Blank)),
-                Step::Read(Sort::Clauses(Directive::Master)),
-            ]),
-            Directive::Critical => Some(&[
-                Step::Read(Sort::Clause(Directive::Critical)),
-                Step::Wrap(NodeKind::Clause(Lead::Blank)),
-                Step::Read(Sort::Clauses(Directive::Critical)),
-            ]),
-            Directive::Task => Some(&[
-                Step::Read(Sort::Clause(Directive::Task)),
-                Step::Wrap(NodeKind::Clause(Lead::Blank)),
-                Step::Read(Sort::Clauses(Directive::Task)),
-            ]),
-        },
+        Term::Comma => rule_of!(directive, clauses_after_comma),
+        _ => rule_of!(directive, clauses_after_blank),
     }
 }
 
@@ -156,34 +139,10 @@ pub(super) fn operator(next: Term) -> Rule
     ensures { option_copied result ≡ operator next }
 {
     match next {
-        Term::Plus => Some(&[
-            Step::Expect(Term::Plus),
-            Step::Expect(Term::Colon),
-            Step::Read(Sort::Names),
-            Step::Expect(Term::CloseParen),
-            Step::Make(NodeKind::Reduction(ReductionOp::Add)),
-        ]),
-        Term::Star => Some(&[
-            Step::Expect(Term::Star),
-            Step::Expect(Term::Colon),
-            Step::Read(Sort::Names),
-            Step::Expect(Term::CloseParen),
-            Step::Make(NodeKind::Reduction(ReductionOp::Multiply)),
-        ]),
-        Term::Max => Some(&[
-            Step::Expect(Term::Max),
-            Step::Expect(Term::Colon),
-            Step::Read(Sort::Names),
-            Step::Expect(Term::CloseParen),
-            Step::Make(NodeKind::Reduction(ReductionOp::Max)),
-        ]),
-        Term::Min => Some(&[
-            Step::Expect(Term::Min),
-            Step::Expect(Term::Colon),
-            Step::Read(Sort::Names),
-            Step::Expect(Term::CloseParen),
-            Step::Make(NodeKind::Reduction(ReductionOp::Min)),
-        ]),
+        Term::Plus => reduction!(Plus, Add),
+        Term::Star => reduction!(Star, Multiply),
+        Term::Max => reduction!(Max, Max),
+        Term::Min => reduction!(Min, Min),
         _ => None,
     }
 }
@@ -193,24 +152,9 @@ pub(super) fn kind_word(next: Term) -> Rule
     ensures { option_copied result ≡ kind_word next }
 {
     match next {
-        Term::Static => Some(&[
-            Step::Expect(Term::Static),
-            Step::Read(Sort::ChunkPart),
-            Step::Expect(Term::CloseParen),
-            Step::Make(NodeKind::Schedule(ScheduleKind::Static)),
-        ]),
-        Term::Dynamic => Some(&[
-            Step::Expect(Term::Dynamic),
-            Step::Read(Sort::ChunkPart),
-            Step::Expect(Term::CloseParen),
-            Step::Make(NodeKind::Schedule(ScheduleKind::Dynamic)),
-        ]),
-        Term::Guided => Some(&[
-            Step::Expect(Term::Guided),
-            Step::Read(Sort::ChunkPart),
-            Step::Expect(Term::CloseParen),
-            Step::Make(NodeKind::Schedule(ScheduleKind::Guided)),
-        ]),
+        Term::Static => schedule!(Static),
+        Term::Dynamic => schedule!(Dynamic),
+        Term::Guided => schedule!(Guided),
         _ => None,
     }
 }
@@ -263,69 +207,35 @@ pub(super) fn clause(directive: Directive, next: Term) -> Rule
     ensures { option_copied result ≡ clause directive next }
 {
     match next {
-        Term::NumThreads if forks(directive) => Some(&[
-            Step::Open,
-            Step::Expect(Term::NumThreads),
-            Step::Expect(Term::OpenParen),
-            Step::Read(Sort::Expr),
-            Step::Expect(Term::CloseParen),
-            Step::Make(NodeKind::NumThreads),
-        ]),
-        Term::Default if shares(directive) => Some(&[
-            Step::Open,
-            Step::Expect(Term::Default),
-            Step::Expect(Term::OpenParen),
-            Step::Read(Sort::DefaultWord),
-        ]),
-        Term::Shared if shares(directive) => Some(&[
-            Step::Open,
-            Step::Expect(Term::Shared),
-            Step::Expect(Term::OpenParen),
-            Step::Read(Sort::Names),
-            Step::Expect(Term::CloseParen),
-            Step::Make(NodeKind::Data(Data::Shared)),
-        ]),
-        Term::Private if has_data(directive) => Some(&[
-            Step::Open,
-            Step::Expect(Term::Private),
-            Step::Expect(Term::OpenParen),
-            Step::Read(Sort::Names),
-            Step::Expect(Term::CloseParen),
-            Step::Make(NodeKind::Data(Data::Private)),
-        ]),
-        Term::Firstprivate if has_data(directive) => Some(&[
-            Step::Open,
-            Step::Expect(Term::Firstprivate),
-            Step::Expect(Term::OpenParen),
-            Step::Read(Sort::Names),
-            Step::Expect(Term::CloseParen),
-            Step::Make(NodeKind::Data(Data::Firstprivate)),
-        ]),
-        Term::Reduction if reduces(directive) => Some(&[
-            Step::Open,
-            Step::Expect(Term::Reduction),
-            Step::Expect(Term::OpenParen),
-            Step::Read(Sort::Operator),
-        ]),
-        Term::Schedule if schedules(directive) => Some(&[
-            Step::Open,
-            Step::Expect(Term::Schedule),
-            Step::Expect(Term::OpenParen),
-            Step::Read(Sort::Kind),
-        ]),
+        Term::NumThreads if forks(directive) => clause_with!(
+            NumThreads,
+            Expr,
+            NodeKind::NumThreads
+        ),
+        Term::Default if shares(directive) => clause_by_word!(Default, DefaultWord),
+        Term::Shared if shares(directive) => clause_with!(
+            Shared,
+            Names,
+            NodeKind::Data(Data::Shared)
+        ),
+        Term::Private if has_data(directive) => clause_with!(
+            Private,
+            Names,
+            NodeKind::Data(Data::Private)
+        ),
+        Term::Firstprivate if has_data(directive) => clause_with!(
+            Firstprivate,
+            Names,
+            NodeKind::Data(Data::Firstprivate)
+        ),
+        Term::Reduction if reduces(directive) => clause_by_word!(Reduction, Operator),
+        Term::Schedule if schedules(directive) => clause_by_word!(Schedule, Kind),
         Term::Nowait if waits(directive) => Some(&[
             Step::Open,
             Step::Expect(Term::Nowait),
             Step::Make(NodeKind::Nowait),
         ]),
-        Term::If if defers(directive) => Some(&[
-            Step::Open,
-            Step::Expect(Term::If),
-            Step::Expect(Term::OpenParen),
-            Step::Read(Sort::Expr),
-            Step::Expect(Term::CloseParen),
-            Step::Make(NodeKind::IfClause),
-        ]),
+        Term::If if defers(directive) => clause_with!(If, Expr, NodeKind::IfClause),
         _ => None,
     }
 }

@@ -9,61 +9,62 @@ use crate::grammar::{Class, Sort, Step};
 use crate::node::{Directive, NodeKind, Standalone};
 use crate::term::Term;
 
+/// A directive without statement.
+macro_rules! standalone {
+    ($directive:ident) => {
+        Some(&[
+            Step::Expect(Term::$directive),
+            Step::Expect(Term::PragmaEnd),
+            Step::Make(NodeKind::Standalone(Standalone::$directive)),
+        ])
+    };
+}
+
+/// A construct from the first word of its directive on, which is read by this step.
+macro_rules! construct_from {
+    ($step:ident, $directive:ident) => {
+        Some(&[
+            Step::$step(Term::$directive),
+            Step::Read(Sort::Behind(Directive::$directive)),
+            Step::Rise,
+        ])
+    };
+}
+
+/// What a directive still has in its head, and what it stands before.
+macro_rules! construct_with {
+    ($directive:ident, [$($head:expr)?], $body:ident) => {
+        Some(&[
+            $(Step::Read($head),)?
+            Step::Expect(Term::PragmaEnd),
+            Step::Read(Sort::$body),
+            Step::Make(NodeKind::Construct(Directive::$directive)),
+        ])
+    };
+}
+
+/// The same of a directive with clauses.
+macro_rules! construct_with_clauses {
+    ($directive:ident, $body:ident) => {
+        construct_with!($directive, [Sort::Clauses(Directive::$directive)], $body)
+    };
+}
+
 /// A directive without statement, or a construct, which counts for the depth only now.
 pub(super) fn item_directive(next: Term) -> Rule
     ensures { option_copied result ≡ item_directive next }
 {
     match next {
-        Term::Barrier => Some(&[
-            Step::Expect(Term::Barrier),
-            Step::Expect(Term::PragmaEnd),
-            Step::Make(NodeKind::Standalone(Standalone::Barrier)),
-        ]),
-        Term::Taskwait => Some(&[
-            Step::Expect(Term::Taskwait),
-            Step::Expect(Term::PragmaEnd),
-            Step::Make(NodeKind::Standalone(Standalone::Taskwait)),
-        ]),
-        Term::Parallel => Some(&[
-            Step::Deepen(Term::Parallel),
-            Step::Read(Sort::Behind(Directive::Parallel)),
-            Step::Rise,
-        ]),
-        Term::For => Some(&[
-            Step::Deepen(Term::For),
-            Step::Read(Sort::Behind(Directive::For)),
-            Step::Rise,
-        ]),
-        Term::Sections => Some(&[
-            Step::Deepen(Term::Sections),
-            Step::Read(Sort::Behind(Directive::Sections)),
-            Step::Rise,
-        ]),
-        Term::Single => Some(&[
-            Step::Deepen(Term::Single),
-            Step::Read(Sort::Behind(Directive::Single)),
-            Step::Rise,
-        ]),
-        Term::Masked => Some(&[
-            Step::Deepen(Term::Masked),
-            Step::Read(Sort::Behind(Directive::Masked)),
-            Step::Rise,
-        ]),
-        Term::Master => Some(&[
-            Step::Deepen(Term::Master),
-            Step::Read(Sort::Behind(Directive::Master)),
-            Step::Rise,
-        ]),
-        Term::Critical => Some(&[
-            Step::Deepen(Term::Critical),
-            Step::Read(Sort::Behind(Directive::Critical)),
-            Step::Rise,
-        ]),
-        Term::Task => Some(&[
-            Step::Deepen(Term::Task),
-            Step::Read(Sort::Behind(Directive::Task)),
-            Step::Rise,
-        ]),
+        Term::Barrier => standalone!(Barrier),
+        Term::Taskwait => standalone!(Taskwait),
+        Term::Parallel => construct_from!(Deepen, Parallel),
+        Term::For => construct_from!(Deepen, For),
+        Term::Sections => construct_from!(Deepen, Sections),
+        Term::Single => construct_from!(Deepen, Single),
+        Term::Masked => construct_from!(Deepen, Masked),
+        Term::Master => construct_from!(Deepen, Master),
+        Term::Critical => construct_from!(Deepen, Critical),
+        Term::Task => construct_from!(Deepen, Task),
         _ => None,
     }
 }
@@ -73,46 +74,14 @@ pub(super) fn construct(next: Term) -> Rule
     ensures { option_copied result ≡ construct next }
 {
     match next {
-        Term::Parallel => Some(&[
-            Step::Expect(Term::Parallel),
-            Step::Read(Sort::Behind(Directive::Parallel)),
-            Step::Rise,
-        ]),
-        Term::For => Some(&[
-            Step::Expect(Term::For),
-            Step::Read(Sort::Behind(Directive::For)),
-            Step::Rise,
-        ]),
-        Term::Sections => Some(&[
-            Step::Expect(Term::Sections),
-            Step::Read(Sort::Behind(Directive::Sections)),
-            Step::Rise,
-        ]),
-        Term::Single => Some(&[
-            Step::Expect(Term::Single),
-            Step::Read(Sort::Behind(Directive::Single)),
-            Step::Rise,
-        ]),
-        Term::Masked => Some(&[
-            Step::Expect(Term::Masked),
-            Step::Read(Sort::Behind(Directive::Masked)),
-            Step::Rise,
-        ]),
-        Term::Master => Some(&[
-            Step::Expect(Term::Master),
-            Step::Read(Sort::Behind(Directive::Master)),
-            Step::Rise,
-        ]),
-        Term::Critical => Some(&[
-            Step::Expect(Term::Critical),
-            Step::Read(Sort::Behind(Directive::Critical)),
-            Step::Rise,
-        ]),
-        Term::Task => Some(&[
-            Step::Expect(Term::Task),
-            Step::Read(Sort::Behind(Directive::Task)),
-            Step::Rise,
-        ]),
+        Term::Parallel => construct_from!(Expect, Parallel),
+        Term::For => construct_from!(Expect, For),
+        Term::Sections => construct_from!(Expect, Sections),
+        Term::Single => construct_from!(Expect, Single),
+        Term::Masked => construct_from!(Expect, Masked),
+        Term::Master => construct_from!(Expect, Master),
+        Term::Critical => construct_from!(Expect, Critical),
+        Term::Task => construct_from!(Expect, Task),
         _ => None,
     }
 }
@@ -123,58 +92,15 @@ pub(super) fn behind_directive(directive: Directive, _next: Term) -> Rule
 {
     match directive {
         Directive::Parallel => Some(&[Step::Read(Sort::AfterParallel)]),
-        Directive::For => Some(&[
-            Step::Read(Sort::Clauses(Directive::For)),
-            Step::Expect(Term::PragmaEnd),
-            Step::Read(Sort::Statement),
-            Step::Make(NodeKind::Construct(Directive::For)),
-        ]),
-        Directive::Sections => Some(&[
-            Step::Read(Sort::Clauses(Directive::Sections)),
-            Step::Expect(Term::PragmaEnd),
-            Step::Read(Sort::SectionsBody),
-            Step::Make(NodeKind::Construct(Directive::Sections)),
-        ]),
-        Directive::Single => Some(&[
-            Step::Read(Sort::Clauses(Directive::Single)),
-            Step::Expect(Term::PragmaEnd),
-            Step::Read(Sort::Statement),
-            Step::Make(NodeKind::Construct(Directive::Single)),
-        ]),
-        Directive::ParallelFor => Some(&[
-            Step::Read(Sort::Clauses(Directive::ParallelFor)),
-            Step::Expect(Term::PragmaEnd),
-            Step::Read(Sort::Statement),
-            Step::Make(NodeKind::Construct(Directive::ParallelFor)),
-        ]),
-        Directive::ParallelSections => Some(&[
-            Step::Read(Sort::Clauses(Directive::ParallelSections)),
-            Step::Expect(Term::PragmaEnd),
-            Step::Read(Sort::SectionsBody),
-            Step::Make(NodeKind::Construct(Directive::ParallelSections)),
-        ]),
-        Directive::Masked => Some(&[
-            Step::Expect(Term::PragmaEnd),
-            Step::Read(Sort::Statement),
-            Step::Make(NodeKind::Construct(Directive::Masked)),
-        ]),
-        Directive::Master => Some(&[
-            Step::Expect(Term::PragmaEnd),
-            Step::Read(Sort::Statement),
-            Step::Make(NodeKind::Construct(Directive::Master)),
-        ]),
-        Directive::Critical => Some(&[
-            Step::Read(Sort::CriticalName),
-            Step::Expect(Term::PragmaEnd),
-            Step::Read(Sort::Statement),
-            Step::Make(NodeKind::Construct(Directive::Critical)),
-        ]),
-        Directive::Task => Some(&[
-            Step::Read(Sort::Clauses(Directive::Task)),
-            Step::Expect(Term::PragmaEnd),
-            Step::Read(Sort::Statement),
-            Step::Make(NodeKind::Construct(Directive::Task)),
-        ]),
+        Directive::For => construct_with_clauses!(For, Statement),
+        Directive::Sections => construct_with_clauses!(Sections, SectionsBody),
+        Directive::Single => construct_with_clauses!(Single, Statement),
+        Directive::ParallelFor => construct_with_clauses!(ParallelFor, Statement),
+        Directive::ParallelSections => construct_with_clauses!(ParallelSections, SectionsBody),
+        Directive::Masked => construct_with!(Masked, [], Statement),
+        Directive::Master => construct_with!(Master, [], Statement),
+        Directive::Critical => construct_with!(Critical, [Sort::CriticalName], Statement),
+        Directive::Task => construct_with_clauses!(Task, Statement),
     }
 }
 
@@ -191,12 +117,7 @@ pub(super) fn after_parallel(next: Term) -> Rule
             Step::Expect(Term::Sections),
             Step::Read(Sort::Behind(Directive::ParallelSections)),
         ]),
-        _ => Some(&[
-            Step::Read(Sort::Clauses(Directive::Parallel)),
-            Step::Expect(Term::PragmaEnd),
-            Step::Read(Sort::Statement),
-            Step::Make(NodeKind::Construct(Directive::Parallel)),
-        ]),
+        _ => construct_with_clauses!(Parallel, Statement),
     }
 }
 

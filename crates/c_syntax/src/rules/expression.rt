@@ -9,16 +9,66 @@ use crate::grammar::{Class, Sort, Step};
 use crate::node::{BinaryOp, Getter, NodeKind, UnaryOp};
 use crate::term::Term;
 
+/// A name with the index that it may have.
+const PLACE: &[Step] = &[
+    Step::Open,
+    Step::Take(Class::Name),
+    Step::Read(Sort::IndexPart),
+    Step::Make(NodeKind::Place),
+];
+
+/// An operator and its right operand, and further ones of its rank.
+macro_rules! operator {
+    ($operator:ident, $operand:ident, $kind:ident, $more:ident) => {
+        Some(&[
+            Step::Expect(Term::$operator),
+            Step::Read(Sort::$operand),
+            Step::Join(NodeKind::Binary(BinaryOp::$kind)),
+            Step::Read(Sort::$more),
+        ])
+    };
+}
+
+/// An operator and its one operand.
+macro_rules! unary_operator {
+    ($operator:ident, $kind:ident) => {
+        Some(&[
+            Step::Open,
+            Step::Deepen(Term::$operator),
+            Step::Read(Sort::Unary),
+            Step::Make(NodeKind::Unary(UnaryOp::$kind)),
+            Step::Rise,
+        ])
+    };
+}
+
+/// A routine that gives a number.
+macro_rules! getter {
+    ($getter:ident) => {
+        Some(&[
+            Step::Open,
+            Step::Take(Class::Routine(Getter::$getter)),
+            Step::Read(Sort::AfterGetter(Getter::$getter)),
+        ])
+    };
+}
+
+/// `( )` behind such a routine.
+macro_rules! getter_call {
+    ($getter:ident) => {
+        Some(&[
+            Step::Expect(Term::OpenParen),
+            Step::Expect(Term::CloseParen),
+            Step::Make(NodeKind::Getter(Getter::$getter)),
+        ])
+    };
+}
+
 /// `place = name [ [ expression ] ]`.
 pub(super) fn place(_next: Term) -> Rule
     ensures { option_copied result ≡ place _next }
 {
-    Some(&[
-        Step::Open,
-        Step::Take(Class::Name),
-        Step::Read(Sort::IndexPart),
-        Step::Make(NodeKind::Place),
-    ])
+    Some(PLACE)
 }
 
 /// `[ expression { , expression } ]`.
@@ -57,12 +107,7 @@ pub(super) fn or_tail(next: Term) -> Rule
     ensures { option_copied result ≡ or_tail next }
 {
     match next {
-        Term::OrOr => Some(&[
-            Step::Expect(Term::OrOr),
-            Step::Read(Sort::AndChain),
-            Step::Join(NodeKind::Binary(BinaryOp::Or)),
-            Step::Read(Sort::OrTail),
-        ]),
+        Term::OrOr => operator!(OrOr, AndChain, Or, OrTail),
         _ => Some(&[]),
     }
 }
@@ -79,12 +124,7 @@ pub(super) fn and_tail(next: Term) -> Rule
     ensures { option_copied result ≡ and_tail next }
 {
     match next {
-        Term::AndAnd => Some(&[
-            Step::Expect(Term::AndAnd),
-            Step::Read(Sort::EqualChain),
-            Step::Join(NodeKind::Binary(BinaryOp::And)),
-            Step::Read(Sort::AndTail),
-        ]),
+        Term::AndAnd => operator!(AndAnd, EqualChain, And, AndTail),
         _ => Some(&[]),
     }
 }
@@ -101,18 +141,8 @@ pub(super) fn equal_tail(next: Term) -> Rule
     ensures { option_copied result ≡ equal_tail next }
 {
     match next {
-        Term::EqualEqual => Some(&[
-            Step::Expect(Term::EqualEqual),
-            Step::Read(Sort::RelChain),
-            Step::Join(NodeKind::Binary(BinaryOp::Equal)),
-            Step::Read(Sort::EqualTail),
-        ]),
-        Term::NotEqual => Some(&[
-            Step::Expect(Term::NotEqual),
-            Step::Read(Sort::RelChain),
-            Step::Join(NodeKind::Binary(BinaryOp::NotEqual)),
-            Step::Read(Sort::EqualTail),
-        ]),
+        Term::EqualEqual => operator!(EqualEqual, RelChain, Equal, EqualTail),
+        Term::NotEqual => operator!(NotEqual, RelChain, NotEqual, EqualTail),
         _ => Some(&[]),
     }
 }
@@ -129,30 +159,10 @@ pub(super) fn rel_tail(next: Term) -> Rule
     ensures { option_copied result ≡ rel_tail next }
 {
     match next {
-        Term::Less => Some(&[
-            Step::Expect(Term::Less),
-            Step::Read(Sort::SumChain),
-            Step::Join(NodeKind::Binary(BinaryOp::Less)),
-            Step::Read(Sort::RelTail),
-        ]),
-        Term::LessEqual => Some(&[
-            Step::Expect(Term::LessEqual),
-            Step::Read(Sort::SumChain),
-            Step::Join(NodeKind::Binary(BinaryOp::LessEqual)),
-            Step::Read(Sort::RelTail),
-        ]),
-        Term::Greater => Some(&[
-            Step::Expect(Term::Greater),
-            Step::Read(Sort::SumChain),
-            Step::Join(NodeKind::Binary(BinaryOp::Greater)),
-            Step::Read(Sort::RelTail),
-        ]),
-        Term::GreaterEqual => Some(&[
-            Step::Expect(Term::GreaterEqual),
-            Step::Read(Sort::SumChain),
-            Step::Join(NodeKind::Binary(BinaryOp::GreaterEqual)),
-            Step::Read(Sort::RelTail),
-        ]),
+        Term::Less => operator!(Less, SumChain, Less, RelTail),
+        Term::LessEqual => operator!(LessEqual, SumChain, LessEqual, RelTail),
+        Term::Greater => operator!(Greater, SumChain, Greater, RelTail),
+        Term::GreaterEqual => operator!(GreaterEqual, SumChain, GreaterEqual, RelTail),
         _ => Some(&[]),
     }
 }
@@ -169,18 +179,8 @@ pub(super) fn sum_tail(next: Term) -> Rule
     ensures { option_copied result ≡ sum_tail next }
 {
     match next {
-        Term::Plus => Some(&[
-            Step::Expect(Term::Plus),
-            Step::Read(Sort::ProdChain),
-            Step::Join(NodeKind::Binary(BinaryOp::Add)),
-            Step::Read(Sort::SumTail),
-        ]),
-        Term::Minus => Some(&[
-            Step::Expect(Term::Minus),
-            Step::Read(Sort::ProdChain),
-            Step::Join(NodeKind::Binary(BinaryOp::Subtract)),
-            Step::Read(Sort::SumTail),
-        ]),
+        Term::Plus => operator!(Plus, ProdChain, Add, SumTail),
+        Term::Minus => operator!(Minus, ProdChain, Subtract, SumTail),
         _ => Some(&[]),
     }
 }
@@ -197,24 +197,9 @@ pub(super) fn prod_tail(next: Term) -> Rule
     ensures { option_copied result ≡ prod_tail next }
 {
     match next {
-        Term::Star => Some(&[
-            Step::Expect(Term::Star),
-            Step::Read(Sort::Unary),
-            Step::Join(NodeKind::Binary(BinaryOp::Multiply)),
-            Step::Read(Sort::ProdTail),
-        ]),
-        Term::Slash => Some(&[
-            Step::Expect(Term::Slash),
-            Step::Read(Sort::Unary),
-            Step::Join(NodeKind::Binary(BinaryOp::Divide)),
-            Step::Read(Sort::ProdTail),
-        ]),
-        Term::Percent => Some(&[
-            Step::Expect(Term::Percent),
-            Step::Read(Sort::Unary),
-            Step::Join(NodeKind::Binary(BinaryOp::Remainder)),
-            Step::Read(Sort::ProdTail),
-        ]),
+        Term::Star => operator!(Star, Unary, Multiply, ProdTail),
+        Term::Slash => operator!(Slash, Unary, Divide, ProdTail),
+        Term::Percent => operator!(Percent, Unary, Remainder, ProdTail),
         _ => Some(&[]),
     }
 }
@@ -224,20 +209,8 @@ pub(super) fn unary(next: Term) -> Rule
     ensures { option_copied result ≡ unary next }
 {
     match next {
-        Term::Minus => Some(&[
-            Step::Open,
-            Step::Deepen(Term::Minus),
-            Step::Read(Sort::Unary),
-            Step::Make(NodeKind::Unary(UnaryOp::Negate)),
-            Step::Rise,
-        ]),
-        Term::Not => Some(&[
-            Step::Open,
-            Step::Deepen(Term::Not),
-            Step::Read(Sort::Unary),
-            Step::Make(NodeKind::Unary(UnaryOp::Not)),
-            Step::Rise,
-        ]),
+        Term::Minus => unary_operator!(Minus, Negate),
+        Term::Not => unary_operator!(Not, Not),
         Term::Number => Some(&[
             Step::Open,
             Step::Take(Class::Number),
@@ -251,27 +224,10 @@ pub(super) fn unary(next: Term) -> Rule
             Step::Make(NodeKind::Paren),
             Step::Rise,
         ]),
-        Term::GetThreadNum => Some(&[
-            Step::Open,
-            Step::Take(Class::Routine(Getter::ThreadNum)),
-            Step::Read(Sort::AfterGetter(Getter::ThreadNum)),
-        ]),
-        Term::GetNumThreads => Some(&[
-            Step::Open,
-            Step::Take(Class::Routine(Getter::NumThreads)),
-            Step::Read(Sort::AfterGetter(Getter::NumThreads)),
-        ]),
-        Term::GetMaxThreads => Some(&[
-            Step::Open,
-            Step::Take(Class::Routine(Getter::MaxThreads)),
-            Step::Read(Sort::AfterGetter(Getter::MaxThreads)),
-        ]),
-        _ => Some(&[
-            Step::Open,
-            Step::Take(Class::Name),
-            Step::Read(Sort::IndexPart),
-            Step::Make(NodeKind::Place),
-        ]),
+        Term::GetThreadNum => getter!(ThreadNum),
+        Term::GetNumThreads => getter!(NumThreads),
+        Term::GetMaxThreads => getter!(MaxThreads),
+        _ => Some(PLACE),
     }
 }
 
@@ -296,21 +252,9 @@ pub(super) fn after_getter(which: Getter, next: Term) -> Rule
 {
     match next {
         Term::OpenParen => match which {
-            Getter::ThreadNum => Some(&[
-                Step::Expect(Term::OpenParen),
-                Step::Expect(Term::CloseParen),
-                Step::Make(NodeKind::Getter(Getter::ThreadNum)),
-            ]),
-            Getter::NumThreads => Some(&[
-                Step::Expect(Term::OpenParen),
-                Step::Expect(Term::CloseParen),
-                Step::Make(NodeKind::Getter(Getter::NumThreads)),
-            ]),
-            Getter::MaxThreads => Some(&[
-                Step::Expect(Term::OpenParen),
-                Step::Expect(Term::CloseParen),
-                Step::Make(NodeKind::Getter(Getter::MaxThreads)),
-            ]),
+            Getter::ThreadNum => getter_call!(ThreadNum),
+            Getter::NumThreads => getter_call!(NumThreads),
+            Getter::MaxThreads => getter_call!(MaxThreads),
         },
         _ => Some(&[
             Step::InHead,

@@ -4,6 +4,24 @@ ghost use Rattle.std.specs.Prelude.{◌≡◌};
 ghost use Rattle.std.specs.Option.{option_copied};
 ghost use Rattle.c_syntax.specs.Grammar.{choice};
 
+/// The call of a routine for a lock, `routine ( & name )`, with what stands before and behind it.
+macro_rules! lock_call {
+    ([$($before:expr),*], $routine:ident, $($after:expr),+) => {
+        Some(&[
+            $($before,)*
+            Step::Open,
+            Step::Expect(Term::$routine),
+            Step::Expect(Term::OpenParen),
+            Step::Expect(Term::Ampersand),
+            Step::Open,
+            Step::Take(Class::Name),
+            Step::Make(NodeKind::Name),
+            Step::Expect(Term::CloseParen),
+            $($after),+
+        ])
+    };
+}
+
 mod assignment;
 mod clause;
 mod construct;

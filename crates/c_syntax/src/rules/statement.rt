@@ -9,6 +9,107 @@ use crate::grammar::{Class, Sort, Step};
 use crate::node::{Bump, LockCall, NodeKind, Side};
 use crate::term::Term;
 
+/// `if ( expression ) statement [ else statement ]`.
+const IF: &[Step] = &[
+    Step::Open,
+    Step::Deepen(Term::If),
+    Step::Expect(Term::OpenParen),
+    Step::Read(Sort::Expr),
+    Step::Expect(Term::CloseParen),
+    Step::Read(Sort::Statement),
+    Step::Read(Sort::ElsePart),
+    Step::Make(NodeKind::If),
+    Step::Rise,
+];
+
+/// `while ( expression ) statement`.
+const WHILE: &[Step] = &[
+    Step::Open,
+    Step::Deepen(Term::While),
+    Step::Expect(Term::OpenParen),
+    Step::Read(Sort::Expr),
+    Step::Expect(Term::CloseParen),
+    Step::Read(Sort::Statement),
+    Step::Make(NodeKind::While),
+    Step::Rise,
+];
+
+/// `for ( [ .. ] ; [ expression ] ; [ step ] ) statement`.
+const FOR: &[Step] = &[
+    Step::Open,
+    Step::Deepen(Term::For),
+    Step::Expect(Term::OpenParen),
+    Step::Read(Sort::InitPart),
+    Step::Expect(Term::Semicolon),
+    Step::Read(Sort::CondPart),
+    Step::Expect(Term::Semicolon),
+    Step::Read(Sort::StepPart),
+    Step::Expect(Term::CloseParen),
+    Step::Read(Sort::Statement),
+    Step::Make(NodeKind::For),
+    Step::Rise,
+];
+
+/// `return [ right ] ;`.
+const RETURN: &[Step] = &[
+    Step::Open,
+    Step::Expect(Term::Return),
+    Step::Read(Sort::ReturnPart),
+    Step::Expect(Term::Semicolon),
+    Step::Make(NodeKind::Return),
+];
+
+/// `printf ( text { , expression } ) ;`.
+const PRINT: &[Step] = &[
+    Step::Open,
+    Step::Expect(Term::Printf),
+    Step::Expect(Term::OpenParen),
+    Step::Take(Class::Text),
+    Step::Read(Sort::MoreArgs),
+    Step::Expect(Term::CloseParen),
+    Step::Expect(Term::Semicolon),
+    Step::Make(NodeKind::Print),
+];
+
+/// The call of a routine that does something with a lock, as a statement.
+macro_rules! lock_statement {
+    ($routine:ident, $call:ident) => {
+        lock_call!(
+            [],
+            $routine,
+            Step::Expect(Term::Semicolon),
+            Step::Make(NodeKind::LockCall(LockCall::$call))
+        )
+    };
+}
+
+/// `++` or `--` before a place, with what stands before and behind it.
+macro_rules! bump {
+    ([$($before:expr)?], $operator:ident, $bump:ident $(, $after:expr)*) => {
+        Some(&[
+            $($before,)?
+            Step::Open,
+            Step::Expect(Term::$operator),
+            Step::Read(Sort::Place),
+            Step::Make(NodeKind::Bump(Bump::$bump, Side::Before)),
+            $($after),*
+        ])
+    };
+}
+
+/// The same as a statement.
+macro_rules! bump_statement {
+    ($operator:ident, $bump:ident) => {
+        bump!(
+            [Step::Open],
+            $operator,
+            $bump,
+            Step::Expect(Term::Semicolon),
+            Step::Make(NodeKind::Step)
+        )
+    };
+}
+
 /// `block = { { item } }`.
 pub(super) fn block(_next: Term) -> Rule
     ensures { option_copied result ≡ block _next }
@@ -118,138 +219,24 @@ pub(super) fn plain_statement(next: Term) -> Rule
             Step::Make(NodeKind::Empty),
         ]),
         Term::OpenBrace => Some(&[Step::Read(Sort::Block)]),
-        Term::If => Some(&[
-            Step::Open,
-            Step::Deepen(Term::If),
-            Step::Expect(Term::OpenParen),
-            Step::Read(Sort::Expr),
-            Step::Expect(Term::CloseParen),
-            Step::Read(Sort::Statement),
-            Step::Read(Sort::ElsePart),
-            Step::Make(NodeKind::If),
-            Step::Rise,
-        ]),
-        Term::While => Some(&[
-            Step::Open,
-            Step::Deepen(Term::While),
-            Step::Expect(Term::OpenParen),
-            Step::Read(Sort::Expr),
-            Step::Expect(Term::CloseParen),
-            Step::Read(Sort::Statement),
-            Step::Make(NodeKind::While),
-            Step::Rise,
-        ]),
-        Term::For => Some(&[
-            Step::Open,
-            Step::Deepen(Term::For),
-            Step::Expect(Term::OpenParen),
-            Step::Read(Sort::InitPart),
-            Step::Expect(Term::Semicolon),
-            Step::Read(Sort::CondPart),
-            Step::Expect(Term::Semicolon),
-            Step::Read(Sort::StepPart),
-            Step::Expect(Term::CloseParen),
-            Step::Read(Sort::Statement),
-            Step::Make(NodeKind::For),
-            Step::Rise,
-        ]),
-        Term::Return => Some(&[
-            Step::Open,
-            Step::Expect(Term::Return),
-            Step::Read(Sort::ReturnPart),
-            Step::Expect(Term::Semicolon),
-            Step::Make(NodeKind::Return),
-        ]),
-        Term::Printf => Some(&[
-            Step::Open,
-            Step::Expect(Term::Printf),
-            Step::Expect(Term::OpenParen),
-            Step::Take(Class::Text),
-            Step::Read(Sort::MoreArgs),
-            Step::Expect(Term::CloseParen),
-            Step::Expect(Term::Semicolon),
-            Step::Make(NodeKind::Print),
-        ]),
-        Term::InitLock => Some(&[
-            Step::Open,
-            Step::Expect(Term::InitLock),
-            Step::Expect(Term::OpenParen),
-            Step::Expect(Term::Ampersand),
-            Step::Open,
-            Step::Take(Class::Name),
-            Step::Make(NodeKind::Name),
-            Step::Expect(Term::CloseParen),
-            Step::Expect(Term::Semicolon),
-            Step::Make(NodeKind::LockCall(LockCall::Init)),
-        ]),
-        Term::DestroyLock => Some(&[
-            Step::Open,
-            Step::Expect(Term::DestroyLock),
-            Step::Expect(Term::OpenParen),
-            Step::Expect(Term::Ampersand),
-            Step::Open,
-            Step::Take(Class::Name),
-            Step::Make(NodeKind::Name),
-            Step::Expect(Term::CloseParen),
-            Step::Expect(Term::Semicolon),
-            Step::Make(NodeKind::LockCall(LockCall::Destroy)),
-        ]),
-        Term::SetLock => Some(&[
-            Step::Open,
-            Step::Expect(Term::SetLock),
-            Step::Expect(Term::OpenParen),
-            Step::Expect(Term::Ampersand),
-            Step::Open,
-            Step::Take(Class::Name),
-            Step::Make(NodeKind::Name),
-            Step::Expect(Term::CloseParen),
-            Step::Expect(Term::Semicolon),
-            Step::Make(NodeKind::LockCall(LockCall::Set)),
-        ]),
-        Term::UnsetLock => Some(&[
-            Step::Open,
-            Step::Expect(Term::UnsetLock),
-            Step::Expect(Term::OpenParen),
-            Step::Expect(Term::Ampersand),
-            Step::Open,
-            Step::Take(Class::Name),
-            Step::Make(NodeKind::Name),
-            Step::Expect(Term::CloseParen),
-            Step::Expect(Term::Semicolon),
-            Step::Make(NodeKind::LockCall(LockCall::Unset)),
-        ]),
-        Term::TestLock => Some(&[
-            Step::Open,
-            Step::Open,
-            Step::Expect(Term::TestLock),
-            Step::Expect(Term::OpenParen),
-            Step::Expect(Term::Ampersand),
-            Step::Open,
-            Step::Take(Class::Name),
-            Step::Make(NodeKind::Name),
-            Step::Expect(Term::CloseParen),
+        Term::If => Some(IF),
+        Term::While => Some(WHILE),
+        Term::For => Some(FOR),
+        Term::Return => Some(RETURN),
+        Term::Printf => Some(PRINT),
+        Term::InitLock => lock_statement!(InitLock, Init),
+        Term::DestroyLock => lock_statement!(DestroyLock, Destroy),
+        Term::SetLock => lock_statement!(SetLock, Set),
+        Term::UnsetLock => lock_statement!(UnsetLock, Unset),
+        Term::TestLock => lock_call!(
+            [Step::Open],
+            TestLock,
             Step::Make(NodeKind::TestLock),
             Step::Expect(Term::Semicolon),
-            Step::Make(NodeKind::Called),
-        ]),
-        Term::PlusPlus => Some(&[
-            Step::Open,
-            Step::Open,
-            Step::Expect(Term::PlusPlus),
-            Step::Read(Sort::Place),
-            Step::Make(NodeKind::Bump(Bump::Increment, Side::Before)),
-            Step::Expect(Term::Semicolon),
-            Step::Make(NodeKind::Step),
-        ]),
-        Term::MinusMinus => Some(&[
-            Step::Open,
-            Step::Open,
-            Step::Expect(Term::MinusMinus),
-            Step::Read(Sort::Place),
-            Step::Make(NodeKind::Bump(Bump::Decrement, Side::Before)),
-            Step::Expect(Term::Semicolon),
-            Step::Make(NodeKind::Step),
-        ]),
+            Step::Make(NodeKind::Called)
+        ),
+        Term::PlusPlus => bump_statement!(PlusPlus, Increment),
+        Term::MinusMinus => bump_statement!(MinusMinus, Decrement),
         _ => Some(&[
             Step::Open,
             Step::Take(Class::Name),
@@ -284,18 +271,8 @@ pub(super) fn init_part(next: Term) -> Rule
             Step::Read(Sort::Expr),
             Step::Make(NodeKind::Init),
         ]),
-        Term::PlusPlus => Some(&[
-            Step::Open,
-            Step::Expect(Term::PlusPlus),
-            Step::Read(Sort::Place),
-            Step::Make(NodeKind::Bump(Bump::Increment, Side::Before)),
-        ]),
-        Term::MinusMinus => Some(&[
-            Step::Open,
-            Step::Expect(Term::MinusMinus),
-            Step::Read(Sort::Place),
-            Step::Make(NodeKind::Bump(Bump::Decrement, Side::Before)),
-        ]),
+        Term::PlusPlus => bump!([], PlusPlus, Increment),
+        Term::MinusMinus => bump!([], MinusMinus, Decrement),
         _ => Some(&[Step::Read(Sort::Place), Step::Read(Sort::StepRest)]),
     }
 }
@@ -316,18 +293,8 @@ pub(super) fn step_part(next: Term) -> Rule
 {
     match next {
         Term::CloseParen => Some(&[Step::Skip]),
-        Term::PlusPlus => Some(&[
-            Step::Open,
-            Step::Expect(Term::PlusPlus),
-            Step::Read(Sort::Place),
-            Step::Make(NodeKind::Bump(Bump::Increment, Side::Before)),
-        ]),
-        Term::MinusMinus => Some(&[
-            Step::Open,
-            Step::Expect(Term::MinusMinus),
-            Step::Read(Sort::Place),
-            Step::Make(NodeKind::Bump(Bump::Decrement, Side::Before)),
-        ]),
+        Term::PlusPlus => bump!([], PlusPlus, Increment),
+        Term::MinusMinus => bump!([], MinusMinus, Decrement),
         _ => Some(&[Step::Read(Sort::Place), Step::Read(Sort::StepRest)]),
     }
 }
