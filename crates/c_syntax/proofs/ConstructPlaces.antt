@@ -2,6 +2,7 @@
 use Rattle.std.proofs.Common.{ℕ, ◌≡◌, ◌+◌, ◌<◌, ◌≤◌, Bool, true, false, ◌||◌, IsTrue, List, [], ◌∷◌, ◌++◌, Option, Some, None, length, refl, ap, subst, ◌∙◌, arith, length-append}
 use Rattle.std.proofs.lemmas.Bool.{false≢true}
 use Rattle.c_tokens.specs.declared.token.Spot.{Spot}
+use Rattle.c_tokens.proofs.Law.{reads-tokens}
 use Rattle.c_syntax.specs.declared.node.NodeKind.{NodeKind}
 use Rattle.c_syntax.specs.declared.term.Term.{Term}
 use Rattle.c_syntax.specs.declared.grammar.Class.{Class}
@@ -259,4 +260,4 @@ module _ (place : Spot) where
 pub one-construct : (text : List ℕ) (tree : Tree) → Spells text tree → HasOneConstructAPlace tree
 one-construct text tree is =
     let words : List Word = words_of text is.tokens in
-    constructs-apart (nodes_of tree) (λ place. omega (arith, spells-heads place words tree (program_derives depth_limit words tree is.spelled), heads_at-one place words (words-own text is.tokens is.tokens_are)))
+    constructs-apart (nodes_of tree) (λ place. omega (arith, spells-heads place words tree (program_derives depth_limit words tree is.spelled), heads_at-one place words (words-own text is.tokens (reads-tokens text is.tokens is.read))))

@@ -4,6 +4,7 @@ use Rattle.std.specs.Prelude.{All}
 use Rattle.std.proofs.lemmas.Bool.{false≢true}
 use Rattle.std.proofs.lemmas.List.Elements.{All-append, All-cons, All-contains, All-head, All-nil, All-tail, All-weaker}
 use Rattle.c_tokens.specs.declared.token.Spot.{Spot}
+use Rattle.c_tokens.proofs.Law.{reads-tokens}
 use Rattle.c_syntax.specs.declared.node.NodeKind.{NodeKind}
 use Rattle.c_syntax.specs.declared.node.NodeKind.TheVariants as node
 use Rattle.c_syntax.specs.declared.grammar.Class.{Class}
@@ -182,5 +183,5 @@ one-name text tree is one other there here some also same =
     All-weaker (λ word. IsIn word words) (λ word. IsTrue (has_bytes word.term) → IsWordAt words word.spot word.value) (λ word among full. record { word = word; among = among; full = full; here = refl; valued = refl }) words (all-themselves words) in
     let named = derives-named (IsWordAt words) (program_derives depth_limit words tree is.spelled) false refl tt says (inl refl, tt, tt) in
     let P : Tree → Type 0 = λ it. IsNamed (IsWordAt words) (spot_of it) (name_of it) in
-    names-same words (spot_of one) (spot_of other) (name_of one) (name_of other) (words-own text is.tokens is.tokens_are) same some also
+    names-same words (spot_of one) (spot_of other) (name_of one) (name_of other) (words-own text is.tokens (reads-tokens text is.tokens is.read)) same some also
     (All-contains P (nodes_of tree) one named there) (All-contains P (nodes_of tree) other named here)

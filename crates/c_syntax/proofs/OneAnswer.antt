@@ -1,35 +1,31 @@
 -- A text whose tokens are read has one tree, or one fault.
-use Rattle.std.proofs.Common.{ℕ, ◌≡◌, ◌⊎◌, List, Ok, inl, inr, sym, subst, ◌∙◌}
+use Rattle.std.proofs.Common.{ℕ, ◌≡◌, ◌⊎◌, List, Ok, inl, inr, subst}
 use Rattle.c_tokens.specs.declared.token.Token.{Token}
 use Rattle.c_tokens.specs.Tokens.{tokens_of}
+use Rattle.c_tokens.proofs.Law.{reads-one, scan-reads}
 use Rattle.c_syntax.specs.declared.fault.SyntaxFault.{SyntaxFault}
 use Rattle.c_syntax.specs.Words.{words_of}
 use Rattle.c_syntax.specs.Tree.{Tree}
-use Rattle.c_syntax.specs.Productions.{depth_limit}
 use Rattle.c_syntax.specs.Faults.{IsAnswered, IsFault}
 use Rattle.c_syntax.proofs.Answering.{text-answered}
 use Rattle.c_syntax.proofs.Unique.{fault-one, program-no_fault, program-one}
-use Rattle.c_syntax.specs.Productions.{IsProgram}
+use Rattle.c_syntax.specs.Productions.{IsProgram, depth_limit}
 use Rattle.c_syntax.specs.Texts.{HasSyntaxFault, Spells}
-
--- a text has its tokens in one way
-tokens-one : (text : List ℕ) (first second : List Token) → tokens_of text ≡ Ok first → tokens_of text ≡ Ok second → first ≡ second
-tokens-one text first second one other = let same : Ok first ≡ Ok second = sym one ∙ other in cc
 
 pub tree_one : (text : List ℕ) (first second : Tree) → Spells text first → Spells text second → first ≡ second
 tree_one text first second one other =
-    let same : other.tokens ≡ one.tokens = tokens-one text other.tokens one.tokens other.tokens_are one.tokens_are in
+    let same : other.tokens ≡ one.tokens = reads-one text other.tokens one.tokens other.read one.read in
     program-one depth_limit (words_of text one.tokens) first second one.spelled
     (subst (λ (tokens : List Token). IsProgram depth_limit (words_of text tokens) second) same other.spelled)
 
 pub fault_one : (text : List ℕ) (first second : SyntaxFault) → HasSyntaxFault text first → HasSyntaxFault text second → first ≡ second
 fault_one text first second one other =
-    let same : other.tokens ≡ one.tokens = tokens-one text other.tokens one.tokens other.tokens_are one.tokens_are in
+    let same : other.tokens ≡ one.tokens = reads-one text other.tokens one.tokens other.read one.read in
     fault-one (words_of text one.tokens) first second one.fault (subst (λ (tokens : List Token). IsFault (words_of text tokens) second) same other.fault)
 
 pub not_both : (text : List ℕ) (tree : Tree) (found : SyntaxFault) → Spells text tree → HasSyntaxFault text found → ⊥
 not_both text tree found one other =
-    let same : other.tokens ≡ one.tokens = tokens-one text other.tokens one.tokens other.tokens_are one.tokens_are in
+    let same : other.tokens ≡ one.tokens = reads-one text other.tokens one.tokens other.read one.read in
     program-no_fault (words_of text one.tokens) tree found one.spelled
     (subst (λ (tokens : List Token). IsFault (words_of text tokens) found) same other.fault)
 
@@ -37,5 +33,5 @@ pub tree_or_fault : (text : List ℕ) (tokens : List Token) → tokens_of text �
 tree_or_fault text tokens are = by-answer (text-answered text tokens are)
   where
     by-answer : IsAnswered (words_of text tokens) → ((tree : Tree) × Spells text tree) ⊎ ((found : SyntaxFault) × HasSyntaxFault text found)
-    by-answer (inl (tree, program)) = inl (tree, record { tokens = tokens; tokens_are = are; spelled = program })
-    by-answer (inr (found, is)) = inr (found, record { tokens = tokens; tokens_are = are; fault = is })
+    by-answer (inl (tree, program)) = inl (tree, record { tokens = tokens; read = scan-reads text tokens are; spelled = program })
+    by-answer (inr (found, is)) = inr (found, record { tokens = tokens; read = scan-reads text tokens are; fault = is })

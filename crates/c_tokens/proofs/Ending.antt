@@ -106,8 +106,8 @@ read-or-fault text (Err fault) whole = inr (fault, scan-ends text fault whole)
 pub read-or-ended : (text : List ℕ) → ((tokens : List Token) × Reads beginning text tokens) ⊎ ((fault : TokenFault) × EndsIn beginning text fault)
 read-or-ended text = read-or-fault text (tokens_of text) refl
 
-pub not-both : (text : List ℕ) (tokens : List Token) (fault : TokenFault) → Reads beginning text tokens → EndsIn beginning text fault → ⊥
-not-both text tokens fault reads ends = let read = reads-tokens text tokens reads in let ended = ends-fault text fault ends in absurd (cc)
+pub reads-no_end : (text : List ℕ) (tokens : List Token) (fault : TokenFault) → Reads beginning text tokens → EndsIn beginning text fault → ⊥
+reads-no_end text tokens fault reads ends = let read = reads-tokens text tokens reads in let ended = ends-fault text fault ends in absurd (cc)
 
 pub ends-one : (text : List ℕ) (first second : TokenFault) → EndsIn beginning text first → EndsIn beginning text second → first ≡ second
 ends-one text first second one other = let fault = ends-fault text first one in let same = ends-fault text second other in cc

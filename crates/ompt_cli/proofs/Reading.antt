@@ -1,15 +1,18 @@
 -- A text spells a program, or is refused for one thing, and not both.
-use Rattle.std.proofs.Common.{◌≡◌, ◌≢◌, ℕ, ◌≤◌, List, [], ◌∷◌, ◌++◌, length, Option, Some, None, Ok, Err, refl, sym, ap, subst, ◌∙◌, arith}
+use Rattle.std.proofs.Common.{◌≡◌, ◌≢◌, ℕ, ◌≤◌, List, [], ◌∷◌, ◌++◌, length, Option, Some, None, Ok, refl, sym, ap, subst, ◌∙◌, arith}
 use Rattle.c_tokens.specs.declared.token.Spot.{Spot}
 use Rattle.c_tokens.specs.declared.token.Token.{Token}
 use Rattle.c_tokens.specs.declared.token.TokenFault.{TokenFault}
 use Rattle.c_tokens.specs.declared.token.TokenFault.TheVariants as fault
-use Rattle.c_tokens.specs.Tokens.{tokens_of}
+use Rattle.c_tokens.specs.Tokens.{beginning, tokens_of}
+use Rattle.c_tokens.specs.Ending.{EndsIn}
 use Rattle.c_syntax.specs.declared.fault.SyntaxFault.{SyntaxFault}
 use Rattle.c_syntax.specs.declared.fault.SyntaxFault.TheVariants as syntax
 use Rattle.c_syntax.specs.Words.{main_of}
 use Rattle.c_syntax.specs.Tree.{Tree}
 use Rattle.c_syntax.specs.Texts.{HasSyntaxFault}
+use Rattle.c_tokens.proofs.Ending.{ends-one, reads-no_end}
+use Rattle.c_tokens.proofs.Law.{reads-one}
 use Rattle.c_tokens.proofs.Spans.{tokens-end}
 use Rattle.c_syntax.specs.Numbered.{TreeView, root_tree}
 use Rattle.c_check.specs.Checked.{rule_fault, rule_fault_in}
@@ -26,26 +29,23 @@ use Rattle.ompt_cli.specs.Text.{HasCheckFault, HasTree, IsProgram, IsReadAs, IsR
 
 module _ (text : List ℕ) where
   -- a text has one list of tokens, with one tree
-  tokens-one : (first second : List Token) → tokens_of text ≡ Ok first → tokens_of text ≡ Ok second → first ≡ second
-  tokens-one first second one other = cc
-
   tree-one : (tokens others : List Token) (first second : Tree) → HasTree text tokens first → HasTree text others second → rule_broken text tokens first ≡ rule_broken text others second
   tree-one tokens others first second one other =
-      let same = tokens-one tokens others one.tokens_are other.tokens_are in
+      let same = reads-one text tokens others one.read other.read in
       let tree = tree_one text first second one.tree_is other.tree_is in
       cc
 
   -- it is refused for one thing
   pub refusal-one : (first second : Refusal) → IsRefused first text → IsRefused second text → first ≡ second
-  refusal-one (Tokens found) (Tokens other) has too = let one = has.1 in let two = too.1 in cc
-  refusal-one (Tokens found) (Syntax other) has too = let one = has.1 in let two = too.1.tokens_are in cc
-  refusal-one (Tokens found) (Rule other) has too = let one = has.1 in let two = too.1.2.tokens_are in cc
+  refusal-one (Tokens found) (Tokens other) has too = ap Tokens (ends-one text found other has.1 too.1)
+  refusal-one (Tokens found) (Syntax other) has too = absurd (reads-no_end text too.1.tokens found too.1.read has.1)
+  refusal-one (Tokens found) (Rule other) has too = absurd (reads-no_end text too.1.0 found too.1.2.read has.1)
   refusal-one (Tokens found) TooLong has over = absurd (omega (arith, has.0, over))
-  refusal-one (Syntax found) (Tokens other) has too = let one = has.1.tokens_are in let two = too.1 in cc
+  refusal-one (Syntax found) (Tokens other) has too = absurd (reads-no_end text has.1.tokens other has.1.read too.1)
   refusal-one (Syntax found) (Syntax other) has too = ap Syntax (fault_one text found other has.1 too.1)
   refusal-one (Syntax found) (Rule other) has too = absurd (not_both text too.1.1 found too.1.2.tree_is has.1)
   refusal-one (Syntax found) TooLong has over = absurd (omega (arith, has.0, over))
-  refusal-one (Rule found) (Tokens other) has too = let one = has.1.2.tokens_are in let two = too.1 in cc
+  refusal-one (Rule found) (Tokens other) has too = absurd (reads-no_end text has.1.0 other has.1.2.read too.1)
   refusal-one (Rule found) (Syntax other) has too = absurd (not_both text has.1.1 other has.1.2.tree_is too.1)
   refusal-one (Rule found) (Rule other) has too =
       let same = tree-one has.1.0 too.1.0 has.1.1 too.1.1 has.1.2 too.1.2 in
@@ -66,7 +66,7 @@ module _ (text : List ℕ) where
 
   -- and for nothing where it spells a program
   pub program-not_refused : (why : Refusal) → IsProgram text → IsRefused why text → ⊥
-  program-not_refused (Tokens found) program other = let one = program.1.read.has.tokens_are in let two = other.1 in cc
+  program-not_refused (Tokens found) program other = reads-no_end text program.1.read.tokens found program.1.read.has.read other.1
   program-not_refused (Syntax found) program other = not_both text (root_tree program.0) found program.1.read.has.tree_is other.1
   program-not_refused (Rule found) program other =
       let same = tree-one program.1.read.tokens other.1.0 (root_tree program.0) other.1.1 program.1.read.has other.1.2 in
@@ -79,7 +79,7 @@ module _ (text : List ℕ) where
   found-accepted : (found why : Refusal) → IsRefused found text → IsRefused why text → MayRefuse why (Refused found)
   found-accepted found why has refused = refusal-one found why has refused
 
-  pub tokens-accepted : length text ≤ 65536 → (found : TokenFault) → (found ≢ fault.Memory → tokens_of text ≡ Err found) → (why : Refusal) → IsRefused why text → MayRefuse why (end_of_fault found)
+  pub tokens-accepted : length text ≤ 65536 → (found : TokenFault) → (found ≢ fault.Memory → EndsIn beginning text found) → (why : Refusal) → IsRefused why text → MayRefuse why (end_of_fault found)
   tokens-accepted short fault.Memory known why refused = tt
   tokens-accepted short (fault.BadByte spot) known why refused = found-accepted _ why (short, known (λ same. cc)) refused
   tokens-accepted short (fault.OpenComment spot) known why refused = found-accepted _ why (short, known (λ same. cc)) refused

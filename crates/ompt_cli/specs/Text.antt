@@ -1,11 +1,13 @@
 -- The texts that run, with their programs, and the refusals of all others.
-use Rattle.std.specs.Prelude.{ℕ, ◌≡◌, ◌<◌, ◌≤◌, List, [], ◌∷◌, length, Option, Some, None, Ok, Err}
+use Rattle.std.specs.Prelude.{ℕ, ◌≡◌, ◌<◌, ◌≤◌, List, [], ◌∷◌, length, Option, Some, None}
 use Rattle.ompt_cli.specs.declared.end.Refusal.{Refusal}
 use Rattle.ompt_cli.specs.declared.end.Refusal.TheVariants.{Tokens, Syntax, Rule, TooLong}
 use Rattle.c_tokens.specs.declared.token.Spot.{Spot}
 use Rattle.c_tokens.specs.declared.token.Token.{Token}
 use Rattle.c_tokens.specs.declared.token.TokenFault.{TokenFault}
-use Rattle.c_tokens.specs.Tokens.{tokens_of}
+use Rattle.c_tokens.specs.Tokens.{beginning}
+use Rattle.c_tokens.specs.Pieces.{Reads}
+use Rattle.c_tokens.specs.Ending.{EndsIn}
 use Rattle.c_syntax.specs.declared.fault.SyntaxFault.{SyntaxFault}
 use Rattle.c_syntax.specs.Words.{main_of}
 use Rattle.c_syntax.specs.Tree.{Tree}
@@ -22,9 +24,9 @@ abbrev pub text_for : Command → Option (List ℕ) → Option (List ℕ)
 text_for (Generate blocks) left = Some (generated blocks)
 text_for other left = left
 
--- the text has these tokens, and is a program by the grammar with this tree
+-- the text is read as these tokens, and is a program by the grammar with this tree
 pub record HasTree (text : List ℕ) (tokens : List Token) (tree : Tree) : Type 0 where
-  pub tokens_are : tokens_of text ≡ Ok tokens
+  pub read : Reads beginning text tokens
   pub tree_is : IsTreeOf text tree
 
 -- where a text with these tokens ends: at the last of them
@@ -52,9 +54,9 @@ pub record Spells (text : List ℕ) (program : TreeView) : Type 0 where
   pub read : IsReadAs text program
   pub keeps : rule_fault_in (root_tree program) program.end program.main ≡ None
 
--- the text isn't too long, and the first fault of its tokens is this one
+-- the text isn't too long, and its reading as tokens ends in this fault
 abbrev pub HasFault : TokenFault → List ℕ → Type 0
-HasFault fault text = (length text ≤ 65536) × (tokens_of text ≡ Err fault)
+HasFault fault text = (length text ≤ 65536) × EndsIn beginning text fault
 
 -- the text isn't too long and is a program by the grammar, and the first rule that it breaks is broken so
 abbrev pub HasCheckFault : CheckFault → List ℕ → Type 0

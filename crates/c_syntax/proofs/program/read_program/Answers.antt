@@ -3,6 +3,7 @@ use Rattle.std.proofs.lemmas.Result.{err_from_is_err_and}
 use Rattle.std.specs.Result.{IfErr}
 use Rattle.c_tokens.specs.declared.token.Token.{Token}
 use Rattle.c_tokens.specs.Tokens.{tokens_of}
+use Rattle.c_tokens.proofs.Law.{scan-reads}
 use Rattle.c_syntax.specs.declared.tree.Tree as code
 use Rattle.c_syntax.specs.declared.fault.SyntaxFault.{SyntaxFault}
 use Rattle.c_syntax.specs.declared.fault.SyntaxFault.TheVariants as fault
@@ -21,10 +22,10 @@ passed_on text result found other is same may = subst (λ one. IfErr one (λ it.
 
 is-fault : (text : List ℕ) (tokens : List Token) → tokens_of text ≡ Ok tokens → (found : SyntaxFault) → MayFault (words_of text tokens) found → found ≢ fault.Memory → HasSyntaxFault text found
 is-fault text tokens are fault.Memory may other = absurd (other refl)
-is-fault text tokens are (fault.Unexpected spot) may other = record { tokens = tokens; tokens_are = are; fault = may }
-is-fault text tokens are (fault.OutOfProfile spot) may other = record { tokens = tokens; tokens_are = are; fault = may }
-is-fault text tokens are (fault.UnknownDirective spot) may other = record { tokens = tokens; tokens_are = are; fault = may }
-is-fault text tokens are (fault.TooDeep spot) may other = record { tokens = tokens; tokens_are = are; fault = may }
+is-fault text tokens are (fault.Unexpected spot) may other = record { tokens = tokens; read = scan-reads text tokens are; fault = may }
+is-fault text tokens are (fault.OutOfProfile spot) may other = record { tokens = tokens; read = scan-reads text tokens are; fault = may }
+is-fault text tokens are (fault.UnknownDirective spot) may other = record { tokens = tokens; read = scan-reads text tokens are; fault = may }
+is-fault text tokens are (fault.TooDeep spot) may other = record { tokens = tokens; read = scan-reads text tokens are; fault = may }
 
 pub returns-in_err-read_words-clause-fault : goal.returns-in_err-read_words-clause-fault
 returns-in_err-read_words-clause-fault c =
@@ -42,4 +43,4 @@ returns-in-Ok-finish-clause-tree c =
     let all : Reaches (words_of text c.args.tokens.now) state = subst (λ words. Reaches words state) c.in-Ok.ensures.words (subst (λ items. Reaches (map (word_view text) items) state) c.deref.ensures.value c.in_ok-read_words.ensures.read) in
     let parted = subst (λ words. Reaches words state) ended.parts all in
     subst (Spells text) (sym c.in-Ok-finish.ensures.tree)
-    (record { tokens = c.args.tokens.now; tokens_are = c.requires.tokens; spelled = reaches-spells all (reaches-end ended.front ended.last parted ended.is_end) })
+    (record { tokens = c.args.tokens.now; read = scan-reads text c.args.tokens.now c.requires.tokens; spelled = reaches-spells all (reaches-end ended.front ended.last parted ended.is_end) })

@@ -3,14 +3,14 @@ use Rattle.ompt_cli.proofs.text.tree_of.Goals as goal
 
 pub returns-in-Err-clause-accepted : goal.returns-in-Err-clause-accepted
 returns-in-Err-clause-accepted c = λ why refused.
-    rw c.end_of_fault.ensures (tokens-accepted c.args.text.now c.requires c.in-Err.fault c.in-Err.ensures.fault why refused)
+    rw c.end_of_fault.ensures (tokens-accepted c.args.text.now c.requires c.in-Err.fault c.in-Err.ensures.ended why refused)
 
 pub returns-in-Ok-read_program-clause-tree : goal.returns-in-Ok-read_program-clause-tree
 returns-in-Ok-read_program-clause-tree c =
     let read = rw c.deref.ensures.value at c.in-Ok-read_program.ensures in
     record {
       tokens = c.in-Ok.tokens.items;
-      has = record { tokens_are = c.in-Ok.ensures.tokens; tree_is = read.tree };
+      has = record { read = c.in-Ok.ensures.read; tree_is = read.tree };
       end_is = end-is c.args.text.now c.in-Ok.tokens.items c.in-Ok-read_program.tree.end c.in-Ok.ensures.tokens read.end;
       main_is = read.main;
     }
