@@ -6,8 +6,7 @@
 //!
 //! The definitions:
 //!
-//! - `specs/Words.antt`: what a token is to the grammar, by the tables of words in `src/word_table.rt`, which the code looks up too.
-//!   All names have numbers, in the order in which they first appear;
+//! - `specs/Words.antt`: what a token is to the grammar. All names have numbers, in the order in which they first appear;
 //! - `specs/Tree.antt`: trees;
 //! - `specs/Grammar.antt`: the grammar, as rules. A rule says by which steps a sort of text is read where a certain word is next;
 //! - `specs/Derivation.antt`: `Derives` says which words some steps read and which tree they make, and `Spells` that words are a
@@ -34,6 +33,9 @@
 //!
 //! That no function calls itself as deep as the text nests, and that each word takes a bounded number of steps, is to be read. The
 //! time and the memory are no clauses.
+//!
+//! What symbols and names are to the grammar is written once, in the tables of `src/word_table.rt`: `specs/Words.antt` cites them, and
+//! the code looks them up.
 //!
 //! The program `text_tables` compares texts with what was written out by hand: that a text is a program, or the number and place of
 //! its fault; and the trees of programs, node by node, with their kinds, places, names, numbers and texts.
