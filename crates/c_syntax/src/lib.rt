@@ -6,8 +6,7 @@
 //!
 //! The definitions that the public clauses rest on, and that a reader is to believe:
 //!
-//! - `specs/Words.antt`: what a token is to the grammar, by the tables of words in `src/word_table.rt`, which the code looks up too.
-//!   All names have numbers, in the order in which they first appear. `specs/WordClasses.antt`: which words are names, and which are
+//! - `specs/Words.antt`: what a token is to the grammar. All names have numbers, in the order in which they first appear. `specs/WordClasses.antt`: which words are names, and which are
 //!   routines;
 //! - `specs/Tree.antt`: trees. `specs/Numbered.antt`: trees by their numbers, as a [`Tree`] has them;
 //! - `specs/Productions.antt`: the grammar. Each production is a relation, or a case of one, between the words from where it begins,
@@ -43,6 +42,9 @@
 //!
 //! That no function calls itself as deep as the text nests, and that each word takes a bounded number of steps, is to be read. The
 //! time and the memory are no clauses.
+//!
+//! What symbols and names are to the grammar is written once, in the tables of `src/word_table.rt`: the definition cites them, and the
+//! code looks them up.
 //!
 //! The program `text_tables` compares texts with what was written out by hand: that a text is a program, or the number and place of
 //! its fault; and the trees of programs, node by node, with their kinds, places, names, numbers and texts.

@@ -92,6 +92,13 @@ macro_rules! clause_with {
     };
 }
 
+/// `word ( names )`, for variables.
+macro_rules! data_clause {
+    ($data:ident) => {
+        clause_with!($data, Names, NodeKind::Data(Data::$data))
+    };
+}
+
 /// `word (` and what goes on by a word of its own.
 macro_rules! clause_by_word {
     ($word:ident, $part:ident) => {
@@ -213,21 +220,9 @@ pub(super) fn clause(directive: Directive, next: Term) -> Rule
             NodeKind::NumThreads
         ),
         Term::Default if shares(directive) => clause_by_word!(Default, DefaultWord),
-        Term::Shared if shares(directive) => clause_with!(
-            Shared,
-            Names,
-            NodeKind::Data(Data::Shared)
-        ),
-        Term::Private if has_data(directive) => clause_with!(
-            Private,
-            Names,
-            NodeKind::Data(Data::Private)
-        ),
-        Term::Firstprivate if has_data(directive) => clause_with!(
-            Firstprivate,
-            Names,
-            NodeKind::Data(Data::Firstprivate)
-        ),
+        Term::Shared if shares(directive) => data_clause!(Shared),
+        Term::Private if has_data(directive) => data_clause!(Private),
+        Term::Firstprivate if has_data(directive) => data_clause!(Firstprivate),
         Term::Reduction if reduces(directive) => clause_by_word!(Reduction, Operator),
         Term::Schedule if schedules(directive) => clause_by_word!(Schedule, Kind),
         Term::Nowait if waits(directive) => Some(&[
