@@ -2,9 +2,9 @@
 use Rattle.std.proofs.Common.{◌≡◌, ℕ, zero, suc, ◌+◌, List, Option, Some, None, true, false, refl, sym, ap, ◌∙◌, ◌<◌, add-one, arith}
 use Rattle.std.specs.Prelude.{Result, Ok, Err, OnErr}
 use Rattle.std.specs.Option.{option_map, is_some}
-use Rattle.c_syntax.specs.Tree.{Tree, Children, at_place, kind_of, nothing}
-use Rattle.c_syntax.specs.Tree.Children.{Over, Child, Absent}
-use Rattle.c_syntax.specs.Numbered.{tree_at}
+use Rattle.c_syntax.specs.language.Tree.{Tree, Children, at_place, kind_of, nothing}
+use Rattle.c_syntax.specs.language.Tree.Children.{Over, Child, Absent}
+use Rattle.c_syntax.specs.language.Numbered.{tree_at}
 use Rattle.c_check.specs.NameLists.{child_count}
 use Rattle.c_check.specs.Statements.{is_head, statement_of}
 use Rattle.c_check.specs.Tasks.{from_place}

@@ -7,7 +7,7 @@ use Rattle.std.proofs.lemmas.List.Elements.{All-cons, All-nil}
 use Rattle.std.proofs.lemmas.Bool.Decides.{nat_tests}
 use Rattle.c_check.specs.declared.fault.CheckFault.{CheckFault}
 use Rattle.c_check.specs.Faults.{comes_first, first_of, fault_number, fault_spot}
-use Rattle.c_syntax.specs.Numbered.{TreeView}
+use Rattle.c_syntax.specs.language.Numbered.{TreeView}
 use Rattle.c_check.specs.Checked.{Checked, acts_of, broken_by_all, rule_fault}
 use Rattle.c_check.specs.First.{IsFirst}
 use Rattle.c_check.specs.Here.{before_all}

@@ -2,9 +2,9 @@
 use Rattle.std.proofs.Common.{◌≡◌, ℕ, Bool, true, false, if◌then◌else◌, List, [], ◌∷◌, ◌++◌, Option, Some, None, refl, sym, ap, append-nil, append_assoc}
 use Rattle.c_syntax.specs.declared.node.Directive.{Directive}
 use Rattle.c_syntax.specs.declared.node.Returns.{Returns}
-use Rattle.c_syntax.specs.Tree.{Tree, Children, at_place, children_of, name_of, spot_of}
-use Rattle.c_syntax.specs.Tree.Tree.{Node}
-use Rattle.c_syntax.specs.Tree.Children.{Over, Child, Absent}
+use Rattle.c_syntax.specs.language.Tree.{Tree, Children, at_place, children_of, name_of, spot_of}
+use Rattle.c_syntax.specs.language.Tree.Tree.{Node}
+use Rattle.c_syntax.specs.language.Tree.Children.{Over, Child, Absent}
 use Rattle.c_check.specs.declared.acts.act.Act.{Act}
 use Rattle.c_check.specs.declared.acts.act.Act.TheVariants.{Begin, Declare, End}
 use Rattle.c_check.specs.declared.acts.act.Thing.TheVariants as thing

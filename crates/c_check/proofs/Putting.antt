@@ -4,8 +4,8 @@ use Rattle.std.proofs.lemmas.Bool.{false≢true}
 use Rattle.std.proofs.lemmas.List.{nil_from_length, reverse-append}
 use Rattle.std.proofs.lemmas.List.Elements.{All-push, All-same}
 use Rattle.std.proofs.lemmas.List.Sums.{sum_by-append}
-use Rattle.c_syntax.specs.Tree.{Tree, Children, spot_of, name_of, number_of, text_of, children_of, kind_of}
-use Rattle.c_syntax.specs.Tree.Tree.{Node}
+use Rattle.c_syntax.specs.language.Tree.{Tree, Children, spot_of, name_of, number_of, text_of, children_of, kind_of}
+use Rattle.c_syntax.specs.language.Tree.Tree.{Node}
 use Rattle.c_syntax.specs.declared.node.Standalone.{Standalone}
 use Rattle.c_syntax.specs.declared.node.Standalone.TheVariants as standalone
 use Rattle.c_syntax.specs.declared.node.NodeKind.{NodeKind}

@@ -1,6 +1,6 @@
 -- A check under way goes on with each act, and ends where none is left.
 use Rattle.std.proofs.Common.{◌≡◌, List, [], ◌∷◌, Option, sym, ap, subst, ◌∙◌}
-use Rattle.c_syntax.specs.Numbered.{TreeView}
+use Rattle.c_syntax.specs.language.Numbered.{TreeView}
 use Rattle.c_check.specs.declared.acts.act.Act.{Act}
 use Rattle.c_check.specs.declared.rules.checker.Checker.{Checker}
 use Rattle.c_check.specs.declared.fault.CheckFault.{CheckFault}

@@ -6,9 +6,9 @@ use Rattle.std.specs.Prelude.{if◌then◌else◌, List, [], ◌∷◌, ◌++◌
 use Rattle.c_syntax.specs.declared.node.Returns.{Returns}
 use Rattle.c_syntax.specs.declared.node.Standalone.TheVariants as standalone
 use Rattle.c_syntax.specs.declared.node.NodeKind.TheVariants as node
-use Rattle.c_syntax.specs.Tree.{Tree, Children, kind_of, name_of, spot_of}
-use Rattle.c_syntax.specs.Tree.Tree.{Node}
-use Rattle.c_syntax.specs.Tree.Children.{Over, Child, Absent}
+use Rattle.c_syntax.specs.language.Tree.{Tree, Children, kind_of, name_of, spot_of}
+use Rattle.c_syntax.specs.language.Tree.Tree.{Node}
+use Rattle.c_syntax.specs.language.Tree.Children.{Over, Child, Absent}
 use Rattle.c_check.specs.declared.acts.act.Act.{Act}
 use Rattle.c_check.specs.declared.acts.act.Act.TheVariants.{Open, Close, Begin, End, Declare, Use, Print, Return, Barrier, Enter, Leave}
 use Rattle.c_check.specs.declared.acts.act.Thing.TheVariants as thing

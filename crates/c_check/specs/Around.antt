@@ -1,7 +1,7 @@
 -- How constructs are kept: by numbers.
 use Rattle.std.specs.Prelude.{◌≡◌, ℕ, ◌<◌, List, [], ◌∷◌, length, map, reverse, slice_index_or}
 use Rattle.c_tokens.specs.declared.token.Spot.{Spot}
-use Rattle.c_tokens.specs.Faults.{nowhere}
+use Rattle.c_tokens.specs.language.Faults.{nowhere}
 use Rattle.c_syntax.specs.declared.node.Directive.TheVariants as directive
 use Rattle.c_check.specs.declared.constructs.parts.EndedNumber.{EndedNumber}
 use Rattle.c_check.specs.Constructs.{Construct, EndedConstruct, begun_construct}

@@ -1,6 +1,6 @@
 -- What is kept of a program that breaks no rule.
 use Rattle.std.specs.Prelude.{◌≡◌}
-use Rattle.c_syntax.specs.Numbered.{TreeView}
+use Rattle.c_syntax.specs.language.Numbered.{TreeView}
 use Rattle.c_check.specs.declared.constructs.criticals.Criticals.{Criticals}
 use Rattle.c_check.specs.declared.constructs.task_copies.TaskCopies.{TaskCopies}
 use Rattle.c_check.specs.declared.scopes.slots.Slots.{Slots}

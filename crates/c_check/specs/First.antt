@@ -1,6 +1,6 @@
 -- The first of some faults.
 use Rattle.std.specs.Prelude.{◌≡◌, false}
-use Rattle.c_syntax.specs.Numbered.{TreeView}
+use Rattle.c_syntax.specs.language.Numbered.{TreeView}
 use Rattle.c_check.specs.declared.fault.CheckFault.{CheckFault}
 use Rattle.c_check.specs.Checked.{Breaks}
 use Rattle.c_check.specs.Faults.{comes_first}

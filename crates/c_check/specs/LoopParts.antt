@@ -5,7 +5,7 @@ use Rattle.c_syntax.specs.declared.node.Bump.TheVariants as bump
 use Rattle.c_syntax.specs.declared.node.Setting.TheVariants as setting
 use Rattle.c_syntax.specs.declared.node.NodeKind.{NodeKind}
 use Rattle.c_syntax.specs.declared.node.NodeKind.TheVariants as node
-use Rattle.c_syntax.specs.Tree.{Tree, child_of, children_of, kind_of, number_of}
+use Rattle.c_syntax.specs.language.Tree.{Tree, child_of, children_of, kind_of, number_of}
 use Rattle.c_check.specs.Loops.{child_at, has_head, loop_name}
 use Rattle.c_check.specs.Statements.{shares_loop, statement_of}
 

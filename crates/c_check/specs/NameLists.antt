@@ -1,7 +1,7 @@
 -- The names of a list.
 use Rattle.std.specs.Prelude.{ℕ, ◌+◌, List, [], ◌∷◌}
-use Rattle.c_syntax.specs.Tree.{Tree, Children, name_of, spot_of}
-use Rattle.c_syntax.specs.Tree.Children.{Over, Child, Absent}
+use Rattle.c_syntax.specs.language.Tree.{Tree, Children, name_of, spot_of}
+use Rattle.c_syntax.specs.language.Tree.Children.{Over, Child, Absent}
 use Rattle.c_check.specs.declared.acts.act.Act.{Act}
 use Rattle.c_check.specs.declared.acts.act.Act.TheVariants.{Declare, Use, List as Listing}
 use Rattle.c_check.specs.declared.acts.act.Thing.TheVariants as thing

@@ -4,8 +4,8 @@ use Rattle.c_tokens.specs.declared.token.Spot.{Spot}
 use Rattle.c_syntax.specs.declared.node.NodeKind.{NodeKind}
 use Rattle.c_syntax.specs.declared.node.NodeKind.TheVariants as node
 use Rattle.c_syntax.specs.declared.node.Directive.TheVariants as directive
-use Rattle.c_syntax.specs.Tree.{Tree, children_of, kind_of, spot_of}
-use Rattle.c_syntax.specs.Numbered.{TreeView}
+use Rattle.c_syntax.specs.language.Tree.{Tree, children_of, kind_of, spot_of}
+use Rattle.c_syntax.specs.language.Numbered.{TreeView}
 use Rattle.c_check.specs.declared.scopes.declared.Declared.{Declared}
 use Rattle.c_check.specs.declared.scopes.declared.Named.{Named}
 use Rattle.c_check.specs.declared.sharing.Sharing.{Sharing}

@@ -1,7 +1,7 @@
 -- The parts of a loop as a caller has them: by the numbers of their nodes.
 use Rattle.std.specs.Prelude.{ℕ, ◌<◌, List}
-use Rattle.c_syntax.specs.Tree.{Tree}
-use Rattle.c_syntax.specs.Numbered.{tree_at}
+use Rattle.c_syntax.specs.language.Tree.{Tree}
+use Rattle.c_syntax.specs.language.Numbered.{tree_at}
 use Rattle.c_check.specs.declared.acts.loop_parts.SharedLoop.{SharedLoop}
 use Rattle.c_check.specs.LoopParts.{LoopParts}
 

@@ -5,8 +5,8 @@ use Rattle.c_syntax.specs.declared.node.Standalone.{Standalone}
 use Rattle.c_syntax.specs.declared.node.Standalone.TheVariants as standalone
 use Rattle.c_syntax.specs.declared.node.NodeKind.{NodeKind}
 use Rattle.c_syntax.specs.declared.node.NodeKind.TheVariants as node
-use Rattle.c_syntax.specs.Tree.{Tree, Children, at_place, children_of, kind_of}
-use Rattle.c_syntax.specs.Numbered.{tree_at}
+use Rattle.c_syntax.specs.language.Tree.{Tree, Children, at_place, children_of, kind_of}
+use Rattle.c_syntax.specs.language.Numbered.{tree_at}
 use Rattle.c_check.specs.declared.acts.act.Act.{Act}
 use Rattle.c_check.specs.declared.acts.act.Act.TheVariants.{Barrier}
 use Rattle.c_check.specs.declared.acts.act.DataClause.TheVariants as clause

@@ -1,8 +1,8 @@
 -- What tasks of a walk are there to tell.
 use Rattle.std.specs.Prelude.{ℕ, zero, suc, ◌<◌, List, [], ◌∷◌, ◌++◌, length, reverse, All}
-use Rattle.c_syntax.specs.Tree.{Tree, Children, children_of}
-use Rattle.c_syntax.specs.Tree.Children.{Over, Child, Absent}
-use Rattle.c_syntax.specs.Numbered.{tree_at}
+use Rattle.c_syntax.specs.language.Tree.{Tree, Children, children_of}
+use Rattle.c_syntax.specs.language.Tree.Children.{Over, Child, Absent}
+use Rattle.c_syntax.specs.language.Numbered.{tree_at}
 use Rattle.c_check.specs.declared.acts.act.Act.{Act}
 use Rattle.c_check.specs.declared.acts.walk.Task.{Task}
 use Rattle.c_check.specs.declared.acts.walk.Task.TheVariants as task

@@ -1,6 +1,6 @@
 -- A check under way.
 use Rattle.std.specs.Prelude.{◌≡◌, List}
-use Rattle.c_syntax.specs.Numbered.{TreeView}
+use Rattle.c_syntax.specs.language.Numbered.{TreeView}
 use Rattle.c_check.specs.declared.acts.act.Act.{Act}
 use Rattle.c_check.specs.declared.rules.checker.Checker.{Checker}
 use Rattle.c_check.specs.Here.{Here}

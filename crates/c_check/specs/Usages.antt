@@ -1,7 +1,7 @@
 -- How a place and a call are used, and whether something stands behind a `return`.
 use Rattle.std.specs.Prelude.{ℕ, List, [], ◌∷◌}
-use Rattle.c_syntax.specs.Tree.{Children}
-use Rattle.c_syntax.specs.Tree.Children.{Child}
+use Rattle.c_syntax.specs.language.Tree.{Children}
+use Rattle.c_syntax.specs.language.Tree.Children.{Child}
 use Rattle.c_check.specs.declared.acts.act.Act.{Act}
 use Rattle.c_check.specs.declared.acts.act.Act.TheVariants.{Assign}
 use Rattle.c_check.specs.declared.acts.act.Usage.{Usage}

@@ -1,8 +1,8 @@
 -- How much a walk through a tree has left to do at most, so that it comes to an end: each child is looked at up to three times.
 use Rattle.std.specs.Prelude.{ℕ, ◌+◌, ◌*◌, Option, Some, None}
-use Rattle.c_syntax.specs.Tree.{Tree, Children, children_of}
-use Rattle.c_syntax.specs.Tree.Tree.{Node}
-use Rattle.c_syntax.specs.Tree.Children.{Over, Child, Absent}
+use Rattle.c_syntax.specs.language.Tree.{Tree, Children, children_of}
+use Rattle.c_syntax.specs.language.Tree.Tree.{Node}
+use Rattle.c_syntax.specs.language.Tree.Children.{Over, Child, Absent}
 
 unfoldable mutual
   pub walk_weight : Tree → ℕ

@@ -1,7 +1,7 @@
 //! What follows from the definitions alone: each law is the contract of a function with an empty body.
 
 ghost use Rattle.std.specs.Prelude.{◌≡◌, ℕ, List, None, Some};
-ghost use Rattle.c_syntax.specs.Numbered.{TreeView};
+ghost use Rattle.c_syntax.specs.language.Numbered.{TreeView};
 ghost use Rattle.c_check.specs.declared.acts.act.Act.{Act};
 ghost use Rattle.c_check.specs.declared.fault.CheckFault.{CheckFault};
 ghost use Rattle.c_check.specs.declared.scopes.declared.Declared.{Declared};

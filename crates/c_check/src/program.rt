@@ -1,7 +1,7 @@
 //! A program that breaks no rule.
 
 ghost use Rattle.std.specs.Prelude.{◌≡◌, ◌<◌, None, Some, length, IfNone, IfSome};
-ghost use Rattle.c_syntax.specs.Numbered.{tree_at};
+ghost use Rattle.c_syntax.specs.language.Numbered.{tree_at};
 ghost use Rattle.c_check.specs.Checked.{Checked, end_of};
 ghost use Rattle.c_check.specs.LoopParts.{loop_parts};
 ghost use Rattle.c_check.specs.Seen.{critical_count, critical_number, sharing_by_node, slot_of_name, task_copies};
@@ -32,8 +32,8 @@ pub struct Program {
 }
 
 impl Model for Program {
-    ghost use Rattle.c_syntax.specs.Numbered.{TreeView};
-    ghost use Rattle.c_syntax.specs.Codes.{tree_view_code};
+    ghost use Rattle.c_syntax.specs.language.Numbered.{TreeView};
+    ghost use Rattle.c_syntax.specs.workings.Codes.{tree_view_code};
 
     ghost Value = { TreeView };
 

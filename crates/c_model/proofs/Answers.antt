@@ -1,6 +1,6 @@
 -- What is answered was asked, and with an answer of that kind.
 use Rattle.std.specs.Prelude.{List, [], ◌∷◌}
-use Rattle.c_syntax.specs.Numbered.{TreeView}
+use Rattle.c_syntax.specs.language.Numbered.{TreeView}
 use Rattle.c_model.specs.declared.question.Answer.{Answer}
 use Rattle.c_model.specs.declared.question.Answer.TheVariants as answer
 use Rattle.c_model.specs.declared.view.View.{View}

@@ -6,9 +6,9 @@ use Rattle.c_syntax.specs.declared.node.Parameters.TheVariants as params
 use Rattle.c_syntax.specs.declared.node.Directive.TheVariants as directive
 use Rattle.c_syntax.specs.declared.node.NodeKind.{NodeKind}
 use Rattle.c_syntax.specs.declared.node.NodeKind.TheVariants as node
-use Rattle.c_syntax.specs.Tree.{Tree}
-use Rattle.c_syntax.specs.Tree.Tree.{Node}
-use Rattle.c_syntax.specs.Numbered.{TreeView}
+use Rattle.c_syntax.specs.language.Tree.{Tree}
+use Rattle.c_syntax.specs.language.Tree.Tree.{Node}
+use Rattle.c_syntax.specs.language.Numbered.{TreeView}
 use Rattle.c_model.specs.declared.point.Point.TheVariants as point
 use Rattle.c_model.specs.Parts.{trees_in, flat_declarations}
 use Rattle.c_model.specs.Program.{function_among, variables_among}

@@ -12,10 +12,10 @@ use Rattle.c_syntax.specs.declared.node.ReductionOp.TheVariants as reduction
 use Rattle.c_syntax.specs.declared.node.NodeKind.TheVariants as node
 use Rattle.c_tokens.specs.declared.token.Spot.{Spot}
 use Rattle.c_syntax.specs.declared.node.ScheduleKind.TheVariants as kind
-use Rattle.c_syntax.specs.Tree.{Tree}
-use Rattle.c_syntax.specs.Tree.Children.{Absent, Child, Over}
-use Rattle.c_syntax.specs.Tree.Tree.{Node}
-use Rattle.c_syntax.specs.Numbered.{TreeView}
+use Rattle.c_syntax.specs.language.Tree.{Tree}
+use Rattle.c_syntax.specs.language.Tree.Children.{Absent, Child, Over}
+use Rattle.c_syntax.specs.language.Tree.Tree.{Node}
+use Rattle.c_syntax.specs.language.Numbered.{TreeView}
 use Rattle.c_model.specs.declared.point.Point.TheVariants as point
 use Rattle.c_model.specs.declared.point.Schedule.TheVariants as schedule
 use Rattle.c_model.specs.declared.point.SyncKind.TheVariants as sync

@@ -12,10 +12,10 @@ use Rattle.c_syntax.specs.declared.grammar.Sort.{Sort}
 use Rattle.c_syntax.specs.declared.grammar.Sort.TheVariants as sort
 use Rattle.c_syntax.specs.declared.grammar.Step.{Step}
 use Rattle.c_syntax.specs.declared.grammar.Step.TheVariants.{Expect, Deepen, Rise, Take, InHead, Read, Open, Make, Join, Wrap, Skip}
-use Rattle.c_syntax.specs.Words.{Word}
-use Rattle.c_syntax.specs.Tree.{Tree, Children, before, children_from, kind_of, over_one, over_two}
-use Rattle.c_syntax.specs.Tree.Children.{Over, Child}
-use Rattle.c_syntax.specs.Derivation.{Opened, closed, joined, kept, made, opened_at, result_of, skipped, with_child, wrapped}
+use Rattle.c_syntax.specs.language.Words.{Word}
+use Rattle.c_syntax.specs.language.Tree.{Tree, Children, before, children_from, kind_of, over_one, over_two}
+use Rattle.c_syntax.specs.language.Tree.Children.{Over, Child}
+use Rattle.c_syntax.specs.workings.Derivation.{Opened, closed, joined, kept, made, opened_at, result_of, skipped, with_child, wrapped}
 use Rattle.c_check.specs.Loops.{is_place}
 use Rattle.c_model.specs.Loops.{is_declared}
 use Rattle.c_model.specs.Formed.{AreFormed, AreInRow, HasForm, IsFormed, IsOver, is_block, is_construct_part, is_file_part, is_first_part, is_global, is_local, is_params, is_part, is_quiet}

@@ -24,12 +24,12 @@ use Rattle.c_syntax.specs.declared.grammar.Sort.{Sort}
 use Rattle.c_syntax.specs.declared.grammar.Sort.TheVariants as sort
 use Rattle.c_syntax.specs.declared.grammar.Step.{Step}
 use Rattle.c_syntax.specs.declared.grammar.Step.TheVariants.{Read, Join, Wrap}
-use Rattle.c_syntax.specs.Words.{Word}
-use Rattle.c_syntax.specs.Tree.{Tree, Children, children_from, kind_of}
-use Rattle.c_syntax.specs.Tree.Tree.{Node}
-use Rattle.c_syntax.specs.Tree.Children.{Over, Child}
-use Rattle.c_syntax.specs.Derivation.{Opened, closed, joined, kept, made, opened_at, with_child, wrapped}
-use Rattle.c_syntax.specs.Grammar
+use Rattle.c_syntax.specs.language.Words.{Word}
+use Rattle.c_syntax.specs.language.Tree.{Tree, Children, children_from, kind_of}
+use Rattle.c_syntax.specs.language.Tree.Tree.{Node}
+use Rattle.c_syntax.specs.language.Tree.Children.{Over, Child}
+use Rattle.c_syntax.specs.workings.Derivation.{Opened, closed, joined, kept, made, opened_at, with_child, wrapped}
+use Rattle.c_syntax.specs.workings.Grammar
 use Rattle.c_check.specs.Loops.{is_place}
 use Rattle.c_model.specs.Loops.{is_declared}
 use Rattle.c_model.specs.Formed.{AreFormed, AreInRow, HasForm, IsFormed, IsOver, is_block, is_construct_part, is_file_part, is_first_part, is_global, is_local, is_params, is_part, is_quiet}

@@ -5,12 +5,12 @@ use Rattle.c_syntax.specs.declared.head.Head.{Head}
 use Rattle.c_syntax.specs.declared.grammar.Step.{Step}
 use Rattle.c_syntax.specs.declared.node.NodeKind.{NodeKind}
 use Rattle.c_syntax.specs.declared.node.NodeKind.TheVariants as node
-use Rattle.c_syntax.specs.Words.{Word}
-use Rattle.c_syntax.specs.Tree.{Tree, kind_of}
-use Rattle.c_syntax.specs.Numbered.{TreeView, root_tree}
-use Rattle.c_syntax.specs.Productions.{IsProgram, depth_limit}
-use Rattle.c_syntax.specs.Derivation.{Derives, Opened}
-use Rattle.c_syntax.specs.Derivation.Derives.{over, expect, deepen, rise, take, in_head, read, open_node, make, join, wrap, skip}
+use Rattle.c_syntax.specs.language.Words.{Word}
+use Rattle.c_syntax.specs.language.Tree.{Tree, kind_of}
+use Rattle.c_syntax.specs.language.Numbered.{TreeView, root_tree}
+use Rattle.c_syntax.specs.language.Productions.{IsProgram, depth_limit}
+use Rattle.c_syntax.specs.workings.Derivation.{Derives, Opened}
+use Rattle.c_syntax.specs.workings.Derivation.Derives.{over, expect, deepen, rise, take, in_head, read, open_node, make, join, wrap, skip}
 use Rattle.c_syntax.proofs.ProgramWords.{program_derives}
 use Rattle.c_model.specs.Formed.{IsProgramFormed}
 use Rattle.c_model.proofs.Grammar.{IsGood, Leads, is_program, never}

@@ -7,9 +7,9 @@ use Rattle.c_syntax.specs.declared.node.UnaryOp.{UnaryOp}
 use Rattle.c_syntax.specs.declared.node.UnaryOp.TheVariants as unary
 use Rattle.c_syntax.specs.declared.node.NodeKind.{NodeKind}
 use Rattle.c_syntax.specs.declared.node.NodeKind.TheVariants as node
-use Rattle.c_syntax.specs.Tree.{Tree, Children, name_of}
-use Rattle.c_syntax.specs.Tree.Tree.{Node}
-use Rattle.c_syntax.specs.Tree.Children.{Over, Child, Absent}
+use Rattle.c_syntax.specs.language.Tree.{Tree, Children, name_of}
+use Rattle.c_syntax.specs.language.Tree.Tree.{Node}
+use Rattle.c_syntax.specs.language.Tree.Children.{Over, Child, Absent}
 use Rattle.c_check.specs.Loops.{child_at}
 use Rattle.c_model.specs.Parts.{has_child}
 use Rattle.c_model.specs.declared.entry.Entry.{Entry}

@@ -10,10 +10,10 @@ use Rattle.c_syntax.specs.declared.node.Bump.TheVariants as bump
 use Rattle.c_syntax.specs.declared.node.Setting.TheVariants as setting
 use Rattle.c_syntax.specs.declared.node.NodeKind.{NodeKind}
 use Rattle.c_syntax.specs.declared.node.NodeKind.TheVariants as node
-use Rattle.c_syntax.specs.Tree.{Tree, Children, at_place, child_of, children_of, kind_of, name_of, nothing}
-use Rattle.c_syntax.specs.Tree.Tree.{Node}
-use Rattle.c_syntax.specs.Tree.Children.{Over, Child, Absent}
-use Rattle.c_syntax.specs.Numbered.{TreeView}
+use Rattle.c_syntax.specs.language.Tree.{Tree, Children, at_place, child_of, children_of, kind_of, name_of, nothing}
+use Rattle.c_syntax.specs.language.Tree.Tree.{Node}
+use Rattle.c_syntax.specs.language.Tree.Children.{Over, Child, Absent}
+use Rattle.c_syntax.specs.language.Numbered.{TreeView}
 use Rattle.c_check.specs.LoopParts.{LoopParts, comparison_of, parts_if, parts_in, parts_with, statement_parts, step_by, step_of}
 use Rattle.c_check.specs.Loops.{adds, assigned_by, child_at, continues, goes_down, goes_up, has_form, has_form_with, has_head, is_apart, is_place, is_start, is_step_down, is_step_up, is_variable_named, stands_among, stands_in, takes}
 use Rattle.c_model.specs.Formed.{AreFormed, AreInRow, HasChild, HasPart, IsFormed, IsOver, is_quiet}

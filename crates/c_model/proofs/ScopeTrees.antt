@@ -6,10 +6,10 @@ use Rattle.std.proofs.lemmas.List.Elements.{All-weaker, Contains-append_cases, C
 use Rattle.c_syntax.specs.declared.node.BinaryOp.{BinaryOp}
 use Rattle.c_syntax.specs.declared.node.NodeKind.{NodeKind}
 use Rattle.c_syntax.specs.declared.node.NodeKind.TheVariants as node
-use Rattle.c_syntax.specs.Tree.{Tree, Children, at_place, child_of, children_of, kind_of, name_of, nothing}
-use Rattle.c_syntax.specs.Tree.Tree.{Node}
-use Rattle.c_syntax.specs.Tree.Children.{Over, Child, Absent}
-use Rattle.c_syntax.specs.Numbered.{TreeView}
+use Rattle.c_syntax.specs.language.Tree.{Tree, Children, at_place, child_of, children_of, kind_of, name_of, nothing}
+use Rattle.c_syntax.specs.language.Tree.Tree.{Node}
+use Rattle.c_syntax.specs.language.Tree.Children.{Over, Child, Absent}
+use Rattle.c_syntax.specs.language.Numbered.{TreeView}
 use Rattle.c_check.specs.LoopParts.{LoopParts, comparison_of, loop_parts, parts_if, parts_in, parts_with, statement_parts, step_of}
 use Rattle.c_check.specs.Loops.{child_at, has_head, loop_name}
 use Rattle.c_check.specs.Statements.{is_head, shares_loop, statement_of}

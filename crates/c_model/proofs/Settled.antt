@@ -1,7 +1,7 @@
 -- What a task goes past counts for nothing, and a task for which nothing is left has ended.
 use Rattle.std.specs.Prelude.{◌≡◌, if◌then◌else◌, Bool, true, false, List, [], ◌∷◌, pos, unwrap_or, refl}
 use Rattle.std.proofs.Common.{ap, ◌∙◌}
-use Rattle.c_syntax.specs.Numbered.{TreeView}
+use Rattle.c_syntax.specs.language.Numbered.{TreeView}
 use Rattle.c_model.specs.declared.view.View.{View}
 use Rattle.c_model.specs.declared.point.Point.{Point}
 use Rattle.c_model.specs.declared.question.Answer.{Answer}

@@ -9,7 +9,7 @@ use Rattle.c_syntax.specs.declared.node.Setting.TheVariants as setting
 use Rattle.c_syntax.specs.declared.node.Directive.TheVariants as directive
 use Rattle.c_syntax.specs.declared.node.UnaryOp.TheVariants as unary
 use Rattle.c_syntax.specs.declared.node.NodeKind.TheVariants as node
-use Rattle.c_syntax.specs.Tree.{Tree}
+use Rattle.c_syntax.specs.language.Tree.{Tree}
 use Rattle.std.specs.Fmt.{digits}
 use Rattle.c_model.specs.Cells.{last_named}
 use Rattle.c_model.specs.Text.{printed_text, text_behind_backslash, text_behind_percent}

@@ -2,7 +2,7 @@
 use Rattle.std.specs.Prelude.{ℕ, ◌+◌, ◌≤◌, min, if◌then◌else◌, Bool, true, false, List, ◌++◌, length, Result, Ok, Err, ℤ}
 use Rattle.std.specs.List.{All}
 use Rattle.std.proofs.lemmas.List.{length-take}
-use Rattle.c_syntax.specs.Numbered.{TreeView}
+use Rattle.c_syntax.specs.language.Numbered.{TreeView}
 use Rattle.c_model.specs.Cells.{Bound, with_cells}
 use Rattle.c_model.specs.Coming.{binds, bound_of, goes_on, goes_on_with, sets, with_result}
 use Rattle.c_model.specs.Task.{Here, Item, Moment, Outcome}

@@ -4,8 +4,8 @@ use Rattle.std.proofs.Common.{arith, ◌∙◌}
 use Rattle.std.proofs.lemmas.List.{append_assoc, length-take}
 use Rattle.c_syntax.specs.declared.node.NodeKind.{NodeKind}
 use Rattle.c_syntax.specs.declared.node.NodeKind.TheVariants as node
-use Rattle.c_syntax.specs.Tree.{Tree, children_of, kind_of}
-use Rattle.c_syntax.specs.Numbered.{TreeView}
+use Rattle.c_syntax.specs.language.Tree.{Tree, children_of, kind_of}
+use Rattle.c_syntax.specs.language.Numbered.{TreeView}
 use Rattle.c_model.specs.declared.entry.Entry.{Entry}
 use Rattle.c_model.specs.declared.point.MutexKind.{MutexKind}
 use Rattle.c_model.specs.declared.point.MutexKind.TheVariants as mutex

@@ -1,8 +1,8 @@
 -- The most names from here on: never fewer than now, and with more names now never fewer.
 use Rattle.std.specs.Prelude.{ℕ, ◌+◌, ◌≤◌, max, min, List, [], ◌∷◌}
 use Rattle.std.proofs.Common.{arith}
-use Rattle.c_syntax.specs.Numbered.{TreeView}
-use Rattle.c_syntax.specs.Tree.{kind_of}
+use Rattle.c_syntax.specs.language.Numbered.{TreeView}
+use Rattle.c_syntax.specs.language.Tree.{kind_of}
 use Rattle.c_model.specs.Task.{Item}
 use Rattle.c_model.specs.Task.Item.{Start, Declare, Leave, Test, Third, Initialise, Return, FallOff, Forked, Inside, MakeCells, NextChunk, Iterations, NextSection, Combine, EndWork, EndMasked, Sync, Acquire, Release, TestLock, Tested}
 use Rattle.c_model.specs.Width.{most_behind, most_names, own_names}

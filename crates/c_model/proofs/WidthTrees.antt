@@ -4,10 +4,10 @@ use Rattle.std.proofs.Common.{arith, ap, ◌∙◌}
 use Rattle.c_syntax.specs.declared.node.BinaryOp.{BinaryOp}
 use Rattle.c_syntax.specs.declared.node.NodeKind.{NodeKind}
 use Rattle.c_syntax.specs.declared.node.NodeKind.TheVariants as node
-use Rattle.c_syntax.specs.Tree.{Tree, Children, at_place, child_of, children_of, kind_of, nothing}
-use Rattle.c_syntax.specs.Tree.Tree.{Node}
-use Rattle.c_syntax.specs.Tree.Children.{Over, Child, Absent}
-use Rattle.c_syntax.specs.Numbered.{TreeView, root_tree}
+use Rattle.c_syntax.specs.language.Tree.{Tree, Children, at_place, child_of, children_of, kind_of, nothing}
+use Rattle.c_syntax.specs.language.Tree.Tree.{Node}
+use Rattle.c_syntax.specs.language.Tree.Children.{Over, Child, Absent}
+use Rattle.c_syntax.specs.language.Numbered.{TreeView, root_tree}
 use Rattle.c_check.specs.LoopParts.{comparison_of, parts_by_kind, parts_if, parts_in, parts_with, statement_parts, step_of}
 use Rattle.c_check.specs.Loops.{child_at, has_head, loop_name}
 use Rattle.c_check.specs.Statements.{is_head, shares_loop, statement_of}

@@ -4,8 +4,8 @@ use Rattle.c_syntax.specs.declared.node.LockCall.{LockCall}
 use Rattle.c_syntax.specs.declared.node.LockCall.TheVariants as lock
 use Rattle.c_syntax.specs.declared.node.NodeKind.{NodeKind}
 use Rattle.c_syntax.specs.declared.node.NodeKind.TheVariants as node
-use Rattle.c_syntax.specs.Tree.{Tree, kind_of, name_of}
-use Rattle.c_syntax.specs.Numbered.{TreeView}
+use Rattle.c_syntax.specs.language.Tree.{Tree, kind_of, name_of}
+use Rattle.c_syntax.specs.language.Numbered.{TreeView}
 use Rattle.c_model.specs.declared.limits.TheConstants.{CALLS, CALL_LIMIT, CELLS, LOCK_UNIT}
 use Rattle.c_model.specs.declared.point.MutexKind.TheVariants as mutex
 use Rattle.c_model.specs.declared.point.Point.TheVariants.{LockDestroy, LockInit, MutexAcquire, MutexReleased}

@@ -7,7 +7,7 @@ use Rattle.c_syntax.specs.declared.node.ScheduleKind.{ScheduleKind}
 use Rattle.c_syntax.specs.declared.node.ScheduleKind.TheVariants as kind
 use Rattle.c_syntax.specs.declared.node.NodeKind.{NodeKind}
 use Rattle.c_syntax.specs.declared.node.NodeKind.TheVariants as node
-use Rattle.c_syntax.specs.Tree.{Tree, children_of, kind_of, name_of, number_of}
+use Rattle.c_syntax.specs.language.Tree.{Tree, children_of, kind_of, name_of, number_of}
 use Rattle.c_model.specs.declared.point.Schedule.{Schedule}
 use Rattle.c_model.specs.declared.point.Schedule.TheVariants.{Static, Dynamic, Guided}
 use Rattle.c_check.specs.Loops.{child_at}

@@ -1,6 +1,6 @@
 -- What a step comes to, in the words of the forms of statements: it goes on, makes names and cells, sets a cell; or its expressions trap.
 use Rattle.std.specs.Prelude.{ℕ, if◌then◌else◌, List, ◌++◌, slice_set, Result, Ok, Err, ℤ, take}
-use Rattle.c_syntax.specs.Tree.{Tree}
+use Rattle.c_syntax.specs.language.Tree.{Tree}
 use Rattle.c_model.specs.declared.limits.TheConstants.{CELLS}
 use Rattle.c_model.specs.Cells.{Bound, has_too_many}
 use Rattle.c_model.specs.Value.{Scope, value}

@@ -3,7 +3,7 @@
 use Rattle.std.specs.Prelude.{ℕ, ◌+◌, nat_lt, if◌then◌else◌, [], ◌∷◌, length, take, drop, Option, Some, None, Result, Ok, ℤ, pos, ◌+ℤ◌, ◌*ℤ◌, int_le}
 use Rattle.c_syntax.specs.declared.node.ReductionOp.{ReductionOp}
 use Rattle.c_syntax.specs.declared.node.ReductionOp.TheVariants as reduction
-use Rattle.c_syntax.specs.Tree.{Tree, name_of}
+use Rattle.c_syntax.specs.language.Tree.{Tree, name_of}
 use Rattle.c_model.specs.declared.limits.TheConstants.{CELLS}
 use Rattle.c_model.specs.declared.point.MutexKind.{MutexKind}
 use Rattle.c_model.specs.declared.point.MutexKind.TheVariants as mutex

@@ -7,8 +7,8 @@ use Rattle.c_syntax.specs.declared.node.ReductionOp.{ReductionOp}
 use Rattle.c_syntax.specs.declared.node.ReductionOp.TheVariants as reduction
 use Rattle.c_syntax.specs.declared.node.NodeKind.{NodeKind}
 use Rattle.c_syntax.specs.declared.node.NodeKind.TheVariants as node
-use Rattle.c_syntax.specs.Tree.{Tree, kind_of, name_of}
-use Rattle.c_syntax.specs.Numbered.{TreeView}
+use Rattle.c_syntax.specs.language.Tree.{Tree, kind_of, name_of}
+use Rattle.c_syntax.specs.language.Numbered.{TreeView}
 use Rattle.c_check.specs.Statements.{shares_loop}
 use Rattle.c_check.specs.Seen.{slot_of_name, task_copies}
 use Rattle.c_model.specs.declared.entry.Entry.{Entry}

@@ -2,10 +2,10 @@
 use Rattle.std.specs.Prelude.{◌≡◌, Bool, true, false, IsTrue}
 use Rattle.c_syntax.specs.declared.node.NodeKind.{NodeKind}
 use Rattle.c_syntax.specs.declared.node.NodeKind.TheVariants as node
-use Rattle.c_syntax.specs.Tree.{Tree, Children, kind_of}
-use Rattle.c_syntax.specs.Tree.Tree.{Node}
-use Rattle.c_syntax.specs.Tree.Children.{Over, Child, Absent}
-use Rattle.c_syntax.specs.Numbered.{TreeView, root_tree}
+use Rattle.c_syntax.specs.language.Tree.{Tree, Children, kind_of}
+use Rattle.c_syntax.specs.language.Tree.Tree.{Node}
+use Rattle.c_syntax.specs.language.Tree.Children.{Over, Child, Absent}
+use Rattle.c_syntax.specs.language.Numbered.{TreeView, root_tree}
 use Rattle.c_check.specs.Loops.{is_place}
 use Rattle.c_model.specs.Loops.{is_declared}
 

@@ -3,7 +3,7 @@
 use Rattle.std.specs.Prelude.{ℕ, ◌+◌, if◌then◌else◌, Bool, true, false, List, [], ◌∷◌, ◌++◌, length, slice_index_or, take, Option, Some, None, ℤ, pos}
 use Rattle.c_syntax.specs.declared.node.NodeKind.{NodeKind}
 use Rattle.c_syntax.specs.declared.node.NodeKind.TheVariants as node
-use Rattle.c_syntax.specs.Tree.{Tree, kind_of, nothing}
+use Rattle.c_syntax.specs.language.Tree.{Tree, kind_of, nothing}
 use Rattle.c_model.specs.declared.point.MutexKind.{MutexKind}
 use Rattle.c_model.specs.declared.point.MutexKind.TheVariants as mutex
 use Rattle.c_model.specs.declared.point.Point.{Point}

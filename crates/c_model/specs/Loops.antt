@@ -5,7 +5,7 @@ use Rattle.c_syntax.specs.declared.node.BinaryOp.{BinaryOp}
 use Rattle.c_syntax.specs.declared.node.BinaryOp.TheVariants as binary
 use Rattle.c_syntax.specs.declared.node.NodeKind.{NodeKind}
 use Rattle.c_syntax.specs.declared.node.NodeKind.TheVariants as node
-use Rattle.c_syntax.specs.Tree.{Tree, kind_of, nothing}
+use Rattle.c_syntax.specs.language.Tree.{Tree, kind_of, nothing}
 use Rattle.c_check.specs.LoopParts.{LoopParts, loop_parts}
 
 -- where a construct shares out no loop all parts are missing: it would go from 0 up to 0, without an iteration

@@ -1,6 +1,6 @@
 -- Of which item an event or a question is.
 use Rattle.std.specs.Prelude.{ℕ, ◌≡◌, List, [], ◌∷◌}
-use Rattle.c_syntax.specs.Tree.{Tree}
+use Rattle.c_syntax.specs.language.Tree.{Tree}
 use Rattle.c_model.specs.declared.point.MutexKind.{MutexKind}
 use Rattle.c_model.specs.declared.point.MutexKind.TheVariants as mutex
 use Rattle.c_model.specs.declared.point.Point.{Point}

@@ -2,8 +2,8 @@
 use Rattle.std.specs.Prelude.{ℕ, Bool, List, [], ◌∷◌, ◌++◌, is_some}
 use Rattle.c_syntax.specs.declared.node.NodeKind.{NodeKind}
 use Rattle.c_syntax.specs.declared.node.NodeKind.TheVariants as node
-use Rattle.c_syntax.specs.Tree.{Tree, Children, child_of, children_of, kind_of}
-use Rattle.c_syntax.specs.Tree.Children.{Over, Child, Absent}
+use Rattle.c_syntax.specs.language.Tree.{Tree, Children, child_of, children_of, kind_of}
+use Rattle.c_syntax.specs.language.Tree.Children.{Over, Child, Absent}
 
 abbrev pub has_child : Tree → ℕ → Bool
 has_child tree place = is_some (child_of tree place)

@@ -2,8 +2,8 @@
 use Rattle.std.specs.Prelude.{ℕ, ◌==◌, if◌then◌else◌, Bool, true, false, List, [], ◌∷◌, ◌+◌, ◌*◌}
 use Rattle.c_syntax.specs.declared.node.NodeKind.{NodeKind}
 use Rattle.c_syntax.specs.declared.node.NodeKind.TheVariants as node
-use Rattle.c_syntax.specs.Tree.{Tree, kind_of, name_of, spot_of, nothing}
-use Rattle.c_syntax.specs.Numbered.{TreeView, root_tree}
+use Rattle.c_syntax.specs.language.Tree.{Tree, kind_of, name_of, spot_of, nothing}
+use Rattle.c_syntax.specs.language.Numbered.{TreeView, root_tree}
 use Rattle.c_model.specs.declared.limits.TheConstants.{LINE_UNIT}
 use Rattle.c_check.specs.Loops.{child_at}
 use Rattle.c_model.specs.Parts.{parts}

@@ -7,7 +7,7 @@ use Rattle.c_syntax.specs.declared.node.Setting.{Setting}
 use Rattle.c_syntax.specs.declared.node.Setting.TheVariants as setting
 use Rattle.c_syntax.specs.declared.node.NodeKind.{NodeKind}
 use Rattle.c_syntax.specs.declared.node.NodeKind.TheVariants as node
-use Rattle.c_syntax.specs.Tree.{Tree, kind_of, name_of, text_of}
+use Rattle.c_syntax.specs.language.Tree.{Tree, kind_of, name_of, text_of}
 use Rattle.c_model.specs.declared.limits.TheConstants.{CELLS, TEXT, TEXT_LIMIT}
 use Rattle.c_check.specs.Seen.{slot_of_name}
 use Rattle.c_check.specs.Loops.{child_at}

@@ -9,9 +9,9 @@ use Rattle.c_syntax.specs.declared.node.Getter.{Getter}
 use Rattle.c_syntax.specs.declared.node.Getter.TheVariants as getter
 use Rattle.c_syntax.specs.declared.node.NodeKind.{NodeKind}
 use Rattle.c_syntax.specs.declared.node.NodeKind.TheVariants as node
-use Rattle.c_syntax.specs.Tree.{Tree, Children, name_of}
-use Rattle.c_syntax.specs.Tree.Tree.{Node}
-use Rattle.c_syntax.specs.Tree.Children.{Over, Child, Absent}
+use Rattle.c_syntax.specs.language.Tree.{Tree, Children, name_of}
+use Rattle.c_syntax.specs.language.Tree.Tree.{Node}
+use Rattle.c_syntax.specs.language.Tree.Children.{Over, Child, Absent}
 use Rattle.c_model.specs.declared.traps.TheConstants.{OVERFLOW, ZERO_DIVIDE, INDEX}
 use Rattle.c_model.specs.declared.view.View.{View}
 use Rattle.c_check.specs.Loops.{child_at}

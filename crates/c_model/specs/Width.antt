@@ -4,10 +4,10 @@ use Rattle.std.specs.Prelude.{ℕ, ◌+◌, ◌≤◌, max, min, List, [], ◌�
 use Rattle.std.specs.List.{All, count_by}
 use Rattle.c_syntax.specs.declared.node.NodeKind.{NodeKind}
 use Rattle.c_syntax.specs.declared.node.NodeKind.TheVariants as node
-use Rattle.c_syntax.specs.Tree.{Tree, Children, children_of, kind_of}
-use Rattle.c_syntax.specs.Tree.Tree.{Node}
-use Rattle.c_syntax.specs.Tree.Children.{Over, Child, Absent}
-use Rattle.c_syntax.specs.Numbered.{TreeView, root_tree}
+use Rattle.c_syntax.specs.language.Tree.{Tree, Children, children_of, kind_of}
+use Rattle.c_syntax.specs.language.Tree.Tree.{Node}
+use Rattle.c_syntax.specs.language.Tree.Children.{Over, Child, Absent}
+use Rattle.c_syntax.specs.language.Numbered.{TreeView, root_tree}
 use Rattle.c_check.specs.Seen.{task_copies}
 use Rattle.c_model.specs.Parts.{flat_declarations, parts}
 use Rattle.c_model.specs.Program.{body_of, parameters_of}

@@ -2,10 +2,10 @@
 
 ghost use Rattle.std.specs.Prelude.{◌≡◌, ◌<◌, ◌≤◌, ◌++◌, ℕ, ℤ, Bool, List, [], length, Ok, pos, unwrap_or};
 ghost use Rattle.std.specs.List.{All, Contains};
-ghost use Rattle.c_syntax.specs.Productions.{IsProgram, depth_limit};
-ghost use Rattle.c_syntax.specs.Numbered.{TreeView, root_tree};
-ghost use Rattle.c_syntax.specs.Words.{Word};
-ghost use Rattle.c_syntax.specs.Tree.{Tree as Part, name_of};
+ghost use Rattle.c_syntax.specs.language.Productions.{IsProgram, depth_limit};
+ghost use Rattle.c_syntax.specs.language.Numbered.{TreeView, root_tree};
+ghost use Rattle.c_syntax.specs.language.Words.{Word};
+ghost use Rattle.c_syntax.specs.language.Tree.{Tree as Part, name_of};
 ghost use Rattle.c_model.specs.declared.view.View.{View as Seen};
 ghost use Rattle.c_model.specs.declared.entry.Entry.{Entry};
 ghost use Rattle.c_model.specs.declared.point.Point.{Point as Event};

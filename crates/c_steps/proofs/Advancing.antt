@@ -1,6 +1,6 @@
 -- What an advance comes to, when the task has left out what it goes past.
 use Rattle.std.proofs.Common.{◌≡◌, [], pos, unwrap_or, refl, sym, ap, ◌∙◌, subst, arith}
-use Rattle.c_syntax.specs.Numbered.{TreeView}
+use Rattle.c_syntax.specs.language.Numbered.{TreeView}
 use Rattle.c_model.specs.declared.view.View.{View}
 use Rattle.c_model.specs.Step.{items_from_next, settled_task, silent, step_at, step_of}
 use Rattle.c_model.specs.Task.{Store, Task}

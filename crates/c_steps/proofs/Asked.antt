@@ -1,6 +1,6 @@
 -- Answers within what there is of the shared work that asks.
 use Rattle.std.proofs.Common.{◌≡◌, ℕ, List, [], ◌∷◌, slice_get, Option, sym, ap, ◌∙◌}
-use Rattle.c_syntax.specs.Tree.{Tree}
+use Rattle.c_syntax.specs.language.Tree.{Tree}
 use Rattle.c_model.specs.declared.question.Answer.{Answer}
 use Rattle.c_model.specs.declared.question.Ask.TheVariants as ask
 use Rattle.c_model.specs.Answers.{AnswersFirst, AnswersItem, IsChunkAnswer, IsSectionAnswer}

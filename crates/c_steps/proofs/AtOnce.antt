@@ -1,6 +1,6 @@
 -- What comes next, where the item on top tells it by itself.
 use Rattle.std.proofs.Common.{◌≡◌, List, ◌∷◌, Option, Some, None, IfSome, slice_get, drop, sym, subst}
-use Rattle.c_syntax.specs.Numbered.{TreeView}
+use Rattle.c_syntax.specs.language.Numbered.{TreeView}
 use Rattle.c_model.specs.declared.upcoming.Upcoming.{Upcoming}
 use Rattle.c_model.specs.declared.view.View.{View}
 use Rattle.c_model.specs.Step.{items_from_next}

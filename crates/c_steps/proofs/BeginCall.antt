@@ -2,8 +2,8 @@
 use Rattle.std.specs.Prelude.{◌≡◌, ℕ, ◌+◌, ◌≤◌, ◌<◌, Bool, true, false, not, nat_le, nat_lt, if◌then◌else◌, List, [], ◌∷◌, length, take, Result, Ok, ℤ}
 use Rattle.std.proofs.Common.{ap, sym, ◌∙◌, arith, length-append}
 use Rattle.std.proofs.lemmas.Bool.{le-leb, lt-leb}
-use Rattle.c_syntax.specs.Tree.{Tree, name_of}
-use Rattle.c_syntax.specs.Numbered.{TreeView}
+use Rattle.c_syntax.specs.language.Tree.{Tree, name_of}
+use Rattle.c_syntax.specs.language.Numbered.{TreeView}
 use Rattle.c_check.specs.Seen.{slot_of_name}
 use Rattle.c_check.specs.Tasks.{from_place}
 use Rattle.c_model.specs.declared.entry.Entry.{Entry}

@@ -4,8 +4,8 @@ use Rattle.std.proofs.lemmas.Bool.{cases_lt}
 use Rattle.std.proofs.Math.ListN.{drop_of_length-le}
 use Rattle.std.proofs.lemmas.List.{drop_more, length-append, drop-take, length-drop, length-take, take-take, take_all}
 use Rattle.c_model.specs.declared.entry.Entry.{Entry}
-use Rattle.c_syntax.specs.Tree.{Tree}
-use Rattle.c_syntax.specs.Numbered.{TreeView}
+use Rattle.c_syntax.specs.language.Tree.{Tree}
+use Rattle.c_syntax.specs.language.Numbered.{TreeView}
 use Rattle.c_check.specs.Seen.{task_copies}
 use Rattle.c_model.specs.declared.limits.TheConstants.{CELL_LIMIT}
 use Rattle.c_model.specs.Cells.{Bound, entry_at_slot, entry_of, has_too_many, numbers_of, with_cells}

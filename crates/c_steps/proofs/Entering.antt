@@ -1,7 +1,7 @@
 -- The arguments of a call from a place on, and the function that it enters.
 use Rattle.std.specs.Prelude.{◌≡◌, ℕ, ◌+◌, List, [], ◌∷◌, Result, Ok, Err, ℤ, pos, refl}
 use Rattle.std.proofs.Common.{ap, sym, ◌∙◌, rules}
-use Rattle.c_syntax.specs.Tree.{Tree}
+use Rattle.c_syntax.specs.language.Tree.{Tree}
 use Rattle.c_model.specs.Calls.{behind_first, first_or_zero}
 use Rattle.c_model.specs.Value.{Scope, all_values, value, value_before}
 use Rattle.c_steps.specs.Arguments.{values_in, without_values}

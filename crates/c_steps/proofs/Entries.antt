@@ -3,7 +3,7 @@ use Rattle.std.specs.Prelude.{◌≡◌, ℕ, ◌==◌, ◌≤◌, if◌then◌e
 use Rattle.std.proofs.Common.{Bool, true, false, ◌<◌, inl, inr, subst, sym, arith}
 use Rattle.std.proofs.lemmas.Bool.{cases_Bool, ltb-true}
 use Rattle.std.proofs.lemmas.List.Elements.{All-append, All-drop, All-head, All-tail}
-use Rattle.c_syntax.specs.Tree.{Tree, name_of}
+use Rattle.c_syntax.specs.language.Tree.{Tree, name_of}
 use Rattle.c_model.specs.declared.entry.Entry.{Entry}
 use Rattle.c_model.specs.declared.limits.TheConstants.{CELL_LIMIT}
 use Rattle.c_model.specs.Cells.{entry_of, last_named, no_entry}

@@ -2,7 +2,7 @@
 use Rattle.std.proofs.Common.{◌≡◌, ℕ, ◌+◌, List, [], ◌∷◌, ◌++◌, length, take, drop, Option, Some, None, slice_get, slice_set, refl, sym, ap, ◌∙◌, subst, arith, rules, ◌<◌, length-append, append_assoc, ◌≤◌}
 use Rattle.std.proofs.lemmas.List.{drop-append-le, drop-take, take-append-le, take-take}
 use Rattle.std.proofs.Math.Seq.{take-append-add}
-use Rattle.c_syntax.specs.Numbered.{TreeView}
+use Rattle.c_syntax.specs.language.Numbered.{TreeView}
 use Rattle.c_model.specs.declared.entry.Entry.{Entry}
 use Rattle.c_model.specs.declared.point.Target.{Target}
 use Rattle.c_model.specs.Task.{OpenCall}
@@ -10,7 +10,7 @@ use Rattle.c_steps.specs.declared.frame.Frame.{Frame}
 use Rattle.c_steps.specs.declared.frame.Frame.TheVariants as frame
 use Rattle.c_steps.specs.Items.{calls_at, file_names, todo_at, with_file}
 use Rattle.c_steps.specs.Moves.{below_call, last_call}
-use Rattle.c_syntax.specs.Numbered.{tree_at}
+use Rattle.c_syntax.specs.language.Numbered.{tree_at}
 use Rattle.c_check.specs.Tasks.{from_place}
 use Rattle.c_model.specs.Parts.{flat_declarations, parts}
 use Rattle.c_model.specs.Task.{items_of_parts}

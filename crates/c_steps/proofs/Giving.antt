@@ -1,7 +1,7 @@
 -- How a control goes on after an answer.
 use Rattle.std.proofs.Common.{◌≡◌, ◌==◌, ◌&&◌, true, false, not, List, [], ◌∷◌, refl, sym, ap, ◌∙◌, subst, arith}
-use Rattle.c_syntax.specs.Numbered.{TreeView}
-use Rattle.c_syntax.specs.Tree.{kind_of}
+use Rattle.c_syntax.specs.language.Numbered.{TreeView}
+use Rattle.c_syntax.specs.language.Tree.{kind_of}
 use Rattle.c_model.specs.declared.question.Answer.{Answer}
 use Rattle.c_model.specs.declared.view.View.{View}
 use Rattle.c_model.specs.Answers.{AnswersFirst, AnswersItem}

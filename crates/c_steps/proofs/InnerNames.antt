@@ -4,10 +4,10 @@ use Rattle.std.proofs.lemmas.List.{drop_more, get_or-map, get_or-take, length-ta
 use Rattle.std.proofs.lemmas.List.Elements.{All-head, All-tail}
 use Rattle.std.proofs.lemmas.List.Sums.{sum_by-append}
 use Rattle.std.specs.List.{All}
-use Rattle.c_syntax.specs.Tree.{Tree, children_of, kind_of, nothing}
-use Rattle.c_syntax.specs.Tree.Tree.{Node}
-use Rattle.c_syntax.specs.Nodes.{IsBelow}
-use Rattle.c_syntax.specs.Numbered.{TreeView, children_at, tree_at}
+use Rattle.c_syntax.specs.language.Tree.{Tree, children_of, kind_of, nothing}
+use Rattle.c_syntax.specs.language.Tree.Tree.{Node}
+use Rattle.c_syntax.specs.workings.Nodes.{IsBelow}
+use Rattle.c_syntax.specs.language.Numbered.{TreeView, children_at, tree_at}
 use Rattle.c_model.specs.Clauses.{clauses_among, listed_among}
 use Rattle.c_model.specs.Parts.{declarators_in, flat_declarations, trees_in}
 use Rattle.c_model.specs.Task.{is_declarator}

@@ -9,7 +9,7 @@ use Rattle.c_syntax.specs.declared.node.Bump.TheVariants as bump
 use Rattle.c_syntax.specs.declared.node.Setting.TheVariants as setting
 use Rattle.c_syntax.specs.declared.node.NodeKind.{NodeKind}
 use Rattle.c_syntax.specs.declared.node.NodeKind.TheVariants as node
-use Rattle.c_syntax.specs.Tree.{Tree, child_of, children_of, kind_of}
+use Rattle.c_syntax.specs.language.Tree.{Tree, child_of, children_of, kind_of}
 use Rattle.c_check.specs.Loops.{adds, child_at, goes_down, goes_up, has_head, is_start, is_step_down, is_step_up, is_variable_named, loop_name, takes}
 use Rattle.c_check.specs.LoopParts.{LoopParts, comparison_of, loop_parts, parts_by_kind, parts_if, parts_in, parts_with, statement_parts, step_by, step_of}
 use Rattle.c_check.specs.Statements.{shares_loop, statement_of}

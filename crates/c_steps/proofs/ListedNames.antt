@@ -1,7 +1,7 @@
 -- The variables that a construct's clauses list, from a place on.
 use Rattle.std.proofs.Common.{◌≡◌, ℕ, List, [], ◌∷◌, ◌++◌, map, refl, sym, ap, ◌∙◌, append_assoc}
-use Rattle.c_syntax.specs.Tree.{Tree, kind_of}
-use Rattle.c_syntax.specs.Tree.Tree.{Node}
+use Rattle.c_syntax.specs.language.Tree.{Tree, kind_of}
+use Rattle.c_syntax.specs.language.Tree.Tree.{Node}
 use Rattle.c_check.specs.Tasks.{from_place}
 use Rattle.c_model.specs.Clauses.{clause_in, clauses_among, clauses_of, listed_among, listed_by}
 use Rattle.c_steps.specs.ListedNames.{listed_behind, listed_in, names_from, without_first}

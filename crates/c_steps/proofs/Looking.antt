@@ -2,8 +2,8 @@
 use Rattle.std.proofs.Common.{◌≡◌, ℕ, ◌+◌, ◌<◌, List, [], ◌∷◌, ◌++◌, length, refl, ap, arith}
 use Rattle.c_syntax.specs.declared.node.NodeKind.{NodeKind}
 use Rattle.c_syntax.specs.declared.node.NodeKind.TheVariants as node
-use Rattle.c_syntax.specs.Tree.{Tree, kind_of}
-use Rattle.c_syntax.specs.Numbered.{TreeView, tree_at}
+use Rattle.c_syntax.specs.language.Tree.{Tree, kind_of}
+use Rattle.c_syntax.specs.language.Numbered.{TreeView, tree_at}
 use Rattle.c_check.specs.Tasks.{from_place}
 use Rattle.c_model.specs.Parts.{declarators_in, flat_declarations}
 use Rattle.c_model.specs.Task.{item_of_part}

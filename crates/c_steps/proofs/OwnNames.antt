@@ -3,8 +3,8 @@ use Rattle.std.proofs.Common.{◌≡◌, ℕ, zero, suc, ◌+◌, ◌-◌, ◌<�
 use Rattle.std.proofs.Math.Nat.{le-max_left, le-max_right}
 use Rattle.std.proofs.lemmas.List.Sums.{count_by-le-length, length-filter}
 use Rattle.std.proofs.lemmas.List.{append-nil, append_assoc, drop-append-le, length-append, length-drop, length-map, take-append-le, take_all}
-use Rattle.c_syntax.specs.Tree.{Tree, name_of, nothing}
-use Rattle.c_syntax.specs.Numbered.{TreeView, tree_at}
+use Rattle.c_syntax.specs.language.Tree.{Tree, name_of, nothing}
+use Rattle.c_syntax.specs.language.Numbered.{TreeView, tree_at}
 use Rattle.c_model.specs.declared.entry.Entry.{Entry}
 use Rattle.c_model.specs.declared.limits.TheConstants.{CELL_LIMIT}
 use Rattle.c_model.specs.Cells.{Bound, has_too_many, new_entry, with_cells}

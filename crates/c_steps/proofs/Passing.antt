@@ -1,8 +1,8 @@
 -- What a control stands for behind an event.
 use Rattle.std.proofs.Common.{◌≡◌, ℕ, ◌≤◌, Bool, List, [], ◌∷◌, ◌++◌, length, take, drop, Option, Some, None, refl, sym, subst, ap, ◌∙◌, append_assoc}
 use Rattle.std.proofs.lemmas.List.{drop-append-le, take-append-le}
-use Rattle.c_syntax.specs.Tree.{Tree}
-use Rattle.c_syntax.specs.Numbered.{TreeView, tree_at}
+use Rattle.c_syntax.specs.language.Tree.{Tree}
+use Rattle.c_syntax.specs.language.Numbered.{TreeView, tree_at}
 use Rattle.c_model.specs.declared.entry.Entry.{Entry}
 use Rattle.c_model.specs.declared.point.MutexKind.{MutexKind}
 use Rattle.c_model.specs.declared.point.MutexKind.TheVariants as mutex

@@ -2,8 +2,8 @@
 use Rattle.std.specs.Prelude.{◌≡◌, ℕ, ◌+◌, List, [], ◌∷◌, Some, None, Result, Ok, Err, ℤ, refl, MatchOption}
 use Rattle.std.specs.Result.{result_ok}
 use Rattle.std.proofs.Common.{ap, sym, subst, ◌∙◌}
-use Rattle.c_syntax.specs.Tree.{Tree, child_of}
-use Rattle.c_syntax.specs.Numbered.{tree_at}
+use Rattle.c_syntax.specs.language.Tree.{Tree, child_of}
+use Rattle.c_syntax.specs.language.Numbered.{tree_at}
 use Rattle.c_model.specs.Value.{value, value_before}
 use Rattle.c_steps.specs.Arguments.{HaveValues, numbers_behind, results_behind, values_in, without_values}
 use Rattle.c_steps.specs.Scopes.{scope_of}

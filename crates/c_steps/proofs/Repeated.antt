@@ -1,6 +1,6 @@
 -- Steps that are tried one after another.
 use Rattle.std.proofs.Common.{◌≡◌, ◌+◌, ℕ, zero, suc, true, false, refl, arith, sym, ap, ◌∙◌, subst}
-use Rattle.c_syntax.specs.Numbered.{TreeView}
+use Rattle.c_syntax.specs.language.Numbered.{TreeView}
 use Rattle.c_model.specs.declared.view.View.{View}
 use Rattle.c_model.specs.Task.{Store}
 use Rattle.c_model.specs.Task.Outcome.{StepsTo}

@@ -1,8 +1,8 @@
 -- The parts of a tree from a place on.
 use Rattle.std.proofs.Common.{◌≡◌, ℕ, ◌+◌, [], ◌∷◌, Some, None, inl, inr, refl, ap, get_or}
 use Rattle.std.proofs.lemmas.Bool.{cases_Bool}
-use Rattle.c_syntax.specs.Tree.{Tree, Children, child_of, children_of, kind_of, nothing}
-use Rattle.c_syntax.specs.Tree.Children.{Over, Child, Absent}
+use Rattle.c_syntax.specs.language.Tree.{Tree, Children, child_of, children_of, kind_of, nothing}
+use Rattle.c_syntax.specs.language.Tree.Children.{Over, Child, Absent}
 use Rattle.c_check.proofs.Behind.{behind_child, behind_none}
 use Rattle.c_model.specs.Parts.{trees_in}
 use Rattle.c_model.specs.Clauses.{statements_among}

@@ -3,7 +3,7 @@ use Rattle.std.specs.Prelude.{◌≡◌, ℕ, ◌<◌, List, [], ◌∷◌, take
 use Rattle.std.proofs.Common.{ap, subst, sym, ◌∙◌, arith}
 use Rattle.std.proofs.lemmas.List.{drop_min, take_min}
 use Rattle.std.proofs.lemmas.List.Elements.{All-cons, All-nil, All-tail}
-use Rattle.c_syntax.specs.Numbered.{TreeView}
+use Rattle.c_syntax.specs.language.Numbered.{TreeView}
 use Rattle.c_model.specs.declared.view.View.{View}
 use Rattle.c_model.specs.declared.point.Target.{Target}
 use Rattle.c_model.specs.declared.point.Target.TheVariants as target

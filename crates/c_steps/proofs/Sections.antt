@@ -1,7 +1,7 @@
 -- What the sections of a construct execute.
 use Rattle.std.proofs.Common.{◌≡◌, ℕ, zero, suc, List, [], ◌∷◌, refl}
 use Rattle.std.specs.Prelude.{map, slice_index_or}
-use Rattle.c_syntax.specs.Tree.{Tree, kind_of, nothing}
+use Rattle.c_syntax.specs.language.Tree.{Tree, kind_of, nothing}
 use Rattle.c_model.specs.Clauses.{section_statement}
 
 -- what a section executes is the statement of its part

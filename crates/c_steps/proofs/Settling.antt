@@ -1,7 +1,7 @@
 -- What stands next, where frames that are over go, and statements that the task goes past.
 use Rattle.std.proofs.Common.{◌≡◌, true, false, List, [], ◌∷◌, Some, None, slice_get, slice_set, ◌<◌, length, drop, take, refl, arith, sym, ap, ◌∙◌, subst, rules}
 use Rattle.std.proofs.lemmas.List.Elements.{All-cons, All-tail}
-use Rattle.c_syntax.specs.Numbered.{TreeView}
+use Rattle.c_syntax.specs.language.Numbered.{TreeView}
 use Rattle.c_model.specs.declared.entry.Entry.{Entry}
 use Rattle.c_model.specs.declared.view.View.{View}
 use Rattle.c_model.specs.Step.{is_passed_over, items_from_next, settled_task}

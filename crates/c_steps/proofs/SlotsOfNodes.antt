@@ -1,8 +1,8 @@
 -- The slots of names by the numbers of the nodes where they stand.
 use Rattle.std.proofs.Common.{◌≡◌, ℕ, ◌+◌, ◌<◌, [], ◌∷◌, ◌++◌, length, map, take, get_or}
 use Rattle.std.proofs.lemmas.List.{get_or-map, map_more}
-use Rattle.c_syntax.specs.Tree.{nothing}
-use Rattle.c_syntax.specs.Numbered.{TreeView, tree_at}
+use Rattle.c_syntax.specs.language.Tree.{nothing}
+use Rattle.c_syntax.specs.language.Numbered.{TreeView, tree_at}
 use Rattle.c_check.specs.Seen.{slot_of_name}
 
 -- the slots of the nodes up to one more

@@ -1,7 +1,7 @@
 -- What stands next where an item more does, if there is one.
 use Rattle.std.proofs.Common.{◌≡◌, ℕ, ℤ, ◌≤◌, false, List, [], ◌∷◌, ◌++◌, length, take, Option, Some, None, IfSome, refl}
 use Rattle.std.proofs.lemmas.List.Elements.{All-cons}
-use Rattle.c_syntax.specs.Numbered.{TreeView}
+use Rattle.c_syntax.specs.language.Numbered.{TreeView}
 use Rattle.c_model.specs.declared.entry.Entry.{Entry}
 use Rattle.c_model.specs.declared.view.View.{View}
 use Rattle.c_model.specs.Cells.{has_too_many, new_entry, with_cells}

@@ -1,6 +1,6 @@
 -- A step that is tried.
 use Rattle.std.proofs.Common.{◌≡◌, Result, Ok, Err, is_ok, sym}
-use Rattle.c_syntax.specs.Numbered.{TreeView}
+use Rattle.c_syntax.specs.language.Numbered.{TreeView}
 use Rattle.c_model.specs.Task.{Outcome, Store}
 use Rattle.c_steps.specs.declared.next.Next.{Next}
 use Rattle.c_steps.specs.declared.next.Next.TheVariants as next

@@ -2,9 +2,9 @@
 use Rattle.std.specs.Prelude.{◌≡◌, ℕ, zero, suc, if◌then◌else◌, Option, Some, None, is_some, unwrap_or, Result, ℤ, refl}
 use Rattle.std.specs.Option.{option_map}
 use Rattle.std.proofs.Common.{ap, ◌∙◌}
-use Rattle.c_syntax.specs.Tree.{Tree, Children, at_place, child_of, kind_of, name_of, number_of, nothing}
-use Rattle.c_syntax.specs.Tree.Tree.{Node}
-use Rattle.c_syntax.specs.Tree.Children.{Over, Child, Absent}
+use Rattle.c_syntax.specs.language.Tree.{Tree, Children, at_place, child_of, kind_of, name_of, number_of, nothing}
+use Rattle.c_syntax.specs.language.Tree.Tree.{Node}
+use Rattle.c_syntax.specs.language.Tree.Children.{Over, Child, Absent}
 use Rattle.c_model.specs.Cells.{entry_of}
 use Rattle.c_model.specs.Value.{Scope, cell_of, node_value, place_cell, value, value_at, values}
 

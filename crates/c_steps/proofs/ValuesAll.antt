@@ -1,8 +1,8 @@
 -- The values of the children of a node from a place on.
 use Rattle.std.specs.Prelude.{◌≡◌, ℕ, zero, suc, ◌+◌, List, [], ◌∷◌, Some, None, Result, Ok, Err, ℤ, refl}
 use Rattle.std.proofs.Common.{ap, sym, ◌∙◌, add-one}
-use Rattle.c_syntax.specs.Tree.{Tree, Children, at_place, child_of, children_of}
-use Rattle.c_syntax.specs.Tree.Children.{Over, Child, Absent}
+use Rattle.c_syntax.specs.language.Tree.{Tree, Children, at_place, child_of, children_of}
+use Rattle.c_syntax.specs.language.Tree.Children.{Over, Child, Absent}
 use Rattle.c_model.specs.Parts.{trees_in}
 use Rattle.c_model.specs.Value.{Scope, all_values, value, value_before}
 use Rattle.c_steps.specs.Arguments.{children_behind, parts_behind, values_in, without_values}

@@ -1,6 +1,6 @@
 -- What an advance leaves as it was, and what an event or a question is of.
 use Rattle.std.specs.Prelude.{◌≡◌}
-use Rattle.c_syntax.specs.Numbered.{TreeView, tree_at}
+use Rattle.c_syntax.specs.language.Numbered.{TreeView, tree_at}
 use Rattle.c_model.specs.declared.view.View.{View}
 use Rattle.c_model.specs.Occurring.{IsAskOfNext}
 use Rattle.c_model.specs.Step.{settled_task}

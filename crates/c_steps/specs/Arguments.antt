@@ -1,8 +1,8 @@
 -- The children of a node from a place on, and their values.
 use Rattle.std.specs.Prelude.{◌≡◌, ℕ, zero, suc, List, [], Result, Ok, Err, ℤ}
-use Rattle.c_syntax.specs.Tree.{Tree, Children, children_of}
-use Rattle.c_syntax.specs.Tree.Children.{Over, Child, Absent}
-use Rattle.c_syntax.specs.Numbered.{tree_at}
+use Rattle.c_syntax.specs.language.Tree.{Tree, Children, children_of}
+use Rattle.c_syntax.specs.language.Tree.Children.{Over, Child, Absent}
+use Rattle.c_syntax.specs.language.Numbered.{tree_at}
 use Rattle.c_model.specs.Parts.{trees_in}
 use Rattle.c_model.specs.Value.{all_values}
 use Rattle.c_steps.specs.Scopes.{scope_of}

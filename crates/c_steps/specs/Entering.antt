@@ -1,7 +1,7 @@
 -- A call that begins: its arguments, and the parameters that come into scope.
 use Rattle.std.specs.Prelude.{◌≡◌, ℕ, ◌+◌, ◌++◌, ◌≤◌, List, [], ◌∷◌, length, drop, take, Result, Ok, ℤ}
-use Rattle.c_syntax.specs.Tree.{Tree, name_of}
-use Rattle.c_syntax.specs.Numbered.{TreeView}
+use Rattle.c_syntax.specs.language.Tree.{Tree, name_of}
+use Rattle.c_syntax.specs.language.Numbered.{TreeView}
 use Rattle.c_model.specs.declared.view.View.{View}
 use Rattle.c_model.specs.Calls.{behind_first, first_or_zero}
 use Rattle.c_check.specs.Seen.{slot_of_name}

@@ -1,7 +1,7 @@
 -- The functions of a program in a list by the numbers of their names.
 use Rattle.std.specs.Prelude.{ℕ, ◌≡◌, if◌then◌else◌, List, Option, Some, None, slice_index_or}
-use Rattle.c_syntax.specs.Tree.{Tree}
-use Rattle.c_syntax.specs.Numbered.{TreeView, tree_at}
+use Rattle.c_syntax.specs.language.Tree.{Tree}
+use Rattle.c_syntax.specs.language.Numbered.{TreeView, tree_at}
 use Rattle.c_model.specs.Program.{function_among, function_named, is_function_named}
 use Rattle.c_steps.specs.Nodes.{IsPart, part_at}
 

@@ -1,6 +1,6 @@
 -- What a control is seen as, and the task's code that it stands for.
 use Rattle.std.specs.Prelude.{ℕ, List, ◌++◌, drop, take, Option, Result, Ok, Err, ℤ}
-use Rattle.c_syntax.specs.Numbered.{TreeView, tree_at}
+use Rattle.c_syntax.specs.language.Numbered.{TreeView, tree_at}
 use Rattle.c_model.specs.declared.entry.Entry.{Entry}
 use Rattle.c_model.specs.declared.view.View.{View}
 use Rattle.c_model.specs.Cells.{Bound}

@@ -1,8 +1,8 @@
 -- What is left of the variables that a construct's clauses list, from a place in its clauses on.
 use Rattle.std.specs.Prelude.{ℕ, ◌+◌, not, List, [], ◌∷◌, ◌++◌, map, Option, Some, None}
 use Rattle.std.specs.List.{filter}
-use Rattle.c_syntax.specs.Tree.{Tree, children_of, kind_of, name_of, number_of, spot_of, text_of}
-use Rattle.c_syntax.specs.Tree.Tree.{Node}
+use Rattle.c_syntax.specs.language.Tree.{Tree, children_of, kind_of, name_of, number_of, spot_of, text_of}
+use Rattle.c_syntax.specs.language.Tree.Tree.{Node}
 use Rattle.c_check.specs.Tasks.{from_place}
 use Rattle.c_model.specs.Clauses as clauses
 use Rattle.c_model.specs.Clauses.{Listed, clause_in, clauses_among, listed_among, names_listed}

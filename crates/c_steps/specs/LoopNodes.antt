@@ -2,7 +2,7 @@
 use Rattle.std.specs.Prelude.{List, ℤ, pos, neg_ℤ, ◌≤ℤ◌}
 use Rattle.c_syntax.specs.declared.node.BinaryOp.{BinaryOp}
 use Rattle.c_syntax.specs.declared.node.BinaryOp.TheVariants as binary
-use Rattle.c_syntax.specs.Tree.{Tree}
+use Rattle.c_syntax.specs.language.Tree.{Tree}
 use Rattle.c_check.specs.LoopParts.{LoopParts}
 use Rattle.c_steps.specs.declared.loops.LoopNodes.{LoopNodes}
 use Rattle.c_steps.specs.Nodes.{IsPart, part_at}

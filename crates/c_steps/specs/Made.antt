@@ -1,6 +1,6 @@
 -- When a control is of a program, and is left alone.
 use Rattle.std.specs.Prelude.{◌≡◌, ◌≤◌, [], None}
-use Rattle.c_syntax.specs.Numbered.{TreeView, root_tree}
+use Rattle.c_syntax.specs.language.Numbered.{TreeView, root_tree}
 use Rattle.c_model.specs.Parts.{parts}
 use Rattle.c_model.specs.Width.{IsWithin, most_of_functions}
 use Rattle.c_steps.specs.Held.{Held, task_at}

@@ -1,7 +1,7 @@
 -- The parts of trees by the numbers of their nodes. A part may be missing, and stands for an empty program then.
 use Rattle.std.specs.Prelude.{ℕ, ◌<◌, List, length, Option, Some, None}
-use Rattle.c_syntax.specs.Tree.{Tree, nothing}
-use Rattle.c_syntax.specs.Numbered.{tree_at}
+use Rattle.c_syntax.specs.language.Tree.{Tree, nothing}
+use Rattle.c_syntax.specs.language.Numbered.{tree_at}
 
 abbrev pub part_at : List Tree → Option ℕ → Tree
 part_at trees None = nothing

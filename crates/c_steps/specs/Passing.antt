@@ -1,6 +1,6 @@
 -- What an event is passed with.
 use Rattle.std.specs.Prelude.{ℕ, ◌+◌, ◌≡◌, ◌<◌, List, [], ◌∷◌, ◌++◌, length, take, Option}
-use Rattle.c_syntax.specs.Numbered.{TreeView, tree_at}
+use Rattle.c_syntax.specs.language.Numbered.{TreeView, tree_at}
 use Rattle.c_model.specs.declared.point.Point.{Point}
 use Rattle.c_model.specs.Occurring.{IsOfItem, IsTreeOf}
 use Rattle.c_model.specs.Task.{Item, Task}

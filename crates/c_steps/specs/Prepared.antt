@@ -1,6 +1,6 @@
 -- What a program that is made ready to run keeps beside its tree.
 use Rattle.std.specs.Prelude.{ℕ, ◌≡◌, List, Option, map}
-use Rattle.c_syntax.specs.Numbered.{TreeView, root_tree}
+use Rattle.c_syntax.specs.language.Numbered.{TreeView, root_tree}
 use Rattle.c_check.specs.Seen.{slot_of_name}
 use Rattle.c_model.specs.Calls.{file_bound}
 use Rattle.c_model.specs.Cells.{Bound}

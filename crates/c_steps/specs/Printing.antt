@@ -1,7 +1,7 @@
 -- What a `printf` prints, a byte of its pattern at a time.
 use Rattle.std.specs.Prelude.{ℕ, List, [], ◌∷◌, ℤ}
-use Rattle.c_syntax.specs.Tree.{text_of}
-use Rattle.c_syntax.specs.Numbered.{tree_at}
+use Rattle.c_syntax.specs.language.Tree.{text_of}
+use Rattle.c_syntax.specs.language.Numbered.{tree_at}
 use Rattle.c_model.specs.Text.{first_decimal, numbers_behind_first, printed_text, text_behind_backslash, text_behind_percent}
 use Rattle.c_steps.specs.Arguments.{numbers_behind}
 use Rattle.c_steps.specs.declared.scope.Scope.{Scope as Here}

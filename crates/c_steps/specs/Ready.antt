@@ -1,8 +1,8 @@
 -- What holds of the frames of a control, and where a step can be made.
 use Rattle.std.specs.Prelude.{ℕ, ◌+◌, ◌<◌, ◌≤◌, ◌≡◌, ◌^◌, ℤ, true, List, ◌∷◌, length}
 use Rattle.std.specs.List.{All}
-use Rattle.c_syntax.specs.Tree.{kind_of, name_of}
-use Rattle.c_syntax.specs.Numbered.{TreeView, tree_at}
+use Rattle.c_syntax.specs.language.Tree.{kind_of, name_of}
+use Rattle.c_syntax.specs.language.Numbered.{TreeView, tree_at}
 use Rattle.c_model.specs.declared.point.Work.{Work}
 use Rattle.c_model.specs.declared.point.Work.TheVariants as work
 use Rattle.c_model.specs.declared.point.Point.{Point}

@@ -1,7 +1,7 @@
 -- What is left of lists of parts, from a place on.
 use Rattle.std.specs.Prelude.{ℕ, ◌+◌, List, [], ◌∷◌, Option, Some, None, IfSome}
-use Rattle.c_syntax.specs.Tree.{Tree, children_of}
-use Rattle.c_syntax.specs.Numbered.{tree_at}
+use Rattle.c_syntax.specs.language.Tree.{Tree, children_of}
+use Rattle.c_syntax.specs.language.Numbered.{tree_at}
 use Rattle.c_check.specs.Tasks.{from_place}
 use Rattle.c_model.specs.Parts.{trees_in}
 use Rattle.c_model.specs.Clauses.{clauses_among, statements_among}

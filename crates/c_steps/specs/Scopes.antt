@@ -1,8 +1,8 @@
 -- What expressions are evaluated in.
 use Rattle.std.specs.Prelude.{ℕ, ◌<◌, ◌^◌, ◌++◌, Result, ℤ}
 use Rattle.std.specs.Option.{option_map}
-use Rattle.c_syntax.specs.Tree.{child_of}
-use Rattle.c_syntax.specs.Numbered.{tree_at}
+use Rattle.c_syntax.specs.language.Tree.{child_of}
+use Rattle.c_syntax.specs.language.Numbered.{tree_at}
 use Rattle.c_model.specs.declared.view.View.{View}
 use Rattle.c_model.specs.Value.{Scope, operand_value, value}
 use Rattle.c_steps.specs.declared.scope.Scope.{Scope as Here}

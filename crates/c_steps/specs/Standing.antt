@@ -1,6 +1,6 @@
 -- What a frame comes to, when what the task goes past is left out.
 use Rattle.std.specs.Prelude.{◌≡◌, false, List, [], ◌∷◌, slice_get, Option, Some, None}
-use Rattle.c_syntax.specs.Numbered.{TreeView}
+use Rattle.c_syntax.specs.language.Numbered.{TreeView}
 use Rattle.c_model.specs.declared.view.View.{View}
 use Rattle.c_model.specs.Step.{is_passed_over, items_from_next}
 use Rattle.c_model.specs.Upcoming.{upcoming_item}

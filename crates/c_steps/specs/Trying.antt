@@ -1,8 +1,8 @@
 -- A silent step that is tried: it was made, or nothing was done.
 use Rattle.std.specs.Prelude.{◌≡◌, ◌+◌, ◌<◌, Bool, true, false, List, [], ◌∷◌, ℕ, zero, suc, Some, None, drop, Ok, ℤ}
 use Rattle.c_syntax.specs.declared.node.Setting.{Setting}
-use Rattle.c_syntax.specs.Numbered.{TreeView}
-use Rattle.c_syntax.specs.Tree.{Tree}
+use Rattle.c_syntax.specs.language.Numbered.{TreeView}
+use Rattle.c_syntax.specs.language.Tree.{Tree}
 use Rattle.c_model.specs.declared.view.View.{View}
 use Rattle.c_model.specs.declared.upcoming.Upcoming.TheVariants as upcoming
 use Rattle.c_model.specs.Cells.{cell_at}

@@ -1,8 +1,8 @@
 -- How many names a program has in scope at most, by the numbers of its nodes, and how many one step brings into scope.
 use Rattle.std.specs.Prelude.{ℕ, ◌+◌, max, Bool, true, false, List, [], ◌∷◌, length, Option, Some, None, slice_index_or}
 use Rattle.std.specs.List.{count_by}
-use Rattle.c_syntax.specs.Tree.{Tree, kind_of}
-use Rattle.c_syntax.specs.Numbered.{TreeView}
+use Rattle.c_syntax.specs.language.Tree.{Tree, kind_of}
+use Rattle.c_syntax.specs.language.Numbered.{TreeView}
 use Rattle.c_model.specs.Clauses.{clauses_of, listed_among}
 use Rattle.c_model.specs.Parts.{parts}
 use Rattle.c_model.specs.Task.{is_declarator}

@@ -1,8 +1,8 @@
 //! A checked program that is made ready to run.
 
 ghost use Rattle.std.specs.Prelude.{◌≡◌, ◌<◌, ◌+◌, length, is_some, pos, IfOk, IfSome};
-ghost use Rattle.c_syntax.specs.Tree.{kind_of, name_of, number_of};
-ghost use Rattle.c_syntax.specs.Numbered.{root_tree, tree_at};
+ghost use Rattle.c_syntax.specs.language.Tree.{kind_of, name_of, number_of};
+ghost use Rattle.c_syntax.specs.language.Numbered.{root_tree, tree_at};
 ghost use Rattle.c_check.specs.Loops.{child_at};
 ghost use Rattle.c_check.specs.Seen.{slot_of_name};
 ghost use Rattle.c_model.specs.Calls.{file_bound};
@@ -40,8 +40,8 @@ pub struct Code {
 }
 
 impl Model for Code {
-    ghost use Rattle.c_syntax.specs.Numbered.{TreeView};
-    ghost use Rattle.c_syntax.specs.Codes.{tree_view_code};
+    ghost use Rattle.c_syntax.specs.language.Numbered.{TreeView};
+    ghost use Rattle.c_syntax.specs.workings.Codes.{tree_view_code};
 
     ghost Value = { TreeView };
 

@@ -1,7 +1,7 @@
 //! A construct's own copies of variables: how many cells they have, and how they are made.
 
 ghost use Rattle.std.specs.Prelude.{◌≡◌, ◌+◌, ◌-◌, ◌<◌, ◌≤◌, length, min, take};
-ghost use Rattle.c_syntax.specs.Numbered.{tree_at};
+ghost use Rattle.c_syntax.specs.language.Numbered.{tree_at};
 ghost use Rattle.c_model.specs.Cells.{entry_at_slot, entry_of, new_entry};
 ghost use Rattle.c_model.specs.Clauses.Copying.{First};
 ghost use Rattle.c_model.specs.Copies as copies;

@@ -2,7 +2,7 @@
 
 ghost use Rattle.std.specs.Prelude.{◌≡◌, ◌<◌, ◌≤◌, ◌++◌, [], ◌∷◌, length, pos, replicate, IfOk, OnOk};
 ghost use Rattle.c_syntax.specs.declared.node.NodeKind.TheVariants.{GlobalSet as global_set};
-ghost use Rattle.c_syntax.specs.Numbered.{tree_at};
+ghost use Rattle.c_syntax.specs.language.Numbered.{tree_at};
 ghost use Rattle.c_model.specs.Calls.{file_bound};
 ghost use Rattle.c_model.specs.Cells as cells;
 ghost use Rattle.c_model.specs.Cells.{with_declarator, with_declarators};

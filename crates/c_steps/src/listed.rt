@@ -1,8 +1,8 @@
 //! The variables that the clauses of a construct list.
 
 ghost use Rattle.std.specs.Prelude.{◌≡◌, ◌+◌, ◌<◌, length, IfOk, IfSome};
-ghost use Rattle.c_syntax.specs.Tree.{Tree as syntax_tree, kind_of};
-ghost use Rattle.c_syntax.specs.Numbered.{tree_at};
+ghost use Rattle.c_syntax.specs.language.Tree.{Tree as syntax_tree, kind_of};
+ghost use Rattle.c_syntax.specs.language.Numbered.{tree_at};
 ghost use Rattle.c_model.specs.Clauses.{clauses_of, listed_among, listed_by};
 ghost use Rattle.c_model.specs.Copies as copies;
 ghost use Rattle.c_model.specs.Loops.{loop_of};

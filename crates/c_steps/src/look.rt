@@ -1,8 +1,8 @@
 //! What a frame says of what stands next.
 
 ghost use Rattle.std.specs.Prelude.{◌≡◌, ◌<◌, ◌+◌, ◌∷◌, [], length, IfNone, IfSome};
-ghost use Rattle.c_syntax.specs.Tree.{kind_of};
-ghost use Rattle.c_syntax.specs.Numbered.{tree_at};
+ghost use Rattle.c_syntax.specs.language.Tree.{kind_of};
+ghost use Rattle.c_syntax.specs.language.Numbered.{tree_at};
 ghost use Rattle.c_steps.specs.Items.{declarators_from, item_at};
 ghost use Rattle.c_steps.specs.Looking.{Looks};
 ghost use Rattle.c_steps.specs.Ready.{IsFrame, IsItem};

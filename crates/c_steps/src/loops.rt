@@ -1,8 +1,8 @@
 //! The loop that a construct shares out.
 
 ghost use Rattle.std.specs.Prelude.{◌≡◌, ◌<◌, ℕ, List, length, nat_abs};
-ghost use Rattle.c_syntax.specs.Tree.{Tree as Part};
-ghost use Rattle.c_syntax.specs.Numbered.{tree_at};
+ghost use Rattle.c_syntax.specs.language.Tree.{Tree as Part};
+ghost use Rattle.c_syntax.specs.language.Numbered.{tree_at};
 ghost use Rattle.c_check.specs.SharedLoops.{IsBefore, loop_at};
 ghost use Rattle.c_model.specs.Loops as loops;
 ghost use Rattle.c_steps.specs.LoopNodes.{AreParts, GoesOn, parts_at};

@@ -1,7 +1,7 @@
 //! The parts of a tree by the numbers of their nodes. A part that is missing is that of an empty program.
 
 ghost use Rattle.std.specs.Prelude.{◌≡◌, ◌<◌, ◌+◌, length, is_some, pos, IfSome};
-ghost use Rattle.c_syntax.specs.Tree.{kind_of, name_of, number_of};
+ghost use Rattle.c_syntax.specs.language.Tree.{kind_of, name_of, number_of};
 ghost use Rattle.c_check.specs.Loops.{child_at};
 ghost use Rattle.c_model.specs.Parts.{has_child, parts};
 ghost use Rattle.c_model.specs.Task as tasks;

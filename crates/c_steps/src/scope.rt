@@ -2,7 +2,7 @@
 
 ghost use Rattle.std.specs.Prelude.{◌≡◌, ◌<◌, ◌≤◌, ◌++◌, length, pos, IfOk, IfSome, Ok};
 ghost use Rattle.std.specs.Option.{unwrap_or};
-ghost use Rattle.c_syntax.specs.Numbered.{tree_at};
+ghost use Rattle.c_syntax.specs.language.Numbered.{tree_at};
 ghost use Rattle.c_model.specs.declared.entry.Entry.{Entry as SeenEntry};
 ghost use Rattle.c_model.specs.declared.limits.TheConstants.{CELL_LIMIT};
 ghost use Rattle.c_model.specs.Cells.{cell_at, entry_at_slot, entry_of, first_named, last_named, last_of_slot, no_entry};

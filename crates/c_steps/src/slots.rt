@@ -1,7 +1,7 @@
 //! The slots of the names of a program, by the numbers of its nodes.
 
 ghost use Rattle.std.specs.Prelude.{◌≡◌, ◌<◌, length, map, IfOk};
-ghost use Rattle.c_syntax.specs.Numbered.{tree_at};
+ghost use Rattle.c_syntax.specs.language.Numbered.{tree_at};
 ghost use Rattle.c_check.specs.Seen.{slot_of_name};
 
 use c_check::Program;

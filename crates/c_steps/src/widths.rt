@@ -1,8 +1,8 @@
 //! How many names a program has in scope at most, and how many one step brings into scope.
 
 ghost use Rattle.std.specs.Prelude.{◌≡◌, ◌<◌, length, map, take, IfOk};
-ghost use Rattle.c_syntax.specs.Tree.{children_of, kind_of};
-ghost use Rattle.c_syntax.specs.Numbered.{root_tree, tree_at};
+ghost use Rattle.c_syntax.specs.language.Tree.{children_of, kind_of};
+ghost use Rattle.c_syntax.specs.language.Numbered.{root_tree, tree_at};
 ghost use Rattle.c_model.specs.Parts.{declarators_in, flat_declarations, parts};
 ghost use Rattle.c_model.specs.Width as widths;
 ghost use Rattle.c_steps.specs.Nodes.{IsPart};

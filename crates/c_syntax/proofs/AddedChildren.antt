@@ -1,8 +1,8 @@
 -- Children that are added to a node one after another, and the node that is made of them.
 use Rattle.std.proofs.Common.{◌≡◌, List, [], ◌∷◌, ◌++◌, Option, Some, None, refl}
-use Rattle.c_syntax.specs.Tree.{Tree, Children, before}
-use Rattle.c_syntax.specs.Derivation.{Opened}
-use Rattle.c_syntax.specs.Productions.{maybe}
+use Rattle.c_syntax.specs.language.Tree.{Tree, Children, before}
+use Rattle.c_syntax.specs.workings.Derivation.{Opened}
+use Rattle.c_syntax.specs.language.Productions.{maybe}
 use Rattle.c_syntax.proofs.Pushing.{all_added, plus}
 
 -- what is added behind others is added with them

@@ -3,20 +3,20 @@ use Rattle.std.proofs.Common.{ℕ, zero, suc, ◌≡◌, ◌≤◌, ◌<◌, Lis
 use Rattle.std.proofs.lemmas.Bool.{cases_Bool, cases_lt}
 use Rattle.std.proofs.lemmas.List.{append_assoc}
 use Rattle.c_tokens.specs.declared.token.Token.{Token}
-use Rattle.c_tokens.specs.Tokens.{tokens_of}
+use Rattle.c_tokens.specs.workings.Tokens.{tokens_of}
 use Rattle.c_syntax.specs.declared.node.NodeKind.TheVariants as node
 use Rattle.c_syntax.specs.declared.term.Term.TheVariants as term
 use Rattle.c_syntax.specs.declared.grammar.Step.{Step}
 use Rattle.c_syntax.specs.declared.grammar.Step.TheVariants.{Expect, Deepen, Rise, Take, InHead, Read, Open, Make, Join, Wrap, Skip}
 use Rattle.c_syntax.specs.declared.fault.SyntaxFault.{SyntaxFault}
 use Rattle.c_syntax.specs.declared.fault.SyntaxFault.TheVariants as fault
-use Rattle.c_syntax.specs.Words.{Word, words_of}
-use Rattle.c_syntax.specs.Grammar.{choice}
-use Rattle.c_syntax.specs.Productions.{depth_limit}
-use Rattle.c_syntax.specs.WordClasses.{is_outside}
-use Rattle.c_syntax.specs.Derivation.{fits, made, result_of}
-use Rattle.c_syntax.specs.Faults.{IsAnswered, IsFault, fault_of}
-use Rattle.c_syntax.specs.Reading.{Faces, Reaches, State, weight}
+use Rattle.c_syntax.specs.language.Words.{Word, words_of}
+use Rattle.c_syntax.specs.workings.Grammar.{choice}
+use Rattle.c_syntax.specs.language.Productions.{depth_limit}
+use Rattle.c_syntax.specs.language.WordClasses.{is_outside}
+use Rattle.c_syntax.specs.workings.Derivation.{fits, made, result_of}
+use Rattle.c_syntax.specs.language.Faults.{IsAnswered, IsFault, fault_of}
+use Rattle.c_syntax.specs.workings.Reading.{Faces, Reaches, State, weight}
 use Rattle.c_syntax.proofs.Terms.{same-or-not}
 use Rattle.c_syntax.proofs.WordLists.{words_of-end}
 use Rattle.c_syntax.proofs.Weights.{lighter-in_head, lighter-plain, lighter-read}

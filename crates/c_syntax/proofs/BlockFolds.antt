@@ -12,12 +12,12 @@ use Rattle.c_syntax.specs.declared.node.Standalone.{Standalone}
 use Rattle.c_syntax.specs.declared.node.Standalone.TheVariants as standalone
 use Rattle.c_syntax.specs.declared.term.Term.{Term}
 use Rattle.c_syntax.specs.declared.term.Term.TheVariants as term
-use Rattle.c_syntax.specs.Words.{Word}
-use Rattle.c_syntax.specs.Tree.{Tree, before}
-use Rattle.c_syntax.specs.Tree.Children.{Over, Child, Absent}
-use Rattle.c_syntax.specs.Grammar.{choice}
-use Rattle.c_syntax.specs.Derivation.{Opened, made, opened_at, with_child}
-use Rattle.c_syntax.specs.Productions.{Block, ConditionPart, Construct, Expression, FirstPart, Is, Items, NoElse, Statement, StepPart, Value, kids, made_at, maybe, standalone_word}
+use Rattle.c_syntax.specs.language.Words.{Word}
+use Rattle.c_syntax.specs.language.Tree.{Tree, before}
+use Rattle.c_syntax.specs.language.Tree.Children.{Over, Child, Absent}
+use Rattle.c_syntax.specs.workings.Grammar.{choice}
+use Rattle.c_syntax.specs.workings.Derivation.{Opened, made, opened_at, with_child}
+use Rattle.c_syntax.specs.language.Productions.{Block, ConditionPart, Construct, Expression, FirstPart, Is, Items, NoElse, Statement, StepPart, Value, kids, made_at, maybe, standalone_word}
 use Rattle.c_syntax.proofs.CallMeaning.{ReadsCondition, ReadsFirst, ReadsStatement, ReadsThird}
 use Rattle.c_syntax.proofs.CallRows.{by_name}
 use Rattle.c_syntax.proofs.ClauseFolds.{Does, did}

@@ -5,11 +5,11 @@ use Rattle.c_syntax.specs.declared.head.Head.{Head}
 use Rattle.c_syntax.specs.declared.head.Head.TheVariants as head
 use Rattle.c_syntax.specs.declared.node.Setting.TheVariants as setting
 use Rattle.c_syntax.specs.declared.node.NodeKind.TheVariants as node
-use Rattle.c_syntax.specs.Words.{Word}
-use Rattle.c_syntax.specs.Tree.{Tree, over_one, over_two}
-use Rattle.c_syntax.specs.WordClasses.{is_name}
-use Rattle.c_syntax.specs.Derivation.{Opened, keep, opened_at, with_child}
-use Rattle.c_syntax.specs.Productions.{ArgumentsPart, Call, ConditionPart, Expression, FirstPart, Local, Locals, Locks, MoreArguments, MoreLocals, MoreNames, Place, Statement, StepOf, StepPart, Value}
+use Rattle.c_syntax.specs.language.Words.{Word}
+use Rattle.c_syntax.specs.language.Tree.{Tree, over_one, over_two}
+use Rattle.c_syntax.specs.language.WordClasses.{is_name}
+use Rattle.c_syntax.specs.workings.Derivation.{Opened, keep, opened_at, with_child}
+use Rattle.c_syntax.specs.language.Productions.{ArgumentsPart, Call, ConditionPart, Expression, FirstPart, Local, Locals, Locks, MoreArguments, MoreLocals, MoreNames, Place, Statement, StepOf, StepPart, Value}
 use Rattle.c_syntax.proofs.Effects.{Effect}
 use Rattle.c_syntax.proofs.Pushing.{plus}
 use Rattle.c_syntax.proofs.Standing.{AddsAll, AddsMaybe, AddsOne}

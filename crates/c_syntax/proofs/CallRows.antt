@@ -6,12 +6,12 @@ use Rattle.c_syntax.specs.declared.head.Head.TheVariants as head
 use Rattle.c_syntax.specs.declared.node.NodeKind.TheVariants as node
 use Rattle.c_syntax.specs.declared.term.Term.{Term}
 use Rattle.c_syntax.specs.declared.term.Term.TheVariants as term
-use Rattle.c_syntax.specs.Heads.{behind_outside}
-use Rattle.c_syntax.specs.Words.{Word}
-use Rattle.c_syntax.specs.Tree.{Tree}
-use Rattle.c_syntax.specs.WordClasses.{is_name}
-use Rattle.c_syntax.specs.Derivation.{Opened, keep, kept, opened_at, with_child}
-use Rattle.c_syntax.specs.Productions.{ArgumentsPart, Call, Lock, MoreArguments, Value, kids, made_at, named_at}
+use Rattle.c_syntax.specs.language.Heads.{behind_outside}
+use Rattle.c_syntax.specs.language.Words.{Word}
+use Rattle.c_syntax.specs.language.Tree.{Tree}
+use Rattle.c_syntax.specs.language.WordClasses.{is_name}
+use Rattle.c_syntax.specs.workings.Derivation.{Opened, keep, kept, opened_at, with_child}
+use Rattle.c_syntax.specs.language.Productions.{ArgumentsPart, Call, Lock, MoreArguments, Value, kids, made_at, named_at}
 use Rattle.c_syntax.proofs.CallMeaning.{BehindName, Named, ReadsAfterRightName, ReadsArgs, ReadsMoreArgs, ReadsRight}
 use Rattle.c_syntax.proofs.Effects.{Effect, Expects, Takes, Opens, Makes}
 use Rattle.c_syntax.proofs.ExpressionFolds.{ReadsIndex, ReadsRanked, ReadsTail, expression-behind_name, expression-read}

@@ -8,9 +8,9 @@ use Rattle.c_syntax.specs.declared.node.Bump.TheVariants as bump
 use Rattle.c_syntax.specs.declared.node.Setting.TheVariants as setting
 use Rattle.c_syntax.specs.declared.term.Term.{Term}
 use Rattle.c_syntax.specs.declared.term.Term.TheVariants as term
-use Rattle.c_syntax.specs.Words.{Word}
-use Rattle.c_syntax.specs.Grammar.{choice}
-use Rattle.c_syntax.specs.Derivation.{Opened}
+use Rattle.c_syntax.specs.language.Words.{Word}
+use Rattle.c_syntax.specs.workings.Grammar.{choice}
+use Rattle.c_syntax.specs.workings.Derivation.{Opened}
 use Rattle.c_syntax.proofs.CallRows.{args_none, args_some, more_args_none, more_args_some, right_expression, right_named, right_named_call, right_named_place, right_test}
 use Rattle.c_syntax.proofs.DeclaredRows.{local_array, local_plain, local_set, locals_all, locks_all, more_locals_none, more_locals_some, more_locks_none, more_locks_some}
 use Rattle.c_syntax.proofs.Effects.{Effect, Folds, IsFolded, folds-by}

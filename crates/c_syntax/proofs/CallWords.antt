@@ -7,10 +7,10 @@ use Rattle.c_syntax.specs.declared.grammar.Step.TheVariants.{Expect, Take, Read,
 use Rattle.c_syntax.specs.declared.head.Head.TheVariants as head
 use Rattle.c_syntax.specs.declared.node.NodeKind.TheVariants as node
 use Rattle.c_syntax.specs.declared.term.Term.TheVariants as term
-use Rattle.c_syntax.specs.Words.{Word}
-use Rattle.c_syntax.specs.Tree.{Tree}
-use Rattle.c_syntax.specs.Derivation.{Derives, Opened, keep, kept, opened_at}
-use Rattle.c_syntax.specs.Productions.{ArgumentsPart, Call, Is, Lock, MoreArguments, Value, kids, made_at, named_at}
+use Rattle.c_syntax.specs.language.Words.{Word}
+use Rattle.c_syntax.specs.language.Tree.{Tree}
+use Rattle.c_syntax.specs.workings.Derivation.{Derives, Opened, keep, kept, opened_at}
+use Rattle.c_syntax.specs.language.Productions.{ArgumentsPart, Call, Is, Lock, MoreArguments, Value, kids, made_at, named_at}
 use Rattle.c_syntax.proofs.Expressions.{expression_derives}
 use Rattle.c_syntax.proofs.FirstSteps.{args_expression, right_by_name, right_expression}
 use Rattle.c_syntax.proofs.FirstWords.{expression-begins}

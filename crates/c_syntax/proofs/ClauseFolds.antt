@@ -19,14 +19,14 @@ use Rattle.c_syntax.specs.declared.node.ScheduleKind.{ScheduleKind}
 use Rattle.c_syntax.specs.declared.node.ScheduleKind.TheVariants as schedule
 use Rattle.c_syntax.specs.declared.term.Term.{Term}
 use Rattle.c_syntax.specs.declared.term.Term.TheVariants as term
-use Rattle.c_syntax.specs.Heads.{behind_inside}
-use Rattle.c_syntax.specs.Words.{Word}
-use Rattle.c_syntax.specs.Tree.{Tree, over_one}
-use Rattle.c_syntax.specs.Tree.Tree.{Node}
-use Rattle.c_syntax.specs.Tree.Children.{Over}
-use Rattle.c_syntax.specs.Grammar.{choice, given}
-use Rattle.c_syntax.specs.Derivation.{Opened, is_number, opened_at, with_child}
-use Rattle.c_syntax.specs.Productions.{Chunk, Clause, Clauses, Expression, Is, IsName, MoreNames, Names, data_word, default_word, has_data, has_default, has_if, has_nowait, has_num_threads, has_private, has_reduction, has_schedule, in_head, kids, kind_word, made_at, name_node, operator_word}
+use Rattle.c_syntax.specs.language.Heads.{behind_inside}
+use Rattle.c_syntax.specs.language.Words.{Word}
+use Rattle.c_syntax.specs.language.Tree.{Tree, over_one}
+use Rattle.c_syntax.specs.language.Tree.Tree.{Node}
+use Rattle.c_syntax.specs.language.Tree.Children.{Over}
+use Rattle.c_syntax.specs.workings.Grammar.{choice, given}
+use Rattle.c_syntax.specs.workings.Derivation.{Opened, is_number, opened_at, with_child}
+use Rattle.c_syntax.specs.language.Productions.{Chunk, Clause, Clauses, Expression, Is, IsName, MoreNames, Names, data_word, default_word, has_data, has_default, has_if, has_nowait, has_num_threads, has_private, has_reduction, has_schedule, in_head, kids, kind_word, made_at, name_node, operator_word}
 use Rattle.c_syntax.proofs.ClauseWords.{stays_inside}
 use Rattle.c_syntax.proofs.Effects.{Effect, Expects, Folds, Makes, Opens, Runs, Takes}
 use Rattle.c_syntax.proofs.HeadMeaning.{ReadsChunk, ReadsDefaultWord, ReadsKind, ReadsMoreNames, ReadsNames, ReadsOperator}

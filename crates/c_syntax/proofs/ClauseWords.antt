@@ -20,13 +20,13 @@ use Rattle.c_syntax.specs.declared.node.ScheduleKind.TheVariants as schedule
 use Rattle.c_syntax.specs.declared.term.Term.{Term}
 use Rattle.c_syntax.specs.declared.term.Term.TheVariants as term
 use Rattle.c_tokens.specs.declared.token.Spot.{Spot}
-use Rattle.c_syntax.specs.Heads.{behind_inside}
-use Rattle.c_syntax.specs.Words.{Word}
-use Rattle.c_syntax.specs.Tree.{Tree}
-use Rattle.c_syntax.specs.Tree.Tree.{Node}
-use Rattle.c_syntax.specs.WordClasses.{is_word}
-use Rattle.c_syntax.specs.Derivation.{Derives, Opened, is_number, name_in, opened_at, with_child}
-use Rattle.c_syntax.specs.Productions.{Chunk, Clause, Clauses, Is, IsName, MoreNames, Names, in_head, kids, kind_word, name_node, operator_word}
+use Rattle.c_syntax.specs.language.Heads.{behind_inside}
+use Rattle.c_syntax.specs.language.Words.{Word}
+use Rattle.c_syntax.specs.language.Tree.{Tree}
+use Rattle.c_syntax.specs.language.Tree.Tree.{Node}
+use Rattle.c_syntax.specs.language.WordClasses.{is_word}
+use Rattle.c_syntax.specs.workings.Derivation.{Derives, Opened, is_number, name_in, opened_at, with_child}
+use Rattle.c_syntax.specs.language.Productions.{Chunk, Clause, Clauses, Is, IsName, MoreNames, Names, in_head, kids, kind_word, name_node, operator_word}
 use Rattle.c_syntax.proofs.Expressions.{expression_derives}
 use Rattle.c_syntax.proofs.Onward.{expect_word, given_holds, nodes_same, read_word, take_word}
 use Rattle.c_syntax.proofs.Pushing.{all_added, is_end, made-pushed}

@@ -15,13 +15,13 @@ use Rattle.c_syntax.specs.declared.grammar.Step.{Step}
 use Rattle.c_syntax.specs.declared.grammar.Step.TheVariants.{Expect, Deepen, Rise, Take, InHead, Read, Open, Make, Join, Wrap, Skip}
 use Rattle.c_syntax.specs.declared.head.Head.{Head}
 use Rattle.c_syntax.specs.declared.head.Head.TheVariants as head
-use Rattle.c_syntax.specs.Heads.{behind}
-use Rattle.c_syntax.specs.Words.{Word}
-use Rattle.c_syntax.specs.Tree.{Tree}
-use Rattle.c_syntax.specs.Grammar.{choice}
-use Rattle.c_tokens.specs.Faults.{nowhere}
-use Rattle.c_syntax.specs.Derivation.{Derives, Opened, fits, kept, made, joined, wrapped, skipped, opened_at, result_of, program_steps}
-use Rattle.c_syntax.specs.Closing.{opener, sample, opens, followers, IsAmong, is_shallow, is_plain, last_steps, IsHeld, IsLeft}
+use Rattle.c_syntax.specs.language.Heads.{behind}
+use Rattle.c_syntax.specs.language.Words.{Word}
+use Rattle.c_syntax.specs.language.Tree.{Tree}
+use Rattle.c_syntax.specs.workings.Grammar.{choice}
+use Rattle.c_tokens.specs.language.Faults.{nowhere}
+use Rattle.c_syntax.specs.workings.Derivation.{Derives, Opened, fits, kept, made, joined, wrapped, skipped, opened_at, result_of, program_steps}
+use Rattle.c_syntax.specs.workings.Closing.{opener, sample, opens, followers, IsAmong, is_shallow, is_plain, last_steps, IsHeld, IsLeft}
 use Rattle.c_syntax.proofs.Terms.{same, same-true, every, every-among, both-left, both-right}
 
 abbrev word_of : Term → Word

@@ -7,14 +7,14 @@ use Rattle.c_syntax.specs.declared.head.Head.TheVariants as head
 use Rattle.c_syntax.specs.declared.node.NodeKind.TheVariants as node
 use Rattle.c_syntax.specs.declared.term.Term.{Term}
 use Rattle.c_syntax.specs.declared.term.Term.TheVariants as term
-use Rattle.c_syntax.specs.Heads.{behind_outside}
-use Rattle.c_syntax.specs.Words.{Word}
-use Rattle.c_syntax.specs.Tree.{Tree}
-use Rattle.c_syntax.specs.Tree.Tree.{Node}
-use Rattle.c_syntax.specs.Tree.Children.{Over}
-use Rattle.c_syntax.specs.WordClasses.{is_name}
-use Rattle.c_syntax.specs.Derivation.{Opened, is_number, keep, opened_at, with_child}
-use Rattle.c_syntax.specs.Productions.{Local, Locals, Locks, MoreLocals, MoreNames, Names, Size, kids, made_at, name_node, named_at}
+use Rattle.c_syntax.specs.language.Heads.{behind_outside}
+use Rattle.c_syntax.specs.language.Words.{Word}
+use Rattle.c_syntax.specs.language.Tree.{Tree}
+use Rattle.c_syntax.specs.language.Tree.Tree.{Node}
+use Rattle.c_syntax.specs.language.Tree.Children.{Over}
+use Rattle.c_syntax.specs.language.WordClasses.{is_name}
+use Rattle.c_syntax.specs.workings.Derivation.{Opened, is_number, keep, opened_at, with_child}
+use Rattle.c_syntax.specs.language.Productions.{Local, Locals, Locks, MoreLocals, MoreNames, Names, Size, kids, made_at, name_node, named_at}
 use Rattle.c_syntax.proofs.CallMeaning.{Named, ReadsLocal, ReadsLocalRest, ReadsLocals, ReadsLocks, ReadsMoreLocals, ReadsMoreLocks, ReadsRight}
 use Rattle.c_syntax.proofs.CallRows.{by_name, name_taken}
 use Rattle.c_syntax.proofs.Effects.{Effect, Expects, Takes, Opens, Makes}

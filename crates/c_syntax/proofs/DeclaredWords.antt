@@ -8,11 +8,11 @@ use Rattle.c_syntax.specs.declared.head.Head.TheVariants as head
 use Rattle.c_syntax.specs.declared.node.NodeKind.TheVariants as node
 use Rattle.c_syntax.specs.declared.term.Term.{Term}
 use Rattle.c_syntax.specs.declared.term.Term.TheVariants as term
-use Rattle.c_syntax.specs.Words.{Word}
-use Rattle.c_syntax.specs.Tree.{Tree}
-use Rattle.c_syntax.specs.Grammar.{local_rest}
-use Rattle.c_syntax.specs.Derivation.{Derives, Opened, opened_at}
-use Rattle.c_syntax.specs.Productions.{Local, Locals, Locks, MoreLocals, MoreNames, Names, Size, name_node}
+use Rattle.c_syntax.specs.language.Words.{Word}
+use Rattle.c_syntax.specs.language.Tree.{Tree}
+use Rattle.c_syntax.specs.workings.Grammar.{local_rest}
+use Rattle.c_syntax.specs.workings.Derivation.{Derives, Opened, opened_at}
+use Rattle.c_syntax.specs.language.Productions.{Local, Locals, Locks, MoreLocals, MoreNames, Names, Size, name_node}
 use Rattle.c_syntax.proofs.CallWords.{value_derives}
 use Rattle.c_syntax.proofs.OutsideSteps.{expect, make, pick, read_term, read_where, take_name, take_number}
 use Rattle.c_syntax.proofs.Pushing.{Ends, all_added, is_end, plus}

@@ -1,7 +1,7 @@
 -- The number that digits write.
 use Rattle.std.proofs.Common.{ℕ, ◌+◌, ◌-◌, ◌*◌, ◌<◌, ◌≤◌, List, length, take, drop, get_or, arith}
 use Rattle.std.proofs.lemmas.List.Sums.{fold_more}
-use Rattle.c_tokens.specs.Words.{decimal_value}
+use Rattle.c_tokens.specs.language.Words.{decimal_value}
 use Rattle.c_tokens.proofs.Reading.{fold-grows, fold-take}
 
 -- no front of the digits writes a greater one

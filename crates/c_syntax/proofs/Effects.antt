@@ -8,12 +8,12 @@ use Rattle.c_syntax.specs.declared.grammar.Sort.{Sort}
 use Rattle.c_syntax.specs.declared.grammar.Step.{Step}
 use Rattle.c_syntax.specs.declared.grammar.Step.TheVariants.{Expect, Deepen, Rise, Take, InHead, Read, Open, Make, Join, Wrap, Skip}
 use Rattle.c_syntax.specs.declared.head.Head.{Head}
-use Rattle.c_syntax.specs.Heads.{behind}
-use Rattle.c_syntax.specs.Words.{Word}
-use Rattle.c_syntax.specs.Tree.{Tree}
-use Rattle.c_syntax.specs.Grammar.{choice}
-use Rattle.c_syntax.specs.WordClasses.{is_outside}
-use Rattle.c_syntax.specs.Derivation.{Derives, Opened, fits, kept, made, joined, wrapped, skipped, opened_at, result_of}
+use Rattle.c_syntax.specs.language.Heads.{behind}
+use Rattle.c_syntax.specs.language.Words.{Word}
+use Rattle.c_syntax.specs.language.Tree.{Tree}
+use Rattle.c_syntax.specs.workings.Grammar.{choice}
+use Rattle.c_syntax.specs.language.WordClasses.{is_outside}
+use Rattle.c_syntax.specs.workings.Derivation.{Derives, Opened, fits, kept, made, joined, wrapped, skipped, opened_at, result_of}
 
 -- what is to hold at a depth, a head, words and open nodes
 abbrev pub Effect : Type 1

@@ -11,13 +11,13 @@ use Rattle.c_syntax.specs.declared.node.Getter.TheVariants as getter
 use Rattle.c_syntax.specs.declared.node.NodeKind.TheVariants as kind
 use Rattle.c_syntax.specs.declared.term.Term.{Term}
 use Rattle.c_syntax.specs.declared.term.Term.TheVariants as term
-use Rattle.c_syntax.specs.Heads.{behind}
-use Rattle.c_syntax.specs.Words.{Word}
-use Rattle.c_syntax.specs.Tree.{Tree, Children, over_two}
-use Rattle.c_syntax.specs.Tree.Children.{Over}
-use Rattle.c_syntax.specs.WordClasses.{is_name, is_word, is_outside, is_name_at, is_getter}
-use Rattle.c_syntax.specs.Derivation.{Opened, keep, opened_at, with_child, closed}
-use Rattle.c_syntax.specs.Productions.{IndexPart, Is, Operand, Place, Ranked, kids, made_at, rank_of, sign_of, unary_sign}
+use Rattle.c_syntax.specs.language.Heads.{behind}
+use Rattle.c_syntax.specs.language.Words.{Word}
+use Rattle.c_syntax.specs.language.Tree.{Tree, Children, over_two}
+use Rattle.c_syntax.specs.language.Tree.Children.{Over}
+use Rattle.c_syntax.specs.language.WordClasses.{is_name, is_word, is_outside, is_name_at, is_getter}
+use Rattle.c_syntax.specs.workings.Derivation.{Opened, keep, opened_at, with_child, closed}
+use Rattle.c_syntax.specs.language.Productions.{IndexPart, Is, Operand, Place, Ranked, kids, made_at, rank_of, sign_of, unary_sign}
 use Rattle.c_syntax.proofs.Pushing.{is_steady, pushed, tree_with, closed-pushed}
 use Rattle.c_syntax.proofs.Expressions.{around, getter-inner, inside_of, name-inner, rank-low, sign-inner, stays, unary-inner}
 use Rattle.c_syntax.proofs.Effects.{expected, Effect, Expects, Deepens, Rises, Takes, InHeads, Opens, Makes, Joins}

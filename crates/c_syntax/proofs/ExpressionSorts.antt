@@ -10,9 +10,9 @@ use Rattle.c_syntax.specs.declared.grammar.Sort.{Sort}
 use Rattle.c_syntax.specs.declared.grammar.Sort.TheVariants as sort
 use Rattle.c_syntax.specs.declared.term.Term.{Term}
 use Rattle.c_syntax.specs.declared.term.Term.TheVariants as term
-use Rattle.c_syntax.specs.Words.{Word}
-use Rattle.c_syntax.specs.Grammar.{choice}
-use Rattle.c_syntax.specs.Derivation.{Opened}
+use Rattle.c_syntax.specs.language.Words.{Word}
+use Rattle.c_syntax.specs.workings.Grammar.{choice}
+use Rattle.c_syntax.specs.workings.Derivation.{Opened}
 use Rattle.c_syntax.proofs.Effects.{Effect, Folds, IsFolded, folds-by}
 use Rattle.c_syntax.proofs.ExpressionFolds.{ReadsAfterGetter, ReadsIndex, ReadsPlace, ReadsRanked, ReadsTail, called-folds, chain-folds, getter-folds, index-folds, index-over, named-folds, number-folds, parenthesis-folds, place-folds, placed-folds, sign-folds, tail-further, tail-over}
 

@@ -18,14 +18,14 @@ use Rattle.c_syntax.specs.declared.node.Getter.TheVariants as getter
 use Rattle.c_syntax.specs.declared.node.NodeKind.TheVariants as kind
 use Rattle.c_syntax.specs.declared.term.Term.{Term}
 use Rattle.c_syntax.specs.declared.term.Term.TheVariants as term
-use Rattle.c_syntax.specs.Heads.{behind}
-use Rattle.c_syntax.specs.Words.{Word}
-use Rattle.c_syntax.specs.Tree.{Tree, Children}
-use Rattle.c_syntax.specs.Grammar.{choice}
-use Rattle.c_syntax.specs.WordClasses.{is_name, is_word, is_outside, is_name_at, is_getter}
-use Rattle.c_syntax.specs.Derivation.{Derives, Opened, opened_at, with_child, is_number}
+use Rattle.c_syntax.specs.language.Heads.{behind}
+use Rattle.c_syntax.specs.language.Words.{Word}
+use Rattle.c_syntax.specs.language.Tree.{Tree, Children}
+use Rattle.c_syntax.specs.workings.Grammar.{choice}
+use Rattle.c_syntax.specs.language.WordClasses.{is_name, is_word, is_outside, is_name_at, is_getter}
+use Rattle.c_syntax.specs.workings.Derivation.{Derives, Opened, opened_at, with_child, is_number}
 use Rattle.c_syntax.proofs.Steps.{open-back, take-back}
-use Rattle.c_syntax.specs.Productions.{Expression, IndexPart, Is, Operand, Place, Ranked, rank_of, sign_of, unary_sign}
+use Rattle.c_syntax.specs.language.Productions.{Expression, IndexPart, Is, Operand, Place, Ranked, rank_of, sign_of, unary_sign}
 use Rattle.c_syntax.proofs.Pushing.{is_steady, is_end, Ends, NoIndex, plus}
 
 -- ---- what may follow

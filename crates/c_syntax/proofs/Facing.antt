@@ -15,16 +15,16 @@ use Rattle.c_syntax.specs.declared.grammar.Step.TheVariants.{Expect, Deepen, Ris
 use Rattle.c_syntax.specs.declared.head.Head.{Head}
 use Rattle.c_syntax.specs.declared.head.Head.TheVariants as head
 use Rattle.c_syntax.specs.declared.fault.SyntaxFault.TheVariants as fault
-use Rattle.c_syntax.specs.Heads.{behind}
-use Rattle.c_syntax.specs.Words.{Word}
-use Rattle.c_syntax.specs.Tree.{Tree}
-use Rattle.c_syntax.specs.Grammar.{choice}
-use Rattle.c_syntax.specs.Productions.{GoesOn, IsProgram, depth_limit}
-use Rattle.c_syntax.specs.WordClasses.{is_outside}
-use Rattle.c_syntax.specs.Derivation.{Derives, fits, kept, made, joined, wrapped, skipped, opened_at, result_of, outermost, program_steps, SpellsWithin, CanGoOn}
-use Rattle.c_syntax.specs.Closing.{is_end, is_plain, last_step, IsHeld, IsLeft, IsReady}
-use Rattle.c_syntax.specs.Faults.{left_off, is_odd_at, is_unknown_at, fault_of, IsFaultAt, IsFault}
-use Rattle.c_syntax.specs.Reading.{State, From, Leaves, Reaches, Faces}
+use Rattle.c_syntax.specs.language.Heads.{behind}
+use Rattle.c_syntax.specs.language.Words.{Word}
+use Rattle.c_syntax.specs.language.Tree.{Tree}
+use Rattle.c_syntax.specs.workings.Grammar.{choice}
+use Rattle.c_syntax.specs.language.Productions.{GoesOn, IsProgram, depth_limit}
+use Rattle.c_syntax.specs.language.WordClasses.{is_outside}
+use Rattle.c_syntax.specs.workings.Derivation.{Derives, fits, kept, made, joined, wrapped, skipped, opened_at, result_of, outermost, program_steps, SpellsWithin, CanGoOn}
+use Rattle.c_syntax.specs.workings.Closing.{is_end, is_plain, last_step, IsHeld, IsLeft, IsReady}
+use Rattle.c_syntax.specs.language.Faults.{left_off, is_odd_at, is_unknown_at, fault_of, IsFaultAt, IsFault}
+use Rattle.c_syntax.specs.workings.Reading.{State, From, Leaves, Reaches, Faces}
 use Rattle.c_syntax.proofs.Steps.{none-left, expect-back, deepen-back, take-back, rise-back, in_head-back, read-back, open-back, make-back, join-back, wrap-back, skip-back, read-as}
 use Rattle.c_syntax.proofs.Limits.{within-wider}
 use Rattle.c_syntax.proofs.Leaving.{leaves-as, leaves-read, leaves-see}

@@ -9,8 +9,8 @@ use Rattle.c_syntax.specs.declared.grammar.Sort.{Sort}
 use Rattle.c_syntax.specs.declared.grammar.Sort.TheVariants as sort
 use Rattle.c_syntax.specs.declared.grammar.Step.{Step}
 use Rattle.c_syntax.specs.declared.grammar.Step.TheVariants.{Expect, Deepen, Rise, Take, InHead, Read, Open, Make, Join, Wrap, Skip}
-use Rattle.c_syntax.specs.Grammar.{choice}
-use Rattle.c_syntax.specs.Places.{is_construct}
+use Rattle.c_syntax.specs.workings.Grammar.{choice}
+use Rattle.c_syntax.specs.language.Places.{is_construct}
 use Rattle.c_syntax.proofs.Terms.{all_terms, among-all, every, every-among, negated, both-left, both-right}
 use Rattle.c_syntax.proofs.Leading.{is_pragma}
 

@@ -9,14 +9,14 @@ use Rattle.c_syntax.specs.declared.node.Returns.{Returns}
 use Rattle.c_syntax.specs.declared.node.Returns.TheVariants as returning
 use Rattle.c_syntax.specs.declared.node.Sign.TheVariants as sign
 use Rattle.c_syntax.specs.declared.term.Term.TheVariants as term
-use Rattle.c_syntax.specs.Heads.{behind_outside}
-use Rattle.c_syntax.specs.Words.{Word}
-use Rattle.c_syntax.specs.Tree.{Tree}
-use Rattle.c_syntax.specs.Tree.Tree.{Node}
-use Rattle.c_syntax.specs.Tree.Children.{Over}
-use Rattle.c_syntax.specs.WordClasses.{is_name}
-use Rattle.c_syntax.specs.Derivation.{Opened, keep, kept, opened_at, with_child}
-use Rattle.c_syntax.specs.Productions.{Block, FileParts, Function, Is, Items, MoreParameters, MoreVariables, Parameters, Size, Variable, Variables, kids, made_at, name_node, named_at, returns_word}
+use Rattle.c_syntax.specs.language.Heads.{behind_outside}
+use Rattle.c_syntax.specs.language.Words.{Word}
+use Rattle.c_syntax.specs.language.Tree.{Tree}
+use Rattle.c_syntax.specs.language.Tree.Tree.{Node}
+use Rattle.c_syntax.specs.language.Tree.Children.{Over}
+use Rattle.c_syntax.specs.language.WordClasses.{is_name}
+use Rattle.c_syntax.specs.workings.Derivation.{Opened, keep, kept, opened_at, with_child}
+use Rattle.c_syntax.specs.language.Productions.{Block, FileParts, Function, Is, Items, MoreParameters, MoreVariables, Parameters, Size, Variable, Variables, kids, made_at, name_node, named_at, returns_word}
 use Rattle.c_syntax.proofs.CallMeaning.{Named, ReadsLocks}
 use Rattle.c_syntax.proofs.CallRows.{by_name, name_taken}
 use Rattle.c_syntax.proofs.DeclaredRows.{number-is}

@@ -6,9 +6,9 @@ use Rattle.c_syntax.specs.declared.grammar.Sort.TheVariants as sort
 use Rattle.c_syntax.specs.declared.head.Head.{Head}
 use Rattle.c_syntax.specs.declared.term.Term.{Term}
 use Rattle.c_syntax.specs.declared.term.Term.TheVariants as term
-use Rattle.c_syntax.specs.Words.{Word}
-use Rattle.c_syntax.specs.Grammar.{choice}
-use Rattle.c_syntax.specs.Derivation.{Opened}
+use Rattle.c_syntax.specs.language.Words.{Word}
+use Rattle.c_syntax.specs.workings.Grammar.{choice}
+use Rattle.c_syntax.specs.workings.Derivation.{Opened}
 use Rattle.c_syntax.proofs.Effects.{Effect, Folds, IsFolded, folds-by}
 use Rattle.c_syntax.proofs.FileRows.{more_parameters_none, more_parameters_some, more_variables_none, more_variables_some, parameters_empty, parameters_listed, parameters_void, parts_include, parts_int, parts_locks, parts_none, parts_void, variable_array, variable_plain, variable_set}
 use Rattle.c_syntax.proofs.SortMeaning.{reads}

@@ -13,12 +13,12 @@ use Rattle.c_syntax.specs.declared.node.Setting.TheVariants as setting
 use Rattle.c_syntax.specs.declared.node.NodeKind.TheVariants as node
 use Rattle.c_syntax.specs.declared.term.Term.{Term}
 use Rattle.c_syntax.specs.declared.term.Term.TheVariants as term
-use Rattle.c_syntax.specs.Heads.{behind}
-use Rattle.c_syntax.specs.Words.{Word}
-use Rattle.c_syntax.specs.Tree.{Tree}
-use Rattle.c_syntax.specs.Grammar.{choice, right, after_right_name, assign_right, after_assign_name, plain_statement, after_statement_name, unary, args, init_part, cond_part, step_part}
-use Rattle.c_syntax.specs.WordClasses.{is_name}
-use Rattle.c_syntax.specs.Derivation.{Derives, Opened, kept, opened_at}
+use Rattle.c_syntax.specs.language.Heads.{behind}
+use Rattle.c_syntax.specs.language.Words.{Word}
+use Rattle.c_syntax.specs.language.Tree.{Tree}
+use Rattle.c_syntax.specs.workings.Grammar.{choice, right, after_right_name, assign_right, after_assign_name, plain_statement, after_statement_name, unary, args, init_part, cond_part, step_part}
+use Rattle.c_syntax.specs.language.WordClasses.{is_name}
+use Rattle.c_syntax.specs.workings.Derivation.{Derives, Opened, kept, opened_at}
 use Rattle.c_syntax.proofs.FirstWords.{Begins, NoParen, begins, leads, no_paren}
 use Rattle.c_syntax.proofs.OutsideSteps.{pick, picked, name-outside, read_where, take_name}
 

@@ -10,10 +10,10 @@ use Rattle.c_syntax.specs.declared.node.Getter.{Getter}
 use Rattle.c_syntax.specs.declared.node.Getter.TheVariants as getter
 use Rattle.c_syntax.specs.declared.term.Term.{Term}
 use Rattle.c_syntax.specs.declared.term.Term.TheVariants as term
-use Rattle.c_syntax.specs.Words.{Word}
-use Rattle.c_syntax.specs.Tree.{Tree, Children}
-use Rattle.c_syntax.specs.WordClasses.{is_name, is_getter}
-use Rattle.c_syntax.specs.Productions.{Ranked, Operand, Place, IndexPart, Expression, sign_of, unary_sign}
+use Rattle.c_syntax.specs.language.Words.{Word}
+use Rattle.c_syntax.specs.language.Tree.{Tree, Children}
+use Rattle.c_syntax.specs.language.WordClasses.{is_name, is_getter}
+use Rattle.c_syntax.specs.language.Productions.{Ranked, Operand, Place, IndexPart, Expression, sign_of, unary_sign}
 use Rattle.c_syntax.proofs.Pushing.{Ends, NoIndex, is_end}
 
 -- the words that begin an expression and are no names

@@ -1,8 +1,8 @@
 -- Some words more make words a program by the productions exactly where they do by the table.
 use Rattle.std.proofs.Common.{ℕ, List, ◌++◌}
-use Rattle.c_syntax.specs.Words.{Word}
-use Rattle.c_syntax.specs.Productions.{GoesOn}
-use Rattle.c_syntax.specs.Derivation.{CanGoOn}
+use Rattle.c_syntax.specs.language.Words.{Word}
+use Rattle.c_syntax.specs.language.Productions.{GoesOn}
+use Rattle.c_syntax.specs.workings.Derivation.{CanGoOn}
 use Rattle.c_syntax.proofs.ProgramMeaning.{derives_program}
 use Rattle.c_syntax.proofs.ProgramWords.{program_derives}
 

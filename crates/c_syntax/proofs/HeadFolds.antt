@@ -12,11 +12,11 @@ use Rattle.c_syntax.specs.declared.node.Standalone.{Standalone}
 use Rattle.c_syntax.specs.declared.node.Standalone.TheVariants as standalone
 use Rattle.c_syntax.specs.declared.term.Term.{Term}
 use Rattle.c_syntax.specs.declared.term.Term.TheVariants as term
-use Rattle.c_syntax.specs.Words.{Word}
-use Rattle.c_syntax.specs.Tree.{Tree}
-use Rattle.c_syntax.specs.Grammar.{choice}
-use Rattle.c_syntax.specs.Derivation.{Opened, made, with_child}
-use Rattle.c_syntax.specs.Productions.{DirectiveOf, Is, IsName, DirectiveWords, in_head, is_sections, name_node, standalone_word}
+use Rattle.c_syntax.specs.language.Words.{Word}
+use Rattle.c_syntax.specs.language.Tree.{Tree}
+use Rattle.c_syntax.specs.workings.Grammar.{choice}
+use Rattle.c_syntax.specs.workings.Derivation.{Opened, made, with_child}
+use Rattle.c_syntax.specs.language.Productions.{DirectiveOf, Is, IsName, DirectiveWords, in_head, is_sections, name_node, standalone_word}
 use Rattle.c_syntax.proofs.ClauseFolds.{Does, behind_name, did}
 use Rattle.c_syntax.proofs.Effects.{Effect, Expects, Folds, Makes, Opens, Rises, Takes}
 use Rattle.c_syntax.proofs.HeadMeaning.{Body, Closes, Constructed, CriticalName, Deeper, Follows, Lined, ReadsBehind, is_bare, is_clausal}

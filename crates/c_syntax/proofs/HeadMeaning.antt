@@ -9,10 +9,10 @@ use Rattle.c_syntax.specs.declared.node.ReductionOp.{ReductionOp}
 use Rattle.c_syntax.specs.declared.node.ScheduleKind.{ScheduleKind}
 use Rattle.c_syntax.specs.declared.node.Standalone.{Standalone}
 use Rattle.c_syntax.specs.declared.term.Term.TheVariants as term
-use Rattle.c_syntax.specs.Words.{Word}
-use Rattle.c_syntax.specs.Tree.{Tree}
-use Rattle.c_syntax.specs.Derivation.{Opened, made}
-use Rattle.c_syntax.specs.Productions.{Chunk, Clause, Clauses, DirectiveOf, Is, IsName, MoreNames, Names, Sections, Statement, default_word, in_head, is_sections, kind_word, name_node, operator_word, standalone_word}
+use Rattle.c_syntax.specs.language.Words.{Word}
+use Rattle.c_syntax.specs.language.Tree.{Tree}
+use Rattle.c_syntax.specs.workings.Derivation.{Opened, made}
+use Rattle.c_syntax.specs.language.Productions.{Chunk, Clause, Clauses, DirectiveOf, Is, IsName, MoreNames, Names, Sections, Statement, default_word, in_head, is_sections, kind_word, name_node, operator_word, standalone_word}
 use Rattle.c_syntax.proofs.Effects.{Effect, Expects, Makes}
 use Rattle.c_syntax.proofs.Pushing.{all_added}
 use Rattle.c_syntax.proofs.Standing.{AddsAll, AddsOne, Stands}

@@ -13,11 +13,11 @@ use Rattle.c_syntax.specs.declared.node.Directive.TheVariants as directive
 use Rattle.c_syntax.specs.declared.node.NodeKind.TheVariants as node
 use Rattle.c_syntax.specs.declared.term.Term.{Term}
 use Rattle.c_syntax.specs.declared.term.Term.TheVariants as term
-use Rattle.c_syntax.specs.Words.{Word}
-use Rattle.c_syntax.specs.Tree.{Tree}
-use Rattle.c_syntax.specs.Grammar.{choice}
-use Rattle.c_syntax.specs.Derivation.{Derives, Opened}
-use Rattle.c_syntax.specs.Productions.{Clause, Clauses, DirectiveOf, DirectiveWords, is_sections}
+use Rattle.c_syntax.specs.language.Words.{Word}
+use Rattle.c_syntax.specs.language.Tree.{Tree}
+use Rattle.c_syntax.specs.workings.Grammar.{choice}
+use Rattle.c_syntax.specs.workings.Derivation.{Derives, Opened}
+use Rattle.c_syntax.specs.language.Productions.{Clause, Clauses, DirectiveOf, DirectiveWords, is_sections}
 use Rattle.c_syntax.proofs.Onward.{deepen_word, expect_word, read_word}
 use Rattle.c_syntax.proofs.ClauseWords.{clauses_derive, name_derives}
 use Rattle.c_syntax.proofs.Pushing.{all_added}

@@ -8,12 +8,12 @@ use Rattle.std.proofs.lemmas.List.Elements.{All-drop, All-take}
 use Rattle.std.proofs.Math.Seq.{drop-append_seam, take-append_seam}
 use Rattle.c_syntax.specs.declared.growth.OpenNode.{OpenNode}
 use Rattle.c_syntax.specs.declared.node.NodeKind.{NodeKind}
-use Rattle.c_syntax.specs.Tree.{Tree, nothing}
-use Rattle.c_syntax.specs.Derivation.{Opened, join_children, joined, newest, result_of, wrap_children, wrapped}
-use Rattle.c_syntax.specs.LastChildren.{last_of, last_two_of}
-use Rattle.c_syntax.specs.Numbered.{tree_at}
-use Rattle.c_syntax.specs.Nodes.{IsBelow}
-use Rattle.c_syntax.specs.Growth.{AreOpen, opened_nodes}
+use Rattle.c_syntax.specs.language.Tree.{Tree, nothing}
+use Rattle.c_syntax.specs.workings.Derivation.{Opened, join_children, joined, newest, result_of, wrap_children, wrapped}
+use Rattle.c_syntax.specs.workings.LastChildren.{last_of, last_two_of}
+use Rattle.c_syntax.specs.language.Numbered.{tree_at}
+use Rattle.c_syntax.specs.workings.Nodes.{IsBelow}
+use Rattle.c_syntax.specs.workings.Growth.{AreOpen, opened_nodes}
 use Rattle.c_syntax.proofs.Opening.{AllBelow-puts, Puts, newest_first, opened-append, opened-puts, with_newer}
 
 -- a list ends with these, which are behind its start

@@ -2,9 +2,9 @@
 use Rattle.std.proofs.Common.{◌≡◌, List, [], ◌∷◌, refl}
 use Rattle.c_syntax.specs.declared.grammar.Class.TheVariants as class
 use Rattle.c_syntax.specs.declared.node.Getter.{Getter}
-use Rattle.c_syntax.specs.Words.{Word}
-use Rattle.c_syntax.specs.Derivation.{Opened, kept}
-use Rattle.c_syntax.specs.Keeping.{with_name, with_number, with_text}
+use Rattle.c_syntax.specs.language.Words.{Word}
+use Rattle.c_syntax.specs.workings.Derivation.{Opened, kept}
+use Rattle.c_syntax.specs.workings.Keeping.{with_name, with_number, with_text}
 
 pub kept-name : (word : Word) (nodes : List Opened) → kept class.Name word nodes ≡ with_name word.value nodes
 kept-name word [] = refl

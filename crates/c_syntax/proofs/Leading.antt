@@ -12,9 +12,9 @@ use Rattle.c_syntax.specs.declared.grammar.Sort.{Sort}
 use Rattle.c_syntax.specs.declared.grammar.Sort.TheVariants as sort
 use Rattle.c_syntax.specs.declared.grammar.Step.{Step}
 use Rattle.c_syntax.specs.declared.grammar.Step.TheVariants.{Expect, Deepen, Take, Open}
-use Rattle.c_syntax.specs.Words.{Word}
-use Rattle.c_syntax.specs.Grammar.{choice}
-use Rattle.c_syntax.specs.Derivation.{Opened}
+use Rattle.c_syntax.specs.language.Words.{Word}
+use Rattle.c_syntax.specs.workings.Grammar.{choice}
+use Rattle.c_syntax.specs.workings.Derivation.{Opened}
 use Rattle.c_syntax.proofs.Terms.{all_terms, among-all, every, every-among, negated, both-left, both-right}
 
 abbrev pub is_pragma : Term → Bool

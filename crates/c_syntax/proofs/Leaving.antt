@@ -3,13 +3,13 @@ use Rattle.std.proofs.Common.{ℕ, ◌≡◌, ◌≤◌, List, [], ◌∷◌, �
 use Rattle.std.proofs.lemmas.List.{append_assoc}
 use Rattle.c_syntax.specs.declared.head.Head.{Head}
 use Rattle.c_syntax.specs.declared.head.Head.TheVariants as head
-use Rattle.c_syntax.specs.Heads.{behind}
-use Rattle.c_syntax.specs.Words.{Word}
-use Rattle.c_syntax.specs.Tree.{Tree}
-use Rattle.c_syntax.specs.Productions.{depth_limit}
-use Rattle.c_syntax.specs.Derivation.{SpellsWithin}
-use Rattle.c_syntax.specs.Faults.{left_off}
-use Rattle.c_syntax.specs.Reading.{State, From, Leaves}
+use Rattle.c_syntax.specs.language.Heads.{behind}
+use Rattle.c_syntax.specs.language.Words.{Word}
+use Rattle.c_syntax.specs.language.Tree.{Tree}
+use Rattle.c_syntax.specs.language.Productions.{depth_limit}
+use Rattle.c_syntax.specs.workings.Derivation.{SpellsWithin}
+use Rattle.c_syntax.specs.language.Faults.{left_off}
+use Rattle.c_syntax.specs.workings.Reading.{State, From, Leaves}
 
 left_off-push : (at : Head) (words : List Word) (word : Word) → left_off at (words ++ word ∷ []) ≡ behind (left_off at words) word.term
 left_off-push at [] word = refl

@@ -6,9 +6,9 @@ use Rattle.std.proofs.lemmas.Bool.{cases_Bool, eqb-false, false≢true}
 use Rattle.std.proofs.lemmas.List.{drop_all}
 use Rattle.c_syntax.specs.declared.term.Term.{Term}
 use Rattle.c_syntax.specs.declared.term.Term.TheVariants as term
-use Rattle.c_syntax.specs.Words.{Row, look_up, name_rows, name_term, other_name, same_bytes}
-use Rattle.c_syntax.specs.Lexemes.{row_view, rows_of_len}
-use Rattle.c_syntax.specs.Derivation.{is_number}
+use Rattle.c_syntax.specs.language.Words.{Row, look_up, name_rows, name_term, other_name, same_bytes}
+use Rattle.c_syntax.specs.workings.Lexemes.{row_view, rows_of_len}
+use Rattle.c_syntax.specs.workings.Derivation.{is_number}
 use Rattle.c_syntax.proofs.Terms.{both-left, both-right}
 
 pub bytes_eq-same : (bytes others : List ℕ) → bytes_eq bytes others ≡ same_bytes bytes others

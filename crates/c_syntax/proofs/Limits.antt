@@ -2,9 +2,9 @@
 use Rattle.std.proofs.Common.{ℕ, ◌≤◌, List, arith}
 use Rattle.c_syntax.specs.declared.grammar.Step.{Step}
 use Rattle.c_syntax.specs.declared.head.Head.{Head}
-use Rattle.c_syntax.specs.Words.{Word}
-use Rattle.c_syntax.specs.Tree.{Tree}
-use Rattle.c_syntax.specs.Derivation.{Derives, Opened}
+use Rattle.c_syntax.specs.language.Words.{Word}
+use Rattle.c_syntax.specs.language.Tree.{Tree}
+use Rattle.c_syntax.specs.workings.Derivation.{Derives, Opened}
 
 pub within-wider : {limit wider depth : ℕ} {at : Head} {steps : List Step} {words : List Word} {nodes : List Opened} {tree : Tree} → limit ≤ wider → Derives limit steps depth at words nodes tree → Derives wider steps depth at words nodes tree
 within-wider wide (Derives.over same) = Derives.over same

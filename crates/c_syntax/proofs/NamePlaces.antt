@@ -12,14 +12,14 @@ use Rattle.c_syntax.specs.declared.grammar.Class.TheVariants as class
 use Rattle.c_syntax.specs.declared.grammar.Step.{Step}
 use Rattle.c_syntax.specs.declared.grammar.Step.TheVariants.{Expect, Deepen, Rise, Take, InHead, Read, Open, Make, Join, Wrap, Skip}
 use Rattle.c_syntax.specs.declared.head.Head.{Head}
-use Rattle.c_syntax.specs.Words.{Word, words_of}
-use Rattle.c_syntax.specs.Tree.{Tree, Children, before, children_from, name_of, spot_of, nothing}
-use Rattle.c_syntax.specs.Tree.Tree.{Node}
-use Rattle.c_syntax.specs.Tree.Children.{Over, Child, Absent}
-use Rattle.c_syntax.specs.Derivation.{Derives, Opened, closed, fits, join_children, joined, kept, made, name_in, newest, result_of, skipped, wrap_children, wrapped}
-use Rattle.c_syntax.specs.Places.{HasOneNameAPlace, nodes_below, nodes_of}
-use Rattle.c_syntax.specs.Productions.{depth_limit}
-use Rattle.c_syntax.specs.Texts.{Spells}
+use Rattle.c_syntax.specs.language.Words.{Word, words_of}
+use Rattle.c_syntax.specs.language.Tree.{Tree, Children, before, children_from, name_of, spot_of, nothing}
+use Rattle.c_syntax.specs.language.Tree.Tree.{Node}
+use Rattle.c_syntax.specs.language.Tree.Children.{Over, Child, Absent}
+use Rattle.c_syntax.specs.workings.Derivation.{Derives, Opened, closed, fits, join_children, joined, kept, made, name_in, newest, result_of, skipped, wrap_children, wrapped}
+use Rattle.c_syntax.specs.language.Places.{HasOneNameAPlace, nodes_below, nodes_of}
+use Rattle.c_syntax.specs.language.Productions.{depth_limit}
+use Rattle.c_syntax.specs.language.Texts.{Spells}
 use Rattle.c_syntax.proofs.ProgramWords.{program_derives}
 use Rattle.c_syntax.proofs.Leading.{IsFresh, is_led, is_naming, led-append, led-behind, led-choice, led-fresh}
 use Rattle.c_syntax.proofs.WordSpots.{HaveOwnSpots, IsIn, all-themselves, getter-bytes, has_bytes, name_at-bytes, same-word, words-own}

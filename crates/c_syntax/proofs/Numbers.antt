@@ -5,8 +5,8 @@ use Rattle.std.proofs.lemmas.Bool.{cases_Bool}
 use Rattle.std.proofs.lemmas.Slice.Eq.{bytes_eq-Decides}
 use Rattle.std.specs.HashMap.{get_by, hash_map_len}
 use Rattle.c_syntax.specs.declared.names.Names.{Names}
-use Rattle.c_syntax.specs.Names.{AreNames}
-use Rattle.c_syntax.specs.Words.{added, number_from, number_of, same_bytes, with_name}
+use Rattle.c_syntax.specs.workings.Names.{AreNames}
+use Rattle.c_syntax.specs.language.Words.{added, number_from, number_of, same_bytes, with_name}
 use Rattle.c_syntax.proofs.Lexemes.{bytes_eq-same}
 
 bytes_eq-self : (bytes : List ℕ) → bytes_eq bytes bytes ≡ true

@@ -1,16 +1,16 @@
 -- A text whose tokens are read has one tree, or one fault.
 use Rattle.std.proofs.Common.{ℕ, ◌≡◌, ◌⊎◌, List, Ok, inl, inr, subst}
 use Rattle.c_tokens.specs.declared.token.Token.{Token}
-use Rattle.c_tokens.specs.Tokens.{tokens_of}
+use Rattle.c_tokens.specs.workings.Tokens.{tokens_of}
 use Rattle.c_tokens.proofs.Law.{reads-one, scan-reads}
 use Rattle.c_syntax.specs.declared.fault.SyntaxFault.{SyntaxFault}
-use Rattle.c_syntax.specs.Words.{words_of}
-use Rattle.c_syntax.specs.Tree.{Tree}
-use Rattle.c_syntax.specs.Faults.{IsAnswered, IsFault}
+use Rattle.c_syntax.specs.language.Words.{words_of}
+use Rattle.c_syntax.specs.language.Tree.{Tree}
+use Rattle.c_syntax.specs.language.Faults.{IsAnswered, IsFault}
 use Rattle.c_syntax.proofs.Answering.{text-answered}
 use Rattle.c_syntax.proofs.Unique.{fault-one, program-no_fault, program-one}
-use Rattle.c_syntax.specs.Productions.{IsProgram, depth_limit}
-use Rattle.c_syntax.specs.Texts.{HasSyntaxFault, Spells}
+use Rattle.c_syntax.specs.language.Productions.{IsProgram, depth_limit}
+use Rattle.c_syntax.specs.language.Texts.{HasSyntaxFault, Spells}
 
 pub tree_one : (text : List ℕ) (first second : Tree) → Spells text first → Spells text second → first ≡ second
 tree_one text first second one other =

@@ -6,11 +6,11 @@ use Rattle.c_syntax.specs.declared.grammar.Sort.{Sort}
 use Rattle.c_syntax.specs.declared.grammar.Step.{Step}
 use Rattle.c_syntax.specs.declared.grammar.Step.TheVariants.{Expect, Deepen, Take, Read}
 use Rattle.c_syntax.specs.declared.head.Head.{Head}
-use Rattle.c_syntax.specs.Heads.{behind}
-use Rattle.c_syntax.specs.Words.{Word}
-use Rattle.c_syntax.specs.Tree.{Tree}
-use Rattle.c_syntax.specs.Grammar.{choice, given}
-use Rattle.c_syntax.specs.Derivation.{Derives, Opened, fits, kept}
+use Rattle.c_syntax.specs.language.Heads.{behind}
+use Rattle.c_syntax.specs.language.Words.{Word}
+use Rattle.c_syntax.specs.language.Tree.{Tree}
+use Rattle.c_syntax.specs.workings.Grammar.{choice, given}
+use Rattle.c_syntax.specs.workings.Derivation.{Derives, Opened, fits, kept}
 
 -- a derivation from a head that is the same
 at_same : {limit depth : ℕ} {first second : Head} {steps : List Step} {words : List Word} {nodes : List Opened} {tree : Tree} → first ≡ second → Derives limit steps depth second words nodes tree

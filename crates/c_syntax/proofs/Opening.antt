@@ -7,13 +7,13 @@ use Rattle.std.proofs.lemmas.List.Elements.{All-drop, All-push, All-take}
 use Rattle.std.proofs.Math.Seq.{get_or-append_seam}
 use Rattle.c_syntax.specs.declared.growth.OpenNode.{OpenNode}
 use Rattle.c_syntax.specs.declared.node.NodeKind.{NodeKind}
-use Rattle.c_syntax.specs.Tree.{Tree, Children, before, children_from, nothing}
-use Rattle.c_syntax.specs.Tree.Tree.{Node}
-use Rattle.c_syntax.specs.Tree.Children.{Over, Child, Absent}
-use Rattle.c_syntax.specs.Derivation.{Opened, made, name_in}
-use Rattle.c_syntax.specs.Numbered.{tree_at, children_at}
-use Rattle.c_syntax.specs.Nodes.{IsBelow}
-use Rattle.c_syntax.specs.Growth.{AreOpen, opened_nodes}
+use Rattle.c_syntax.specs.language.Tree.{Tree, Children, before, children_from, nothing}
+use Rattle.c_syntax.specs.language.Tree.Tree.{Node}
+use Rattle.c_syntax.specs.language.Tree.Children.{Over, Child, Absent}
+use Rattle.c_syntax.specs.workings.Derivation.{Opened, made, name_in}
+use Rattle.c_syntax.specs.language.Numbered.{tree_at, children_at}
+use Rattle.c_syntax.specs.workings.Nodes.{IsBelow}
+use Rattle.c_syntax.specs.workings.Growth.{AreOpen, opened_nodes}
 
 -- the children with these numbers, the last one first
 abbrev pub newest_first : List Tree → List (Option ℕ) → List (Option Tree)

@@ -9,12 +9,12 @@ use Rattle.c_syntax.specs.declared.head.Head.TheVariants as head
 use Rattle.c_syntax.specs.declared.node.NodeKind.{NodeKind}
 use Rattle.c_syntax.specs.declared.term.Term.{Term}
 use Rattle.c_syntax.specs.declared.term.Term.TheVariants as term
-use Rattle.c_syntax.specs.Heads.{behind_outside}
-use Rattle.c_syntax.specs.Words.{Word}
-use Rattle.c_syntax.specs.Tree.{Tree}
-use Rattle.c_syntax.specs.Grammar.{choice}
-use Rattle.c_syntax.specs.WordClasses.{is_name}
-use Rattle.c_syntax.specs.Derivation.{Derives, Opened, kept, is_number, is_text, with_child}
+use Rattle.c_syntax.specs.language.Heads.{behind_outside}
+use Rattle.c_syntax.specs.language.Words.{Word}
+use Rattle.c_syntax.specs.language.Tree.{Tree}
+use Rattle.c_syntax.specs.workings.Grammar.{choice}
+use Rattle.c_syntax.specs.language.WordClasses.{is_name}
+use Rattle.c_syntax.specs.workings.Derivation.{Derives, Opened, kept, is_number, is_text, with_child}
 use Rattle.c_syntax.proofs.Pushing.{all_added, made-pushed, tree_with}
 
 -- what is so where a test holds

@@ -5,11 +5,11 @@ use Rattle.c_syntax.specs.declared.grammar.Sort.TheVariants as sort
 use Rattle.c_syntax.specs.declared.head.Head.TheVariants as head
 use Rattle.c_syntax.specs.declared.node.NodeKind.TheVariants as kind
 use Rattle.c_syntax.specs.declared.term.Term.TheVariants as term
-use Rattle.c_syntax.specs.Words.{Word}
-use Rattle.c_syntax.specs.Tree.{Tree}
-use Rattle.c_tokens.specs.Faults.{nowhere}
-use Rattle.c_syntax.specs.Derivation.{SpellsWithin, opened_at, outermost, result_of}
-use Rattle.c_syntax.specs.Productions.{FileParts, IsProgram}
+use Rattle.c_syntax.specs.language.Words.{Word}
+use Rattle.c_syntax.specs.language.Tree.{Tree}
+use Rattle.c_tokens.specs.language.Faults.{nowhere}
+use Rattle.c_syntax.specs.workings.Derivation.{SpellsWithin, opened_at, outermost, result_of}
+use Rattle.c_syntax.specs.language.Productions.{FileParts, IsProgram}
 use Rattle.c_syntax.proofs.Pushing.{all_added, made-pushed}
 use Rattle.c_syntax.proofs.Effects.{Expects, Folds, Makes, Over, derived-runs}
 use Rattle.c_syntax.proofs.Standing.{Stands}

@@ -12,13 +12,13 @@ use Rattle.c_syntax.specs.declared.head.Head.TheVariants as head
 use Rattle.c_syntax.specs.declared.node.Parameters.TheVariants as params
 use Rattle.c_syntax.specs.declared.node.Returns.TheVariants as returning
 use Rattle.c_syntax.specs.declared.node.NodeKind.TheVariants as kind
-use Rattle.c_syntax.specs.Words.{Word}
-use Rattle.c_syntax.specs.Tree.{Tree}
-use Rattle.c_syntax.specs.Tree.Tree.{Node}
-use Rattle.c_syntax.specs.Tree.Children.{Over}
-use Rattle.c_syntax.specs.Grammar.{choice}
-use Rattle.c_syntax.specs.Derivation.{Derives, Opened, SpellsWithin, opened_at}
-use Rattle.c_syntax.specs.Productions.{Block, FileParts, Function, Is, IsName, IsProgram, Locks, MoreParameters, MoreVariables, Parameters, Size, Variable, Variables, name_node}
+use Rattle.c_syntax.specs.language.Words.{Word}
+use Rattle.c_syntax.specs.language.Tree.{Tree}
+use Rattle.c_syntax.specs.language.Tree.Tree.{Node}
+use Rattle.c_syntax.specs.language.Tree.Children.{Over}
+use Rattle.c_syntax.specs.workings.Grammar.{choice}
+use Rattle.c_syntax.specs.workings.Derivation.{Derives, Opened, SpellsWithin, opened_at}
+use Rattle.c_syntax.specs.language.Productions.{Block, FileParts, Function, Is, IsName, IsProgram, Locks, MoreParameters, MoreVariables, Parameters, Size, Variable, Variables, name_node}
 use Rattle.c_syntax.proofs.Pushing.{Ends, all_added, is_end, plus}
 use Rattle.c_syntax.proofs.DeclaredWords.{locks_derive}
 use Rattle.c_syntax.proofs.Steps.{expect-back, make-back, read-as}

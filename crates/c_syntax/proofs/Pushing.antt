@@ -5,11 +5,11 @@ use Rattle.c_syntax.specs.declared.head.Head.TheVariants as head
 use Rattle.c_syntax.specs.declared.node.NodeKind.{NodeKind}
 use Rattle.c_syntax.specs.declared.term.Term.{Term}
 use Rattle.c_syntax.specs.declared.term.Term.TheVariants as term
-use Rattle.c_syntax.specs.Words.{Word}
-use Rattle.c_syntax.specs.Tree.{Tree, before}
-use Rattle.c_syntax.specs.Tree.Tree.{Node}
-use Rattle.c_syntax.specs.Derivation.{Opened, with_child, made, closed, name_in}
-use Rattle.c_syntax.specs.Productions.{kids}
+use Rattle.c_syntax.specs.language.Words.{Word}
+use Rattle.c_syntax.specs.language.Tree.{Tree, before}
+use Rattle.c_syntax.specs.language.Tree.Tree.{Node}
+use Rattle.c_syntax.specs.workings.Derivation.{Opened, with_child, made, closed, name_in}
+use Rattle.c_syntax.specs.language.Productions.{kids}
 
 -- heads in which names stand, and that an expression leaves as they are
 abbrev pub is_steady : Head → Bool

@@ -2,9 +2,9 @@
 use Rattle.std.proofs.Common.{◌≡◌, List, sym, subst}
 use Rattle.c_syntax.specs.declared.fault.SyntaxFault.{SyntaxFault}
 use Rattle.c_syntax.specs.declared.fault.SyntaxFault.TheVariants as fault
-use Rattle.c_syntax.specs.Words.{Word}
-use Rattle.c_syntax.specs.Faults.{IsFault}
-use Rattle.c_syntax.specs.ReaderViews.{MayFault}
+use Rattle.c_syntax.specs.language.Words.{Word}
+use Rattle.c_syntax.specs.language.Faults.{IsFault}
+use Rattle.c_syntax.specs.workings.ReaderViews.{MayFault}
 
 pub MayFault-is : (words : List Word) (found : SyntaxFault) → IsFault words found → MayFault words found
 MayFault-is words (fault.Unexpected spot) is = is

@@ -9,8 +9,8 @@ use Rattle.c_syntax.specs.declared.grammar.Sort.{Sort}
 use Rattle.c_syntax.specs.declared.grammar.Sort.TheVariants as sort
 use Rattle.c_syntax.specs.declared.grammar.Step.{Step}
 use Rattle.c_syntax.specs.declared.grammar.Step.TheVariants.{Expect, Deepen, Rise, Take, InHead, Read, Open, Make, Join, Wrap, Skip}
-use Rattle.c_syntax.specs.Grammar.{choice}
-use Rattle.c_syntax.specs.Closing.{opener, opens, followers, IsAmong, is_shallow, is_end, last_steps, IsHeld, IsReady}
+use Rattle.c_syntax.specs.workings.Grammar.{choice}
+use Rattle.c_syntax.specs.workings.Closing.{opener, opens, followers, IsAmong, is_shallow, is_end, last_steps, IsHeld, IsReady}
 use Rattle.c_syntax.proofs.Steps.{some-one}
 use Rattle.c_syntax.proofs.Terms.{all_terms, among-all, is_among, among-true, every, every-among, negated, negated-true, both-left, both-right}
 

@@ -6,11 +6,11 @@ use Rattle.c_syntax.specs.declared.head.Head.TheVariants as head
 use Rattle.c_syntax.specs.declared.node.NodeKind.TheVariants as node
 use Rattle.c_syntax.specs.declared.term.Term.{Term}
 use Rattle.c_syntax.specs.declared.term.Term.TheVariants as term
-use Rattle.c_syntax.specs.Words.{Word}
-use Rattle.c_syntax.specs.Tree.{Tree}
-use Rattle.c_syntax.specs.Grammar.{choice}
-use Rattle.c_syntax.specs.Derivation.{Opened, opened_at, with_child}
-use Rattle.c_syntax.specs.Productions.{Is, MoreSections, Section, Sections, Statement, kids, made_at}
+use Rattle.c_syntax.specs.language.Words.{Word}
+use Rattle.c_syntax.specs.language.Tree.{Tree}
+use Rattle.c_syntax.specs.workings.Grammar.{choice}
+use Rattle.c_syntax.specs.workings.Derivation.{Opened, opened_at, with_child}
+use Rattle.c_syntax.specs.language.Productions.{Is, MoreSections, Section, Sections, Statement, kids, made_at}
 use Rattle.c_syntax.proofs.BlockFolds.{construct_done}
 use Rattle.c_syntax.proofs.CallMeaning.{ReadsStatement}
 use Rattle.c_syntax.proofs.ExpressionFolds.{lowered}

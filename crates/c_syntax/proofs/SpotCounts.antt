@@ -8,9 +8,9 @@ use Rattle.std.proofs.lemmas.List.Kept.{AllPairs-cons}
 use Rattle.c_tokens.specs.declared.token.Spot.{Spot}
 use Rattle.c_syntax.specs.declared.term.Term.{Term}
 use Rattle.c_syntax.specs.declared.term.Term.TheVariants as term
-use Rattle.c_syntax.specs.Words.{Word}
-use Rattle.c_syntax.specs.Tree.{Tree, kind_of, spot_of}
-use Rattle.c_syntax.specs.Places.{is_construct}
+use Rattle.c_syntax.specs.language.Words.{Word}
+use Rattle.c_syntax.specs.language.Tree.{Tree, kind_of, spot_of}
+use Rattle.c_syntax.specs.language.Places.{is_construct}
 use Rattle.c_syntax.proofs.Leading.{is_pragma}
 use Rattle.c_syntax.proofs.WordSpots.{HaveOwnSpots, has_bytes}
 

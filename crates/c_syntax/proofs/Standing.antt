@@ -1,9 +1,9 @@
 -- Effects of sorts that are texts: where words leave off as they should and a node is open, the words up to some rest are a text, and become its children.
 use Rattle.std.proofs.Common.{List, ◌∷◌, Option, Some}
 use Rattle.c_syntax.specs.declared.head.Head.{Head}
-use Rattle.c_syntax.specs.Words.{Word}
-use Rattle.c_syntax.specs.Tree.{Tree}
-use Rattle.c_syntax.specs.Derivation.{Opened}
+use Rattle.c_syntax.specs.language.Words.{Word}
+use Rattle.c_syntax.specs.language.Tree.{Tree}
+use Rattle.c_syntax.specs.workings.Derivation.{Opened}
 use Rattle.c_syntax.proofs.Effects.{Effect}
 use Rattle.c_syntax.proofs.Pushing.{all_added, plus}
 

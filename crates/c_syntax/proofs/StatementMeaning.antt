@@ -6,9 +6,9 @@ use Rattle.c_syntax.specs.declared.node.NodeKind.TheVariants as node
 use Rattle.c_syntax.specs.declared.node.Returns.TheVariants as returning
 use Rattle.c_syntax.specs.declared.node.Sign.TheVariants as sign
 use Rattle.c_syntax.specs.declared.term.Term.TheVariants as term
-use Rattle.c_syntax.specs.Words.{Word}
-use Rattle.c_syntax.specs.Tree.{Tree}
-use Rattle.c_syntax.specs.Productions.{Block, FileParts, Is, Items, MoreParameters, MoreSections, MoreVariables, NoElse, Parameters, Section, Sections, Statement, Variable}
+use Rattle.c_syntax.specs.language.Words.{Word}
+use Rattle.c_syntax.specs.language.Tree.{Tree}
+use Rattle.c_syntax.specs.language.Productions.{Block, FileParts, Is, Items, MoreParameters, MoreSections, MoreVariables, NoElse, Parameters, Section, Sections, Statement, Variable}
 use Rattle.c_syntax.proofs.CallMeaning.{BehindName, ReadsRight, ReadsStatement}
 use Rattle.c_syntax.proofs.Effects.{Deepens, Effect, Expects, Makes, Opens, Rises, Takes}
 use Rattle.c_syntax.proofs.HeadMeaning.{ReadsConstruct}

@@ -14,13 +14,13 @@ use Rattle.c_syntax.specs.declared.node.Directive.{Directive}
 use Rattle.c_syntax.specs.declared.node.Standalone.{Standalone}
 use Rattle.c_syntax.specs.declared.node.Standalone.TheVariants as standalone
 use Rattle.c_syntax.specs.declared.node.NodeKind.TheVariants as kind
-use Rattle.c_syntax.specs.Words.{Word}
-use Rattle.c_syntax.specs.Tree.{Tree, children_from}
-use Rattle.c_syntax.specs.Tree.Children.{Over, Child, Absent}
-use Rattle.c_syntax.specs.Grammar.{choice}
-use Rattle.c_syntax.specs.WordClasses.{is_name}
-use Rattle.c_syntax.specs.Derivation.{Derives, Opened, opened_at}
-use Rattle.c_syntax.specs.Productions.{Block, ConditionPart, Construct, DirectiveOf, Expression, FirstPart, Is, Items, Locals, Locks, MoreSections, NoElse, Section, Sections, Statement, StepPart, Value, is_sections, kids, made_at, maybe, standalone_word}
+use Rattle.c_syntax.specs.language.Words.{Word}
+use Rattle.c_syntax.specs.language.Tree.{Tree, children_from}
+use Rattle.c_syntax.specs.language.Tree.Children.{Over, Child, Absent}
+use Rattle.c_syntax.specs.workings.Grammar.{choice}
+use Rattle.c_syntax.specs.language.WordClasses.{is_name}
+use Rattle.c_syntax.specs.workings.Derivation.{Derives, Opened, opened_at}
+use Rattle.c_syntax.specs.language.Productions.{Block, ConditionPart, Construct, DirectiveOf, Expression, FirstPart, Is, Items, Locals, Locks, MoreSections, NoElse, Section, Sections, Statement, StepPart, Value, is_sections, kids, made_at, maybe, standalone_word}
 use Rattle.c_syntax.proofs.Pushing.{Ends, all_added, all_added-pushed, is_end, plus}
 use Rattle.c_syntax.proofs.Expressions.{expression_derives}
 use Rattle.c_syntax.proofs.CallWords.{value_derives}

@@ -13,12 +13,12 @@ use Rattle.c_syntax.specs.declared.node.Side.TheVariants as side
 use Rattle.c_syntax.specs.declared.node.NodeKind.TheVariants as node
 use Rattle.c_syntax.specs.declared.term.Term.{Term}
 use Rattle.c_syntax.specs.declared.term.Term.TheVariants as term
-use Rattle.c_syntax.specs.Heads.{behind_outside}
-use Rattle.c_syntax.specs.Words.{Word}
-use Rattle.c_syntax.specs.Tree.{Tree, over_one, over_two}
-use Rattle.c_syntax.specs.Tree.Tree.{Node}
-use Rattle.c_syntax.specs.Derivation.{Opened, is_text, keep, kept, opened_at, with_child}
-use Rattle.c_syntax.specs.Productions.{Call, Lock, MoreArguments, Place, Statement, StepOf, bump_sign, kids, made_at, routine_word, setting_sign}
+use Rattle.c_syntax.specs.language.Heads.{behind_outside}
+use Rattle.c_syntax.specs.language.Words.{Word}
+use Rattle.c_syntax.specs.language.Tree.{Tree, over_one, over_two}
+use Rattle.c_syntax.specs.language.Tree.Tree.{Node}
+use Rattle.c_syntax.specs.workings.Derivation.{Opened, is_text, keep, kept, opened_at, with_child}
+use Rattle.c_syntax.specs.language.Productions.{Call, Lock, MoreArguments, Place, Statement, StepOf, bump_sign, kids, made_at, routine_word, setting_sign}
 use Rattle.c_syntax.proofs.CallMeaning.{Assigned, Holds, Named, ReadsAfterAssignName, ReadsAfterPlace, ReadsAfterStatementName, ReadsAssign, ReadsMoreArgs, ReadsStatement}
 use Rattle.c_syntax.proofs.CallRows.{ReadsCall, ReadsLock, ReadsTails, ReadsTest, by_name, called, locked, tested}
 use Rattle.c_syntax.proofs.Effects.{Effect, Expects, Takes, Opens, Makes, Joins, Wraps}

@@ -11,11 +11,11 @@ use Rattle.c_syntax.specs.declared.node.LockCall.TheVariants as lock_call
 use Rattle.c_syntax.specs.declared.node.Setting.TheVariants as setting
 use Rattle.c_syntax.specs.declared.node.NodeKind.TheVariants as node
 use Rattle.c_syntax.specs.declared.term.Term.TheVariants as term
-use Rattle.c_syntax.specs.Words.{Word}
-use Rattle.c_syntax.specs.Tree.{Tree, over_one, over_two}
-use Rattle.c_syntax.specs.Tree.Tree.{Node}
-use Rattle.c_syntax.specs.Derivation.{Derives, Opened, keep, opened_at}
-use Rattle.c_syntax.specs.Productions.{Call, Is, Lock, MoreArguments, Place, StepOf, kids, made_at, routine_word, setting_sign}
+use Rattle.c_syntax.specs.language.Words.{Word}
+use Rattle.c_syntax.specs.language.Tree.{Tree, over_one, over_two}
+use Rattle.c_syntax.specs.language.Tree.Tree.{Node}
+use Rattle.c_syntax.specs.workings.Derivation.{Derives, Opened, keep, opened_at}
+use Rattle.c_syntax.specs.language.Productions.{Call, Is, Lock, MoreArguments, Place, StepOf, kids, made_at, routine_word, setting_sign}
 use Rattle.c_syntax.proofs.CallWords.{call_derives, lock_derives, more_arguments_derive, test_derives}
 use Rattle.c_syntax.proofs.Expressions.{expression_derives, place_derives}
 use Rattle.c_syntax.proofs.FirstSteps.{assign_by_name, assign_expression, statement_by_name, statement_place}

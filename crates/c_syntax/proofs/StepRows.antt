@@ -8,11 +8,11 @@ use Rattle.c_syntax.specs.declared.node.Setting.{Setting}
 use Rattle.c_syntax.specs.declared.node.Side.TheVariants as side
 use Rattle.c_syntax.specs.declared.node.NodeKind.TheVariants as node
 use Rattle.c_syntax.specs.declared.term.Term.TheVariants as term
-use Rattle.c_syntax.specs.Words.{Word}
-use Rattle.c_syntax.specs.Tree.{Tree, over_one, over_two}
-use Rattle.c_syntax.specs.WordClasses.{is_name}
-use Rattle.c_syntax.specs.Derivation.{Opened, opened_at, with_child}
-use Rattle.c_syntax.specs.Productions.{ConditionPart, FirstPart, StepOf, StepPart, bump_sign, kids, made_at, name_node, setting_sign}
+use Rattle.c_syntax.specs.language.Words.{Word}
+use Rattle.c_syntax.specs.language.Tree.{Tree, over_one, over_two}
+use Rattle.c_syntax.specs.language.WordClasses.{is_name}
+use Rattle.c_syntax.specs.workings.Derivation.{Opened, opened_at, with_child}
+use Rattle.c_syntax.specs.language.Productions.{ConditionPart, FirstPart, StepOf, StepPart, bump_sign, kids, made_at, name_node, setting_sign}
 use Rattle.c_syntax.proofs.CallMeaning.{Holds, ReadsCondition, ReadsFirst, ReadsStepRest, ReadsThird}
 use Rattle.c_syntax.proofs.CallRows.{name_taken}
 use Rattle.c_syntax.proofs.Effects.{Effect, Expects, Takes, Opens, Makes, Joins, Wraps, Skips}

@@ -13,13 +13,13 @@ use Rattle.c_syntax.specs.declared.node.Setting.TheVariants as setting
 use Rattle.c_syntax.specs.declared.node.Side.TheVariants as side
 use Rattle.c_syntax.specs.declared.term.Term.{Term}
 use Rattle.c_syntax.specs.declared.term.Term.TheVariants as term
-use Rattle.c_syntax.specs.Heads.{behind_outside}
-use Rattle.c_syntax.specs.Words.{Word}
-use Rattle.c_syntax.specs.Tree.{Tree}
-use Rattle.c_syntax.specs.Grammar.{choice, step_rest}
-use Rattle.c_syntax.specs.WordClasses.{is_name}
-use Rattle.c_syntax.specs.Derivation.{Derives, Opened}
-use Rattle.c_syntax.specs.Productions.{ConditionPart, FirstPart, Place, StepOf, StepPart, bump_sign, setting_sign}
+use Rattle.c_syntax.specs.language.Heads.{behind_outside}
+use Rattle.c_syntax.specs.language.Words.{Word}
+use Rattle.c_syntax.specs.language.Tree.{Tree}
+use Rattle.c_syntax.specs.workings.Grammar.{choice, step_rest}
+use Rattle.c_syntax.specs.language.WordClasses.{is_name}
+use Rattle.c_syntax.specs.workings.Derivation.{Derives, Opened}
+use Rattle.c_syntax.specs.language.Productions.{ConditionPart, FirstPart, Place, StepOf, StepPart, bump_sign, setting_sign}
 use Rattle.c_syntax.proofs.Expressions.{expression_derives, place_derives}
 use Rattle.c_syntax.proofs.FirstSteps.{condition_expression, first-named, third-named}
 use Rattle.c_syntax.proofs.FirstWords.{bare-apart, ends-no_index, expression-begins, no_bracket}

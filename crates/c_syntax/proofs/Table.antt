@@ -8,11 +8,11 @@ use Rattle.std.proofs.Math.Seq.{drop-append_seam, get_or-append_seam}
 use Rattle.std.proofs.lemmas.Bool.{cases_lt}
 use Rattle.std.proofs.Math.Nat.{min-le_left}
 use Rattle.c_syntax.specs.declared.nodes.Node as row
-use Rattle.c_syntax.specs.Tree.{Tree, Children, at_place, child_of, nothing}
-use Rattle.c_syntax.specs.Tree.Tree.{Node}
-use Rattle.c_syntax.specs.Tree.Children.{Child, Absent}
-use Rattle.c_syntax.specs.Numbered.{tree_at, children_at}
-use Rattle.c_syntax.specs.Nodes.{AreNodes, IsBelow, IsNode, tree_of, trees_behind}
+use Rattle.c_syntax.specs.language.Tree.{Tree, Children, at_place, child_of, nothing}
+use Rattle.c_syntax.specs.language.Tree.Tree.{Node}
+use Rattle.c_syntax.specs.language.Tree.Children.{Child, Absent}
+use Rattle.c_syntax.specs.language.Numbered.{tree_at, children_at}
+use Rattle.c_syntax.specs.workings.Nodes.{AreNodes, IsBelow, IsNode, tree_of, trees_behind}
 
 -- a part of a list stays where the list gets longer
 part-stays : {X : Type 0} (xs ys : List X) (start end : ℕ) → start ≤ end → end ≤ length xs → slice_range (xs ++ ys) start end ≡ slice_range xs start end

@@ -3,7 +3,7 @@ use Rattle.std.proofs.Common.{ℕ, ◌≡◌, ◌≢◌, ◌⊎◌, Bool, true, 
 use Rattle.std.proofs.lemmas.Bool.{cases_Bool, eqb-false, eqb-true, false≢true}
 use Rattle.c_syntax.specs.declared.term.Term.{Term}
 use Rattle.c_syntax.specs.declared.term.Term.TheVariants as term
-use Rattle.c_syntax.specs.Closing.{IsAmong}
+use Rattle.c_syntax.specs.workings.Closing.{IsAmong}
 
 abbrev number : Term → ℕ
 number term.OpenBrace = 0

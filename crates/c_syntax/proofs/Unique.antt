@@ -5,11 +5,11 @@ use Rattle.c_syntax.specs.declared.grammar.Step.{Step}
 use Rattle.c_syntax.specs.declared.head.Head.{Head}
 use Rattle.c_syntax.specs.declared.fault.SyntaxFault.{SyntaxFault}
 use Rattle.c_syntax.specs.declared.fault.SyntaxFault.TheVariants as fault
-use Rattle.c_syntax.specs.Words.{Word}
-use Rattle.c_syntax.specs.Tree.{Tree}
-use Rattle.c_syntax.specs.Productions.{GoesOn, IsProgram, depth_limit}
-use Rattle.c_syntax.specs.Derivation.{Derives, Opened}
-use Rattle.c_syntax.specs.Faults.{IsFaultAt, IsFault}
+use Rattle.c_syntax.specs.language.Words.{Word}
+use Rattle.c_syntax.specs.language.Tree.{Tree}
+use Rattle.c_syntax.specs.language.Productions.{GoesOn, IsProgram, depth_limit}
+use Rattle.c_syntax.specs.workings.Derivation.{Derives, Opened}
+use Rattle.c_syntax.specs.language.Faults.{IsFaultAt, IsFault}
 use Rattle.c_syntax.proofs.Steps.{over-back, expect-back, deepen-back, take-back, rise-back, in_head-back, open-back, make-back, join-back, wrap-back, skip-back, read-as}
 use Rattle.c_syntax.proofs.ProgramWords.{program_derives}
 

@@ -8,9 +8,9 @@ use Rattle.c_syntax.specs.declared.grammar.Sort.{Sort}
 use Rattle.c_syntax.specs.declared.grammar.Sort.TheVariants as sort
 use Rattle.c_syntax.specs.declared.grammar.Step.{Step}
 use Rattle.c_syntax.specs.declared.grammar.Step.TheVariants.{Expect, Deepen, Rise, Take, InHead, Read, Open, Make, Join, Wrap, Skip}
-use Rattle.c_syntax.specs.Grammar.{choice}
-use Rattle.c_syntax.specs.Closing.{is_plain}
-use Rattle.c_syntax.specs.Reading.{may_be_empty, rank, weight}
+use Rattle.c_syntax.specs.workings.Grammar.{choice}
+use Rattle.c_syntax.specs.workings.Closing.{is_plain}
+use Rattle.c_syntax.specs.workings.Reading.{may_be_empty, rank, weight}
 use Rattle.c_syntax.proofs.Terms.{all_terms, among-all, every, every-among, both-left, both-right}
 
 -- whether some steps may be done with no word read

@@ -6,12 +6,13 @@ use Rattle.c_tokens.specs.declared.token.Spot.{Spot}
 use Rattle.c_tokens.specs.declared.token.Token.{Token}
 use Rattle.c_tokens.specs.declared.token.TokenKind.{TokenKind}
 use Rattle.c_tokens.specs.declared.token.TokenKind.TheVariants as token
-use Rattle.c_tokens.specs.Tokens.{beginning, places_after, tokens_of}
+use Rattle.c_tokens.specs.workings.Tokens.{tokens_of}
+use Rattle.c_tokens.specs.language.Places.{beginning, places_after}
 use Rattle.c_tokens.proofs.NameCounts.{names-fewer, names_in, one_name}
 use Rattle.c_tokens.proofs.Spans.{IsSpanOf, spans, tokens-end}
 use Rattle.c_syntax.specs.declared.term.Term.TheVariants as term
-use Rattle.c_syntax.specs.Words.{Word, bytes_of, names_of, names_with, term_of, word_of, words_from, words_of}
-use Rattle.c_syntax.specs.WordViews.{IsTokenOf}
+use Rattle.c_syntax.specs.language.Words.{Word, bytes_of, names_of, names_with, term_of, word_of, words_from, words_of}
+use Rattle.c_syntax.specs.workings.WordViews.{IsTokenOf}
 use Rattle.c_syntax.proofs.Numbers.{with_name-length}
 
 names_of-append : (text : List ℕ) (names : List (List ℕ)) (tokens more : List Token) → names_of text names (tokens ++ more) ≡ names_of text (names_of text names tokens) more

@@ -7,7 +7,7 @@ use Rattle.c_tokens.specs.declared.token.Spot.{Spot}
 use Rattle.c_tokens.specs.declared.token.Token.{Token}
 use Rattle.c_tokens.specs.declared.token.TokenKind.{TokenKind}
 use Rattle.c_tokens.specs.declared.token.TokenKind.TheVariants as token
-use Rattle.c_tokens.specs.Tokens.{tokens_of}
+use Rattle.c_tokens.specs.workings.Tokens.{tokens_of}
 use Rattle.c_tokens.proofs.Spots.{tokens-own}
 use Rattle.c_tokens.proofs.Spots as of_tokens
 use Rattle.c_syntax.specs.declared.term.Term.{Term}
@@ -16,8 +16,8 @@ use Rattle.c_syntax.specs.declared.node.Getter.{Getter}
 use Rattle.c_syntax.specs.declared.node.Getter.TheVariants as getter
 use Rattle.c_syntax.specs.declared.head.Head.{Head}
 use Rattle.c_syntax.specs.declared.head.Head.TheVariants as head
-use Rattle.c_syntax.specs.Words.{Word, bytes_of, names_with, term_of, words_from, words_of}
-use Rattle.c_syntax.specs.WordClasses.{is_getter, is_name, is_name_at, is_word}
+use Rattle.c_syntax.specs.language.Words.{Word, bytes_of, names_with, term_of, words_from, words_of}
+use Rattle.c_syntax.specs.language.WordClasses.{is_getter, is_name, is_name_at, is_word}
 
 -- all words but the ends of directives and of the text
 abbrev pub has_bytes : Term → Bool

@@ -1,8 +1,8 @@
 //! Why words are no program.
 
 ghost use Rattle.std.specs.Prelude.{◌≡◌, ◌≢◌};
-ghost use Rattle.c_syntax.specs.Words.{Word};
-ghost use Rattle.c_syntax.specs.Faults.{fault_number, fault_of, fault_spot, is_construct, is_odd_at, is_unknown_at};
+ghost use Rattle.c_syntax.specs.language.Words.{Word};
+ghost use Rattle.c_syntax.specs.language.Faults.{fault_number, fault_of, fault_spot, is_construct, is_odd_at, is_unknown_at};
 
 use crate::head::Head;
 use crate::term::Term;

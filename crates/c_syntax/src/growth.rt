@@ -2,13 +2,13 @@
 
 ghost use Rattle.std.specs.Prelude.{◌≡◌, ◌≤◌, ◌<◌, [], ◌∷◌, ◌++◌, length, reverse, OnOk, OnErr, IfOk};
 ghost use Rattle.std.specs.List.{All};
-ghost use Rattle.c_syntax.specs.Tree.Tree.{Node as tree_node};
-ghost use Rattle.c_syntax.specs.Tree.{spot_of};
-ghost use Rattle.c_syntax.specs.Derivation.{outermost, opened_at, made, joined, wrapped, skipped, result_of, name_in};
-ghost use Rattle.c_syntax.specs.Keeping.{with_name, with_number, with_text};
-ghost use Rattle.c_syntax.specs.LastChildren.{last_of, last_two_of};
-ghost use Rattle.c_syntax.specs.Nodes.{IsBelow};
-ghost use Rattle.c_syntax.specs.Numbered.{root_tree, tree_at, children_at};
+ghost use Rattle.c_syntax.specs.language.Tree.Tree.{Node as tree_node};
+ghost use Rattle.c_syntax.specs.language.Tree.{spot_of};
+ghost use Rattle.c_syntax.specs.workings.Derivation.{outermost, opened_at, made, joined, wrapped, skipped, result_of, name_in};
+ghost use Rattle.c_syntax.specs.workings.Keeping.{with_name, with_number, with_text};
+ghost use Rattle.c_syntax.specs.workings.LastChildren.{last_of, last_two_of};
+ghost use Rattle.c_syntax.specs.workings.Nodes.{IsBelow};
+ghost use Rattle.c_syntax.specs.language.Numbered.{root_tree, tree_at, children_at};
 
 use crate::node::NodeKind;
 use crate::nodes::{Label, Nodes};
@@ -58,15 +58,15 @@ pub struct Growth {
 impl Model for Growth {
     ghost use Rattle.std.specs.Prelude.{List, ◌∷◌, length, reverse};
     ghost use Rattle.std.specs.List.{All};
-    ghost use Rattle.c_syntax.specs.Derivation.{Opened};
-    ghost use Rattle.c_syntax.specs.Codes.{opened_code};
+    ghost use Rattle.c_syntax.specs.workings.Derivation.{Opened};
+    ghost use Rattle.c_syntax.specs.workings.Codes.{opened_code};
 
     ghost Value = { List Opened };
 
     ghost coded = { opened_code };
 
-    ghost use Rattle.c_syntax.specs.Nodes.{IsBelow};
-    ghost use Rattle.c_syntax.specs.Growth.{opened_nodes, AreOpen};
+    ghost use Rattle.c_syntax.specs.workings.Nodes.{IsBelow};
+    ghost use Rattle.c_syntax.specs.workings.Growth.{opened_nodes, AreOpen};
 
     ghost view = { λ growth. opened_nodes growth.nodes growth.children.items growth.texts.items (growth.inner ∷ reverse growth.outer.items) };
 

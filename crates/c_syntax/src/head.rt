@@ -1,9 +1,9 @@
 //! Where words leave off: in the head of a directive, or outside.
 
 ghost use Rattle.std.specs.Prelude.{◌≡◌, ◌<◌, ◌≤◌, ◌+◌, ◌-◌, ◌^◌};
-ghost use Rattle.c_syntax.specs.WordClasses.{is_getter, is_name, is_name_at, is_outside, is_reserved, is_routine, is_word};
-ghost use Rattle.c_syntax.specs.Derivation.{fits, is_number, is_text};
-ghost use Rattle.c_syntax.specs.Heads.{behind, behind_bare, behind_clause, behind_directive, behind_inside, behind_outside, behind_schedule, behind_word, parentheses_of};
+ghost use Rattle.c_syntax.specs.language.WordClasses.{is_getter, is_name, is_name_at, is_outside, is_reserved, is_routine, is_word};
+ghost use Rattle.c_syntax.specs.workings.Derivation.{fits, is_number, is_text};
+ghost use Rattle.c_syntax.specs.language.Heads.{behind, behind_bare, behind_clause, behind_directive, behind_inside, behind_outside, behind_schedule, behind_word, parentheses_of};
 
 use crate::grammar::Class;
 use crate::node::Getter;

@@ -2,16 +2,16 @@
 
 ghost use Rattle.std.specs.Prelude.{◌≡◌, ◌∷◌, ◌++◌, ◌↔◌, ◌⊎◌, [], ℕ, List, Ok};
 ghost use Rattle.c_tokens.specs.declared.token.Token.{Token};
-ghost use Rattle.c_tokens.specs.Tokens.{tokens_of};
+ghost use Rattle.c_tokens.specs.workings.Tokens.{tokens_of};
 ghost use Rattle.c_syntax.specs.declared.fault.SyntaxFault.{SyntaxFault};
 ghost use Rattle.c_syntax.specs.declared.term.Term.TheVariants.{End};
-ghost use Rattle.c_syntax.specs.Words.{Word};
-ghost use Rattle.c_syntax.specs.Tree.{Tree};
-ghost use Rattle.c_syntax.specs.Productions.{GoesOn, IsProgram, depth_limit};
-ghost use Rattle.c_syntax.specs.Derivation.{CanGoOn, SpellsWithin};
-ghost use Rattle.c_syntax.specs.Faults.{IsAnswered, IsFault};
-ghost use Rattle.c_syntax.specs.Texts.{HasSyntaxFault, Spells};
-ghost use Rattle.c_syntax.specs.Places.{HasOneConstructAPlace, HasOneNameAPlace};
+ghost use Rattle.c_syntax.specs.language.Words.{Word};
+ghost use Rattle.c_syntax.specs.language.Tree.{Tree};
+ghost use Rattle.c_syntax.specs.language.Productions.{GoesOn, IsProgram, depth_limit};
+ghost use Rattle.c_syntax.specs.workings.Derivation.{CanGoOn, SpellsWithin};
+ghost use Rattle.c_syntax.specs.language.Faults.{IsAnswered, IsFault};
+ghost use Rattle.c_syntax.specs.language.Texts.{HasSyntaxFault, Spells};
+ghost use Rattle.c_syntax.specs.language.Places.{HasOneConstructAPlace, HasOneNameAPlace};
 
 /// A program has one tree, whatever the limit of the depth is.
 pub fn one_tree()

@@ -1,9 +1,9 @@
 //! What the bytes of a token are to the grammar.
 
 ghost use Rattle.std.specs.Prelude.{◌≡◌, ◌≤◌, map};
-ghost use Rattle.c_tokens.specs.Words.{decimal_value, greatest};
-ghost use Rattle.c_syntax.specs.Lexemes.{row_view, rows_of_len};
-ghost use Rattle.c_syntax.specs.Words.{look_up, name_term, other_name, symbol_term, term_of};
+ghost use Rattle.c_tokens.specs.language.Words.{decimal_value, greatest};
+ghost use Rattle.c_syntax.specs.workings.Lexemes.{row_view, rows_of_len};
+ghost use Rattle.c_syntax.specs.language.Words.{look_up, name_term, other_name, symbol_term, term_of};
 
 use crate::term::Term;
 use crate::word_table::{

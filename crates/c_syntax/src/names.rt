@@ -2,8 +2,8 @@
 
 ghost use Rattle.std.specs.Prelude.{◌≡◌, ◌<◌, ◌-◌, ◌^◌, ℕ, List, [], IfOk, OnOk, unwrap_or};
 ghost use Rattle.std.specs.HashMap.{hash_map_len};
-ghost use Rattle.c_syntax.specs.Names.{AreNames};
-ghost use Rattle.c_syntax.specs.Words.{number_of, with_name};
+ghost use Rattle.c_syntax.specs.workings.Names.{AreNames};
+ghost use Rattle.c_syntax.specs.language.Words.{number_of, with_name};
 
 use std::alloc::{AllocError, Global};
 use std::collections::HashMap;

@@ -3,10 +3,10 @@
 ghost use Rattle.std.specs.Prelude.{◌≡◌, ◌<◌, ◌+◌, ◌≤◌, ◌++◌, ◌∷◌, [], length, IfOk, IfSome, OnErr};
 ghost use Rattle.std.specs.Option.{option_map};
 ghost use Rattle.std.specs.List.{All};
-ghost use Rattle.c_syntax.specs.Tree.Tree.{Node as tree_node};
-ghost use Rattle.c_syntax.specs.Tree.{kind_of, spot_of, name_of, number_of, text_of, child_of, children_of};
-ghost use Rattle.c_syntax.specs.Numbered.{tree_at, children_at};
-ghost use Rattle.c_syntax.specs.Nodes.{IsBelow};
+ghost use Rattle.c_syntax.specs.language.Tree.Tree.{Node as tree_node};
+ghost use Rattle.c_syntax.specs.language.Tree.{kind_of, spot_of, name_of, number_of, text_of, child_of, children_of};
+ghost use Rattle.c_syntax.specs.language.Numbered.{tree_at, children_at};
+ghost use Rattle.c_syntax.specs.workings.Nodes.{IsBelow};
 
 use crate::node::NodeKind;
 use c_tokens::Spot;
@@ -52,14 +52,14 @@ pub(crate) struct Nodes {
 
 impl Model for Nodes {
     ghost use Rattle.std.specs.Prelude.{List, []};
-    ghost use Rattle.c_syntax.specs.Tree.{Tree};
-    ghost use Rattle.c_syntax.specs.Codes.{trees_code};
+    ghost use Rattle.c_syntax.specs.language.Tree.{Tree};
+    ghost use Rattle.c_syntax.specs.workings.Codes.{trees_code};
 
     ghost Value = { List Tree };
 
     ghost coded = { trees_code };
 
-    ghost use Rattle.c_syntax.specs.Nodes.{trees_behind, AreNodes};
+    ghost use Rattle.c_syntax.specs.workings.Nodes.{trees_behind, AreNodes};
 
     ghost view = { λ table. trees_behind table.children.items table.texts.items [] table.nodes.items };
 

@@ -2,13 +2,13 @@
 
 ghost use Rattle.std.specs.Prelude.{◌≡◌, ◌≢◌, ◌∷◌, ◌++◌, [], List, All, IfOk, IfErr, OnOk, Ok, length, map};
 ghost use Rattle.c_tokens.specs.declared.token.Token.{Token};
-ghost use Rattle.c_tokens.specs.Tokens.{tokens_of};
-ghost use Rattle.c_syntax.specs.Words.{main_of};
-ghost use Rattle.c_syntax.specs.Texts.{HasSyntaxFault, Spells};
-ghost use Rattle.c_syntax.specs.Numbered.{root_tree};
-ghost use Rattle.c_syntax.specs.Reading.{Reaches};
-ghost use Rattle.c_syntax.specs.ReaderViews.{MayFault, beginning, state_of};
-ghost use Rattle.c_syntax.specs.WordViews.{IsWithin, word_view};
+ghost use Rattle.c_tokens.specs.workings.Tokens.{tokens_of};
+ghost use Rattle.c_syntax.specs.language.Words.{main_of};
+ghost use Rattle.c_syntax.specs.language.Texts.{HasSyntaxFault, Spells};
+ghost use Rattle.c_syntax.specs.language.Numbered.{root_tree};
+ghost use Rattle.c_syntax.specs.workings.Reading.{Reaches};
+ghost use Rattle.c_syntax.specs.workings.ReaderViews.{MayFault, beginning, state_of};
+ghost use Rattle.c_syntax.specs.workings.WordViews.{IsWithin, word_view};
 
 use crate::fault::SyntaxFault;
 use crate::reader::Reader;

@@ -4,14 +4,14 @@
 //! steps of its rule.
 
 ghost use Rattle.std.specs.Prelude.{ℕ, ◌≡◌, ◌≢◌, ◌<◌, ◌≤◌, ◌+◌, ◌-◌, ◌^◌, [], ◌∷◌, ◌++◌, List, IfOk, IfErr, OnOk, IfSome, MatchOption, true, length, Ok, Err, pos};
-ghost use Rattle.c_syntax.specs.Derivation.{fits, joined, kept, made, opened_at, outermost, program_steps, skipped, wrapped, result_of};
-ghost use Rattle.c_syntax.specs.Faults.{IsFault, fault_of};
-ghost use Rattle.c_syntax.specs.Heads.{behind, parentheses_of};
-ghost use Rattle.c_syntax.specs.Reading.{Faces, Reaches, State, weight};
-ghost use Rattle.c_syntax.specs.ReaderViews.{Does, HeadsOn, IsSeen, MayFault, beginning, state_of, with_step};
-ghost use Rattle.c_syntax.specs.WordViews.{IsWithin, word_view};
-ghost use Rattle.c_syntax.specs.Words.{Word as Spelled};
-ghost use Rattle.c_syntax.specs.Numbered.{root_tree};
+ghost use Rattle.c_syntax.specs.workings.Derivation.{fits, joined, kept, made, opened_at, outermost, program_steps, skipped, wrapped, result_of};
+ghost use Rattle.c_syntax.specs.language.Faults.{IsFault, fault_of};
+ghost use Rattle.c_syntax.specs.language.Heads.{behind, parentheses_of};
+ghost use Rattle.c_syntax.specs.workings.Reading.{Faces, Reaches, State, weight};
+ghost use Rattle.c_syntax.specs.workings.ReaderViews.{Does, HeadsOn, IsSeen, MayFault, beginning, state_of, with_step};
+ghost use Rattle.c_syntax.specs.workings.WordViews.{IsWithin, word_view};
+ghost use Rattle.c_syntax.specs.language.Words.{Word as Spelled};
+ghost use Rattle.c_syntax.specs.language.Numbered.{root_tree};
 
 use crate::fault::SyntaxFault;
 use crate::grammar::{Class, Sort, Step};

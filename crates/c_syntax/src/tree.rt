@@ -2,10 +2,10 @@
 
 ghost use Rattle.std.specs.Prelude.{◌≡◌, ◌<◌, ◌+◌, length, pos, IfSome};
 ghost use Rattle.std.specs.Option.{option_map};
-ghost use Rattle.c_syntax.specs.Tree.{kind_of, spot_of, name_of, number_of, text_of, child_of, children_of};
+ghost use Rattle.c_syntax.specs.language.Tree.{kind_of, spot_of, name_of, number_of, text_of, child_of, children_of};
 ghost use Rattle.std.specs.List.{All};
-ghost use Rattle.c_syntax.specs.Nodes.{IsBelow};
-ghost use Rattle.c_syntax.specs.Numbered.{children_at, tree_at};
+ghost use Rattle.c_syntax.specs.workings.Nodes.{IsBelow};
+ghost use Rattle.c_syntax.specs.language.Numbered.{children_at, tree_at};
 
 use crate::node::NodeKind;
 use crate::nodes::Nodes;
@@ -24,8 +24,8 @@ pub struct Tree {
 
 impl Model for Tree {
     ghost use Rattle.std.specs.Prelude.{◌<◌, length};
-    ghost use Rattle.c_syntax.specs.Numbered.{TreeView};
-    ghost use Rattle.c_syntax.specs.Codes.{tree_view_code};
+    ghost use Rattle.c_syntax.specs.language.Numbered.{TreeView};
+    ghost use Rattle.c_syntax.specs.workings.Codes.{tree_view_code};
 
     ghost Value = { TreeView };
 

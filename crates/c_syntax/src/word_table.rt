@@ -1,4 +1,4 @@
-//! The words of the language, each with what it is to the grammar. `specs/Words.antt` cites these tables.
+//! The words of the language, each with what it is to the grammar. `specs/language/Words.antt` cites these tables.
 
 use crate::term::Term;
 

@@ -1,10 +1,10 @@
 //! The words of a text.
 
 ghost use Rattle.std.specs.Prelude.{◌≡◌, ◌≤◌, ◌+◌, ℕ, List, All, IfOk, OnOk, length, map};
-ghost use Rattle.c_tokens.specs.Tokens.{tokens_of};
-ghost use Rattle.c_syntax.specs.Words.{bytes_of, main_of, names_with, text_of, word_of, words_of};
-ghost use Rattle.c_syntax.specs.Names.{AreNames};
-ghost use Rattle.c_syntax.specs.WordViews.{AreFewer, IsTokenOf, IsWithin, span, word_view};
+ghost use Rattle.c_tokens.specs.workings.Tokens.{tokens_of};
+ghost use Rattle.c_syntax.specs.language.Words.{bytes_of, main_of, names_with, text_of, word_of, words_of};
+ghost use Rattle.c_syntax.specs.workings.Names.{AreNames};
+ghost use Rattle.c_syntax.specs.workings.WordViews.{AreFewer, IsTokenOf, IsWithin, span, word_view};
 
 use crate::lexeme::{decimal_value, term_of};
 use crate::names::Names;

@@ -1,10 +1,10 @@
 -- Texts in quotes that have no end, and where they break off.
 use Rattle.std.proofs.Common.{◌≡◌, ℕ, ◌+◌, ◌-◌, ◌≤◌, Bool, true, false, cond, ◌==◌, List, [], ◌∷◌, ◌++◌, Result, Ok, Err, length, inl, inr, refl, sym, ap, ◌∙◌, arith}
 use Rattle.std.proofs.lemmas.Bool.{cond-false, cond-true, cond_both, eqb-false, eqb-true}
-use Rattle.c_tokens.specs.Bytes.{is_control}
-use Rattle.c_tokens.specs.Quoted.{backslash, is_escape, quote, quoted_end, text_end}
-use Rattle.c_tokens.specs.Pieces.{IsQuoted}
-use Rattle.c_tokens.specs.Ending.{IsBadText, StopsText}
+use Rattle.c_tokens.specs.language.Bytes.{is_control}
+use Rattle.c_tokens.specs.language.Quoted.{backslash, is_escape, quote, quoted_end, text_end}
+use Rattle.c_tokens.specs.language.Pieces.{IsQuoted}
+use Rattle.c_tokens.specs.language.Ending.{IsBadText, StopsText}
 use Rattle.c_tokens.proofs.Cuts.{differs}
 use Rattle.c_tokens.proofs.Texts.{IsQuoted-plain, from, plain_read}
 

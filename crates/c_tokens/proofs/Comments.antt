@@ -2,8 +2,8 @@
 use Rattle.std.proofs.Common.{◌≡◌, ◌≢◌, ◌⊎◌, ℕ, ◌+◌, Bool, true, false, ◌==◌, List, [], ◌∷◌, ◌++◌, Some, None, length, inl, inr, refl, sym, ap, ◌∙◌, append_assoc, arith}
 use Rattle.std.specs.Prelude.{◌&&◌}
 use Rattle.std.proofs.lemmas.Bool.{and_parts, cond-false, cond_both, eqb-true, false≢true}
-use Rattle.c_tokens.specs.Blanks.{comment_rest, one_more, slash, star}
-use Rattle.c_tokens.specs.Pieces.{IsComment}
+use Rattle.c_tokens.specs.language.Blanks.{comment_rest, one_more, slash, star}
+use Rattle.c_tokens.specs.language.Pieces.{IsComment}
 use Rattle.c_tokens.proofs.Cuts.{Cut, none_from, one_more-none, one_more-some}
 
 -- What ends a comment: a slash behind its star, or more up to the first star and slash. `starred` says that a star stands

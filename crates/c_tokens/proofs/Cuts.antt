@@ -4,8 +4,8 @@ use Rattle.std.specs.Prelude.{IsTrue}
 use Rattle.std.specs.List.{prefix_len}
 use Rattle.std.proofs.lemmas.Bool.{cases_eq, cond_both, true≢false}
 use Rattle.std.proofs.lemmas.List.Elements.{All-cons, All-head, All-nil, All-tail}
-use Rattle.c_tokens.specs.Blanks.{one_more}
-use Rattle.c_tokens.specs.Pieces.{Passes, StopsAt}
+use Rattle.c_tokens.specs.language.Blanks.{one_more}
+use Rattle.c_tokens.specs.language.Pieces.{Passes, StopsAt}
 
 -- bytes whose first ones, so many, are something before the rest
 pub record Cut (bytes : List ℕ) (count : ℕ) (P : List ℕ → List ℕ → Type 0) : Type 0 where

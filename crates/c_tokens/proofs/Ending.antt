@@ -9,12 +9,13 @@ use Rattle.c_tokens.specs.declared.place.Place.{Place}
 use Rattle.c_tokens.specs.declared.item.Flaw.{Flaw}
 use Rattle.c_tokens.specs.declared.item.Item.{Item}
 use Rattle.c_tokens.specs.declared.item.Item.TheVariants as item
-use Rattle.c_tokens.specs.Bytes.{newline}
-use Rattle.c_tokens.specs.Items.{item_of, newline_item}
-use Rattle.c_tokens.specs.Tokens.{beginning, fault_at, line_with, place_after, places_after, scan, token_at, tokens_of, with_front}
-use Rattle.c_tokens.specs.Pieces.{IsPassed, IsToken, Reads}
-use Rattle.c_tokens.specs.Ending.{EndsIn, IsFlaw, IsStuck}
-use Rattle.c_tokens.specs.Ending.EndsIn.{here, passed, token, directive_end}
+use Rattle.c_tokens.specs.language.Bytes.{newline}
+use Rattle.c_tokens.specs.workings.Items.{item_of, newline_item}
+use Rattle.c_tokens.specs.workings.Tokens.{scan, tokens_of, with_front}
+use Rattle.c_tokens.specs.language.Places.{beginning, fault_at, line_with, place_after, places_after, token_at}
+use Rattle.c_tokens.specs.language.Pieces.{IsPassed, IsToken, Reads}
+use Rattle.c_tokens.specs.language.Ending.{EndsIn, IsFlaw, IsStuck}
+use Rattle.c_tokens.specs.language.Ending.EndsIn.{here, passed, token, directive_end}
 use Rattle.c_tokens.proofs.Flaws.{IsFlaw-item, IsStuck-item, stuck_item}
 use Rattle.c_tokens.proofs.Fronts.{passed_front, token_front}
 use Rattle.c_tokens.proofs.Law.{passed-some, reads-tokens, scan-end, scan-fault, scan-passed, scan-reads, scan-token, token-some}

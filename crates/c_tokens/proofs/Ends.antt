@@ -8,11 +8,11 @@ use Rattle.c_tokens.specs.declared.tail.Row.{Row}
 use Rattle.std.proofs.lemmas.Bool.{cases_eq}
 use Rattle.std.proofs.lemmas.List.{get_or_append_left, get_or_push, take-append-drop, take_all}
 use Rattle.std.proofs.lemmas.Option.{get_or_from_slice_get, slice_get-get_or, slice_get_within}
-use Rattle.c_tokens.specs.Bytes.{after, is_gap, newline}
-use Rattle.c_tokens.specs.Lines.{Tail, include_len, include_rest, tail_len}
-use Rattle.c_tokens.specs.Lines.Tail.{Gaps, Slash, Line, Inside, Starred, Return}
-use Rattle.c_tokens.specs.Blanks.{one_more, return, slash, star}
-use Rattle.c_tokens.specs.Tails.{AreTails, IsEndOf, IsSmall, IsSmallRow, row_of}
+use Rattle.c_tokens.specs.language.Bytes.{after, is_gap, newline}
+use Rattle.c_tokens.specs.workings.Lines.{Tail, include_len, include_rest, tail_len}
+use Rattle.c_tokens.specs.workings.Lines.Tail.{Gaps, Slash, Line, Inside, Starred, Return}
+use Rattle.c_tokens.specs.language.Blanks.{one_more, return, slash, star}
+use Rattle.c_tokens.specs.workings.Tails.{AreTails, IsEndOf, IsSmall, IsSmallRow, row_of}
 
 pub IsEndOf-itself : (bytes : List ℕ) → IsEndOf bytes bytes
 IsEndOf-itself bytes = ([], refl)

@@ -8,15 +8,15 @@ use Rattle.c_tokens.specs.declared.item.Flaw.{Flaw}
 use Rattle.c_tokens.specs.declared.item.Flaw.TheVariants as flaw
 use Rattle.c_tokens.specs.declared.item.Item.{Item}
 use Rattle.c_tokens.specs.declared.item.Item.TheVariants as item
-use Rattle.c_tokens.specs.Bytes.{begins, is_blank, is_digit, is_letter, newline}
-use Rattle.c_tokens.specs.Blanks.{comment_rest, line_end_len, line_rest, slash, star}
-use Rattle.c_tokens.specs.Words.{digits_len, has_number}
-use Rattle.c_tokens.specs.Symbols.{symbol_len}
-use Rattle.c_tokens.specs.Quoted.{backslash, quote, quoted_end, text_end}
-use Rattle.c_tokens.specs.Lines.{include_len, pragma_len}
-use Rattle.c_tokens.specs.Items.{comment_item, continued_item, hash_item, head_item, include_item, item_of, name_item, newline_item, number_item, slash_item, symbol_item, text_item}
-use Rattle.c_tokens.specs.Pieces.{hash}
-use Rattle.c_tokens.specs.Ending.{IsBadText, IsFlaw, IsOther, IsStuck, OpensComment}
+use Rattle.c_tokens.specs.language.Bytes.{begins, is_blank, is_digit, is_letter, newline}
+use Rattle.c_tokens.specs.language.Blanks.{comment_rest, line_end_len, line_rest, slash, star}
+use Rattle.c_tokens.specs.language.Words.{digits_len, has_number}
+use Rattle.c_tokens.specs.language.Symbols.{symbol_len}
+use Rattle.c_tokens.specs.language.Quoted.{backslash, quote, quoted_end, text_end}
+use Rattle.c_tokens.specs.workings.Lines.{include_len, pragma_len}
+use Rattle.c_tokens.specs.workings.Items.{comment_item, continued_item, hash_item, head_item, include_item, item_of, name_item, newline_item, number_item, slash_item, symbol_item, text_item}
+use Rattle.c_tokens.specs.language.Pieces.{hash}
+use Rattle.c_tokens.specs.language.Ending.{IsBadText, IsFlaw, IsOther, IsStuck, OpensComment}
 use Rattle.c_tokens.proofs.BadTexts.{IsBadText-found, one_end}
 use Rattle.c_tokens.proofs.Fronts.{passed_front, token_front}
 use Rattle.c_tokens.proofs.Pieces.{IsPiece, item_piece}

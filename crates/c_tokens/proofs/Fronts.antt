@@ -11,14 +11,14 @@ use Rattle.c_tokens.specs.declared.place.Line.{Line}
 use Rattle.c_tokens.specs.declared.place.Line.TheVariants as line
 use Rattle.c_tokens.specs.declared.item.Flaw.TheVariants as flaw
 use Rattle.c_tokens.specs.declared.item.Item.TheVariants as item
-use Rattle.c_tokens.specs.Bytes.{begins, is_blank, is_digit, is_inline, is_letter, is_word, newline}
-use Rattle.c_tokens.specs.Blanks.{comment_rest, line_rest, return, slash, star}
-use Rattle.c_tokens.specs.Words.{clings, decimal_value, digits_len, greatest, has_number, is_led_by_zero, is_number}
-use Rattle.c_tokens.specs.Symbols.{double_symbols, has_byte, has_pair, single_len, single_symbols, symbol_len}
-use Rattle.c_tokens.specs.Quoted.{backslash, quote, text_end}
-use Rattle.c_tokens.specs.Lines.{include_len, pragma_len}
-use Rattle.c_tokens.specs.Items.{comment_item, head_item, include_item, item_of, name_item, newline_item, number_item, slash_item, symbol_item, text_item}
-use Rattle.c_tokens.specs.Pieces.{IsBlank, IsComment, IsContinued, IsInclude, IsLineComment, IsName, IsNumber, IsOtherHash, IsPassed, IsPragma, IsSymbol, IsText, IsToken, StopsAt, hash}
+use Rattle.c_tokens.specs.language.Bytes.{begins, is_blank, is_digit, is_inline, is_letter, is_word, newline}
+use Rattle.c_tokens.specs.language.Blanks.{comment_rest, line_rest, return, slash, star}
+use Rattle.c_tokens.specs.language.Words.{clings, decimal_value, digits_len, greatest, has_number, is_led_by_zero, is_number}
+use Rattle.c_tokens.specs.language.Symbols.{double_symbols, has_byte, has_pair, single_len, single_symbols, symbol_len}
+use Rattle.c_tokens.specs.language.Quoted.{backslash, quote, text_end}
+use Rattle.c_tokens.specs.workings.Lines.{include_len, pragma_len}
+use Rattle.c_tokens.specs.workings.Items.{comment_item, head_item, include_item, item_of, name_item, newline_item, number_item, slash_item, symbol_item, text_item}
+use Rattle.c_tokens.specs.language.Pieces.{IsBlank, IsComment, IsContinued, IsInclude, IsLineComment, IsName, IsNumber, IsOtherHash, IsPassed, IsPragma, IsSymbol, IsText, IsToken, StopsAt, hash}
 use Rattle.c_tokens.proofs.Comments.{comment_read}
 use Rattle.c_tokens.proofs.Cuts.{differs, length-run, none_from}
 use Rattle.c_tokens.proofs.Hashes.{include_found, include_read, pragma_found, pragma_read}

@@ -5,11 +5,11 @@ use Rattle.std.specs.List.{prefix_len}
 use Rattle.std.proofs.lemmas.Bool.{cond-false, cond-true, cond_both, eqb-true, true≢false}
 use Rattle.std.proofs.lemmas.List.{drop_at}
 use Rattle.std.proofs.lemmas.List.Elements.{All-head}
-use Rattle.c_tokens.specs.Bytes.{after, begins, is_gap, is_word, past}
-use Rattle.c_tokens.specs.Blanks.{further}
-use Rattle.c_tokens.specs.Lines.{before, before_end, either, ended, file_rest, include_len, include_rest, next_word, omp_rest, pragma_len, pragma_rest, tail_len}
-use Rattle.c_tokens.specs.Lines.Tail.{Gaps}
-use Rattle.c_tokens.specs.Pieces.{IsFile, IsInclude, IsPragma, Passes, StopsAt, hash}
+use Rattle.c_tokens.specs.language.Bytes.{after, begins, is_gap, is_word, past}
+use Rattle.c_tokens.specs.language.Blanks.{further}
+use Rattle.c_tokens.specs.workings.Lines.{before, before_end, either, ended, file_rest, include_len, include_rest, next_word, omp_rest, pragma_len, pragma_rest, tail_len}
+use Rattle.c_tokens.specs.workings.Lines.Tail.{Gaps}
+use Rattle.c_tokens.specs.language.Pieces.{IsFile, IsInclude, IsPragma, Passes, StopsAt, hash}
 use Rattle.c_tokens.proofs.Cuts.{Cut, length-run, run}
 use Rattle.c_tokens.proofs.LineTails.{further-some, tail_found, tail_read}
 

@@ -12,11 +12,12 @@ use Rattle.c_tokens.specs.declared.place.Place.{Place}
 use Rattle.c_tokens.specs.declared.item.Flaw.{Flaw}
 use Rattle.c_tokens.specs.declared.item.Item.{Item}
 use Rattle.c_tokens.specs.declared.item.Item.TheVariants as item
-use Rattle.c_tokens.specs.Bytes.{begins, is_digit, is_letter, newline}
-use Rattle.c_tokens.specs.Items.{item_of, newline_item}
-use Rattle.c_tokens.specs.Tokens.{Fits, beginning, closing, fault_at, found, item_len, line_with, place_after, place_in, places_after, scan, token_at, tokens_of, with_front}
-use Rattle.c_tokens.specs.Pieces.{IsPassed, IsToken, Reads}
-use Rattle.c_tokens.specs.Pieces.Reads.{over, passed, token, directive_end}
+use Rattle.c_tokens.specs.language.Bytes.{begins, is_digit, is_letter, newline}
+use Rattle.c_tokens.specs.workings.Items.{item_of, newline_item}
+use Rattle.c_tokens.specs.workings.Tokens.{Fits, found, item_len, place_in, scan, tokens_of, with_front}
+use Rattle.c_tokens.specs.language.Places.{beginning, closing, fault_at, line_with, place_after, places_after, token_at}
+use Rattle.c_tokens.specs.language.Pieces.{IsPassed, IsToken, Reads}
+use Rattle.c_tokens.specs.language.Pieces.Reads.{over, passed, token, directive_end}
 use Rattle.c_tokens.proofs.Fronts.{passed_front, token_front}
 use Rattle.c_tokens.proofs.Pieces.{IsPiece, item_piece}
 use Rattle.c_tokens.proofs.Scanning.{scan-item}

@@ -2,12 +2,12 @@
 use Rattle.std.proofs.Common.{◌≡◌, ℕ, zero, suc, ◌+◌, ◌≤◌, Bool, true, false, cond, ◌==◌, List, [], ◌∷◌, ◌++◌, Option, Some, None, length, drop, inl, inr, refl, sym, ap, subst, ◌∙◌, append_assoc, arith, length-append, ne_eqb}
 use Rattle.std.proofs.lemmas.Bool.{cond-false, cond-true, cond_both, eqb-true, cases_eq, true≢false}
 use Rattle.std.proofs.lemmas.List.{drop_at}
-use Rattle.c_tokens.specs.Bytes.{is_gap, is_inline, newline}
-use Rattle.c_tokens.specs.Blanks.{comment_rest, further, line_rest, one_more, return, slash, star}
-use Rattle.c_tokens.specs.Lines.{Tail, tail_len}
-use Rattle.c_tokens.specs.Lines.Tail.{Gaps, Slash, Line, Inside, Starred, Return}
-use Rattle.c_tokens.specs.Pieces.{EndsLine, IsComment, IsLineComment, IsLineEnd, IsTail}
-use Rattle.c_tokens.specs.Pieces.IsTail.{nothing, gap, comment, last}
+use Rattle.c_tokens.specs.language.Bytes.{is_gap, is_inline, newline}
+use Rattle.c_tokens.specs.language.Blanks.{comment_rest, further, line_rest, one_more, return, slash, star}
+use Rattle.c_tokens.specs.workings.Lines.{Tail, tail_len}
+use Rattle.c_tokens.specs.workings.Lines.Tail.{Gaps, Slash, Line, Inside, Starred, Return}
+use Rattle.c_tokens.specs.language.Pieces.{EndsLine, IsComment, IsLineComment, IsLineEnd, IsTail}
+use Rattle.c_tokens.specs.language.Pieces.IsTail.{nothing, gap, comment, last}
 use Rattle.c_tokens.proofs.Comments.{IsComment-closing, comment_found, comment_read}
 use Rattle.c_tokens.proofs.Cuts.{Cut, length-run, one_more-some, run}
 

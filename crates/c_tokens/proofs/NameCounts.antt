@@ -6,9 +6,10 @@ use Rattle.c_tokens.specs.declared.token.TokenKind.TheVariants as kind
 use Rattle.c_tokens.specs.declared.place.Line.{Line}
 use Rattle.c_tokens.specs.declared.place.Line.TheVariants as line
 use Rattle.c_tokens.specs.declared.place.Place.{Place}
-use Rattle.c_tokens.specs.Tokens.{closing, line_with, tokens_of}
-use Rattle.c_tokens.specs.Pieces.{Reads}
-use Rattle.c_tokens.specs.Pieces.Reads.{over, passed, token, directive_end}
+use Rattle.c_tokens.specs.workings.Tokens.{tokens_of}
+use Rattle.c_tokens.specs.language.Places.{closing, line_with}
+use Rattle.c_tokens.specs.language.Pieces.{Reads}
+use Rattle.c_tokens.specs.language.Pieces.Reads.{over, passed, token, directive_end}
 use Rattle.c_tokens.proofs.Law.{scan-reads, token-some}
 use Rattle.c_tokens.proofs.Spans.{places_after-at}
 

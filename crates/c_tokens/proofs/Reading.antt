@@ -3,9 +3,9 @@ use Rattle.std.proofs.Common.{◌≡◌, ℕ, zero, suc, ◌+◌, ◌-◌, ◌*�
 use Rattle.std.specs.Prelude.{nat_le}
 use Rattle.std.proofs.lemmas.Bool.{lt-leb}
 use Rattle.std.proofs.lemmas.List.{drop_all}
-use Rattle.c_tokens.specs.Words.{decimal_value, greatest}
-use Rattle.c_tokens.specs.Quoted.{quoted_end, text_end}
-use Rattle.c_tokens.specs.Blanks.{further, one_more}
+use Rattle.c_tokens.specs.language.Words.{decimal_value, greatest}
+use Rattle.c_tokens.specs.language.Quoted.{quoted_end, text_end}
+use Rattle.c_tokens.specs.language.Blanks.{further, one_more}
 
 -- so many bytes further, and one
 pub further-one_more : (count : ℕ) (rest : Option ℕ) → further count (one_more rest) ≡ further (count + 1) rest

@@ -6,8 +6,9 @@ use Rattle.c_tokens.specs.declared.item.Flaw.{Flaw}
 use Rattle.c_tokens.specs.declared.item.Item.{Item}
 use Rattle.c_tokens.specs.declared.item.Item.TheVariants as item
 use Rattle.c_tokens.specs.declared.place.Place.{Place}
-use Rattle.c_tokens.specs.Items.{item_of}
-use Rattle.c_tokens.specs.Tokens.{Fits, closing, fault_at, found, front_of, item_len, place_after, place_in, places_after, scan, with_front}
+use Rattle.c_tokens.specs.workings.Items.{item_of}
+use Rattle.c_tokens.specs.workings.Tokens.{Fits, found, front_of, item_len, place_in, scan, with_front}
+use Rattle.c_tokens.specs.language.Places.{closing, fault_at, place_after, places_after}
 
 -- the bytes of an item are passed over
 pub scan-pending : (pending : ℕ) (bytes : List ℕ) (place : Place) → pending ≤ length bytes → scan bytes pending place ≡ scan (drop pending bytes) 0 (places_after (take pending bytes) place)

@@ -1,9 +1,9 @@
 -- Texts in quotes, and where they end.
 use Rattle.std.proofs.Common.{◌≡◌, ℕ, ◌+◌, ◌-◌, Bool, true, false, cond, ◌==◌, List, [], ◌∷◌, ◌++◌, Result, Ok, Err, length, inl, inr, refl, sym, ap, subst, ◌∙◌, arith, ne_eqb}
 use Rattle.std.proofs.lemmas.Bool.{cond-true, cond_both, eqb-false, eqb-true}
-use Rattle.c_tokens.specs.Bytes.{is_control}
-use Rattle.c_tokens.specs.Quoted.{backslash, is_escape, quote, text_end}
-use Rattle.c_tokens.specs.Pieces.{IsPlain, IsQuoted}
+use Rattle.c_tokens.specs.language.Bytes.{is_control}
+use Rattle.c_tokens.specs.language.Quoted.{backslash, is_escape, quote, text_end}
+use Rattle.c_tokens.specs.language.Pieces.{IsPlain, IsQuoted}
 
 -- the bytes with the backslash before them
 abbrev pub from : Bool → List ℕ → List ℕ

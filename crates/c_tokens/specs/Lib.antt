@@ -1,13 +1,2 @@
-pub mod Bytes
-pub mod Classes
-pub mod Blanks
-pub mod Words
-pub mod Symbols
-pub mod Quoted
-pub mod Lines
-pub mod Tails
-pub mod Items
-pub mod Tokens
-pub mod Pieces
-pub mod Ending
-pub mod Faults
+pub mod language
+pub mod workings

@@ -1,7 +1,7 @@
 //! Blanks and comments.
 
 ghost use Rattle.std.specs.Prelude.{◌≡◌, ◌≤◌, false, IfSome, length};
-ghost use Rattle.c_tokens.specs.Blanks.{comment_rest, line_end_len, line_rest};
+ghost use Rattle.c_tokens.specs.language.Blanks.{comment_rest, line_end_len, line_rest};
 
 use crate::bytes::Class;
 

@@ -3,8 +3,8 @@
 ghost use Rattle.std.specs.Prelude.{◌≡◌, ◌≤◌, length};
 ghost use Rattle.std.specs.List.{prefix_len};
 ghost use Rattle.std.specs.Option.{option_copied};
-ghost use Rattle.c_tokens.specs.Bytes.{after, begins, past};
-ghost use Rattle.c_tokens.specs.Classes.{test_of};
+ghost use Rattle.c_tokens.specs.language.Bytes.{after, begins, past};
+ghost use Rattle.c_tokens.specs.workings.Classes.{test_of};
 
 /// A class of bytes.
 #[derive(Clone, Copy)]

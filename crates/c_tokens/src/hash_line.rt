@@ -2,9 +2,9 @@
 
 ghost use Rattle.std.specs.Prelude.{◌≡◌, ◌≤◌, length, IfSome};
 ghost use Rattle.std.specs.Option.{option_copied};
-ghost use Rattle.c_tokens.specs.Bytes.{after};
-ghost use Rattle.c_tokens.specs.Lines.{include_len, include_rest, next_word, pragma_len, pragma_rest};
-ghost use Rattle.c_tokens.specs.Tails.{AreTails, IsEndOf};
+ghost use Rattle.c_tokens.specs.language.Bytes.{after};
+ghost use Rattle.c_tokens.specs.workings.Lines.{include_len, include_rest, next_word, pragma_len, pragma_rest};
+ghost use Rattle.c_tokens.specs.workings.Tails.{AreTails, IsEndOf};
 
 use crate::bytes::Class;
 use crate::tail::tail_len;

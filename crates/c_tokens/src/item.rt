@@ -1,14 +1,14 @@
 //! What stands at the front of the rest of a text.
 
 ghost use Rattle.std.specs.Prelude.{◌≡◌, ◌==◌, ◌≤◌, ◌<◌, ◌+◌, true, length};
-ghost use Rattle.c_tokens.specs.Items.{continued_item, hash_item, include_item, item_of, newline_item, number_item, slash_item, symbol_item, text_item};
-ghost use Rattle.c_tokens.specs.Bytes.{begins, is_digit};
-ghost use Rattle.c_tokens.specs.Lines.{include_len};
-ghost use Rattle.c_tokens.specs.Quoted.{quoted_end};
-ghost use Rattle.c_tokens.specs.Symbols.{symbol_len};
-ghost use Rattle.c_tokens.specs.Blanks.{line_end_len};
-ghost use Rattle.c_tokens.specs.Tails.{AreTails};
-ghost use Rattle.c_tokens.specs.Tokens.{Fits, item_len};
+ghost use Rattle.c_tokens.specs.workings.Items.{continued_item, hash_item, include_item, item_of, newline_item, number_item, slash_item, symbol_item, text_item};
+ghost use Rattle.c_tokens.specs.language.Bytes.{begins, is_digit};
+ghost use Rattle.c_tokens.specs.workings.Lines.{include_len};
+ghost use Rattle.c_tokens.specs.language.Quoted.{quoted_end};
+ghost use Rattle.c_tokens.specs.language.Symbols.{symbol_len};
+ghost use Rattle.c_tokens.specs.language.Blanks.{line_end_len};
+ghost use Rattle.c_tokens.specs.workings.Tails.{AreTails};
+ghost use Rattle.c_tokens.specs.workings.Tokens.{Fits, item_len};
 
 use crate::blanks::{comment_rest, line_end_len, line_rest};
 use crate::bytes::Class;

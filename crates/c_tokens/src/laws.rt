@@ -3,9 +3,10 @@
 ghost use Rattle.std.specs.Prelude.{◌≡◌, ◌⊎◌, ℕ, List, Ok, Err};
 ghost use Rattle.c_tokens.specs.declared.token.Token.{Token};
 ghost use Rattle.c_tokens.specs.declared.token.TokenFault.{TokenFault};
-ghost use Rattle.c_tokens.specs.Tokens.{beginning, tokens_of};
-ghost use Rattle.c_tokens.specs.Pieces.{Reads};
-ghost use Rattle.c_tokens.specs.Ending.{EndsIn};
+ghost use Rattle.c_tokens.specs.workings.Tokens.{tokens_of};
+ghost use Rattle.c_tokens.specs.language.Places.{beginning};
+ghost use Rattle.c_tokens.specs.language.Pieces.{Reads};
+ghost use Rattle.c_tokens.specs.language.Ending.{EndsIn};
 
 /// A text that has tokens is read as them, piece by piece.
 pub fn tokens_are_read()

@@ -1,7 +1,8 @@
 //! Where the reading of a text has come to.
 
 ghost use Rattle.std.specs.Prelude.{◌≡◌, ◌≤◌, ◌<◌, ◌+◌, length};
-ghost use Rattle.c_tokens.specs.Tokens.{Bounded, begun, beginning, line_from, place_after, place_in, places_after};
+ghost use Rattle.c_tokens.specs.workings.Tokens.{Bounded, place_in};
+ghost use Rattle.c_tokens.specs.language.Places.{begun, beginning, line_from, place_after, places_after};
 
 use crate::item::Item;
 use crate::token::{Spot, TokenKind};

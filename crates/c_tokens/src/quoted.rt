@@ -1,7 +1,7 @@
 //! Texts in double quotes.
 
 ghost use Rattle.std.specs.Prelude.{◌≡◌, ◌≤◌, ◌<◌, length, IfOk, IfErr};
-ghost use Rattle.c_tokens.specs.Quoted.{is_escape, quoted_end};
+ghost use Rattle.c_tokens.specs.language.Quoted.{is_escape, quoted_end};
 
 use crate::bytes::Class;
 

@@ -1,9 +1,10 @@
 //! The tokens of a text.
 
 ghost use Rattle.std.specs.Prelude.{◌≡◌, ◌≢◌, ◌≤◌, ◌+◌, ◌++◌, ◌∷◌, [], Ok, Err, IfOk, IfErr, OnOk, length, vec_len};
-ghost use Rattle.c_tokens.specs.Ending.{EndsIn};
-ghost use Rattle.c_tokens.specs.Pieces.{Reads};
-ghost use Rattle.c_tokens.specs.Tokens.{Bounded, beginning, closing, fault_at, front_of, item_len, token_at, tokens_of};
+ghost use Rattle.c_tokens.specs.language.Ending.{EndsIn};
+ghost use Rattle.c_tokens.specs.language.Pieces.{Reads};
+ghost use Rattle.c_tokens.specs.workings.Tokens.{Bounded, front_of, item_len, tokens_of};
+ghost use Rattle.c_tokens.specs.language.Places.{beginning, closing, fault_at, token_at};
 
 use crate::item::{Flaw, Item, item_at};
 use crate::place::{Line, Place};

@@ -1,7 +1,7 @@
 //! Symbols.
 
 ghost use Rattle.std.specs.Prelude.{◌≡◌, ◌≤◌, length};
-ghost use Rattle.c_tokens.specs.Symbols.{double_symbols, has_pair, single_len, symbol_len};
+ghost use Rattle.c_tokens.specs.language.Symbols.{double_symbols, has_pair, single_len, symbol_len};
 
 /// How many bytes the longest symbol at the front has; 0 where none stands there.
 pub(crate) fn symbol_len(bytes: &[u8]) -> usize

@@ -5,10 +5,10 @@
 //! one comment then cost no more than one.
 
 ghost use Rattle.std.specs.Prelude.{◌≡◌, ◌≤◌, ◌∷◌, [], IfOk, IfSome, length, ℕ, List};
-ghost use Rattle.c_tokens.specs.Blanks.{one_more};
-ghost use Rattle.c_tokens.specs.Lines.{tail_len};
-ghost use Rattle.c_tokens.specs.Lines.Tail.{Gaps};
-ghost use Rattle.c_tokens.specs.Tails.{AreTails, IsSmall, IsSmallRow, row_of};
+ghost use Rattle.c_tokens.specs.language.Blanks.{one_more};
+ghost use Rattle.c_tokens.specs.workings.Lines.{tail_len};
+ghost use Rattle.c_tokens.specs.workings.Lines.Tail.{Gaps};
+ghost use Rattle.c_tokens.specs.workings.Tails.{AreTails, IsSmall, IsSmallRow, row_of};
 
 use std::alloc::{AllocError, Global};
 

@@ -1,7 +1,7 @@
 //! Tokens, their places, and the faults of a text.
 
 ghost use Rattle.std.specs.Prelude.{◌≡◌};
-ghost use Rattle.c_tokens.specs.Faults.{fault_number, fault_spot};
+ghost use Rattle.c_tokens.specs.language.Faults.{fault_number, fault_spot};
 
 use thiserror::Error;
 

@@ -1,7 +1,7 @@
 //! Numbers.
 
 ghost use Rattle.std.specs.Prelude.{◌≡◌, ◌≤◌, nat_le, length};
-ghost use Rattle.c_tokens.specs.Words.{decimal_value, digits_len, greatest, has_number, is_number};
+ghost use Rattle.c_tokens.specs.language.Words.{decimal_value, digits_len, greatest, has_number, is_number};
 
 use crate::bytes::Class;
 

@@ -1,6 +1,6 @@
 -- Where a step has come to the creation of an explicit task, the task can be made.
 use Rattle.std.proofs.Common.{◌≡◌, ℕ, Bool, slice_get, sym, ap, subst}
-use Rattle.c_syntax.specs.Numbered.{TreeView, tree_at}
+use Rattle.c_syntax.specs.language.Numbered.{TreeView, tree_at}
 use Rattle.c_model.specs.declared.point.Point.TheVariants.{TaskCreate}
 use Rattle.c_model.specs.declared.view.View.{View}
 use Rattle.c_model.specs.Begin.{explicit_task}

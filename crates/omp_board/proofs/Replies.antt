@@ -1,6 +1,6 @@
 -- Answers that fit what is asked.
 use Rattle.std.proofs.Common.{◌+◌, ◌<◌, ◌≤◌, ℕ, Bool, List, [], ◌∷◌, Option, Some, None, IfSome}
-use Rattle.c_syntax.specs.Tree.{Tree}
+use Rattle.c_syntax.specs.language.Tree.{Tree}
 use Rattle.c_model.specs.declared.question.Answer.TheVariants as answer
 use Rattle.c_model.specs.declared.question.Ask.TheVariants as ask
 use Rattle.c_model.specs.Answers.{AnswersFirst, AnswersItem, IsChunkAnswer, IsLockAnswer, IsSectionAnswer}

@@ -1,7 +1,7 @@
 -- Room changes nothing of a task's code.
 use Rattle.std.proofs.Common.{◌≡◌, ℕ, List, slice_set, slice_index_or, Some, Result, Ok, Err, OnOk, OnErr, sym, ap, ◌∙◌}
 use Rattle.std.proofs.Math.Seq.{map-set_same}
-use Rattle.c_syntax.specs.Numbered.{TreeView}
+use Rattle.c_syntax.specs.language.Numbered.{TreeView}
 use Rattle.c_steps.specs.Held.{Held, task_at}
 use Rattle.c_steps.specs.Moves.{roomy}
 use Rattle.omp_board.specs.declared.task.Task.{Task}

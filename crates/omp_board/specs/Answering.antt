@@ -1,6 +1,6 @@
 -- A silent step of a thread's task: what its code comes to, and what is answered where it asks.
 use Rattle.std.specs.Prelude.{◌≡◌, ℕ, Option}
-use Rattle.c_syntax.specs.Numbered.{TreeView}
+use Rattle.c_syntax.specs.language.Numbered.{TreeView}
 use Rattle.c_model.specs.declared.question.Answer.{Answer}
 use Rattle.c_model.specs.declared.question.Ask.{Ask}
 use Rattle.c_model.specs.declared.view.View.{View}

@@ -1,8 +1,8 @@
 -- What a board is seen as: the program, the world, and room for a turn.
 use Rattle.std.specs.Prelude.{ℕ, zero, suc, false, ◌==◌, ◌+◌, ◌≡◌, ◌<◌, ◌≤◌, List, None, Result, Ok, Err, length, refl}
 use Rattle.std.specs.Coded.{Coded, code_by, coded×, coded_ℕ, coded_list}
-use Rattle.c_syntax.specs.Codes.{tree_view_code}
-use Rattle.c_syntax.specs.Numbered.{TreeView}
+use Rattle.c_syntax.specs.workings.Codes.{tree_view_code}
+use Rattle.c_syntax.specs.language.Numbered.{TreeView}
 use Rattle.c_model.specs.Task.{Moment, Store}
 use Rattle.c_model.specs.declared.point.Point.{Point}
 use Rattle.task_pool.specs.View.{PoolView}

@@ -3,8 +3,8 @@ use Rattle.std.specs.Prelude.{ℕ, ℤ, ◌≡◌, List, Option, ◌⊎◌, refl
 use Rattle.std.proofs.Common.{inl, inr}
 use Rattle.std.specs.Coded.{Coded, code_by, coded×, coded⊎, coded_ℕ, coded_ℤ, coded_list, coded_option}
 use base.Stored.{coded_unit}
-use Rattle.c_syntax.specs.Codes.{tree_code}
-use Rattle.c_syntax.specs.Tree.{Tree}
+use Rattle.c_syntax.specs.workings.Codes.{tree_code}
+use Rattle.c_syntax.specs.language.Tree.{Tree}
 use Rattle.c_syntax.specs.declared.node.ReductionOp.{ReductionOp}
 use Rattle.c_syntax.specs.contracts.node.ReductionOp as operator
 use Rattle.c_model.specs.declared.entry.Entry.{Entry}

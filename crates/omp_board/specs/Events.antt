@@ -1,6 +1,6 @@
 -- What an event of a task's code requires at its Go, and what it answers and changes beside the code.
 use Rattle.std.specs.Prelude.{◌≡◌, ℕ, ◌<◌, ◌≤◌, Bool, slice_get, Option, Some, None, Result, Ok, Err}
-use Rattle.c_syntax.specs.Numbered.{TreeView, tree_at}
+use Rattle.c_syntax.specs.language.Numbered.{TreeView, tree_at}
 use Rattle.c_model.specs.declared.point.Point.{Point}
 use Rattle.c_model.specs.declared.point.Point.TheVariants.{TaskCreate}
 use Rattle.c_model.specs.declared.point.Work.{Work}

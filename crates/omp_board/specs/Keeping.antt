@@ -1,7 +1,7 @@
 -- How the tasks are kept: the control of each one that has code, controls without code, and room.
 use Rattle.std.specs.Prelude.{ℕ, ◌+◌, ◌<◌, ◌≤◌, ◌^◌, List, Option, None, IfSome, length, map, slice_index_or}
 use Rattle.std.specs.List.{All}
-use Rattle.c_syntax.specs.Numbered.{TreeView}
+use Rattle.c_syntax.specs.language.Numbered.{TreeView}
 use Rattle.c_steps.specs.Held.{Held}
 use Rattle.c_steps.specs.Made.{IsMadeFor}
 use Rattle.omp_model.specs.State.{Task as Seen}

@@ -1,8 +1,8 @@
 -- What the tasks of a run are seen as, with the program and the store that their code shares.
 use Rattle.std.specs.Prelude.{ℕ, zero, suc, ◌+◌, ◌-◌, ◌≡◌, ◌<◌, ◌≤◌, ◌++◌, List, [], ◌∷◌, Option, Some, None, length, slice_index_or, slice_set, refl}
 use Rattle.std.specs.Coded.{Coded, code_by, coded×, coded_ℕ, coded_list}
-use Rattle.c_syntax.specs.Codes.{tree_view_code}
-use Rattle.c_syntax.specs.Numbered.{TreeView}
+use Rattle.c_syntax.specs.workings.Codes.{tree_view_code}
+use Rattle.c_syntax.specs.language.Numbered.{TreeView}
 use Rattle.c_model.specs.Begin.{blank_task, created_construct, explicit_task_of, first_store, main_task}
 use Rattle.c_model.specs.Cells.{Bound}
 use Rattle.c_model.specs.Copies.{with_task_cells}
@@ -14,7 +14,7 @@ use Rattle.c_model.specs.Task.Outcome.{StepsTo}
 use Rattle.c_model.specs.Upcoming.{upcoming_of}
 use Rattle.c_model.specs.declared.upcoming.Upcoming.TheVariants as upcoming
 use Rattle.c_model.specs.declared.view.View.{View}
-use Rattle.c_syntax.specs.Numbered.{tree_at}
+use Rattle.c_syntax.specs.language.Numbered.{tree_at}
 use Rattle.c_steps.specs.Held.{Held, task_at}
 use Rattle.c_steps.specs.Passing.{IsEventOfNext}
 use Rattle.c_steps.specs.declared.next.Next.{Next}

@@ -1,8 +1,8 @@
 //! The tasks of a run with their code, and what all code shares.
 
 ghost use Rattle.std.specs.Prelude.{◌≡◌, ◌<◌, ◌≤◌, IfNone, IfOk, IfSome, OnErr, OnOk, length, slice_get, slice_index_or};
-ghost use Rattle.c_syntax.specs.Tree.{nothing};
-ghost use Rattle.c_syntax.specs.Numbered.{tree_at};
+ghost use Rattle.c_syntax.specs.language.Tree.{nothing};
+ghost use Rattle.c_syntax.specs.language.Numbered.{tree_at};
 ghost use Rattle.c_model.specs.Answers.{AnswersFirst};
 ghost use Rattle.c_model.specs.Asked.{count_asked, sections_asked};
 ghost use Rattle.c_model.specs.Begin.{blank_task};

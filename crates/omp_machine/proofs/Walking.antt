@@ -1,7 +1,7 @@
 -- One more silent step of a walk, or its end.
 use Rattle.std.proofs.Common.{◌⊎◌, inl, inr, ◌≡◌, ℕ, zero, suc, ◌+◌, ◌-◌, ◌<◌, ◌≤◌, ◌∙◌, Bool, true, false, nat_le, Some, None, refl, sym, ap, subst, arith}
 use Rattle.std.proofs.lemmas.Bool.{lt-leb}
-use Rattle.c_syntax.specs.Numbered.{TreeView}
+use Rattle.c_syntax.specs.language.Numbered.{TreeView}
 use Rattle.omp_model.specs.declared.limits.TheConstants.{STEPS, STEPS_OF_A_TURN}
 use Rattle.omp_model.specs.declared.event.Arrival.{Arrival}
 use Rattle.omp_model.specs.declared.event.Arrival.TheVariants.{Waits, Steps, Comes, Meets}

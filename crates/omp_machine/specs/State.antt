@@ -1,8 +1,8 @@
 -- What a state of the code is seen as: the program, the state of the machine, and room for a turn.
 use Rattle.std.specs.Prelude.{ℕ, ◌≡◌, ◌≤◌, ◌+◌, Bool, true, false, List, Option, Some, slice_set, refl}
 use Rattle.std.specs.Coded.{Coded, code_by, coded×, coded_ℕ, coded_list, coded_option}
-use Rattle.c_syntax.specs.Codes.{tree_view_code}
-use Rattle.c_syntax.specs.Numbered.{TreeView}
+use Rattle.c_syntax.specs.workings.Codes.{tree_view_code}
+use Rattle.c_syntax.specs.language.Numbered.{TreeView}
 use Rattle.omp_model.specs.declared.event.Callback.{Callback}
 use Rattle.omp_model.specs.contracts.event.Callback as callback
 use Rattle.omp_model.specs.declared.event.Event.{Event}

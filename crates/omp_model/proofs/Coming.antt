@@ -2,7 +2,7 @@
 -- a limit.
 use Rattle.std.specs.Prelude.{◌≡◌, ℕ, ◌==◌, ◌&&◌, not, Bool, true, false, if◌then◌else◌, List, [], ◌∷◌, length, Option, Some, None, refl}
 use Rattle.std.proofs.Common.{sym, subst}
-use Rattle.c_syntax.specs.Numbered.{TreeView}
+use Rattle.c_syntax.specs.language.Numbered.{TreeView}
 use Rattle.c_model.specs.declared.question.Answer.TheVariants as answer
 use Rattle.c_model.specs.declared.point.MutexKind.TheVariants as mutex
 use Rattle.c_model.specs.declared.point.SyncKind.{SyncKind}

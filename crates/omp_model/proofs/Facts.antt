@@ -9,7 +9,7 @@ use Rattle.c_syntax.specs.declared.node.LockCall.TheVariants as lock_call
 use Rattle.c_syntax.specs.declared.node.Getter.TheVariants as getter
 use Rattle.c_syntax.specs.declared.node.Standalone.TheVariants as standalone
 use Rattle.c_syntax.specs.declared.node.NodeKind.TheVariants as node
-use Rattle.c_syntax.specs.Tree.{Tree}
+use Rattle.c_syntax.specs.language.Tree.{Tree}
 use Rattle.ompt_calls.specs.declared.call.Call.TheVariants as call
 use Rattle.ompt_calls.specs.declared.snapshot.Target.TheVariants as target
 use Rattle.ompt_calls.specs.declared.snapshot.Snapshot.{Snapshot}

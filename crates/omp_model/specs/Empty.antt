@@ -5,10 +5,10 @@ use Rattle.c_syntax.specs.declared.node.NodeKind.{NodeKind}
 use Rattle.c_syntax.specs.declared.node.NodeKind.TheVariants as node
 use Rattle.c_syntax.specs.declared.node.Parameters.TheVariants as parameters
 use Rattle.c_syntax.specs.declared.node.Returns.TheVariants as returns
-use Rattle.c_syntax.specs.Tree.{Tree, Children}
-use Rattle.c_syntax.specs.Tree.Tree.{Node}
-use Rattle.c_syntax.specs.Tree.Children.{Over, Child}
-use Rattle.c_syntax.specs.Numbered.{TreeView}
+use Rattle.c_syntax.specs.language.Tree.{Tree, Children}
+use Rattle.c_syntax.specs.language.Tree.Tree.{Node}
+use Rattle.c_syntax.specs.language.Tree.Children.{Over, Child}
+use Rattle.c_syntax.specs.language.Numbered.{TreeView}
 use Rattle.ompt_calls.specs.declared.call.Call.TheVariants.{ThreadBegin, ThreadEnd, ImplicitTask}
 use Rattle.omp_model.specs.declared.history.Entry.{Entry}
 use Rattle.ompt_calls.specs.declared.event.EventRecord.{EventRecord}

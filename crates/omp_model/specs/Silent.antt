@@ -1,7 +1,7 @@
 -- Silent steps: what a thread does between events. A step of its current task's code may have to be told the next chunk, the next section, or
 -- whether a lock is owned.
 use Rattle.std.specs.Prelude.{ℕ, ◌+◌, ◌&&◌, nat_le, nat_lt, not, if◌then◌else◌, Bool, List, slice_index_or, Option, Some, None, option_map}
-use Rattle.c_syntax.specs.Tree.{Tree, nothing}
+use Rattle.c_syntax.specs.language.Tree.{Tree, nothing}
 use Rattle.c_model.specs.declared.question.Answer.{Answer}
 use Rattle.c_model.specs.declared.question.Answer.TheVariants as answer
 use Rattle.c_model.specs.declared.question.Ask.{Ask}

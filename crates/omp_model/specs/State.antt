@@ -1,7 +1,7 @@
 -- The state of the machine: threads, tasks, regions, cells and locks, and beside them the callbacks that haven't returned, the counts of silent
 -- steps and turns, and what halted the run.
 use Rattle.std.specs.Prelude.{ℕ, ◌-◌, Bool, true, false, List, [], ◌∷◌, Option, None, replicate, slice_index_or, slice_set}
-use Rattle.c_syntax.specs.Numbered.{TreeView}
+use Rattle.c_syntax.specs.language.Numbered.{TreeView}
 use Rattle.c_check.specs.Seen.{critical_count}
 use Rattle.c_model.specs.Task.{Store, Task as Code}
 use Rattle.c_model.specs.Begin.{blank_task, first_store, main_task}

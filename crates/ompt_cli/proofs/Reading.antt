@@ -4,17 +4,18 @@ use Rattle.c_tokens.specs.declared.token.Spot.{Spot}
 use Rattle.c_tokens.specs.declared.token.Token.{Token}
 use Rattle.c_tokens.specs.declared.token.TokenFault.{TokenFault}
 use Rattle.c_tokens.specs.declared.token.TokenFault.TheVariants as fault
-use Rattle.c_tokens.specs.Tokens.{beginning, tokens_of}
-use Rattle.c_tokens.specs.Ending.{EndsIn}
+use Rattle.c_tokens.specs.workings.Tokens.{tokens_of}
+use Rattle.c_tokens.specs.language.Places.{beginning}
+use Rattle.c_tokens.specs.language.Ending.{EndsIn}
 use Rattle.c_syntax.specs.declared.fault.SyntaxFault.{SyntaxFault}
 use Rattle.c_syntax.specs.declared.fault.SyntaxFault.TheVariants as syntax
-use Rattle.c_syntax.specs.Words.{main_of}
-use Rattle.c_syntax.specs.Tree.{Tree}
-use Rattle.c_syntax.specs.Texts.{HasSyntaxFault}
+use Rattle.c_syntax.specs.language.Words.{main_of}
+use Rattle.c_syntax.specs.language.Tree.{Tree}
+use Rattle.c_syntax.specs.language.Texts.{HasSyntaxFault}
 use Rattle.c_tokens.proofs.Ending.{ends-one, reads-no_end}
 use Rattle.c_tokens.proofs.Law.{reads-one}
 use Rattle.c_tokens.proofs.Spans.{tokens-end}
-use Rattle.c_syntax.specs.Numbered.{TreeView, root_tree}
+use Rattle.c_syntax.specs.language.Numbered.{TreeView, root_tree}
 use Rattle.c_check.specs.Checked.{rule_fault, rule_fault_in}
 use Rattle.c_syntax.proofs.OneAnswer.{fault_one, not_both, tree_one}
 use Rattle.c_check.specs.declared.fault.CheckFault.{CheckFault}

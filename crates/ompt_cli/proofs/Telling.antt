@@ -2,7 +2,7 @@
 use Rattle.std.proofs.Common.{◌∙◌, ◌⊎◌, Bool, ◌≢◌, ◌<◌, arith, false, is_some, IsNone, IsSomeAnd, ◌↔◌, ◌≡◌, ℕ, ℤ, List, Option, Some, None, IfSome, inl, inr, refl, sym, subst, ap}
 use Rattle.std.specs.declared.string.String.{String}
 use Rattle.std.specs.declared.alloc.Global.{Global}
-use Rattle.c_syntax.specs.Numbered.{TreeView}
+use Rattle.c_syntax.specs.language.Numbered.{TreeView}
 use Rattle.ompt_words.specs.declared.settings.Settings.{Settings}
 use Rattle.ompt_words.specs.declared.settings.Request.{Request}
 use Rattle.ompt_words.specs.declared.settings.Request.TheVariants as request

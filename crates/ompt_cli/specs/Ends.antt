@@ -7,10 +7,10 @@ use Rattle.ompt_cli.specs.declared.end.Refusal.TheVariants.{Tokens, Syntax, Rule
 use Rattle.c_tokens.specs.declared.token.Spot.{Spot}
 use Rattle.c_tokens.specs.declared.token.TokenFault.{TokenFault}
 use Rattle.c_tokens.specs.declared.token.TokenFault.TheVariants as token
-use Rattle.c_tokens.specs.Faults.{nowhere, fault_number as token_number, fault_spot as token_spot}
+use Rattle.c_tokens.specs.language.Faults.{nowhere, fault_number as token_number, fault_spot as token_spot}
 use Rattle.c_syntax.specs.declared.fault.SyntaxFault.{SyntaxFault}
 use Rattle.c_syntax.specs.declared.fault.SyntaxFault.TheVariants as syntax
-use Rattle.c_syntax.specs.Faults.{fault_number as syntax_number, fault_spot as syntax_spot}
+use Rattle.c_syntax.specs.language.Faults.{fault_number as syntax_number, fault_spot as syntax_spot}
 use Rattle.c_check.specs.declared.fault.CheckFault.{CheckFault}
 use Rattle.c_check.specs.declared.fault.CheckFault.TheVariants as rule
 use Rattle.c_check.specs.Faults.{fault_number as rule_number, fault_spot as rule_spot}

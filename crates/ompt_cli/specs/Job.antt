@@ -1,8 +1,8 @@
 -- What is to run: a program, how many threads there may be, how many silent steps, and whether it runs serially.
 use Rattle.std.specs.Prelude.{ℕ, Bool, refl}
 use Rattle.std.specs.Coded.{Coded, code_by, coded×, coded_ℕ, coded_bool}
-use Rattle.c_syntax.specs.Codes.{tree_view_code}
-use Rattle.c_syntax.specs.Numbered.{TreeView}
+use Rattle.c_syntax.specs.workings.Codes.{tree_view_code}
+use Rattle.c_syntax.specs.language.Numbered.{TreeView}
 
 pub record JobView : Type 0 where
   pub program : TreeView

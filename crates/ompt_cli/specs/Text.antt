@@ -5,14 +5,14 @@ use Rattle.ompt_cli.specs.declared.end.Refusal.TheVariants.{Tokens, Syntax, Rule
 use Rattle.c_tokens.specs.declared.token.Spot.{Spot}
 use Rattle.c_tokens.specs.declared.token.Token.{Token}
 use Rattle.c_tokens.specs.declared.token.TokenFault.{TokenFault}
-use Rattle.c_tokens.specs.Tokens.{beginning}
-use Rattle.c_tokens.specs.Pieces.{Reads}
-use Rattle.c_tokens.specs.Ending.{EndsIn}
+use Rattle.c_tokens.specs.language.Places.{beginning}
+use Rattle.c_tokens.specs.language.Pieces.{Reads}
+use Rattle.c_tokens.specs.language.Ending.{EndsIn}
 use Rattle.c_syntax.specs.declared.fault.SyntaxFault.{SyntaxFault}
-use Rattle.c_syntax.specs.Words.{main_of}
-use Rattle.c_syntax.specs.Tree.{Tree}
-use Rattle.c_syntax.specs.Numbered.{TreeView, root_tree}
-use Rattle.c_syntax.specs.Texts.{HasSyntaxFault, Spells as IsTreeOf}
+use Rattle.c_syntax.specs.language.Words.{main_of}
+use Rattle.c_syntax.specs.language.Tree.{Tree}
+use Rattle.c_syntax.specs.language.Numbered.{TreeView, root_tree}
+use Rattle.c_syntax.specs.language.Texts.{HasSyntaxFault, Spells as IsTreeOf}
 use Rattle.c_check.specs.declared.fault.CheckFault.{CheckFault}
 use Rattle.c_check.specs.Checked.{rule_fault_in}
 use Rattle.tool_report.specs.Generator.{generated}

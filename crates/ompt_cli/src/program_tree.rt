@@ -2,8 +2,8 @@
 
 ghost use Rattle.std.specs.Prelude.{◌≡◌};
 ghost use base.Fml.{ftrue};
-ghost use Rattle.c_syntax.specs.Numbered.{TreeView};
-ghost use Rattle.c_syntax.specs.Codes.{tree_view_code};
+ghost use Rattle.c_syntax.specs.language.Numbered.{TreeView};
+ghost use Rattle.c_syntax.specs.workings.Codes.{tree_view_code};
 
 use c_check::Program;
 use std::marker::Model;

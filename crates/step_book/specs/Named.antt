@@ -1,7 +1,7 @@
 -- What stands for the name of a book where none was given.
 use Rattle.std.specs.Prelude.{[]}
 use Rattle.atomic_table.specs.Seated.{TableId}
-use Rattle.c_syntax.specs.Numbered.{TreeView}
+use Rattle.c_syntax.specs.language.Numbered.{TreeView}
 use Rattle.omp_model.specs.State.{Run}
 
 abbrev pub no_table : TableId

@@ -1,6 +1,6 @@
 -- The run of a program with these settings.
 use Rattle.std.specs.Prelude.{ℕ}
-use Rattle.c_syntax.specs.Numbered.{TreeView}
+use Rattle.c_syntax.specs.language.Numbered.{TreeView}
 use Rattle.omp_model.specs.State.{Run}
 
 -- the run of this program with this mask, so many threads and so many silent steps

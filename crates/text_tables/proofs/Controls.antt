@@ -2,7 +2,7 @@
 use Rattle.std.proofs.Common.{◌≡◌, List, [], ◌∷◌, ◌++◌, sym, subst}
 use Rattle.std.specs.List.{All}
 use Rattle.std.proofs.lemmas.List.Elements.{All-append, All-cons, All-head, All-nil, All-tail}
-use Rattle.c_syntax.specs.Numbered.{TreeView}
+use Rattle.c_syntax.specs.language.Numbered.{TreeView}
 use Rattle.c_steps.specs.Held.{Held}
 use Rattle.c_steps.specs.Made.{IsMadeFor}
 

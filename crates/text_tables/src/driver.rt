@@ -4,7 +4,7 @@
 //! their order. The task executes each `single`. A lock that is owned isn't waited for.
 
 ghost use Rattle.std.specs.Prelude.{ℕ, ◌≡◌, ◌<◌, slice_get, ◌≤◌, length, IfOk};
-ghost use Rattle.c_syntax.specs.Numbered.{tree_at};
+ghost use Rattle.c_syntax.specs.language.Numbered.{tree_at};
 ghost use Rattle.c_model.specs.declared.limits.TheConstants.{CELL_LIMIT};
 ghost use Rattle.c_model.specs.declared.point.Point.TheVariants as event;
 ghost use Rattle.c_model.specs.Begin.{created_construct};
@@ -59,8 +59,8 @@ struct Driver {
 
 impl Model for Driver {
     ghost use Rattle.std.specs.List.{All};
-    ghost use Rattle.c_syntax.specs.Numbered.{TreeView};
-    ghost use Rattle.c_syntax.specs.Codes.{tree_view_code};
+    ghost use Rattle.c_syntax.specs.language.Numbered.{TreeView};
+    ghost use Rattle.c_syntax.specs.workings.Codes.{tree_view_code};
     ghost use Rattle.c_steps.specs.Made.{IsMadeFor};
 
     ghost Value = { TreeView };

@@ -1,7 +1,7 @@
 //! What a team of one thread gives to its code: chunks, sections, and whether a lock is free.
 
 ghost use Rattle.std.specs.Prelude.{◌≡◌};
-ghost use Rattle.c_syntax.specs.Tree.{Tree};
+ghost use Rattle.c_syntax.specs.language.Tree.{Tree};
 ghost use Rattle.c_model.specs.declared.question.Answer.TheVariants as of_answer;
 ghost use Rattle.c_model.specs.Answers.{AnswersFirst, IsChunkAnswer, IsSectionAnswer};
 ghost use Rattle.c_model.specs.Occurring.{IsAskOfNext};

@@ -1,8 +1,8 @@
 //! Places of children.
 
 ghost use Rattle.std.specs.Prelude.{◌≡◌, ◌<◌, ◌+◌, length, IfOk, OnErr};
-ghost use Rattle.c_syntax.specs.Tree.{children_of};
-ghost use Rattle.c_syntax.specs.Numbered.{tree_at};
+ghost use Rattle.c_syntax.specs.language.Tree.{children_of};
+ghost use Rattle.c_syntax.specs.language.Numbered.{tree_at};
 ghost use Rattle.c_check.specs.NameLists.{child_count as count_of};
 
 use c_syntax::Tree;

@@ -2,8 +2,8 @@
 
 ghost use Rattle.std.specs.Prelude.{◌≡◌, ◌<◌, ◌&&◌, None, not, length, if◌then◌else◌, unwrap_or, IfOk, IfSome, OnErr};
 ghost use Rattle.std.specs.Option.{option_map};
-ghost use Rattle.c_syntax.specs.Tree.{children_of, nothing};
-ghost use Rattle.c_syntax.specs.Numbered.{tree_at};
+ghost use Rattle.c_syntax.specs.language.Tree.{children_of, nothing};
+ghost use Rattle.c_syntax.specs.language.Numbered.{tree_at};
 ghost use Rattle.c_check.specs.Clauses as clauses;
 ghost use Rattle.c_check.specs.Statements as statements;
 ghost use Rattle.c_check.specs.Loops.{has_form as is_of_form, loop_name as loop_name_of};

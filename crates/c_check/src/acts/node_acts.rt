@@ -1,8 +1,8 @@
 //! What the acts of a node take from the node and its children.
 
 ghost use Rattle.std.specs.Prelude.{◌≡◌, ◌<◌, length};
-ghost use Rattle.c_syntax.specs.Tree.{children_of, number_of};
-ghost use Rattle.c_syntax.specs.Numbered.{tree_at};
+ghost use Rattle.c_syntax.specs.language.Tree.{children_of, number_of};
+ghost use Rattle.c_syntax.specs.language.Numbered.{tree_at};
 ghost use Rattle.c_check.specs.NameLists as lists;
 ghost use Rattle.c_check.specs.Printed as printed;
 ghost use Rattle.c_check.specs.Usages as usages;

@@ -1,8 +1,8 @@
 //! The loops that a `for` directive can share out.
 
 ghost use Rattle.std.specs.Prelude.{◌≡◌, ◌<◌, ◌&&◌, ◌||◌, ◌==◌, not, length, IfOk};
-ghost use Rattle.c_syntax.specs.Tree.{kind_of, name_of};
-ghost use Rattle.c_syntax.specs.Numbered.{tree_at};
+ghost use Rattle.c_syntax.specs.language.Tree.{kind_of, name_of};
+ghost use Rattle.c_syntax.specs.language.Numbered.{tree_at};
 ghost use Rattle.c_check.specs.Loops as loops;
 
 use crate::acts::child_places::next_place;

@@ -4,8 +4,8 @@
 //! its children.
 
 ghost use Rattle.std.specs.Prelude.{◌≡◌, ◌<◌, ◌≤◌, ◌+◌, [], ◌∷◌, ◌++◌, List, length, if◌then◌else◌, IfOk, IfSome, OnOk, MatchOption};
-ghost use Rattle.c_syntax.specs.Tree.{Tree as Spelled, child_of, children_of, kind_of, name_of, spot_of, text_of};
-ghost use Rattle.c_syntax.specs.Numbered.{root_tree, tree_at};
+ghost use Rattle.c_syntax.specs.language.Tree.{Tree as Spelled, child_of, children_of, kind_of, name_of, spot_of, text_of};
+ghost use Rattle.c_syntax.specs.language.Numbered.{root_tree, tree_at};
 ghost use Rattle.c_check.specs.Acts as texts;
 ghost use Rattle.c_check.specs.Clauses as clauses;
 ghost use Rattle.c_check.specs.NameLists as lists;

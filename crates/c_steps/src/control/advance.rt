@@ -1,7 +1,7 @@
 //! One step of a task's code.
 
 ghost use Rattle.std.specs.Prelude.{◌≡◌, ◌<◌, pos, unwrap_or};
-ghost use Rattle.c_syntax.specs.Numbered.{TreeView};
+ghost use Rattle.c_syntax.specs.language.Numbered.{TreeView};
 ghost use Rattle.c_model.specs.Task.{Moment};
 ghost use Rattle.c_model.specs.Task.Outcome.{Ends};
 ghost use Rattle.c_model.specs.Step.{silent, step_of};

@@ -1,8 +1,8 @@
 //! Calls and returns, and the calls of lock routines.
 
 ghost use Rattle.std.specs.Prelude.{◌≡◌, ◌<◌, ◌+◌, length, IfSome, Some};
-ghost use Rattle.c_syntax.specs.Tree.{kind_of, name_of};
-ghost use Rattle.c_syntax.specs.Numbered.{tree_at};
+ghost use Rattle.c_syntax.specs.language.Tree.{kind_of, name_of};
+ghost use Rattle.c_syntax.specs.language.Numbered.{tree_at};
 ghost use Rattle.c_check.specs.Loops.{child_at};
 ghost use Rattle.c_model.specs.declared.limits.TheConstants.{LOCK_UNIT};
 ghost use Rattle.c_model.specs.Calls as calls;

@@ -1,8 +1,8 @@
 //! Declarators of blocks.
 
 ghost use Rattle.std.specs.Prelude.{◌≡◌, ◌<◌, ◌≤◌, ◌+◌, [], ◌∷◌, length, replicate, pos, true, IfSome};
-ghost use Rattle.c_syntax.specs.Tree.{kind_of, name_of};
-ghost use Rattle.c_syntax.specs.Numbered.{tree_at};
+ghost use Rattle.c_syntax.specs.language.Tree.{kind_of, name_of};
+ghost use Rattle.c_syntax.specs.language.Numbered.{tree_at};
 ghost use Rattle.c_check.specs.Loops.{child_at};
 ghost use Rattle.c_check.specs.Seen.{slot_of_name};
 ghost use Rattle.c_model.specs.declared.limits.TheConstants.{CELL_LIMIT};

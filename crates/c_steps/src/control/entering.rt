@@ -1,7 +1,7 @@
 //! A call begins: its parameters come into scope, with the numbers of its arguments, and the function's body stands next.
 
 ghost use Rattle.std.specs.Prelude.{◌≡◌, ◌+◌, ◌<◌, ◌≤◌, drop, length, take, IfSome};
-ghost use Rattle.c_syntax.specs.Numbered.{tree_at};
+ghost use Rattle.c_syntax.specs.language.Numbered.{tree_at};
 ghost use Rattle.c_model.specs.declared.limits.TheConstants.{CALL_LIMIT, CELL_LIMIT};
 ghost use Rattle.c_model.specs.Calls.{bound_in, open_call, with_parameters};
 ghost use Rattle.c_model.specs.Parts.{parts};

@@ -1,11 +1,11 @@
 //! Events of constructs and directives, and what is asked: nothing changes at them.
 
 ghost use Rattle.std.specs.Prelude.{◌≡◌, ◌<◌, length};
-ghost use Rattle.c_syntax.specs.Tree.{kind_of};
-ghost use Rattle.c_syntax.specs.Numbered.{tree_at};
+ghost use Rattle.c_syntax.specs.language.Tree.{kind_of};
+ghost use Rattle.c_syntax.specs.language.Numbered.{tree_at};
 ghost use Rattle.c_model.specs.Constructs as constructs;
 ghost use Rattle.c_model.specs.Step as steps;
-ghost use Rattle.c_syntax.specs.Numbered.{TreeView};
+ghost use Rattle.c_syntax.specs.language.Numbered.{TreeView};
 ghost use Rattle.c_model.specs.declared.point.Point.TheVariants.{MutexAcquire, ParallelBegin};
 ghost use Rattle.c_model.specs.declared.point.MutexKind.TheVariants.{Critical as critical};
 ghost use Rattle.c_model.specs.declared.point.Target.TheVariants.{Nowhere as nowhere};

@@ -1,9 +1,9 @@
 //! Where the code of a member of a team begins.
 
 ghost use Rattle.std.specs.Prelude.{ℕ, ◌≡◌, ◌<◌, ◌≤◌, length, IfSome};
-ghost use Rattle.c_syntax.specs.Tree.{Tree as syntax_tree};
+ghost use Rattle.c_syntax.specs.language.Tree.{Tree as syntax_tree};
 ghost use Rattle.std.specs.Option.{option_map};
-ghost use Rattle.c_syntax.specs.Numbered.{TreeView, tree_at};
+ghost use Rattle.c_syntax.specs.language.Numbered.{TreeView, tree_at};
 ghost use Rattle.c_model.specs.Begin.{member_items, member_statement, member_task};
 ghost use Rattle.c_steps.specs.Beginning.{HasForked, IsPutBefore, forked_of, member_by, region_items};
 ghost use Rattle.c_steps.specs.Held.{task_at};

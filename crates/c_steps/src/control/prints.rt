@@ -1,8 +1,8 @@
 //! `printf`.
 
 ghost use Rattle.std.specs.Prelude.{◌≡◌, ◌<◌, ◌++◌, length, not, nat_lt, Ok, if◌then◌else◌};
-ghost use Rattle.c_syntax.specs.Tree.{text_of};
-ghost use Rattle.c_syntax.specs.Numbered.{tree_at};
+ghost use Rattle.c_syntax.specs.language.Tree.{text_of};
+ghost use Rattle.c_syntax.specs.language.Numbered.{tree_at};
 ghost use Rattle.c_model.specs.declared.limits.TheConstants.{TEXT_LIMIT};
 ghost use Rattle.c_model.specs.Parts.{parts};
 ghost use Rattle.c_model.specs.Statements as statements;

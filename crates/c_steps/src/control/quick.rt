@@ -1,8 +1,8 @@
 //! Statements that evaluate expressions, made where no expression has a trap.
 
 ghost use Rattle.std.specs.Prelude.{◌≡◌, ◌<◌, length, if◌then◌else◌, Ok, pos, IfSome};
-ghost use Rattle.c_syntax.specs.Tree.{kind_of};
-ghost use Rattle.c_syntax.specs.Numbered.{tree_at};
+ghost use Rattle.c_syntax.specs.language.Tree.{kind_of};
+ghost use Rattle.c_syntax.specs.language.Numbered.{tree_at};
 ghost use Rattle.c_check.specs.Loops.{child_at};
 ghost use Rattle.c_model.specs.Calls as calls;
 ghost use Rattle.c_model.specs.Parts.{has_child};

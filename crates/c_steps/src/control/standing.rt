@@ -2,7 +2,7 @@
 
 ghost use Rattle.std.specs.Prelude.{◌≡◌, slice_get, IfSome};
 ghost use Rattle.std.specs.Option.{option_map};
-ghost use Rattle.c_syntax.specs.Tree.{kind_of};
+ghost use Rattle.c_syntax.specs.language.Tree.{kind_of};
 ghost use Rattle.c_model.specs.Step as steps;
 ghost use Rattle.c_steps.specs.Held.{task_at};
 ghost use Rattle.c_steps.specs.Items.{item_at, todo_at};

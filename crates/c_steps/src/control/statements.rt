@@ -1,8 +1,8 @@
 //! Statements that are no steps, calls or constructs.
 
 ghost use Rattle.std.specs.Prelude.{◌≡◌, ◌<◌, length, if◌then◌else◌, Ok, pos, IfSome};
-ghost use Rattle.c_syntax.specs.Tree.{kind_of};
-ghost use Rattle.c_syntax.specs.Numbered.{tree_at};
+ghost use Rattle.c_syntax.specs.language.Tree.{kind_of};
+ghost use Rattle.c_syntax.specs.language.Numbered.{tree_at};
 ghost use Rattle.c_model.specs.Parts.{has_child};
 ghost use Rattle.c_model.specs.Statements as statements;
 ghost use Rattle.c_model.specs.Value as values;

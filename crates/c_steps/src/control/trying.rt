@@ -1,8 +1,8 @@
 //! A silent step of C's own statements, made without a look at what else may stand next.
 
 ghost use Rattle.std.specs.Prelude.{◌≡◌, ◌<◌, ◌≤◌, length, slice_get, slice_set, true, IfSome, Some};
-ghost use Rattle.c_syntax.specs.Tree.{kind_of};
-ghost use Rattle.c_syntax.specs.Numbered.{tree_at};
+ghost use Rattle.c_syntax.specs.language.Tree.{kind_of};
+ghost use Rattle.c_syntax.specs.language.Numbered.{tree_at};
 ghost use Rattle.c_model.specs.Calls as calls;
 ghost use Rattle.c_model.specs.Statements as statements;
 ghost use Rattle.c_model.specs.Step.{begin_statement, step_of};

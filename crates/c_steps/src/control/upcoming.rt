@@ -1,7 +1,7 @@
 //! What comes next in a task's code, as far as its form tells it.
 
 ghost use Rattle.std.specs.Prelude.{◌≡◌, IfSome};
-ghost use Rattle.c_syntax.specs.Numbered.{TreeView};
+ghost use Rattle.c_syntax.specs.language.Numbered.{TreeView};
 ghost use Rattle.c_model.specs.declared.view.View.{View as SeenView};
 ghost use Rattle.c_model.specs.Upcoming.{upcoming_by_form, upcoming_item, upcoming_of};
 ghost use Rattle.c_steps.specs.Held.{task_at};

@@ -2,7 +2,7 @@
 
 ghost use Rattle.std.specs.Prelude.{◌≡◌};
 ghost use Rattle.std.specs.Option.{option_copied};
-ghost use Rattle.c_syntax.specs.Grammar.{after_assign_name, after_place, after_right_name, after_statement_name, assign_right, right, step_rest};
+ghost use Rattle.c_syntax.specs.workings.Grammar.{after_assign_name, after_place, after_right_name, after_statement_name, assign_right, right, step_rest};
 
 use super::Rule;
 use crate::grammar::{Class, Sort, Step};

@@ -2,7 +2,7 @@
 
 ghost use Rattle.std.specs.Prelude.{◌≡◌};
 ghost use Rattle.std.specs.Option.{option_copied};
-ghost use Rattle.c_syntax.specs.Grammar.{chunk_part, clause, clauses, default_word, defers, forks, has_data, kind_word, more_names, names, operator, reduces, schedules, shares, waits};
+ghost use Rattle.c_syntax.specs.workings.Grammar.{chunk_part, clause, clauses, default_word, defers, forks, has_data, kind_word, more_names, names, operator, reduces, schedules, shares, waits};
 
 use super::Rule;
 use crate::grammar::{Class, Sort, Step};

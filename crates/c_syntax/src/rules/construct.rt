@@ -2,7 +2,7 @@
 
 ghost use Rattle.std.specs.Prelude.{◌≡◌};
 ghost use Rattle.std.specs.Option.{option_copied};
-ghost use Rattle.c_syntax.specs.Grammar.{after_parallel, behind_directive, construct, critical_name, first_section, item_directive, more_sections, section_or_construct, sections_body};
+ghost use Rattle.c_syntax.specs.workings.Grammar.{after_parallel, behind_directive, construct, critical_name, first_section, item_directive, more_sections, section_or_construct, sections_body};
 
 use super::Rule;
 use crate::grammar::{Class, Sort, Step};

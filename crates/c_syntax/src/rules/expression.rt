@@ -2,7 +2,7 @@
 
 ghost use Rattle.std.specs.Prelude.{◌≡◌};
 ghost use Rattle.std.specs.Option.{option_copied};
-ghost use Rattle.c_syntax.specs.Grammar.{after_getter, and_chain, and_tail, args, equal_chain, equal_tail, expr, index_part, more_args, or_tail, place, prod_chain, prod_tail, rel_chain, rel_tail, sum_chain, sum_tail, unary};
+ghost use Rattle.c_syntax.specs.workings.Grammar.{after_getter, and_chain, and_tail, args, equal_chain, equal_tail, expr, index_part, more_args, or_tail, place, prod_chain, prod_tail, rel_chain, rel_tail, sum_chain, sum_tail, unary};
 
 use super::Rule;
 use crate::grammar::{Class, Sort, Step};

@@ -2,7 +2,7 @@
 
 ghost use Rattle.std.specs.Prelude.{◌≡◌};
 ghost use Rattle.std.specs.Option.{option_copied};
-ghost use Rattle.c_syntax.specs.Grammar.{after_int_name, body, global_rest, globals, initial, locks, more_globals, more_locks, more_params, parameters, program};
+ghost use Rattle.c_syntax.specs.workings.Grammar.{after_int_name, body, global_rest, globals, initial, locks, more_globals, more_locks, more_params, parameters, program};
 
 use super::Rule;
 use crate::grammar::{Class, Sort, Step};

@@ -2,7 +2,7 @@
 
 ghost use Rattle.std.specs.Prelude.{◌≡◌};
 ghost use Rattle.std.specs.Option.{option_copied};
-ghost use Rattle.c_syntax.specs.Grammar.{choice};
+ghost use Rattle.c_syntax.specs.workings.Grammar.{choice};
 
 /// The call of a routine for a lock, `routine ( & name )`, with what stands before and behind it.
 macro_rules! lock_call {

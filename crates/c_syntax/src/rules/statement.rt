@@ -2,7 +2,7 @@
 
 ghost use Rattle.std.specs.Prelude.{◌≡◌};
 ghost use Rattle.std.specs.Option.{option_copied};
-ghost use Rattle.c_syntax.specs.Grammar.{block, cond_part, else_part, init_part, items, local_rest, locals, more_locals, plain_statement, return_part, statement, step_part};
+ghost use Rattle.c_syntax.specs.workings.Grammar.{block, cond_part, else_part, init_part, items, local_rest, locals, more_locals, plain_statement, return_part, statement, step_part};
 
 use super::Rule;
 use crate::grammar::{Class, Sort, Step};

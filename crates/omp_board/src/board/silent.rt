@@ -1,7 +1,7 @@
 //! Silent steps: what a thread does between events.
 
 ghost use Rattle.std.specs.Prelude.{◌≡◌, ◌+◌, ◌-◌, ◌<◌, ◌≤◌, ℕ, IfSome, Some, length};
-ghost use Rattle.c_syntax.specs.Numbered.{tree_at};
+ghost use Rattle.c_syntax.specs.language.Numbered.{tree_at};
 ghost use Rattle.c_model.specs.declared.question.Answer.TheVariants as answers;
 ghost use Rattle.c_model.specs.declared.question.Ask.TheVariants as asks;
 ghost use Rattle.c_model.specs.Answers.{AnswersFirst};

@@ -1,5 +1,5 @@
 use Rattle.std.proofs.Common.{◌≡◌, length}
-use Rattle.c_syntax.specs.Numbered.{tree_at}
+use Rattle.c_syntax.specs.language.Numbered.{tree_at}
 use Rattle.c_model.specs.Clauses.{condition_of, expression_among, is_if}
 use Rattle.c_steps.specs.Rests.{clauses_from}
 use Rattle.c_steps.proofs.clauses.condition.Given as goal

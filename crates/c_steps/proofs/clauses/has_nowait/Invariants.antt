@@ -1,7 +1,7 @@
 use Rattle.std.proofs.Common.{◌≡◌, length}
-use Rattle.c_syntax.specs.Numbered.{tree_at}
+use Rattle.c_syntax.specs.language.Numbered.{tree_at}
 use Rattle.std.specs.List.{list_any}
-use Rattle.c_syntax.specs.Tree.{Tree, kind_of}
+use Rattle.c_syntax.specs.language.Tree.{Tree, kind_of}
 use Rattle.c_model.specs.Clauses.{has_nowait, is_nowait}
 use Rattle.c_steps.specs.Rests.{clauses_from}
 use Rattle.c_steps.proofs.clauses.has_nowait.Given as goal

@@ -1,7 +1,7 @@
 use Rattle.std.proofs.Common.{◌≡◌, length}
-use Rattle.c_syntax.specs.Numbered.{tree_at}
+use Rattle.c_syntax.specs.language.Numbered.{tree_at}
 use Rattle.std.specs.Prelude.{slice_index_or}
-use Rattle.c_syntax.specs.Tree.{nothing}
+use Rattle.c_syntax.specs.language.Tree.{nothing}
 use Rattle.c_model.specs.Clauses.{statements_among}
 use Rattle.c_model.specs.Parts.{parts}
 use Rattle.c_steps.specs.Rests.{statements_from}

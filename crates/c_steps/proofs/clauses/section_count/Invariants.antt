@@ -1,5 +1,5 @@
 use Rattle.std.proofs.Common.{◌≡◌, ◌+◌, ◌≤◌, length}
-use Rattle.c_syntax.specs.Numbered.{tree_at}
+use Rattle.c_syntax.specs.language.Numbered.{tree_at}
 use Rattle.c_model.specs.Clauses.{sections_of}
 use Rattle.c_steps.specs.Rests.{statements_from}
 use Rattle.c_steps.proofs.clauses.section_count.Given as goal

@@ -1,5 +1,5 @@
 use Rattle.std.proofs.Common.{refl}
-use Rattle.c_syntax.specs.Numbered.{tree_at}
+use Rattle.c_syntax.specs.language.Numbered.{tree_at}
 use Rattle.c_steps.proofs.Rests.{statement_first}
 use Rattle.c_steps.proofs.clauses.statement.Goals as goal
 

@@ -1,5 +1,5 @@
 use Rattle.std.proofs.Common.{◌≡◌, length}
-use Rattle.c_syntax.specs.Numbered.{tree_at}
+use Rattle.c_syntax.specs.language.Numbered.{tree_at}
 use Rattle.c_model.specs.Copies.{listed_variables}
 use Rattle.c_steps.specs.ListedNames.{listed_from}
 use Rattle.c_steps.specs.OwnCells.{around_of, listed_cells, room_behind}

@@ -1,5 +1,5 @@
 use Rattle.std.proofs.Common.{◌≡◌, length}
-use Rattle.c_syntax.specs.Numbered.{tree_at}
+use Rattle.c_syntax.specs.language.Numbered.{tree_at}
 use Rattle.c_steps.specs.ListedNames.{listed_from, names_from}
 use Rattle.c_steps.proofs.listed.next_listed.Given as goal
 

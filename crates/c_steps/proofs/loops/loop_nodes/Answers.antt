@@ -1,4 +1,4 @@
-use Rattle.c_syntax.specs.Numbered.{tree_at}
+use Rattle.c_syntax.specs.language.Numbered.{tree_at}
 use Rattle.c_check.specs.SharedLoops.{loop_at}
 use Rattle.c_steps.proofs.Iterating.{loop_goes_on}
 use Rattle.c_steps.proofs.loops.loop_nodes.Goals as goal

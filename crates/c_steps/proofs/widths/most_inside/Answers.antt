@@ -1,5 +1,5 @@
 use Rattle.std.proofs.Common.{◌≡◌, sym, ap, ◌∙◌}
-use Rattle.c_syntax.specs.Numbered.{children_at}
+use Rattle.c_syntax.specs.language.Numbered.{children_at}
 use Rattle.c_model.specs.Width.{most_inside}
 use Rattle.c_steps.specs.Widths.{most_among}
 use Rattle.c_steps.proofs.InnerNames.{most_among_is}

@@ -1,5 +1,5 @@
 use Rattle.std.proofs.Common.{◌≡◌, length, max}
-use Rattle.c_syntax.specs.Numbered.{tree_at}
+use Rattle.c_syntax.specs.language.Numbered.{tree_at}
 use Rattle.c_model.specs.Parts.{parts}
 use Rattle.c_model.specs.Width.{most_of_functions}
 use Rattle.c_steps.specs.Rests.{parts_from}

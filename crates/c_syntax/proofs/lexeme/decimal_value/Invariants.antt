@@ -1,5 +1,5 @@
 use Rattle.std.proofs.Common.{◌≡◌, take}
-use Rattle.c_tokens.specs.Words.{decimal_value}
+use Rattle.c_tokens.specs.language.Words.{decimal_value}
 use Rattle.c_syntax.proofs.lexeme.decimal_value.Given as goal
 
 -- the value of the digits so far

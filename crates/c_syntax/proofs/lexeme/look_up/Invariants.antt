@@ -1,6 +1,6 @@
 use Rattle.std.proofs.Common.{◌≡◌, map, drop}
-use Rattle.c_syntax.specs.Lexemes.{row_view}
-use Rattle.c_syntax.specs.Words.{look_up}
+use Rattle.c_syntax.specs.workings.Lexemes.{row_view}
+use Rattle.c_syntax.specs.language.Words.{look_up}
 use Rattle.c_syntax.proofs.lexeme.look_up.Given as goal
 
 -- the word isn't among those so far

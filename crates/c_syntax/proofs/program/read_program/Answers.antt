@@ -2,16 +2,16 @@ use Rattle.std.proofs.Common.{ℕ, ◌≡◌, ◌≢◌, List, Ok, map, Result, 
 use Rattle.std.proofs.lemmas.Result.{err_from_is_err_and}
 use Rattle.std.specs.Result.{IfErr}
 use Rattle.c_tokens.specs.declared.token.Token.{Token}
-use Rattle.c_tokens.specs.Tokens.{tokens_of}
+use Rattle.c_tokens.specs.workings.Tokens.{tokens_of}
 use Rattle.c_tokens.proofs.Law.{scan-reads}
 use Rattle.c_syntax.specs.declared.tree.Tree as code
 use Rattle.c_syntax.specs.declared.fault.SyntaxFault.{SyntaxFault}
 use Rattle.c_syntax.specs.declared.fault.SyntaxFault.TheVariants as fault
-use Rattle.c_syntax.specs.Reading.{Reaches}
-use Rattle.c_syntax.specs.ReaderViews.{MayFault, state_of}
-use Rattle.c_syntax.specs.Words.{words_of}
-use Rattle.c_syntax.specs.WordViews.{word_view}
-use Rattle.c_syntax.specs.Texts.{HasSyntaxFault, Spells}
+use Rattle.c_syntax.specs.workings.Reading.{Reaches}
+use Rattle.c_syntax.specs.workings.ReaderViews.{MayFault, state_of}
+use Rattle.c_syntax.specs.language.Words.{words_of}
+use Rattle.c_syntax.specs.workings.WordViews.{word_view}
+use Rattle.c_syntax.specs.language.Texts.{HasSyntaxFault, Spells}
 use Rattle.c_syntax.proofs.Facing.{reaches-end, reaches-spells}
 use Rattle.c_syntax.proofs.WordLists.{words_of-end}
 use Rattle.c_syntax.proofs.program.read_program.Goals as goal

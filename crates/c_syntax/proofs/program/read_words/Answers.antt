@@ -5,11 +5,11 @@ use Rattle.std.specs.Bool.{⊤}
 use Rattle.std.specs.Result.{IfErr}
 use Rattle.c_syntax.specs.declared.fault.SyntaxFault.{SyntaxFault}
 use Rattle.c_syntax.specs.declared.word.Word as code
-use Rattle.c_syntax.specs.Heads.{parentheses_of}
-use Rattle.c_syntax.specs.Reading.{Reaches, State}
-use Rattle.c_syntax.specs.ReaderViews.{MayFault}
-use Rattle.c_syntax.specs.Words.{Word}
-use Rattle.c_syntax.specs.WordViews.{word_view}
+use Rattle.c_syntax.specs.language.Heads.{parentheses_of}
+use Rattle.c_syntax.specs.workings.Reading.{Reaches, State}
+use Rattle.c_syntax.specs.workings.ReaderViews.{MayFault}
+use Rattle.c_syntax.specs.language.Words.{Word}
+use Rattle.c_syntax.specs.workings.WordViews.{word_view}
 use Rattle.c_syntax.proofs.Facing.{reaches-beginning}
 use Rattle.c_syntax.proofs.program.read_words.Goals as goal
 

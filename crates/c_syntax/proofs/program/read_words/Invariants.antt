@@ -1,8 +1,8 @@
 use Rattle.std.proofs.Common.{◌≤◌, take, map}
-use Rattle.c_syntax.specs.Heads.{parentheses_of}
-use Rattle.c_syntax.specs.Reading.{Reaches}
-use Rattle.c_syntax.specs.ReaderViews.{state_of}
-use Rattle.c_syntax.specs.WordViews.{word_view}
+use Rattle.c_syntax.specs.language.Heads.{parentheses_of}
+use Rattle.c_syntax.specs.workings.Reading.{Reaches}
+use Rattle.c_syntax.specs.workings.ReaderViews.{state_of}
+use Rattle.c_syntax.specs.workings.WordViews.{word_view}
 use Rattle.c_syntax.proofs.program.read_words.Given as goal
 
 -- the words so far are read

@@ -1,7 +1,7 @@
 use Rattle.std.proofs.Common.{◌≡◌, ◌≤◌, sym, ap, ◌∙◌, arith}
 use Rattle.c_tokens.specs.declared.token.TokenKind.{TokenKind}
 use Rattle.c_syntax.specs.declared.term.Term.TheVariants as term
-use Rattle.c_syntax.specs.Words.{bytes_of, term_of}
+use Rattle.c_syntax.specs.language.Words.{bytes_of, term_of}
 use Rattle.c_syntax.proofs.Lexemes.{name-no_number}
 use Rattle.c_syntax.proofs.words.word_of.Goals as goal
 use Rattle.c_syntax.proofs.words.word_of.Goals.{in-Name+in_ok-value-in-Name, in-Number, in_default}

@@ -3,9 +3,9 @@ use Rattle.std.proofs.lemmas.List.{map-append}
 use Rattle.std.proofs.lemmas.List.Elements.{All-push, All-same}
 use Rattle.c_tokens.specs.declared.token.Token.{Token}
 use Rattle.c_tokens.specs.declared.token.TokenKind.TheVariants as token
-use Rattle.c_syntax.specs.Names.{AreNames}
-use Rattle.c_syntax.specs.Words.{Word, names_of, words_from}
-use Rattle.c_syntax.specs.WordViews.{IsWithin, word_view}
+use Rattle.c_syntax.specs.workings.Names.{AreNames}
+use Rattle.c_syntax.specs.language.Words.{Word, names_of, words_from}
+use Rattle.c_syntax.specs.workings.WordViews.{IsWithin, word_view}
 use Rattle.c_syntax.proofs.WordLists.{names_of-fewer, names_of-more, words_of-more, token_of}
 use Rattle.c_syntax.proofs.words.words_of.Goals as goal
 

@@ -1,7 +1,7 @@
 use Rattle.std.proofs.Common.{◌≡◌, [], All, length, map, take}
-use Rattle.c_syntax.specs.Words.{names_of, words_from}
-use Rattle.c_syntax.specs.Names.{AreNames}
-use Rattle.c_syntax.specs.WordViews.{IsWithin, word_view}
+use Rattle.c_syntax.specs.language.Words.{names_of, words_from}
+use Rattle.c_syntax.specs.workings.Names.{AreNames}
+use Rattle.c_syntax.specs.workings.WordViews.{IsWithin, word_view}
 use Rattle.c_syntax.proofs.words.words_of.Given as goal
 
 -- the words and the names of the tokens so far

@@ -1,5 +1,5 @@
 use Rattle.std.proofs.Common.{◌≡◌, false, drop}
-use Rattle.c_tokens.specs.Blanks.{comment_rest, further}
+use Rattle.c_tokens.specs.language.Blanks.{comment_rest, further}
 use Rattle.c_tokens.proofs.blanks.comment_rest.Given as goal
 
 -- no end stands in the bytes so far

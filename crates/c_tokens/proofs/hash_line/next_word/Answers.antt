@@ -1,7 +1,7 @@
 use Rattle.std.proofs.Common.{List, ℕ, subst, sym}
 use Rattle.std.specs.List.{prefix_len}
-use Rattle.c_tokens.specs.Bytes.{is_gap}
-use Rattle.c_tokens.specs.Tails.{IsEndOf}
+use Rattle.c_tokens.specs.language.Bytes.{is_gap}
+use Rattle.c_tokens.specs.workings.Tails.{IsEndOf}
 use Rattle.c_tokens.proofs.Ends.{IfSome-end, IsEndOf-drop}
 use Rattle.c_tokens.proofs.hash_line.next_word.Goals as goal
 

@@ -1,5 +1,5 @@
 use Rattle.std.proofs.Common.{◌≡◌, drop}
-use Rattle.c_tokens.specs.Quoted.{quoted_end, text_end}
+use Rattle.c_tokens.specs.language.Quoted.{quoted_end, text_end}
 use Rattle.c_tokens.proofs.quoted.quoted_end.Given as goal
 
 -- the bytes so far stand in the text

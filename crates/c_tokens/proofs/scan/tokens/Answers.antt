@@ -1,5 +1,5 @@
 use Rattle.std.proofs.Common.{ℕ, ◌<◌, length, take, drop, arith, ap, ◌∙◌}
-use Rattle.c_tokens.specs.Tokens.{places_after}
+use Rattle.c_tokens.specs.language.Places.{places_after}
 use Rattle.c_tokens.specs.declared.place.Place.{Place}
 use Rattle.std.proofs.lemmas.Grind.{common_steps}
 use Rattle.c_tokens.proofs.Ends.{AreTails-end}

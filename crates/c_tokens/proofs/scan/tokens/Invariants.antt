@@ -1,6 +1,6 @@
 use Rattle.std.proofs.Common.{◌≡◌, ◌+◌, length}
-use Rattle.c_tokens.specs.Tails.{AreTails}
-use Rattle.c_tokens.specs.Tokens.{Bounded, scan, tokens_of, with_front}
+use Rattle.c_tokens.specs.workings.Tails.{AreTails}
+use Rattle.c_tokens.specs.workings.Tokens.{Bounded, scan, tokens_of, with_front}
 use Rattle.c_tokens.proofs.scan.tokens.Given as goal
 
 -- the tokens of the text are those so far, and those of the rest

@@ -1,7 +1,7 @@
 use Rattle.std.proofs.Common.{◌≤◌, ℕ, Option, None, length, subst, sym}
 use Rattle.std.specs.Prelude.{IfSome}
 use Rattle.c_tokens.proofs.Ends.{tail-at, within-tail_len}
-use Rattle.c_tokens.specs.Lines.Tail.{Gaps}
+use Rattle.c_tokens.specs.workings.Lines.Tail.{Gaps}
 use Rattle.c_tokens.proofs.tail.tail_len.Goals as goal
 
 pub returns-clause-within : goal.returns-clause-within

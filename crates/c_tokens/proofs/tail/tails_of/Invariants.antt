@@ -1,5 +1,5 @@
 use Rattle.std.proofs.Common.{◌≡◌, ◌+◌, ◌++◌, length, drop, vec_len}
-use Rattle.c_tokens.specs.Tails.{AreTails, row_of}
+use Rattle.c_tokens.specs.workings.Tails.{AreTails, row_of}
 use Rattle.c_tokens.proofs.tail.tails_of.Given as goal
 
 -- the ends that are shorter than those left are done

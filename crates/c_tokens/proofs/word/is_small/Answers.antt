@@ -1,7 +1,7 @@
 use Rattle.std.proofs.Common.{◌≡◌, ◌+◌, ◌*◌, take, sym, arith}
 use Rattle.std.proofs.lemmas.List.Sums.{fold_more}
 use Rattle.std.proofs.lemmas.Grind.{common_steps}
-use Rattle.c_tokens.specs.Words.{decimal_value}
+use Rattle.c_tokens.specs.language.Words.{decimal_value}
 use Rattle.c_tokens.proofs.Reading.{too_great}
 use Rattle.c_tokens.proofs.word.is_small.Goals as goal
 

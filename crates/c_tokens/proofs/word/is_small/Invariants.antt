@@ -1,5 +1,5 @@
 use Rattle.std.proofs.Common.{◌≡◌, ◌≤◌, take}
-use Rattle.c_tokens.specs.Words.{decimal_value, greatest}
+use Rattle.c_tokens.specs.language.Words.{decimal_value, greatest}
 use Rattle.c_tokens.proofs.word.is_small.Given as goal
 
 -- the number of the digits so far

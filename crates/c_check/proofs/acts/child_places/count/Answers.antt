@@ -1,6 +1,6 @@
 use Rattle.std.proofs.Common.{sym, ◌∙◌, arith}
-use Rattle.c_syntax.specs.Tree.{children_of}
-use Rattle.c_syntax.specs.Numbered.{tree_at}
+use Rattle.c_syntax.specs.language.Tree.{children_of}
+use Rattle.c_syntax.specs.language.Numbered.{tree_at}
 use Rattle.c_check.specs.Tasks.{from_place}
 use Rattle.c_check.proofs.Behind.{count_child, count_none}
 use Rattle.c_check.proofs.acts.child_places.count.Goals as goal

@@ -1,6 +1,6 @@
 use Rattle.std.proofs.Common.{◌+◌, refl, sym, ◌∙◌, arith}
-use Rattle.c_syntax.specs.Tree.{children_of}
-use Rattle.c_syntax.specs.Numbered.{tree_at}
+use Rattle.c_syntax.specs.language.Tree.{children_of}
+use Rattle.c_syntax.specs.language.Numbered.{tree_at}
 use Rattle.c_check.specs.Tasks.{from_place}
 use Rattle.c_check.proofs.Behind.{count_found, count_here, statement_none, statement_here, statement_behind}
 use Rattle.c_check.proofs.acts.directive.statement_of.Goals as goal

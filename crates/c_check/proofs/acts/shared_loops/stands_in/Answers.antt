@@ -1,5 +1,5 @@
 use Rattle.std.proofs.Common.{sym, ◌∙◌}
-use Rattle.c_syntax.specs.Numbered.{tree_at}
+use Rattle.c_syntax.specs.language.Numbered.{tree_at}
 use Rattle.c_check.proofs.Looking.{stands_named, looked-first, there-first, there-node, looked-over, there-over, looked-named, looked-child, there-child, lighter-child}
 use Rattle.c_check.proofs.acts.shared_loops.stands_in.Goals as goal
 

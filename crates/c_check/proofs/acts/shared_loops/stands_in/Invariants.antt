@@ -1,6 +1,6 @@
 use Rattle.std.proofs.Common.{◌≡◌, ◌<◌, ◌+◌, length, sum_by}
 use Rattle.std.specs.List.{All, list_any}
-use Rattle.c_syntax.specs.Numbered.{tree_at}
+use Rattle.c_syntax.specs.language.Numbered.{tree_at}
 use Rattle.c_check.specs.Loops as loops
 use Rattle.c_check.specs.Tasks.{children_left}
 use Rattle.c_check.specs.Weights.{weight_among}

@@ -1,6 +1,6 @@
 use Rattle.std.proofs.Common.{◌≡◌, ◌+◌, ◌≤◌, [], length, map, ap, sym, ◌∙◌, subst, rules}
 use Rattle.std.proofs.lemmas.List.{length-map}
-use Rattle.c_syntax.specs.Numbered.{tree_at}
+use Rattle.c_syntax.specs.language.Numbered.{tree_at}
 use Rattle.c_model.specs.Copies.{listed_variables}
 use Rattle.c_model.specs.declared.limits.TheConstants.{CELL_LIMIT}
 use Rattle.c_steps.specs.Held.{bound_in}

@@ -1,5 +1,5 @@
 use Rattle.std.proofs.Common.{ap, arith}
-use Rattle.c_syntax.specs.Numbered.{tree_at}
+use Rattle.c_syntax.specs.language.Numbered.{tree_at}
 use Rattle.c_model.specs.Copies.{listed_variables}
 use Rattle.c_steps.specs.Held.{Held, bound_in}
 use Rattle.c_steps.proofs.OwnNames.{listed_count}

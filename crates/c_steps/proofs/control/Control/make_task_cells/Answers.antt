@@ -1,5 +1,5 @@
 use Rattle.std.proofs.Common.{◌≡◌, ◌≤◌, length, rules}
-use Rattle.c_syntax.specs.Numbered.{tree_at}
+use Rattle.c_syntax.specs.language.Numbered.{tree_at}
 use Rattle.c_check.specs.Seen.{task_copies}
 use Rattle.c_steps.proofs.TaskNames.{count_within, listed_fit, slots_fit, slots_free, task_cells, task_control}
 use Rattle.c_steps.proofs.control.Control.make_task_cells.Goals as goal

@@ -1,5 +1,5 @@
 use Rattle.std.proofs.Common.{Option, refl, ap, ◌∙◌, subst}
-use Rattle.c_syntax.specs.Numbered.{tree_at}
+use Rattle.c_syntax.specs.language.Numbered.{tree_at}
 use Rattle.c_model.specs.Begin.{member_items}
 use Rattle.c_model.specs.Task.{Item}
 use Rattle.c_steps.specs.Beginning.{IsPutBefore, forked_of}

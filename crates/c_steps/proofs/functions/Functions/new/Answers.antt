@@ -1,4 +1,4 @@
-use Rattle.c_syntax.specs.Numbered.{tree_at}
+use Rattle.c_syntax.specs.language.Numbered.{tree_at}
 use Rattle.c_check.specs.Tasks.{from_place}
 use Rattle.c_model.specs.Parts.{parts}
 use Rattle.c_steps.proofs.FirstFunctions.{first_at_start}

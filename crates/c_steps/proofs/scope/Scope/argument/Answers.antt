@@ -1,5 +1,5 @@
 use Rattle.std.proofs.Common.{◌+◌, rules}
-use Rattle.c_syntax.specs.Numbered.{tree_at}
+use Rattle.c_syntax.specs.language.Numbered.{tree_at}
 use Rattle.c_steps.specs.Entering.{IsNextArgument}
 use Rattle.c_steps.specs.Nodes.{part_at}
 use Rattle.c_steps.specs.Scopes.{scope_of}

@@ -1,5 +1,5 @@
 use Rattle.std.proofs.Common.{◌≡◌, ◌-◌}
-use Rattle.c_syntax.specs.Numbered.{tree_at}
+use Rattle.c_syntax.specs.language.Numbered.{tree_at}
 use Rattle.c_model.specs.Parts.{parts}
 use Rattle.c_model.specs.Value.{all_values}
 use Rattle.c_steps.specs.Arguments.{parts_behind, without_values}

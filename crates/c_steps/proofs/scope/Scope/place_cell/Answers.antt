@@ -1,4 +1,4 @@
-use Rattle.c_syntax.specs.Numbered.{tree_at}
+use Rattle.c_syntax.specs.language.Numbered.{tree_at}
 use Rattle.c_steps.specs.Scopes.{scope_of}
 use Rattle.c_steps.proofs.Entries.{is_cell}
 use Rattle.c_steps.proofs.scope.Scope.place_cell.Goals as goal

@@ -1,8 +1,8 @@
 use Rattle.std.proofs.Common.{◌<◌, ◌∷◌, [], length, None, ap, ◌∙◌, arith, length-append}
 use Rattle.std.proofs.Math.Seq.{get_or-append_seam}
-use Rattle.c_syntax.specs.Tree.{nothing}
-use Rattle.c_syntax.specs.Nodes.{IsBelow}
-use Rattle.c_syntax.specs.Numbered.{root_tree}
+use Rattle.c_syntax.specs.language.Tree.{nothing}
+use Rattle.c_syntax.specs.workings.Nodes.{IsBelow}
+use Rattle.c_syntax.specs.language.Numbered.{root_tree}
 use Rattle.c_syntax.proofs.Joining.{All-ends, ends-one, result-none, result-some}
 use Rattle.c_syntax.proofs.growth.Growth.finish.Goals as goal
 use Rattle.c_syntax.proofs.growth.Growth.finish.Goals.{in-Some, in-None+in_ok-root-in-None}

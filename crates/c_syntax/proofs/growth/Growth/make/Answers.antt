@@ -1,7 +1,7 @@
 use Rattle.std.proofs.Common.{length, take, ◌∙◌, refl}
 use Rattle.std.proofs.lemmas.List.{take_rest}
 use Rattle.std.proofs.lemmas.List.Elements.{All-take}
-use Rattle.c_syntax.specs.Nodes.{IsBelow}
+use Rattle.c_syntax.specs.workings.Nodes.{IsBelow}
 use Rattle.c_syntax.proofs.Opening.{AllBelow-puts, AreOpen-made, AreOpen-without, Puts, opened-made, tree_made}
 use Rattle.c_syntax.proofs.growth.Growth.make.Goals as goal
 

@@ -1,8 +1,8 @@
 use Rattle.std.proofs.Common.{◌≡◌, ◌-◌, length, take, Some, refl, ◌∙◌, arith}
-use Rattle.c_syntax.specs.Tree.{over_one}
-use Rattle.c_syntax.specs.Derivation.{wrapped}
-use Rattle.c_syntax.specs.Nodes.{IsBelow}
-use Rattle.c_syntax.specs.Numbered.{tree_at}
+use Rattle.c_syntax.specs.language.Tree.{over_one}
+use Rattle.c_syntax.specs.workings.Derivation.{wrapped}
+use Rattle.c_syntax.specs.workings.Nodes.{IsBelow}
+use Rattle.c_syntax.specs.language.Numbered.{tree_at}
 use Rattle.c_syntax.proofs.Opening.{Puts}
 use Rattle.c_syntax.proofs.Joining.{All-ends, ends-one, wrapped-none, opened-over, still-open}
 use Rattle.c_syntax.proofs.growth.Growth.wrap.Goals as goal

@@ -1,5 +1,5 @@
 use Rattle.std.proofs.Common.{◌≡◌, ◌≤◌, length, ap, arith}
-use Rattle.c_syntax.specs.Tree.{children_of}
+use Rattle.c_syntax.specs.language.Tree.{children_of}
 use Rattle.c_syntax.proofs.Table.{length-trees, stands_at}
 use Rattle.c_syntax.proofs.nodes.Nodes.children.Goals as goal
 

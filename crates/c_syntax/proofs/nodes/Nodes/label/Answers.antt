@@ -1,5 +1,5 @@
 use Rattle.std.proofs.Common.{◌≡◌, length, sym, ap, arith}
-use Rattle.c_syntax.specs.Tree.{kind_of, spot_of, name_of, number_of}
+use Rattle.c_syntax.specs.language.Tree.{kind_of, spot_of, name_of, number_of}
 use Rattle.c_syntax.proofs.Table.{length-trees, stands_at}
 use Rattle.c_syntax.proofs.nodes.Nodes.label.Goals as goal
 

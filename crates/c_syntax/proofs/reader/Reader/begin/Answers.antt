@@ -1,5 +1,5 @@
 use Rattle.std.proofs.Common.{◌≡◌, Some, refl, sym, ap, ◌∙◌}
-use Rattle.c_syntax.specs.Grammar.{choice}
+use Rattle.c_syntax.specs.workings.Grammar.{choice}
 use Rattle.c_syntax.proofs.Facing.{faces-read, faces-same, refuses-read}
 use Rattle.c_syntax.proofs.Weights.{lighter-read}
 use Rattle.c_syntax.proofs.ReaderSteps.{refused}

@@ -3,9 +3,9 @@ use denote.Enum.Bare.{differs_false, differs_true}
 use Rattle.c_tokens.specs.declared.token.Spot.{Spot}
 use Rattle.c_syntax.specs.contracts.term.Term.{the_type}
 use Rattle.c_syntax.specs.declared.fault.SyntaxFault.TheVariants as fault
-use Rattle.c_syntax.specs.Faults.{IsFault}
-use Rattle.c_syntax.specs.Heads.{behind}
-use Rattle.c_syntax.specs.Reading.{State}
+use Rattle.c_syntax.specs.language.Faults.{IsFault}
+use Rattle.c_syntax.specs.language.Heads.{behind}
+use Rattle.c_syntax.specs.workings.Reading.{State}
 use Rattle.c_syntax.proofs.Facing.{reaches-deepen, reaches-same, refuses-deepen, refuses-depth}
 use Rattle.c_syntax.proofs.ReaderSteps.{refused}
 use Rattle.c_syntax.proofs.reader.Reader.deepen.Goals as goal

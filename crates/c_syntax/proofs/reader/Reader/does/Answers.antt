@@ -1,7 +1,7 @@
 use Rattle.std.proofs.Common.{refl, sym, subst}
 use Rattle.c_syntax.specs.declared.grammar.Step.{Step}
-use Rattle.c_syntax.specs.WordViews.{word_view}
-use Rattle.c_syntax.specs.ReaderViews.{Does, state_of, with_step}
+use Rattle.c_syntax.specs.workings.WordViews.{word_view}
+use Rattle.c_syntax.specs.workings.ReaderViews.{Does, state_of, with_step}
 use Rattle.c_syntax.proofs.reader.Reader.does.Goals as goal
 
 pub returns-in-Expect-clause-does : goal.returns-in-Expect-clause-does

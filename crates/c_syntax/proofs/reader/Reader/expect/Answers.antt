@@ -1,8 +1,8 @@
 use Rattle.std.proofs.Common.{refl, sym, ap, ◌∙◌, rules}
 use denote.Enum.Bare.{differs_false, differs_true}
 use Rattle.c_syntax.specs.contracts.term.Term.{the_type}
-use Rattle.c_syntax.specs.Heads.{behind}
-use Rattle.c_syntax.specs.Reading.{State}
+use Rattle.c_syntax.specs.language.Heads.{behind}
+use Rattle.c_syntax.specs.workings.Reading.{State}
 use Rattle.c_syntax.proofs.Facing.{reaches-expect, reaches-same, refuses-expect}
 use Rattle.c_syntax.proofs.ReaderSteps.{refused}
 use Rattle.c_syntax.proofs.reader.Reader.expect.Goals as goal

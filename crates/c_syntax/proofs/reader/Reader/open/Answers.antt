@@ -1,7 +1,7 @@
 use Rattle.std.proofs.Common.{refl, ap, sym, ◌∙◌, ◌∷◌}
 use Rattle.c_tokens.specs.declared.token.Spot.{Spot}
 use Rattle.c_syntax.specs.declared.grammar.Step.TheVariants.{Open}
-use Rattle.c_syntax.specs.Derivation.{opened_at}
+use Rattle.c_syntax.specs.workings.Derivation.{opened_at}
 use Rattle.c_syntax.proofs.Facing.{faces-open, faces-same}
 use Rattle.c_syntax.proofs.Weights.{lighter-plain}
 use Rattle.c_syntax.proofs.reader.Reader.open.Goals as goal

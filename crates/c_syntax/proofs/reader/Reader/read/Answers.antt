@@ -1,5 +1,5 @@
 use Rattle.std.proofs.Common.{refl}
-use Rattle.c_syntax.specs.WordViews.{word_view}
+use Rattle.c_syntax.specs.workings.WordViews.{word_view}
 use Rattle.c_syntax.proofs.Facing.{faces-next, refuses-none}
 use Rattle.c_syntax.proofs.ReaderSteps.{refused}
 use Rattle.c_syntax.proofs.reader.Reader.read.Goals as goal

@@ -1,8 +1,8 @@
 use Rattle.std.proofs.Common.{◌≡◌, List}
-use Rattle.c_syntax.specs.Words.{Word}
-use Rattle.c_syntax.specs.WordViews.{word_view}
-use Rattle.c_syntax.specs.Reading.{Faces, Reaches, weight}
-use Rattle.c_syntax.specs.ReaderViews.{state_of}
+use Rattle.c_syntax.specs.language.Words.{Word}
+use Rattle.c_syntax.specs.workings.WordViews.{word_view}
+use Rattle.c_syntax.specs.workings.Reading.{Faces, Reaches, weight}
+use Rattle.c_syntax.specs.workings.ReaderViews.{state_of}
 use Rattle.c_syntax.proofs.reader.Reader.read.Given as goal
 
 -- the word is next

@@ -1,8 +1,8 @@
 use Rattle.std.proofs.Common.{refl, sym, ap, ◌∙◌}
 use Rattle.c_syntax.specs.declared.head.Head.{Head}
-use Rattle.c_syntax.specs.Heads.{behind}
-use Rattle.c_syntax.specs.WordViews.{word_view}
-use Rattle.c_syntax.specs.Reading.{State}
+use Rattle.c_syntax.specs.language.Heads.{behind}
+use Rattle.c_syntax.specs.workings.WordViews.{word_view}
+use Rattle.c_syntax.specs.workings.Reading.{State}
 use Rattle.c_syntax.proofs.Facing.{reaches-take, reaches-same, refuses-take}
 use Rattle.c_syntax.proofs.ReaderSteps.{refused}
 use Rattle.c_syntax.proofs.reader.Reader.take.Goals as goal

@@ -1,6 +1,6 @@
 use Rattle.std.proofs.Common.{◌≡◌, ◌+◌, drop}
 use Rattle.std.specs.List.{prefix_len}
-use Rattle.c_tokens.specs.Classes.{test_of}
+use Rattle.c_tokens.specs.workings.Classes.{test_of}
 use Rattle.c_tokens.proofs.bytes.Class.run.Given as goal
 
 -- the bytes so far are of the class

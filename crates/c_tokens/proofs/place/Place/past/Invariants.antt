@@ -1,5 +1,6 @@
 use Rattle.std.proofs.Common.{◌≡◌, ◌+◌, drop}
-use Rattle.c_tokens.specs.Tokens.{Bounded, places_after}
+use Rattle.c_tokens.specs.workings.Tokens.{Bounded}
+use Rattle.c_tokens.specs.language.Places.{places_after}
 use Rattle.c_tokens.proofs.place.Place.past.Given as goal
 
 -- the place after the bytes so far

@@ -1,5 +1,5 @@
 use Rattle.std.proofs.Common.{◌≤◌, sym, ap, subst}
-use Rattle.c_syntax.specs.Numbered.{tree_at}
+use Rattle.c_syntax.specs.language.Numbered.{tree_at}
 use Rattle.c_model.specs.declared.question.Ask.{Ask}
 use Rattle.c_model.specs.Task.Outcome.{Asks, Limits, Traps}
 use Rattle.omp_model.specs.Made.{IsMadeWorld}

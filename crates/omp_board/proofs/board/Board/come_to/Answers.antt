@@ -1,6 +1,6 @@
 use Rattle.std.proofs.Common.{◌<◌, ◌∙◌, sym, subst}
 use Rattle.c_model.specs.Task.{Task as Code}
-use Rattle.c_syntax.specs.Numbered.{TreeView}
+use Rattle.c_syntax.specs.language.Numbered.{TreeView}
 use Rattle.c_steps.specs.Passing.{IsEventOfNext}
 use Rattle.omp_model.specs.Members.{code_of}
 use Rattle.omp_board.specs.Board.{run_of}

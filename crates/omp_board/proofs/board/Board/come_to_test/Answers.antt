@@ -2,7 +2,7 @@ use Rattle.std.proofs.Common.{◌≡◌, ◌≤◌, ◌∙◌, true, refl, sym, 
 use Rattle.c_model.specs.declared.point.Point.{Point}
 use Rattle.c_model.specs.Step.{silent}
 use Rattle.c_model.specs.Task.Outcome.{Occurs}
-use Rattle.c_syntax.specs.Numbered.{tree_at}
+use Rattle.c_syntax.specs.language.Numbered.{tree_at}
 use Rattle.omp_model.specs.State.{World}
 use Rattle.omp_model.specs.Changes.{gone_past}
 use Rattle.omp_model.specs.Made.{IsMadeWorld}

@@ -1,5 +1,5 @@
 use Rattle.std.proofs.Common.{sym, subst}
-use Rattle.c_syntax.specs.Numbered.{TreeView}
+use Rattle.c_syntax.specs.language.Numbered.{TreeView}
 use Rattle.omp_model.specs.State.{Run, State}
 use Rattle.omp_machine.specs.declared.settings.Settings.{Settings}
 use Rattle.omp_machine.specs.State.{run_in}

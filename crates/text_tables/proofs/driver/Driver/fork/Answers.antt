@@ -1,6 +1,6 @@
 use Rattle.std.proofs.Common.{ℤ, w32, true, sym, subst}
 use Rattle.std.proofs.lemmas.Int.{to_z-of_z}
-use Rattle.c_syntax.specs.Numbered.{TreeView}
+use Rattle.c_syntax.specs.language.Numbered.{TreeView}
 use Rattle.c_model.specs.declared.point.Point.TheVariants as event
 use Rattle.c_steps.specs.Items.{todo_at}
 use Rattle.c_steps.specs.Passing.{IsEventOfNext}

@@ -1,6 +1,6 @@
 use Rattle.std.proofs.Common.{refl, arith}
 use Rattle.std.proofs.lemmas.Result.{on_ok_weaker}
-use Rattle.c_syntax.specs.Numbered.{tree_at}
+use Rattle.c_syntax.specs.language.Numbered.{tree_at}
 use Rattle.c_check.proofs.Putting.{puts_as}
 use Rattle.c_check.proofs.Weighing.{weight_is}
 use Rattle.c_check.proofs.acts.walk.Walk.part.Goals as goal

@@ -1,7 +1,7 @@
 use Rattle.std.proofs.Common.{sym, arith}
 use Rattle.std.proofs.lemmas.Result.{on_ok_weaker}
-use Rattle.c_syntax.specs.Tree.{children_of}
-use Rattle.c_syntax.specs.Numbered.{tree_at}
+use Rattle.c_syntax.specs.language.Tree.{children_of}
+use Rattle.c_syntax.specs.language.Numbered.{tree_at}
 use Rattle.c_check.proofs.Putting.{both, keep_as, puts_as}
 use Rattle.c_check.proofs.Telling.{statements_none, statements_head, statements_child}
 use Rattle.c_check.proofs.Weighing.{weighs_child, weight_is}
