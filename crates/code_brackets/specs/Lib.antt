@@ -1,0 +1,4 @@
+pub mod Opened
+pub mod Effects
+pub mod Returns
+pub mod Orderly
