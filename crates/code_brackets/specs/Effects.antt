@@ -16,7 +16,7 @@ use Rattle.code_brackets.specs.Opened.Open.{Forks, Works, Masks, Syncs, Awaits}
 
 pub data Effect : Type 0 where
   Opens : Open → Effect
-  Ends : Open → Effect
+  Closes : Open → Effect
   Leaves : Effect
 
 -- the part of a worksharing construct that begins. Of a `single` it is told whether the task executes it
@@ -29,23 +29,23 @@ work_open work.Single false = Works work_kind.SingleOther 1
 abbrev pub effect_at : SyncKind → SyncStage → Effect
 effect_at kind stage.RegionBegin = Opens (Syncs kind)
 effect_at kind stage.WaitBegin = Opens (Awaits kind)
-effect_at kind stage.WaitEnd = Ends (Awaits kind)
-effect_at kind stage.RegionEnd = Ends (Syncs kind)
+effect_at kind stage.WaitEnd = Closes (Awaits kind)
+effect_at kind stage.RegionEnd = Closes (Syncs kind)
 
 abbrev pub effect_of : Point → Bool → Effect
 effect_of (ParallelBegin codeptr requested) executes = Opens Forks
-effect_of (ParallelEnd codeptr) executes = Ends Forks
+effect_of (ParallelEnd codeptr) executes = Closes Forks
 effect_of (WorkBegin codeptr begun) executes = Opens (work_open begun executes)
-effect_of (WorkEnd codeptr kind count) executes = Ends (Works kind count)
+effect_of (WorkEnd codeptr kind count) executes = Closes (Works kind count)
 effect_of (MaskedBegin codeptr) executes = Opens Masks
-effect_of (MaskedEnd codeptr) executes = Ends Masks
+effect_of (MaskedEnd codeptr) executes = Closes Masks
 effect_of (SyncPoint codeptr kind stage) executes = effect_at kind stage
 effect_of other executes = Leaves
 
 -- an effect leads from what was open to what is open: what is opened is the newest then, and what is ended was
 abbrev pub LeadsTo : Effect → (before behind : List Open) → Type 0
 LeadsTo (Opens one) before behind = behind ≡ one ∷ before
-LeadsTo (Ends one) before behind = before ≡ one ∷ behind
+LeadsTo (Closes one) before behind = before ≡ one ∷ behind
 LeadsTo Leaves before behind = behind ≡ before
 
 -- no region is forked; one is where its end stands next, and then it is the newest of what is open, and no other is

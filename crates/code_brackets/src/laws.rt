@@ -1,6 +1,6 @@
 //! What follows from the definitions alone: each law is the contract of a function with an empty body.
 
-ghost use Rattle.std.specs.Prelude.{◌≡◌, Bool, ℤ, [], IsTrue};
+ghost use Rattle.std.specs.Prelude.{◌≡◌, Bool, ℕ, ℤ, []};
 ghost use Rattle.c_syntax.specs.Numbered.{TreeView};
 ghost use Rattle.c_syntax.specs.Tree.{Tree as Part};
 ghost use Rattle.c_check.specs.Checked.{Checked};
@@ -47,15 +47,16 @@ pub fn code_has_open_what_events_began()
     ensures main { (program : TreeView) → open_task (main_task program) ≡ [] }
     ensures step { (program : TreeView) (view : Seen) (now next : Moment) → HasReturnsOutside program → IsOrderly now.task →
         silent program view now ≡ StepsTo next → open_task next.task ≡ open_task now.task }
-    ensures answer { (view : Seen) (given : Given) (now : Moment) → open_task (after_answer view given now).task ≡ open_task now.task }
+    ensures answer { (view : Seen) (given : Given) (now : Moment) → IsOrderly now.task →
+        open_task (after_answer view given now).task ≡ open_task now.task }
     ensures event { (program : TreeView) (view : Seen) (point : Event) (executes : Bool) (now : Moment) (tree : Part) → HasReturnsOutside program →
         IsOrderly now.task → silent program view now ≡ Occurs point tree →
         LeadsTo (effect_of point executes) (open_task now.task) (open_task (after_event view point executes now.task)) }
-    ensures ended { (program : TreeView) (view : Seen) (now : Moment) (number : ℤ) → IsOrderly now.task → silent program view now ≡ Ends number →
-        open_task now.task ≡ [] }
-    ensures member { (task : Task) → open_task (member_task task) ≡ [] }
+    ensures ended { (program : TreeView) (view : Seen) (now : Moment) (number : ℤ) → HasReturnsOutside program → IsOrderly now.task →
+        silent program view now ≡ Ends number → open_task now.task ≡ [] }
+    ensures member { (task : Task) → IsOrderly task → open_task (member_task task) ≡ [] }
     ensures explicit { (program : TreeView) (view : Seen) (now : Moment) → open_task (explicit_task program view now).task ≡ [] }
-    ensures settled { (view : Seen) (task : Task) → open_task (settled_task view task) ≡ open_task task }
+    ensures settled { (view : Seen) (task : Task) → IsOrderly task → open_task (settled_task view task) ≡ open_task task }
 {}
 
 /// A task has a forked region open where the region's end stands next, and then it is the newest of what is open, and the only one.

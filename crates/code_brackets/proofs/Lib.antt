@@ -1,0 +1,8 @@
+pub mod OpenLists
+pub mod ReturnTrees
+pub mod Adding
+pub mod Turning
+pub mod TurningCalls
+pub mod TurningSteps
+pub mod TurningTasks
+pub mod Forking
