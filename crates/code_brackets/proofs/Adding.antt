@@ -17,7 +17,7 @@ use Rattle.c_model.specs.Constructs.{iterations_from}
 use Rattle.c_model.specs.Copies.{combines, combining_all, combining_of, has_own_cells, listed_variables, makes_cells}
 use Rattle.c_model.specs.Task.{Item, SharedLoop, is_declarator, items_of_parts}
 use Rattle.c_model.specs.Task.Item.{Start, Declare, Iterations, MakeCells, NextChunk}
-use Rattle.code_brackets.specs.Opened.{Open, open_items}
+use Rattle.code_brackets.specs.Opened.{open_items}
 use Rattle.code_brackets.specs.Opened.Open.{Works}
 use Rattle.code_brackets.specs.Orderly.{AreBehind, HasNoReturn, IsKept, falls_off, is_return}
 use Rattle.code_brackets.specs.Returns.{ReturnOutsideEach, ReturnsOutside, has_return, has_return_among}

@@ -1,5 +1,5 @@
 -- A forked region is open where its end stands next, and nowhere else.
-use Rattle.std.specs.Prelude.{◌≡◌, ◌||◌, not, Bool, true, false, IsTrue, List, [], ◌∷◌, ◌++◌, refl}
+use Rattle.std.specs.Prelude.{◌||◌, not, Bool, true, false, IsTrue, List, [], ◌∷◌, ◌++◌, refl}
 use Rattle.std.specs.List.{list_any}
 use Rattle.c_model.specs.declared.point.SyncKind.{SyncKind}
 use Rattle.c_model.specs.declared.point.SyncStage.{SyncStage}

@@ -6,3 +6,6 @@ pub mod TurningCalls
 pub mod TurningSteps
 pub mod TurningTasks
 pub mod Forking
+pub mod OutsideActs
+pub mod ReturnWalk
+pub mod ReturnPrograms

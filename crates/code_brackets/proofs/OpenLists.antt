@@ -1,8 +1,7 @@
 -- What is open among items one after another, and what stays so behind items more.
 use Rattle.std.specs.Prelude.{◌≡◌, ◌||◌, Bool, true, false, IsTrue, List, [], ◌∷◌, ◌++◌, refl}
-use Rattle.std.proofs.Common.{ap, sym, ◌∙◌, append_assoc}
 use Rattle.c_model.specs.Task.{Item}
-use Rattle.code_brackets.specs.Opened.{Open, open_item, open_items}
+use Rattle.code_brackets.specs.Opened.{open_items}
 use Rattle.code_brackets.specs.Orderly.{AreBehind, AreInOrder, falls_off, is_fall_off}
 
 pub never : {A : Type 0} → IsTrue false → A

@@ -1,5 +1,5 @@
 -- A return among the parts of a statement is one of the statement, and what a construct executes has none.
-use Rattle.std.specs.Prelude.{ℕ, zero, suc, ◌≡◌, if◌then◌else◌, Bool, true, false, IsTrue, List, [], ◌∷◌, map, slice_index_or, unwrap_or, Option, Some, None, ℤ, refl}
+use Rattle.std.specs.Prelude.{ℕ, zero, suc, if◌then◌else◌, Bool, true, false, IsTrue, List, ◌∷◌, map, slice_index_or, unwrap_or, Option, Some, None, ℤ}
 use Rattle.c_syntax.specs.declared.node.BinaryOp.{BinaryOp}
 use Rattle.c_syntax.specs.declared.node.NodeKind.TheVariants as node
 use Rattle.c_syntax.specs.Tree.{Tree, Children, at_place, child_of, children_of, kind_of}

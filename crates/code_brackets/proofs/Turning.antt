@@ -1,5 +1,5 @@
 -- What a step comes to, in the words of the forms: a silent step leaves what is open, an event opens or ends the newest, and the code stays in order.
-use Rattle.std.specs.Prelude.{ℕ, ◌≡◌, if◌then◌else◌, Bool, true, false, IsTrue, List, [], ◌∷◌, ◌++◌, length, take, Result, Ok, Err, ℤ, refl}
+use Rattle.std.specs.Prelude.{ℕ, ◌≡◌, if◌then◌else◌, Bool, true, false, List, [], ◌∷◌, ◌++◌, length, take, Result, Ok, Err, ℤ}
 use Rattle.std.proofs.Common.{ap, sym, ◌∙◌}
 use Rattle.c_syntax.specs.Tree.{Tree}
 use Rattle.c_model.specs.declared.entry.Entry.{Entry}
@@ -10,7 +10,7 @@ use Rattle.c_model.specs.Cells.{Bound}
 use Rattle.c_model.specs.Clauses.{construct_statement}
 use Rattle.c_model.specs.Coming.{binds, goes_on, goes_on_with, sets, with_result}
 use Rattle.c_model.specs.Going.{items_after}
-use Rattle.c_model.specs.Task.{Here, Item, Moment, OpenCall, Outcome, Store}
+use Rattle.c_model.specs.Task.{Here, Item, Moment, Outcome, Store}
 use Rattle.c_model.specs.Task.Outcome.{StepsTo, Occurs, Ends, Limits}
 use Rattle.code_brackets.specs.Effects.{LeadsTo, effect_of}
 use Rattle.code_brackets.specs.Opened.{Open, open_calls, open_item, open_items, open_task}

@@ -1,5 +1,5 @@
 -- Each silent step leaves what is open and the code in order, and each event that a step comes to opens or ends the newest.
-use Rattle.std.specs.Prelude.{ℕ, ◌+◌, ◌≡◌, nat_lt, if◌then◌else◌, Bool, true, false, IsTrue, List, [], ◌∷◌, ◌++◌, length, Result, Ok, ℤ, pos, refl}
+use Rattle.std.specs.Prelude.{ℕ, ◌+◌, ◌≡◌, if◌then◌else◌, Bool, true, false, IsTrue, List, [], ◌∷◌, ◌++◌, length, Result, Ok, ℤ, pos, refl}
 use Rattle.std.proofs.Common.{ap, sym, ◌∙◌, append_assoc, subst}
 use Rattle.c_syntax.specs.declared.node.Directive.{Directive}
 use Rattle.c_syntax.specs.declared.node.Directive.TheVariants as directive
@@ -10,7 +10,7 @@ use Rattle.c_syntax.specs.declared.node.NodeKind.TheVariants as node
 use Rattle.c_syntax.specs.declared.node.Setting.{Setting}
 use Rattle.c_syntax.specs.declared.node.Standalone.{Standalone}
 use Rattle.c_syntax.specs.declared.node.Standalone.TheVariants as standalone
-use Rattle.c_syntax.specs.Tree.{Tree, Children, children_of, kind_of, name_of}
+use Rattle.c_syntax.specs.Tree.{Tree, children_of, kind_of, name_of}
 use Rattle.c_syntax.specs.Tree.Tree.{Node}
 use Rattle.c_check.specs.Loops.{child_at}
 use Rattle.c_check.specs.Seen.{critical_number, slot_of_name}
@@ -27,12 +27,12 @@ use Rattle.c_model.specs.Parts.{flat_declarations, has_child, parts}
 use Rattle.c_model.specs.Cells.{cell_at, entry_of, with_cells, with_declarator}
 use Rattle.c_model.specs.Value.{all_values, cell_of, is_zero}
 use Rattle.c_model.specs.Calls.{begin_lock_call}
-use Rattle.c_model.specs.Clauses.{condition_of, construct_statement, has_nowait, requested_threads, sections_of}
+use Rattle.c_model.specs.Clauses.{condition_of, construct_statement, has_nowait, requested_threads}
 use Rattle.c_model.specs.Coming.{bound_of, goes_on, goes_on_with, scope_of, value_here}
 use Rattle.c_model.specs.Constructs.{begin_critical, begin_iteration, begin_loop, begin_masked, begin_parallel, begin_sections, begin_single, begin_task, iterations_from, reduction_result, value_or}
 use Rattle.c_model.specs.Copies.{makes_cells, with_own_cells}
 use Rattle.c_model.specs.Going.{next_stage, tree_at_event, work_items}
-use Rattle.c_model.specs.Loops.{iteration_value, loop_of}
+use Rattle.c_model.specs.Loops.{loop_of}
 use Rattle.c_model.specs.Statements.{assigns, begin_block, begin_for, begin_local_set, begin_set_to_call, begin_set_to_value, branch_taken, declares, makes_first_step, makes_step, new_number, setting_of, test_for, test_value}
 use Rattle.c_model.specs.Step.{begin_construct, begin_inside, begin_standalone, begin_statement, step_of}
 use Rattle.c_model.specs.Task.{Here, Item, SharedLoop, items_of_parts}
@@ -40,12 +40,12 @@ use Rattle.c_model.specs.Task.Item.{Start, Declare, Leave, Test, Third, Initiali
 use Rattle.code_brackets.specs.Effects.{LeadsTo, effect_at, work_open}
 use Rattle.code_brackets.specs.Opened.{Open, open_calls, open_item, open_items}
 use Rattle.code_brackets.specs.Opened.Open.{Works}
-use Rattle.code_brackets.specs.Orderly.{AreBehind, AreInOrder, HasNoReturn, IsProper, falls_off, is_fall_off}
+use Rattle.code_brackets.specs.Orderly.{AreBehind, AreInOrder, HasNoReturn, falls_off, is_fall_off}
 use Rattle.code_brackets.specs.Returns.{ReturnOutsideEach, ReturnsOutside, has_return, has_return_among}
 use Rattle.code_brackets.proofs.Adding.{block_added, iterations_added, making_added, start_kept}
 use Rattle.code_brackets.proofs.OpenLists.{IsAdded, in_order, never, none_added}
 use Rattle.code_brackets.proofs.ReturnTrees.{IsFree, body_free, proper_at, return_at, statement_free}
-use Rattle.code_brackets.proofs.Turning.{IsRoom, LeadsOn, Turns, framed_behind, moves, plain_same, turns_binds, turns_choice, turns_event, turns_limit, turns_on, turns_result, turns_sets, turns_step, turns_unless, turns_with}
+use Rattle.code_brackets.proofs.Turning.{IsRoom, LeadsOn, Turns, moves, plain_same, turns_binds, turns_choice, turns_event, turns_limit, turns_on, turns_result, turns_sets, turns_step, turns_unless, turns_with}
 use Rattle.code_brackets.proofs.TurningCalls.{turns_return, turns_returns, turns_right, turns_tested}
 
 -- one item without a return comes to stand before what remains

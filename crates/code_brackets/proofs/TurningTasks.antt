@@ -34,7 +34,7 @@ use Rattle.code_brackets.specs.Returns.{HasReturnsOutside, has_return_among}
 use Rattle.code_brackets.proofs.Adding.{combines_added, iterations_added, making_added, start_kept, value_added}
 use Rattle.code_brackets.proofs.OpenLists.{IsAdded, falls_behind, falls_more, in_order, never, none_added}
 use Rattle.code_brackets.proofs.ReturnTrees.{IsFree, section_free, statement_free}
-use Rattle.code_brackets.proofs.Turning.{IsRoom, LeadsOn, StepsOn, Turns}
+use Rattle.code_brackets.proofs.Turning.{LeadsOn, StepsOn, Turns}
 use Rattle.code_brackets.proofs.TurningSteps.{turns_item}
 
 -- what stands in place of items, in order as they were, with the same open

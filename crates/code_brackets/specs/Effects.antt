@@ -1,5 +1,5 @@
 -- What an event opens or ends.
-use Rattle.std.specs.Prelude.{◌≡◌, Bool, true, false, IsTrue, not, List, [], ◌∷◌}
+use Rattle.std.specs.Prelude.{◌≡◌, Bool, true, false, IsTrue, not, List, ◌∷◌}
 use Rattle.std.specs.List.{list_any}
 use Rattle.c_model.specs.declared.point.Point.{Point}
 use Rattle.c_model.specs.declared.point.Point.TheVariants.{MaskedBegin, MaskedEnd, ParallelBegin, ParallelEnd, Sync as SyncPoint, WorkBegin, WorkEnd}
