@@ -1,5 +1,5 @@
 -- A forked region is open where its end stands next, and nowhere else.
-use Rattle.std.specs.Prelude.{◌||◌, not, Bool, true, false, IsTrue, List, [], ◌∷◌, ◌++◌, refl}
+use Rattle.std.specs.Prelude.{◌≡◌, ◌||◌, not, Bool, true, false, IsTrue, List, [], ◌∷◌, ◌++◌, None, refl}
 use Rattle.std.specs.List.{list_any}
 use Rattle.c_model.specs.declared.point.SyncKind.{SyncKind}
 use Rattle.c_model.specs.declared.point.SyncStage.{SyncStage}
@@ -7,8 +7,9 @@ use Rattle.c_model.specs.declared.point.SyncStage.TheVariants as stage
 use Rattle.c_model.specs.Task.{Item, OpenCall, Task}
 use Rattle.c_model.specs.Task.Item.{Forked, Sync}
 use Rattle.code_brackets.specs.Effects.{ForksNext, HasNoFork}
+use Rattle.code_brackets.specs.Links.{link_item}
 use Rattle.code_brackets.specs.Opened.{Open, is_fork, open_before, open_calls, open_item, open_items, open_task}
-use Rattle.code_brackets.specs.Orderly.{AreBehind, AreCallsKept, AreInOrder, IsOrderly, stands_next}
+use Rattle.code_brackets.specs.Orderly.{AreBehind, AreCallsKept, AreInOrder, IsOrderly}
 use Rattle.code_brackets.proofs.OpenLists.{never}
 
 no-fork-first : (is among : Bool) → IsTrue (not (is || among)) → IsTrue (not is)
@@ -35,8 +36,8 @@ no-fork-stage kind stage.WaitBegin = refl
 no-fork-stage kind stage.WaitEnd = refl
 no-fork-stage kind stage.RegionEnd = refl
 
-no-fork-item : (item : Item) → IsTrue (not (stands_next item)) → HasNoFork (open_item item)
-no-fork-item (Forked construct) none = never none
+no-fork-item : (item : Item) → link_item item ≡ None → HasNoFork (open_item item)
+no-fork-item (Forked construct) none = absurd (cc)
 no-fork-item (Sync tree kind stage) none = no-fork-stage kind stage
 no-fork-item other none = refl
 

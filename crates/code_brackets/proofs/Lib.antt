@@ -5,6 +5,7 @@ pub mod Turning
 pub mod TurningCalls
 pub mod TurningSteps
 pub mod TurningTasks
+pub mod TurningLinks
 pub mod Forking
 pub mod OutsideActs
 pub mod ReturnWalk

@@ -1,6 +1,7 @@
 -- What is open among items one after another, and what stays so behind items more.
-use Rattle.std.specs.Prelude.{◌≡◌, ◌||◌, Bool, true, false, IsTrue, List, [], ◌∷◌, ◌++◌, refl}
+use Rattle.std.specs.Prelude.{◌≡◌, ◌||◌, Bool, true, false, IsTrue, List, [], ◌∷◌, ◌++◌, None, refl}
 use Rattle.c_model.specs.Task.{Item}
+use Rattle.code_brackets.specs.Links.{link_next}
 use Rattle.code_brackets.specs.Opened.{open_items}
 use Rattle.code_brackets.specs.Orderly.{AreBehind, AreInOrder, falls_off, is_fall_off}
 
@@ -20,6 +21,12 @@ pub in_order : (items : List Item) → AreBehind items → AreInOrder items
 unfolding AreBehind AreInOrder
 in_order [] are = tt
 in_order (item ∷ items) are = (are.1, are.2)
+
+-- .. and needs no event before it
+pub none_next : (items : List Item) → AreBehind items → link_next items ≡ None
+unfolding AreBehind
+none_next [] are = refl
+none_next (item ∷ items) are = are.0
 
 -- the end of a function stays behind what comes before it
 pub falls_behind : (item : Item) (items : List Item) → is_fall_off item ≡ false → IsTrue (falls_off (item ∷ items)) → IsTrue (falls_off items)

@@ -13,6 +13,7 @@ use Rattle.c_model.specs.Going.{items_after}
 use Rattle.c_model.specs.Task.{Here, Item, Moment, Outcome, Store}
 use Rattle.c_model.specs.Task.Outcome.{StepsTo, Occurs, Ends, Limits}
 use Rattle.code_brackets.specs.Effects.{LeadsTo, effect_of}
+use Rattle.code_brackets.specs.Links.{link_item, link_made, link_next, link_of}
 use Rattle.code_brackets.specs.Opened.{Open, open_calls, open_item, open_items, open_task}
 use Rattle.code_brackets.specs.Orderly.{AreBehind, AreCallsKept, AreInOrder, IsFramed, IsKept, IsOrderly, is_fall_off}
 use Rattle.code_brackets.specs.Returns.{HasReturnsOutside}
@@ -30,6 +31,7 @@ pub record IsRoom (here : Here) (item : Item) : Type 0 where
 -- a silent step of the item
 pub record StepsOn (here : Here) (item : Item) (next : Moment) : Type 0 where
   pub is : IsOrderly next.task
+  pub behind : AreBehind next.task.todo
   pub same : open_task next.task ≡ open_items (item ∷ here.task.todo) ++ open_calls here.task.calls
 
 -- the statement of a task that is created has no return
@@ -42,6 +44,8 @@ pub record LeadsOn (here : Here) (item : Item) (point : Point) : Type 0 where
   pub apart : is_fall_off item ≡ false
   pub effect : (executes : Bool) → LeadsTo (effect_of point executes) (open_items (item ∷ here.task.todo)) (open_items (items_after point executes (length here.task.env) item ++ here.task.todo))
   pub order : (executes : Bool) → AreInOrder (items_after point executes (length here.task.env) item ++ here.task.todo)
+  pub follows : link_item item ≡ link_of point
+  pub makes : (executes : Bool) → link_next (items_after point executes (length here.task.env) item ++ here.task.todo) ≡ link_made point
   pub creates : CreatesFree point (item ∷ here.task.todo)
 
 unfoldable pub Turns : Here → Item → Outcome → Type 0
@@ -89,6 +93,7 @@ module _ (here : Here) (item : Item) (room : IsRoom here item) (plain : open_ite
   moves todo env store added =
       record {
         is = record { now = in_order todo added.behind; framed = λ has. added.falls (framed_behind has); calls = room.calls };
+        behind = added.behind;
         same = ap (λ (opened : List Open). opened ++ open_calls here.task.calls) (added.same ∙ sym (plain_same item here.task.todo plain));
       }
 

@@ -1,5 +1,5 @@
 -- A call begins with nothing open in its function, and its end leads back to what the function that called has open.
-use Rattle.std.specs.Prelude.{◌≡◌, false, IsTrue, List, [], ◌∷◌, ◌++◌, ℤ, pos, refl}
+use Rattle.std.specs.Prelude.{◌≡◌, false, IsTrue, List, [], ◌∷◌, ◌++◌, None, ℤ, pos, refl}
 use Rattle.std.proofs.Common.{ap, sym, ◌∙◌, subst}
 use Rattle.c_syntax.specs.declared.node.NodeKind.{NodeKind}
 use Rattle.c_syntax.specs.declared.node.NodeKind.TheVariants as node
@@ -15,6 +15,7 @@ use Rattle.c_model.specs.Coming.{scope_of, value_here}
 use Rattle.c_model.specs.Calls.{begin_call, begin_return_of, begin_right, bound_in, ends_test, enters, open_call, returns_to, value_items}
 use Rattle.c_model.specs.Task.{Here, Item, Moment, OpenCall}
 use Rattle.c_model.specs.Task.Item.{Start, FallOff}
+use Rattle.code_brackets.specs.Links.{link_item}
 use Rattle.code_brackets.specs.Opened.{Open, open_calls, open_item, open_items}
 use Rattle.code_brackets.specs.Orderly.{AreBehind, AreCallsKept, AreInOrder, has_calls, is_fall_off, is_return, falls_off}
 use Rattle.code_brackets.specs.Returns.{ReturnsOutside}
@@ -25,21 +26,23 @@ use Rattle.code_brackets.proofs.Turning.{IsRoom, StepsOn, Turns, framed_behind, 
 module _ (here : Here) (item : Item) (room : IsRoom here item) (plain : open_item item ≡ []) where
   -- nothing is open in the function that ends
   pub turns_returns : (opened : List OpenCall) (number : ℤ) → here.task.calls ≡ opened → open_items here.task.todo ≡ [] → AreCallsKept opened → Turns here item (returns_to opened here number)
-  unfolding AreInOrder AreCallsKept open_items open_calls
+  unfolding AreInOrder AreBehind AreCallsKept open_items open_calls
   turns_returns [] number are quiet kept =
       turns_step here item _ (record {
         is = record { now = tt; framed = λ has. never (subst (λ (calls : List OpenCall). IsTrue (has_calls calls)) are has); calls = room.calls };
+        behind = tt;
         same = ap (λ (opened : List Open). opened ++ open_calls here.task.calls) (sym quiet ∙ sym (plain_same item here.task.todo plain));
       })
   turns_returns (call ∷ rest) number are quiet kept =
       let added = value_added call.to number call.todo kept.0.behind kept.0.returned in
       turns_step here item _ (record {
         is = record { now = in_order (value_items call.to number ++ call.todo) added.behind; framed = λ has. added.falls (kept.0.framed has); calls = kept.1 };
+        behind = added.behind;
         same = ap (λ (opened : List Open). opened ++ open_calls rest) added.same ∙ sym (ap open_calls are)
             ∙ ap (λ (opened : List Open). opened ++ open_calls here.task.calls) (sym quiet ∙ sym (plain_same item here.task.todo plain));
       })
 
-  module _ (apart : is_fall_off item ≡ false) where
+  module _ (apart : is_fall_off item ≡ false) (linkless : link_item item ≡ None) where
     turns-enters : (function : Tree) (env : List Entry) (to : Target) (bound : Bound) → ReturnsOutside (body_of function) → (IsTrue (is_return to) → open_items here.task.todo ≡ [])
         → Turns here item (enters here function (open_call here env to) bound)
     unfolding AreInOrder AreBehind AreCallsKept open_items open_calls falls_off
@@ -54,6 +57,7 @@ module _ (here : Here) (item : Item) (room : IsRoom here item) (plain : open_ite
             framed = λ has. refl;
             calls = (record { behind = room.behind; returned = returns; framed = framed_behind here item room plain apart }, room.calls);
           };
+          behind = (refl, (proper, λ is. refl), (refl, (tt, λ is. refl), tt));
           same = ap (λ (opened : List Open). opened ++ open_calls here.task.calls) (sym (plain_same item here.task.todo plain));
         } in
         search (turns_choice, turns_limit, turns_step, on)
@@ -71,6 +75,8 @@ module _ (here : Here) (item : Item) (room : IsRoom here item) (plain : open_ite
           apart = apart;
           effect = λ executes. sym (plain_same item here.task.todo plain);
           order = λ executes. ((tt, returns), room.behind);
+          follows = linkless;
+          makes = λ executes. refl;
           creates = tt;
         })
     turns_right other call env to returns = turns-call call env to returns

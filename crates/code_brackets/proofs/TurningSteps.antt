@@ -1,5 +1,5 @@
 -- Each silent step leaves what is open and the code in order, and each event that a step comes to opens or ends the newest.
-use Rattle.std.specs.Prelude.{ℕ, ◌+◌, ◌≡◌, if◌then◌else◌, Bool, true, false, IsTrue, List, [], ◌∷◌, ◌++◌, length, Result, Ok, ℤ, pos, refl}
+use Rattle.std.specs.Prelude.{ℕ, ◌+◌, ◌≡◌, if◌then◌else◌, Bool, true, false, IsTrue, List, [], ◌∷◌, ◌++◌, length, None, Result, Ok, ℤ, pos, refl}
 use Rattle.std.proofs.Common.{ap, sym, ◌∙◌, append_assoc, subst}
 use Rattle.c_syntax.specs.declared.node.Directive.{Directive}
 use Rattle.c_syntax.specs.declared.node.Directive.TheVariants as directive
@@ -38,12 +38,13 @@ use Rattle.c_model.specs.Step.{begin_construct, begin_inside, begin_standalone, 
 use Rattle.c_model.specs.Task.{Here, Item, SharedLoop, items_of_parts}
 use Rattle.c_model.specs.Task.Item.{Start, Declare, Leave, Test, Third, Initialise, Return, FallOff, Forked, Inside, MakeCells, NextChunk, Iterations, NextSection, Combine, EndWork, EndMasked, Sync, Acquire, Release, TestLock, Tested}
 use Rattle.code_brackets.specs.Effects.{LeadsTo, effect_at, work_open}
+use Rattle.code_brackets.specs.Links.{link_behind, link_item, link_next}
 use Rattle.code_brackets.specs.Opened.{Open, open_calls, open_item, open_items}
 use Rattle.code_brackets.specs.Opened.Open.{Works}
 use Rattle.code_brackets.specs.Orderly.{AreBehind, AreInOrder, HasNoReturn, falls_off, is_fall_off}
 use Rattle.code_brackets.specs.Returns.{ReturnOutsideEach, ReturnsOutside, has_return, has_return_among}
 use Rattle.code_brackets.proofs.Adding.{block_added, iterations_added, making_added, start_kept}
-use Rattle.code_brackets.proofs.OpenLists.{IsAdded, in_order, never, none_added}
+use Rattle.code_brackets.proofs.OpenLists.{IsAdded, in_order, never, none_added, none_next}
 use Rattle.code_brackets.proofs.ReturnTrees.{IsFree, body_free, proper_at, return_at, statement_free}
 use Rattle.code_brackets.proofs.Turning.{IsRoom, LeadsOn, Turns, moves, plain_same, turns_binds, turns_choice, turns_event, turns_limit, turns_on, turns_result, turns_sets, turns_step, turns_unless, turns_with}
 use Rattle.code_brackets.proofs.TurningCalls.{turns_return, turns_returns, turns_right, turns_tested}
@@ -112,9 +113,9 @@ record IsBegun (here : Here) (construct : Tree) (kind : Work) (executes : Bool) 
   behind : AreBehind (work_items kind construct (length here.task.env) executes ++ here.task.todo)
   same : open_items (work_items kind construct (length here.task.env) executes ++ here.task.todo) ≡ work_open kind executes ∷ open_items here.task.todo
 
-begun : (here : Here) (item : Item) (construct : Tree) (codeptr : ℕ) (kind : Work) → IsRoom here item → open_item item ≡ [] → is_fall_off item ≡ false → tree_at_event item ≡ construct
+begun : (here : Here) (item : Item) (construct : Tree) (codeptr : ℕ) (kind : Work) → IsRoom here item → open_item item ≡ [] → is_fall_off item ≡ false → link_item item ≡ None → tree_at_event item ≡ construct
     → ((executes : Bool) → IsBegun here construct kind executes) → LeadsOn here item (WorkBegin codeptr kind)
-begun here item construct codeptr kind room plain apart is each =
+begun here item construct codeptr kind room plain apart linkless is each =
     let work = λ (executes : Bool). work_items kind construct (length here.task.env) executes ++ here.task.todo in
     let added = λ (executes : Bool). making_added construct (work executes) (work executes) (none_added (work executes) (each executes).behind) in
     let at = λ (executes : Bool). sym (append_assoc (makes_cells construct) (work_items kind construct (length here.task.env) executes) here.task.todo)
@@ -124,20 +125,22 @@ begun here item construct codeptr kind room plain apart is each =
       effect = λ executes. sym (ap open_items (at executes)) ∙ (added executes).same ∙ (each executes).same
           ∙ ap (λ (opened : List Open). work_open kind executes ∷ opened) (sym (plain_same item here.task.todo plain));
       order = λ executes. subst (λ (items : List Item). AreInOrder items) (at executes) (in_order (makes_cells construct ++ work executes) (added executes).behind);
+      follows = linkless;
+      makes = λ executes. sym (ap link_next (at executes)) ∙ none_next (makes_cells construct ++ work executes) (added executes).behind;
       creates = tt;
     }
 
-turns-loop : (here : Here) (item : Item) (construct : Tree) → IsRoom here item → open_item item ≡ [] → is_fall_off item ≡ false → tree_at_event item ≡ construct → HasNoReturn construct → Turns here item (begin_loop here construct)
+turns-loop : (here : Here) (item : Item) (construct : Tree) → IsRoom here item → open_item item ≡ [] → is_fall_off item ≡ false → link_item item ≡ None → tree_at_event item ≡ construct → HasNoReturn construct → Turns here item (begin_loop here construct)
 unfolding AreBehind open_items
-turns-loop here item construct room plain apart is free =
+turns-loop here item construct room plain apart linkless is free =
     turns_result here item (value_here here (loop_of construct).start) _ (λ start.
     turns_result here item (value_here here (loop_of construct).end) _ (λ end.
-    turns_event here item _ construct (begun here item construct _ _ room plain apart is (λ executes. record { behind = (refl, (free, λ is. never is), room.behind); same = refl }))))
+    turns_event here item _ construct (begun here item construct _ _ room plain apart linkless is (λ executes. record { behind = (refl, (free, λ is. never is), room.behind); same = refl }))))
 
-turns-sections : (here : Here) (item : Item) (construct : Tree) → IsRoom here item → open_item item ≡ [] → is_fall_off item ≡ false → tree_at_event item ≡ construct → HasNoReturn construct → Turns here item (begin_sections construct)
+turns-sections : (here : Here) (item : Item) (construct : Tree) → IsRoom here item → open_item item ≡ [] → is_fall_off item ≡ false → link_item item ≡ None → tree_at_event item ≡ construct → HasNoReturn construct → Turns here item (begin_sections construct)
 unfolding AreBehind open_items
-turns-sections here item construct room plain apart is free =
-    turns_event here item _ construct (begun here item construct _ _ room plain apart is (λ executes. record { behind = (refl, (free, λ is. never is), room.behind); same = refl }))
+turns-sections here item construct room plain apart linkless is free =
+    turns_event here item _ construct (begun here item construct _ _ room plain apart linkless is (λ executes. record { behind = (refl, (free, λ is. never is), room.behind); same = refl }))
 
 single-begun : (here : Here) (construct : Tree) (executes : Bool) → AreBehind here.task.todo → HasNoReturn construct → IsBegun here construct work.Single executes
 unfolding AreBehind open_items
@@ -155,6 +158,8 @@ module _ (here : Here) (construct : Tree) (room : IsRoom here (Start construct))
         apart = refl;
         effect = λ executes. refl;
         order = λ executes. ((subst (λ (tree : Tree). HasNoReturn tree) (sym is) free, λ is. never is), room.behind);
+        follows = refl;
+        makes = λ executes. refl;
         creates = tt;
       }))
 
@@ -169,6 +174,8 @@ module _ (here : Here) (construct : Tree) (room : IsRoom here (Start construct))
               (subst (λ (tree : Tree). IsFree (construct_statement tree)) (sym is) (statement_free construct free)),
           (refl, (tt, λ is. never is), room.behind),
         );
+        follows = refl;
+        makes = λ executes. refl;
         creates = tt;
       })
 
@@ -187,6 +194,8 @@ module _ (here : Here) (construct : Tree) (room : IsRoom here (Start construct))
             (refl, (tt, λ is. never is), room.behind),
           ),
         );
+        follows = refl;
+        makes = λ executes. refl;
         creates = tt;
       })
 
@@ -199,38 +208,40 @@ module _ (here : Here) (construct : Tree) (room : IsRoom here (Start construct))
         apart = refl;
         effect = λ executes. refl;
         order = λ executes. in_order here.task.todo room.behind;
+        follows = refl;
+        makes = λ executes. none_next here.task.todo room.behind;
         creates = statement_free construct free;
       })))
 
   turns-single : Turns here (Start construct) (begin_single construct)
   turns-single =
-      turns_event here (Start construct) _ construct (begun here (Start construct) construct _ _ room refl refl is (λ executes. single-begun here construct executes room.behind free))
+      turns_event here (Start construct) _ construct (begun here (Start construct) construct _ _ room refl refl refl is (λ executes. single-begun here construct executes room.behind free))
 
 stage-leads : (tree at : Tree) (kind : SyncKind) (stage : SyncStage) (items : List Item) → AreBehind items
-    → LeadsTo (effect_at kind stage) (open_items (Sync tree kind stage ∷ items)) (open_items (next_stage at kind stage ++ items)) × AreInOrder (next_stage at kind stage ++ items)
+    → LeadsTo (effect_at kind stage) (open_items (Sync tree kind stage ∷ items)) (open_items (next_stage at kind stage ++ items)) × AreInOrder (next_stage at kind stage ++ items) × (link_next (next_stage at kind stage ++ items) ≡ link_behind kind stage)
 unfolding AreInOrder open_items
-stage-leads tree at kind stage.RegionBegin items behind = (refl, ((tt, λ is. never is), behind))
-stage-leads tree at kind stage.WaitBegin items behind = (refl, ((tt, λ is. never is), behind))
-stage-leads tree at kind stage.WaitEnd items behind = (refl, ((tt, λ is. never is), behind))
-stage-leads tree at kind stage.RegionEnd items behind = (refl, in_order items behind)
+stage-leads tree at kind stage.RegionBegin items behind = (refl, ((tt, λ is. never is), behind), refl)
+stage-leads tree at kind stage.WaitBegin items behind = (refl, ((tt, λ is. never is), behind), refl)
+stage-leads tree at kind stage.WaitEnd items behind = (refl, ((tt, λ is. never is), behind), refl)
+stage-leads tree at kind stage.RegionEnd items behind = (refl, in_order items behind, none_next items behind)
 
 turns-standalone : (which : Standalone) (here : Here) (tree : Tree) → AreBehind here.task.todo → Turns here (Start tree) (begin_standalone which tree)
 unfolding AreInOrder open_items
 turns-standalone standalone.Barrier here tree behind =
-    turns_event here (Start tree) _ tree (record { apart = refl; effect = λ executes. refl; order = λ executes. ((tt, λ is. never is), behind); creates = tt })
+    turns_event here (Start tree) _ tree (record { apart = refl; effect = λ executes. refl; order = λ executes. ((tt, λ is. never is), behind); follows = refl; makes = λ executes. refl; creates = tt })
 turns-standalone standalone.Taskwait here tree behind =
-    turns_event here (Start tree) _ tree (record { apart = refl; effect = λ executes. refl; order = λ executes. ((tt, λ is. never is), behind); creates = tt })
+    turns_event here (Start tree) _ tree (record { apart = refl; effect = λ executes. refl; order = λ executes. ((tt, λ is. never is), behind); follows = refl; makes = λ executes. refl; creates = tt })
 
 turns-lock : (which : LockCall) (here : Here) (tree : Tree) → AreBehind here.task.todo → Turns here (Start tree) (begin_lock_call which here tree)
 unfolding AreInOrder open_items
 turns-lock lock.Init here tree behind =
-    turns_event here (Start tree) _ tree (record { apart = refl; effect = λ executes. refl; order = λ executes. in_order here.task.todo behind; creates = tt })
+    turns_event here (Start tree) _ tree (record { apart = refl; effect = λ executes. refl; order = λ executes. in_order here.task.todo behind; follows = refl; makes = λ executes. none_next here.task.todo behind; creates = tt })
 turns-lock lock.Destroy here tree behind =
-    turns_event here (Start tree) _ tree (record { apart = refl; effect = λ executes. refl; order = λ executes. in_order here.task.todo behind; creates = tt })
+    turns_event here (Start tree) _ tree (record { apart = refl; effect = λ executes. refl; order = λ executes. in_order here.task.todo behind; follows = refl; makes = λ executes. none_next here.task.todo behind; creates = tt })
 turns-lock lock.Set here tree behind =
-    turns_event here (Start tree) _ tree (record { apart = refl; effect = λ executes. refl; order = λ executes. ((tt, λ is. never is), behind); creates = tt })
+    turns_event here (Start tree) _ tree (record { apart = refl; effect = λ executes. refl; order = λ executes. ((tt, λ is. never is), behind); follows = refl; makes = λ executes. refl; creates = tt })
 turns-lock lock.Unset here tree behind =
-    turns_event here (Start tree) _ tree (record { apart = refl; effect = λ executes. refl; order = λ executes. in_order here.task.todo behind; creates = tt })
+    turns_event here (Start tree) _ tree (record { apart = refl; effect = λ executes. refl; order = λ executes. in_order here.task.todo behind; follows = refl; makes = λ executes. none_next here.task.todo behind; creates = tt })
 
 -- a statement begins
 turns-block : (here : Here) (tree : Tree) → IsRoom here (Start tree) → ReturnOutsideEach (children_of tree) → (IsTrue (has_return_among (children_of tree)) → open_items here.task.todo ≡ []) → Turns here (Start tree) (begin_block here tree)
@@ -253,8 +264,8 @@ turns-for here tree room proper returns =
 
 turns-construct : (which : Directive) (here : Here) (construct : Tree) → IsRoom here (Start construct) → tree_at_event (Start construct) ≡ construct → HasNoReturn construct → Turns here (Start construct) (begin_construct which here construct)
 turns-construct directive.Parallel here construct room is free = turns-parallel here construct room is free
-turns-construct directive.For here construct room is free = turns-loop here (Start construct) construct room refl refl is free
-turns-construct directive.Sections here construct room is free = turns-sections here (Start construct) construct room refl refl is free
+turns-construct directive.For here construct room is free = turns-loop here (Start construct) construct room refl refl refl is free
+turns-construct directive.Sections here construct room is free = turns-sections here (Start construct) construct room refl refl refl is free
 turns-construct directive.Single here construct room is free = turns-single here construct room is free
 turns-construct directive.ParallelFor here construct room is free = turns-parallel here construct room is free
 turns-construct directive.ParallelSections here construct room is free = turns-parallel here construct room is free
@@ -279,17 +290,17 @@ turns-statement here (Node node.While spot name number text children) room =
 turns-statement here (Node node.For spot name number text children) room = turns-for here (Node node.For spot name number text children) room room.now.0 room.now.1
 turns-statement here (Node node.Return spot name number text children) room =
     let tree = Node node.Return spot name number text children in
-    turns_return here (Start tree) room refl refl (kind_of (child_at tree 0)) (child_at tree 0) (room.now.1 refl)
+    turns_return here (Start tree) room refl refl refl (kind_of (child_at tree 0)) (child_at tree 0) (room.now.1 refl)
 turns-statement here (Node node.SetCall spot name number text children) room =
     let tree = Node node.SetCall spot name number text children in
     turns_result here (Start tree) (cell_of (scope_of here) (child_at tree 0)) _ (λ cell.
-    turns_right here (Start tree) room refl refl (kind_of (child_at tree 1)) (child_at tree 1) here.task.env (target.Cell cell) (λ is. never is))
+    turns_right here (Start tree) room refl refl refl (kind_of (child_at tree 1)) (child_at tree 1) here.task.env (target.Cell cell) (λ is. never is))
 turns-statement here (Node node.Step spot name number text children) room =
     let tree = Node node.Step spot name number text children in
     turns-makes here (Start tree) room refl refl (kind_of (child_at tree 0)) (child_at tree 0) [] (none_added here.task.todo room.behind)
 turns-statement here (Node node.Called spot name number text children) room =
     let tree = Node node.Called spot name number text children in
-    turns_right here (Start tree) room refl refl (kind_of (child_at tree 0)) (child_at tree 0) here.task.env target.Nowhere (λ is. never is)
+    turns_right here (Start tree) room refl refl refl (kind_of (child_at tree 0)) (child_at tree 0) here.task.env target.Nowhere (λ is. never is)
 turns-statement here (Node node.Print spot name number text children) room =
     let tree = Node node.Print spot name number text children in
     turns_result here (Start tree) (all_values (scope_of here) (parts tree)) _ (λ numbers.
@@ -319,15 +330,15 @@ turns-third here tree stay room =
 
 turns-inside : (here : Here) (construct : Tree) → IsRoom here (Inside construct) → Turns here (Inside construct) (begin_inside (kind_of construct) here construct)
 turns-inside here (Node (node.Construct directive.ParallelFor) spot name number text children) room =
-    let tree = Node (node.Construct directive.ParallelFor) spot name number text children in turns-loop here (Inside tree) tree room refl refl refl room.now.0
+    let tree = Node (node.Construct directive.ParallelFor) spot name number text children in turns-loop here (Inside tree) tree room refl refl refl refl room.now.0
 turns-inside here (Node (node.Construct directive.ParallelSections) spot name number text children) room =
-    let tree = Node (node.Construct directive.ParallelSections) spot name number text children in turns-sections here (Inside tree) tree room refl refl refl room.now.0
+    let tree = Node (node.Construct directive.ParallelSections) spot name number text children in turns-sections here (Inside tree) tree room refl refl refl refl room.now.0
 turns-inside here (Node kind spot name number text children) room =
     turns_on here (Inside (Node kind spot name number text children)) room refl refl [] (none_added here.task.todo room.behind)
 
 -- an iteration
 turns-iteration : (here : Here) (loop : SharedLoop) (at upto : ℕ) → IsRoom here (Iterations loop at upto) → Turns here (Iterations loop at upto) (begin_iteration here loop at upto)
-unfolding AreInOrder open_items falls_off
+unfolding AreInOrder AreBehind open_items falls_off
 turns-iteration here loop at upto room =
     let more = iterations_added loop (at + 1) upto here.task.todo room.now.0 room.behind in
     turns_step here (Iterations loop at upto) _ (record {
@@ -336,15 +347,17 @@ turns-iteration here loop at upto room =
         framed = λ has. more.falls (room.framed has);
         calls = room.calls;
       };
+      behind = (refl, start_kept (loop_of loop.construct).body (iterations_from loop (at + 1) upto ∷ here.task.todo) (body_free loop.construct room.now.0), more.behind);
       same = ap (λ (opened : List Open). opened ++ open_calls here.task.calls) more.same;
     })
 
 barrier-leads : (nowait : Bool) (construct : Tree) (items : List Item) → AreBehind items
     → (open_items ((if nowait then [] else Sync construct sync.Worksharing stage.RegionBegin ∷ []) ++ items) ≡ open_items items)
     × AreInOrder ((if nowait then [] else Sync construct sync.Worksharing stage.RegionBegin ∷ []) ++ items)
+    × (link_next ((if nowait then [] else Sync construct sync.Worksharing stage.RegionBegin ∷ []) ++ items) ≡ None)
 unfolding AreInOrder open_items
-barrier-leads true construct items behind = (refl, in_order items behind)
-barrier-leads false construct items behind = (refl, ((tt, λ is. never is), behind))
+barrier-leads true construct items behind = (refl, in_order items behind, none_next items behind)
+barrier-leads false construct items behind = (refl, ((tt, λ is. never is), behind), refl)
 
 pub turns_item : (item : Item) (here : Here) → IsRoom here item → Turns here item (step_of item here)
 unfolding Turns open_items
@@ -354,11 +367,11 @@ turns_item (Leave names) here room = turns_with here (Leave names) room refl ref
 turns_item (Test tree names) here room = turns-test here tree names room
 turns_item (Third tree names) here room = turns-third here tree names room
 turns_item (Initialise tree entry) here room =
-    turns_right here (Initialise tree entry) room refl refl (kind_of (child_at tree 0)) (child_at tree 0) (here.task.env ++ entry ∷ []) (target.Cell entry.first) (λ is. never is)
+    turns_right here (Initialise tree entry) room refl refl refl (kind_of (child_at tree 0)) (child_at tree 0) (here.task.env ++ entry ∷ []) (target.Cell entry.first) (λ is. never is)
 turns_item (Return number) here room = turns_returns here (Return number) room refl here.task.calls number refl (room.now.1 refl) room.calls
 turns_item FallOff here room = turns_returns here FallOff room refl here.task.calls (pos 0) refl (room.now.1 refl) room.calls
 turns_item (Forked construct) here room =
-    record { apart = refl; effect = λ executes. refl; order = λ executes. in_order here.task.todo room.behind; creates = tt }
+    record { apart = refl; effect = λ executes. refl; order = λ executes. in_order here.task.todo room.behind; follows = refl; makes = λ executes. none_next here.task.todo room.behind; creates = tt }
 turns_item (Inside construct) here room = turns-inside here construct room
 turns_item (MakeCells construct) here room =
     turns_binds here (MakeCells construct) room refl refl (with_own_cells here.program (bound_of here) construct) [] (none_added here.task.todo room.behind)
@@ -374,16 +387,18 @@ turns_item (EndWork construct kind count names) here room =
       apart = refl;
       effect = λ executes. ap (λ (opened : List Open). Works kind count ∷ opened) (sym leads.0);
       order = λ executes. leads.1;
+      follows = refl;
+      makes = λ executes. leads.2;
       creates = tt;
     }
 turns_item (EndMasked construct) here room =
-    record { apart = refl; effect = λ executes. refl; order = λ executes. in_order here.task.todo room.behind; creates = tt }
+    record { apart = refl; effect = λ executes. refl; order = λ executes. in_order here.task.todo room.behind; follows = refl; makes = λ executes. none_next here.task.todo room.behind; creates = tt }
 turns_item (Sync tree kind at) here room =
     let leads = stage-leads tree tree kind at here.task.todo room.behind in
-    record { apart = refl; effect = λ executes. leads.0; order = λ executes. leads.1; creates = tt }
+    record { apart = refl; effect = λ executes. leads.0; order = λ executes. leads.1; follows = refl; makes = λ executes. leads.2; creates = tt }
 turns_item (Acquire tree kind id) here room =
-    record { apart = refl; effect = λ executes. refl; order = λ executes. in_order here.task.todo room.behind; creates = tt }
+    record { apart = refl; effect = λ executes. refl; order = λ executes. in_order here.task.todo room.behind; follows = refl; makes = λ executes. none_next here.task.todo room.behind; creates = tt }
 turns_item (Release tree id) here room =
-    record { apart = refl; effect = λ executes. refl; order = λ executes. in_order here.task.todo room.behind; creates = tt }
+    record { apart = refl; effect = λ executes. refl; order = λ executes. in_order here.task.todo room.behind; follows = refl; makes = λ executes. none_next here.task.todo room.behind; creates = tt }
 turns_item (TestLock call id to) here room = tt
-turns_item (Tested to) here room = turns_tested here (Tested to) room refl refl to room.now.1
+turns_item (Tested to) here room = turns_tested here (Tested to) room refl refl refl to room.now.1

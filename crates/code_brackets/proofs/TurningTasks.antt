@@ -1,6 +1,6 @@
 -- A task's code stands in order and has open what its events began: where it begins, and behind each step, answer and event.
-use Rattle.std.specs.Prelude.{ℕ, ◌+◌, ◌≡◌, ◌==◌, ◌&&◌, not, if◌then◌else◌, Bool, true, false, IsTrue, List, [], ◌∷◌, ◌++◌, length, slice_index_or, Option, Some, None, ℤ, pos, refl}
-use Rattle.std.proofs.Common.{ap, sym, ◌∙◌, append_assoc, subst}
+use Rattle.std.specs.Prelude.{ℕ, ◌+◌, ◌≡◌, ◌⊎◌, ◌==◌, ◌&&◌, not, if◌then◌else◌, Bool, true, false, IsTrue, List, [], ◌∷◌, ◌++◌, length, slice_index_or, Option, Some, None, ℤ, pos, refl}
+use Rattle.std.proofs.Common.{ap, inl, inr, sym, ◌∙◌, append_assoc, subst}
 use Rattle.c_syntax.specs.declared.node.Directive.TheVariants as directive
 use Rattle.c_syntax.specs.declared.node.NodeKind.TheVariants as node
 use Rattle.c_syntax.specs.Tree.{Tree, kind_of}
@@ -28,29 +28,34 @@ use Rattle.c_model.specs.Task.Item.{Start, Forked, NextChunk, NextSection, EndWo
 use Rattle.c_model.specs.Task.Outcome.{StepsTo, Occurs, Ends}
 use Rattle.code_brackets.specs.Effects.{Effect, LeadsTo, effect_of}
 use Rattle.code_brackets.specs.Effects.Effect.{Opens, Closes, Leaves}
+use Rattle.code_brackets.specs.Links.{link_next}
 use Rattle.code_brackets.specs.Opened.{Open, open_calls, open_items, open_task}
 use Rattle.code_brackets.specs.Orderly.{AreBehind, AreCallsKept, AreInOrder, HasNoReturn, IsFramed, IsOrderly, falls_off}
 use Rattle.code_brackets.specs.Returns.{HasReturnsOutside, has_return_among}
 use Rattle.code_brackets.proofs.Adding.{combines_added, iterations_added, making_added, start_kept, value_added}
-use Rattle.code_brackets.proofs.OpenLists.{IsAdded, falls_behind, falls_more, in_order, never, none_added}
+use Rattle.code_brackets.proofs.OpenLists.{IsAdded, falls_behind, falls_more, in_order, never, none_added, none_next}
 use Rattle.code_brackets.proofs.ReturnTrees.{IsFree, section_free, statement_free}
 use Rattle.code_brackets.proofs.Turning.{LeadsOn, StepsOn, Turns}
 use Rattle.code_brackets.proofs.TurningSteps.{turns_item}
 
 -- what stands in place of items, in order as they were, with the same open
-record GoesOn (full items : List Item) : Type 0 where
-  order : AreInOrder items → AreInOrder full
-  same : AreInOrder items → open_items full ≡ open_items items
-  falls : IsTrue (falls_off items) → IsTrue (falls_off full)
+pub record GoesOn (full items : List Item) : Type 0 where
+  pub order : AreInOrder items → AreInOrder full
+  pub same : AreInOrder items → open_items full ≡ open_items items
+  pub falls : IsTrue (falls_off items) → IsTrue (falls_off full)
+  pub next : AreInOrder items → (link_next full ≡ link_next items) ⊎ (link_next full ≡ None)
 
 goes-same : (items : List Item) → GoesOn items items
-goes-same items = record { order = λ are. are; same = λ are. refl; falls = λ is. is }
+goes-same items = record { order = λ are. are; same = λ are. refl; falls = λ is. is; next = λ are. inl refl }
 
 -- what a task goes past has nothing open
+passed-next : (items settled : List Item) → AreBehind items → (link_next settled ≡ link_next items) ⊎ (link_next settled ≡ None) → link_next settled ≡ None
+passed-next items settled behind either = elim either [ inl same ↦ same ∙ none_next items behind | inr none ↦ none ]
+
 settled-start : (passed : Bool) (tree : Tree) (items settled : List Item) → GoesOn settled items → GoesOn (if passed then settled else Start tree ∷ items) (Start tree ∷ items)
 unfolding AreInOrder open_items falls_off
 settled-start true tree items settled goes =
-    record { order = λ are. goes.order (in_order items are.1); same = λ are. goes.same (in_order items are.1); falls = goes.falls }
+    record { order = λ are. goes.order (in_order items are.1); same = λ are. goes.same (in_order items are.1); falls = goes.falls; next = λ are. inr (passed-next items settled are.1 (goes.next (in_order items are.1))) }
 settled-start false tree items settled goes = goes-same (Start tree ∷ items)
 
 settled-by : (view : View) (item : Item) (items settled : List Item) → GoesOn settled items → GoesOn (if is_passed_over item view then settled else item ∷ items) (item ∷ items)
@@ -70,10 +75,10 @@ pub settled_same : (view : View) (task : Task) → IsOrderly task → open_task 
 settled_same view task is = ap (λ (opened : List Open). opened ++ open_calls task.calls) ((settled-items view task.todo).same is.now)
 
 -- steps and events
-abbrev here_at : TreeView → View → Moment → List Item → Here
+abbrev pub here_at : TreeView → View → Moment → List Item → Here
 here_at program view now items = record { program = program; view = view; task = record now.task { todo = items }; store = now.store }
 
-turned : (program : TreeView) (view : View) (now : Moment) (item : Item) (items : List Item) (outcome : Outcome) → HasReturnsOutside program → AreInOrder (item ∷ items) → IsFramed (item ∷ items) now.task.calls → AreCallsKept now.task.calls
+pub turned : (program : TreeView) (view : View) (now : Moment) (item : Item) (items : List Item) (outcome : Outcome) → HasReturnsOutside program → AreInOrder (item ∷ items) → IsFramed (item ∷ items) now.task.calls → AreCallsKept now.task.calls
     → step_at (item ∷ items) program view now ≡ outcome → Turns (here_at program view now items) item outcome
 unfolding AreInOrder
 turned program view now item items outcome outside are framed calls comes =
@@ -148,40 +153,40 @@ chunk-goes : (loop : SharedLoop) (chunk : Option (ℕ × ℕ)) (items : List Ite
 unfolding AreInOrder AreBehind open_items falls_off
 chunk-goes loop (Some chunk) items are =
     let more = iterations_added loop chunk.0 (chunk.0 + chunk.1) items are.0.0 are.1 in
-    record { order = λ are. in_order (iterations_from loop chunk.0 (chunk.0 + chunk.1) ∷ items) more.behind; same = λ are. more.same; falls = more.falls }
+    record { order = λ are. in_order (iterations_from loop chunk.0 (chunk.0 + chunk.1) ∷ items) more.behind; same = λ are. more.same; falls = more.falls; next = λ are. inr (none_next (iterations_from loop chunk.0 (chunk.0 + chunk.1) ∷ items) more.behind) }
 chunk-goes loop None items are =
     let last = EndWork loop.construct work_kind.Loop loop.count loop.names in
     let added = combines_added loop.construct loop.names (last ∷ items) (last ∷ items) (none_added (last ∷ items) (refl, (tt, λ is. never is), are.1)) in
     subst (λ (full : List Item). GoesOn full (NextChunk loop ∷ items)) (sym (append_assoc (combines loop.construct loop.names) (last ∷ []) items))
-    (record { order = λ are. in_order (combines loop.construct loop.names ++ last ∷ items) added.behind; same = λ are. added.same; falls = added.falls })
+    (record { order = λ are. in_order (combines loop.construct loop.names ++ last ∷ items) added.behind; same = λ are. added.same; falls = added.falls; next = λ are. inr (none_next (combines loop.construct loop.names ++ last ∷ items) added.behind) })
 
 section-goes : (construct : Tree) (names : ℕ) (section : Option ℕ) (items : List Item) → AreInOrder (NextSection construct names ∷ items) → GoesOn (items_of_section construct names section ++ items) (NextSection construct names ∷ items)
 unfolding AreInOrder AreBehind open_items falls_off
 section-goes construct names (Some section) items are =
-    record { order = λ more. (start_kept (slice_index_or (sections_of construct) section nothing) (NextSection construct names ∷ items) (section_free construct are.0.0 section), (refl, are.0, are.1)); same = λ are. refl; falls = λ is. is }
+    record { order = λ more. (start_kept (slice_index_or (sections_of construct) section nothing) (NextSection construct names ∷ items) (section_free construct are.0.0 section), (refl, are.0, are.1)); same = λ are. refl; falls = λ is. is; next = λ are. inr refl }
 section-goes construct names None items are =
     let last = EndWork construct work_kind.Sections (length (sections_of construct)) names in
     let added = combines_added construct names (last ∷ items) (last ∷ items) (none_added (last ∷ items) (refl, (tt, λ is. never is), are.1)) in
     subst (λ (full : List Item). GoesOn full (NextSection construct names ∷ items)) (sym (append_assoc (combines construct names) (last ∷ []) items))
-    (record { order = λ are. in_order (combines construct names ++ last ∷ items) added.behind; same = λ are. added.same; falls = added.falls })
+    (record { order = λ are. in_order (combines construct names ++ last ∷ items) added.behind; same = λ are. added.same; falls = added.falls; next = λ are. inr (none_next (combines construct names ++ last ∷ items) added.behind) })
 
 test-goes : (call : Tree) (id : ℕ) (to : Target) (free : Bool) (items : List Item) → AreInOrder (TestLock call id to ∷ items) → GoesOn (items_of_test call id to free ++ items) (TestLock call id to ∷ items)
 unfolding AreInOrder AreBehind open_items falls_off
-test-goes call id to true items are = record { order = λ more. ((tt, λ is. never is), (refl, (tt, are.0.1), are.1)); same = λ are. refl; falls = λ is. is }
+test-goes call id to true items are = record { order = λ more. ((tt, λ is. never is), (refl, (tt, are.0.1), are.1)); same = λ are. refl; falls = λ is. is; next = λ are. inl refl }
 test-goes call id to false items are =
-    let added = value_added to (pos 0) items are.1 are.0.1 in record { order = λ are. in_order (value_items to (pos 0) ++ items) added.behind; same = λ are. added.same; falls = added.falls }
+    let added = value_added to (pos 0) items are.1 are.0.1 in record { order = λ are. in_order (value_items to (pos 0) ++ items) added.behind; same = λ are. added.same; falls = added.falls; next = λ are. inr (none_next (value_items to (pos 0) ++ items) added.behind) }
 
-answered-goes : (given : Answer) (item : Item) (items : List Item) → AreInOrder (item ∷ items) → GoesOn (items_answered given item ++ items) (item ∷ items)
-answered-goes (answer.Chunk chunk) (NextChunk loop) items are = chunk-goes loop chunk items are
-answered-goes (answer.Section section) (NextSection construct names) items are = section-goes construct names section items are
-answered-goes (answer.Free free) (TestLock call id to) items are = test-goes call id to free items are
-answered-goes given item items are = goes-same (item ∷ items)
+pub answered_goes : (given : Answer) (item : Item) (items : List Item) → AreInOrder (item ∷ items) → GoesOn (items_answered given item ++ items) (item ∷ items)
+answered_goes (answer.Chunk chunk) (NextChunk loop) items are = chunk-goes loop chunk items are
+answered_goes (answer.Section section) (NextSection construct names) items are = section-goes construct names section items are
+answered_goes (answer.Free free) (TestLock call id to) items are = test-goes call id to free items are
+answered_goes given item items are = goes-same (item ∷ items)
 
 answer-same : (given : Answer) (items : List Item) (now : Moment) → AreInOrder items → IsFramed items now.task.calls → IsOrderly now.task → open_items items ≡ open_items now.task.todo
     → IsSame (open_task now.task) (answered_at items given now).task
 answer-same given [] now are framed is same = record { is = is; same = refl }
 answer-same given (item ∷ items) now are framed is same =
-    let goes = answered-goes given item items are in
+    let goes = answered_goes given item items are in
     record {
       is = record { now = goes.order are; framed = λ has. goes.falls (framed has); calls = is.calls };
       same = ap (λ (opened : List Open). opened ++ open_calls now.task.calls) (goes.same are ∙ same);

@@ -1,14 +1,13 @@
 -- The order in which a task's code stands: where it returns nothing is open that it would leave behind, what only stands next stands next, and each
 -- function that was called ends with its return.
-use Rattle.std.specs.Prelude.{◌≡◌, ◌||◌, not, Bool, true, false, IsTrue, List, [], ◌∷◌}
+use Rattle.std.specs.Prelude.{◌≡◌, ◌||◌, Bool, true, false, IsTrue, List, [], ◌∷◌, None}
 use Rattle.c_syntax.specs.Tree.{Tree, children_of}
 use Rattle.c_check.specs.Loops.{child_at}
-use Rattle.c_model.specs.declared.point.SyncStage.{SyncStage}
-use Rattle.c_model.specs.declared.point.SyncStage.TheVariants as stage
 use Rattle.c_model.specs.declared.point.Target.{Target}
 use Rattle.c_model.specs.declared.point.Target.TheVariants as target
 use Rattle.c_model.specs.Task.{Item, OpenCall, Task}
-use Rattle.c_model.specs.Task.Item.{Start, Test, Third, Return, FallOff, Forked, Inside, NextChunk, Iterations, NextSection, Sync, Acquire, TestLock, Tested}
+use Rattle.c_model.specs.Task.Item.{Start, Test, Third, Return, FallOff, Forked, Inside, NextChunk, Iterations, NextSection, TestLock, Tested}
+use Rattle.code_brackets.specs.Links.{link_item}
 use Rattle.code_brackets.specs.Opened.{open_items}
 use Rattle.code_brackets.specs.Returns.{ReturnsOutside, has_return, has_return_among}
 
@@ -45,22 +44,10 @@ IsProper other = Unit {0}
 abbrev pub IsKept : Item → List Item → Type 0
 IsKept item items = IsProper item × (IsTrue (may_return item) → open_items items ≡ [])
 
--- The region's end, a barrier or taskwait that has begun, and a lock that was asked for stand next, or not at all.
-abbrev pub has_begun : SyncStage → Bool
-has_begun stage.RegionBegin = false
-has_begun other = true
-
-abbrev pub stands_next : Item → Bool
-stands_next (Forked construct) = true
-stands_next (Sync tree kind stage) = has_begun stage
-stands_next (Acquire tree kind id) = true
-stands_next (TestLock tree id to) = true
-stands_next other = false
-
 -- what stands behind what stands next, and all of it
 unfoldable pub AreBehind : List Item → Type 0
 AreBehind [] = Unit {0}
-AreBehind (item ∷ items) = IsTrue (not (stands_next item)) × IsKept item items × AreBehind items
+AreBehind (item ∷ items) = (link_item item ≡ None) × IsKept item items × AreBehind items
 
 unfoldable pub AreInOrder : List Item → Type 0
 AreInOrder [] = Unit {0}

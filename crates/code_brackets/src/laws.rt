@@ -1,6 +1,6 @@
 //! What follows from the definitions alone: each law is the contract of a function with an empty body.
 
-ghost use Rattle.std.specs.Prelude.{◌≡◌, Bool, ℕ, ℤ, []};
+ghost use Rattle.std.specs.Prelude.{◌≡◌, ◌⊎◌, Bool, None, ℕ, ℤ, []};
 ghost use Rattle.c_syntax.specs.Numbered.{TreeView};
 ghost use Rattle.c_syntax.specs.Tree.{Tree as Part};
 ghost use Rattle.c_check.specs.Checked.{Checked};
@@ -15,6 +15,7 @@ ghost use Rattle.c_model.specs.Step.{settled_task, silent};
 ghost use Rattle.c_model.specs.Task.{Moment, Task};
 ghost use Rattle.c_model.specs.Task.Outcome.{Ends, Occurs, StepsTo};
 ghost use Rattle.code_brackets.specs.Effects.{ForksNext, LeadsTo, effect_of};
+ghost use Rattle.code_brackets.specs.Links.{link_made, link_next, link_of};
 ghost use Rattle.code_brackets.specs.Opened.{open_task};
 ghost use Rattle.code_brackets.specs.Orderly.{IsOrderly};
 ghost use Rattle.code_brackets.specs.Returns.{HasReturnsOutside};
@@ -62,4 +63,23 @@ pub fn code_has_open_what_events_began()
 /// A task has a forked region open where the region's end stands next, and then it is the newest of what is open, and the only one.
 pub fn forked_regions_end_next()
     ensures { (task : Task) → IsOrderly task → ForksNext task.todo (open_task task) }
+{}
+
+/// The end of a forked region, an event of a barrier or taskwait but its first, and a lock or critical that was asked for stand next only behind the event
+/// that leads to them: an event occurs behind what it has to follow, and the next one behind what it makes. No silent step lies between, and an answer
+/// only where a lock was asked for, of which it may make an end.
+pub fn events_follow_what_led_to_them()
+    ensures main { (program : TreeView) → link_next (main_task program).todo ≡ None }
+    ensures step { (program : TreeView) (view : Seen) (now next : Moment) → HasReturnsOutside program → IsOrderly now.task →
+        silent program view now ≡ StepsTo next → link_next next.task.todo ≡ None }
+    ensures answer { (view : Seen) (given : Given) (now : Moment) → IsOrderly now.task →
+        (link_next (after_answer view given now).task.todo ≡ link_next now.task.todo) ⊎ (link_next (after_answer view given now).task.todo ≡ None) }
+    ensures follows { (program : TreeView) (view : Seen) (point : Event) (now : Moment) (tree : Part) → HasReturnsOutside program →
+        IsOrderly now.task → silent program view now ≡ Occurs point tree → link_next now.task.todo ≡ link_of point }
+    ensures makes { (program : TreeView) (view : Seen) (point : Event) (executes : Bool) (now : Moment) (tree : Part) → HasReturnsOutside program →
+        IsOrderly now.task → silent program view now ≡ Occurs point tree →
+        link_next (after_event view point executes now.task).todo ≡ link_made point }
+    ensures member { (task : Task) → link_next (member_task task).todo ≡ None }
+    ensures explicit { (program : TreeView) (view : Seen) (now : Moment) → link_next (explicit_task program view now).task.todo ≡ None }
+    ensures settled { (view : Seen) (task : Task) → IsOrderly task → link_next (settled_task view task).todo ≡ link_next task.todo }
 {}

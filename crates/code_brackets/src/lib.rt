@@ -4,6 +4,6 @@
 mod laws;
 
 pub use laws::{
-    code_has_open_what_events_began, code_stays_orderly, forked_regions_end_next,
-    returns_stand_outside_constructs,
+    code_has_open_what_events_began, code_stays_orderly, events_follow_what_led_to_them,
+    forked_regions_end_next, returns_stand_outside_constructs,
 };
