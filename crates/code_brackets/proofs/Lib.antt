@@ -10,3 +10,4 @@ pub mod Forking
 pub mod OutsideActs
 pub mod ReturnWalk
 pub mod ReturnPrograms
+mod OpenExamples

@@ -1,5 +1,5 @@
 -- What stands next stands behind the event that leads to it.
-use Rattle.std.specs.Prelude.{ℕ, ◌+◌, ◌≡◌, ◌⊎◌, ◌==◌, ◌&&◌, not, if◌then◌else◌, Bool, true, false, List, [], ◌∷◌, ◌++◌, length, Option, Some, None, pos, refl}
+use Rattle.std.specs.Prelude.{ℕ, ◌≡◌, ◌⊎◌, ◌==◌, ◌&&◌, not, if◌then◌else◌, Bool, true, false, List, [], ◌∷◌, ◌++◌, length, None, refl}
 use Rattle.std.proofs.Common.{ap, append_assoc, sym, ◌∙◌, inl, inr}
 use Rattle.c_syntax.specs.declared.node.Directive.TheVariants as directive
 use Rattle.c_syntax.specs.declared.node.NodeKind.TheVariants as node
@@ -14,13 +14,13 @@ use Rattle.c_model.specs.declared.view.View.{View}
 use Rattle.c_model.specs.Begin.{explicit_task, forked_construct, main_task, member_items, member_task}
 use Rattle.c_model.specs.Clauses.{construct_statement}
 use Rattle.c_model.specs.Copies.{combines, has_own_cells, makes_cells}
-use Rattle.c_model.specs.Going.{after_answer, after_event, answered_at, items_answered, items_of_chunk, items_of_section, items_of_test, passed_at}
+use Rattle.c_model.specs.Going.{after_answer, after_event, answered_at, passed_at}
 use Rattle.c_model.specs.Step.{is_masked, is_passed_over, items_from_next, settled_moment, settled_task, silent, step_at}
-use Rattle.c_model.specs.Task.{Item, Moment, SharedLoop, Task}
+use Rattle.c_model.specs.Task.{Item, Moment, Task}
 use Rattle.c_model.specs.Task.Item.{Start, MakeCells, Sync}
 use Rattle.c_model.specs.Task.Outcome.{StepsTo, Occurs}
-use Rattle.code_brackets.specs.Links.{Link, link_item, link_made, link_next, link_of}
-use Rattle.code_brackets.specs.Orderly.{AreBehind, AreCallsKept, AreInOrder, IsFramed, IsOrderly}
+use Rattle.code_brackets.specs.Links.{link_item, link_made, link_next, link_of}
+use Rattle.code_brackets.specs.Orderly.{AreCallsKept, AreInOrder, IsFramed, IsOrderly}
 use Rattle.code_brackets.specs.Returns.{HasReturnsOutside}
 use Rattle.code_brackets.proofs.OpenLists.{in_order, none_next}
 use Rattle.code_brackets.proofs.Turning.{LeadsOn, StepsOn, Turns}
