@@ -29,7 +29,8 @@ pub start_kept : (tree : Tree) (items : List Item) → IsFree tree → IsKept (S
 start_kept tree items free = (free_proper tree free, λ is. absurd (free is))
 
 -- parts of a block
-part-added : (declares : Bool) (tree : Tree) (full items : List Item) → ReturnsOutside tree → (IsTrue (has_return tree) → open_items items ≡ []) → IsAdded full items
+part-added : (declares : Bool) (tree : Tree) (full items : List Item) → ReturnsOutside tree → (IsTrue (has_return tree) → open_items items ≡ [])
+    → IsAdded full items
     → IsAdded ((if declares then Declare tree else Start tree) ∷ full) items
 unfolding AreBehind open_items falls_off
 part-added true tree full items proper returns added =
@@ -37,7 +38,8 @@ part-added true tree full items proper returns added =
 part-added false tree full items proper returns added =
     record { behind = (refl, (proper, λ is. added.same ∙ returns is), added.behind); same = added.same; falls = added.falls }
 
-declarators-added : (children : Children) (full items : List Item) → ReturnOutsideEach children → (IsTrue (has_return_among children) → open_items items ≡ []) → IsAdded full items
+declarators-added : (children : Children) (full items : List Item) → ReturnOutsideEach children → (IsTrue (has_return_among children) → open_items items ≡ [])
+    → IsAdded full items
     → IsAdded (items_of_parts (trees_in children) ++ full) items
 unfolding trees_in ReturnOutsideEach has_return_among
 declarators-added Over full items proper returns added = added
@@ -55,7 +57,8 @@ flat-added (Node node.Locks spot name number text children) full items proper re
 flat-added (Node kind spot name number text children) full items proper returns added =
     part-added (is_declarator kind) (Node kind spot name number text children) full items proper returns added
 
-pub block_added : (children : Children) (full items : List Item) → ReturnOutsideEach children → (IsTrue (has_return_among children) → open_items items ≡ []) → IsAdded full items
+pub block_added : (children : Children) (full items : List Item) → ReturnOutsideEach children → (IsTrue (has_return_among children) → open_items items ≡ [])
+    → IsAdded full items
     → IsAdded (items_of_parts (flat_declarations (trees_in children)) ++ full) items
 unfolding trees_in flat_declarations ReturnOutsideEach has_return_among
 block_added Over full items proper returns added = added
@@ -68,14 +71,16 @@ block_added (Child tree rest) full items proper returns added =
     (block_added rest full items proper.1 (λ is. returns (right_true (has_return tree) (has_return_among rest) is)) added))
 
 -- the value of a call
-pub value_added : (to : Target) (number : ℤ) (items : List Item) → AreBehind items → (IsTrue (is_return to) → open_items items ≡ []) → IsAdded (value_items to number ++ items) items
+pub value_added : (to : Target) (number : ℤ) (items : List Item) → AreBehind items → (IsTrue (is_return to) → open_items items ≡ [])
+    → IsAdded (value_items to number ++ items) items
 unfolding AreBehind open_items falls_off
 value_added target.Nowhere number items behind returns = none_added items behind
 value_added (target.Cell cell) number items behind returns = none_added items behind
 value_added target.Return number items behind returns = record { behind = (refl, (tt, returns), behind); same = refl; falls = λ is. is }
 
 -- combining
-combining-one : (around : ℕ) (one : Listed) (copying : Copying) (full items : List Item) → IsAdded full items → IsAdded (combining_of around one copying ++ full) items
+combining-one : (around : ℕ) (one : Listed) (copying : Copying) (full items : List Item) → IsAdded full items
+    → IsAdded (combining_of around one copying ++ full) items
 unfolding AreBehind open_items falls_off
 combining-one around one Private full items added = added
 combining-one around one First full items added = added
@@ -93,7 +98,8 @@ pub combines_added : (construct : Tree) (around : ℕ) (full items : List Item) 
 combines_added construct around full items added = combining-all around (listed_variables construct) full items added
 
 -- the cells of a construct's own
-made-added : (has : Bool) (construct : Tree) (full items : List Item) → IsAdded full items → IsAdded ((if has then MakeCells construct ∷ [] else []) ++ full) items
+made-added : (has : Bool) (construct : Tree) (full items : List Item) → IsAdded full items
+    → IsAdded ((if has then MakeCells construct ∷ [] else []) ++ full) items
 unfolding AreBehind open_items falls_off
 made-added true construct full items added = record { behind = (refl, (tt, λ is. never is), added.behind); same = added.same; falls = added.falls }
 made-added false construct full items added = added
@@ -113,5 +119,6 @@ unfolding AreBehind open_items falls_off
 chosen-added true loop at upto items free behind = record { behind = (refl, (free, λ is. never is), behind); same = refl; falls = λ is. is }
 chosen-added false loop at upto items free behind = record { behind = (refl, (free, λ is. never is), behind); same = refl; falls = λ is. is }
 
-pub iterations_added : (loop : SharedLoop) (at upto : ℕ) (items : List Item) → HasNoReturn loop.construct → AreBehind items → IsInLoop loop (iterations_from loop at upto ∷ items) items
+pub iterations_added : (loop : SharedLoop) (at upto : ℕ) (items : List Item) → HasNoReturn loop.construct → AreBehind items
+    → IsInLoop loop (iterations_from loop at upto ∷ items) items
 iterations_added loop at upto items free behind = chosen-added (nat_lt at upto) loop at upto items free behind

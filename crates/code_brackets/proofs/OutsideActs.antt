@@ -46,7 +46,8 @@ unfolding around_all
 around_both around [] more = refl
 around_both around (act ∷ some) more = around_both (around_after around act) some more
 
-pub outside_both : (around : List Directive) (some more : List Act) → Outside around (some ++ more) → Outside around some × Outside (around_all around some) more
+pub outside_both : (around : List Directive) (some more : List Act) → Outside around (some ++ more)
+    → Outside around some × Outside (around_all around some) more
 unfolding around_all Outside
 outside_both around [] more outside = (tt, outside)
 outside_both around (act ∷ some) more outside =
@@ -67,21 +68,25 @@ used-around here spot (Some it) = variable-around (is_variable it.thing) refl
     variable-around true is = rw is refl
     variable-around false is = rw is refl
 
-clause-around : (newest : Option Construct) (constructs : Constructs) (one : Single) → constructs.newest ≡ newest → directives (open_constructs (with_clause constructs one)) ≡ directives (open_constructs constructs)
+clause-around : (newest : Option Construct) (constructs : Constructs) (one : Single) → constructs.newest ≡ newest
+    → directives (open_constructs (with_clause constructs one)) ≡ directives (open_constructs constructs)
 clause-around None constructs one is = rw is refl
 clause-around (Some newest) constructs one is = rw is refl
 
-mention-around : (newest : Option Construct) (constructs : Constructs) (found : Option Declared) (which : DataClause) → constructs.newest ≡ newest → directives (open_constructs (listed constructs found which)) ≡ directives (open_constructs constructs)
+mention-around : (newest : Option Construct) (constructs : Constructs) (found : Option Declared) (which : DataClause) → constructs.newest ≡ newest
+    → directives (open_constructs (listed constructs found which)) ≡ directives (open_constructs constructs)
 mention-around newest constructs None which is = refl
 mention-around None constructs (Some it) which is = rw is refl
 mention-around (Some newest) constructs (Some it) which is = rw is refl
 
-loop-around : (newest : Option Construct) (constructs : Constructs) (found : Option Declared) → constructs.newest ≡ newest → directives (open_constructs (looped constructs found)) ≡ directives (open_constructs constructs)
+loop-around : (newest : Option Construct) (constructs : Constructs) (found : Option Declared) → constructs.newest ≡ newest
+    → directives (open_constructs (looped constructs found)) ≡ directives (open_constructs constructs)
 loop-around newest constructs None is = refl
 loop-around None constructs (Some it) is = rw is refl
 loop-around (Some newest) constructs (Some it) is = rw is refl
 
-ended-around : (opened : List Construct) (constructs : Constructs) → directives (open_constructs (without_innermost opened constructs)) ≡ behind_first (directives opened)
+ended-around : (opened : List Construct) (constructs : Constructs)
+    → directives (open_constructs (without_innermost opened constructs)) ≡ behind_first (directives opened)
 ended-around [] constructs = refl
 ended-around (first ∷ outer) constructs = refl
 
@@ -112,7 +117,8 @@ unfolding after_all
 after-one here [] act = refl
 after-one here (first ∷ before) act = after-one (after here first) before act
 
-outside-from : (program : TreeView) → Checked program → (acts before : List Act) → acts_of program ≡ before ++ acts → Outside (around_here (here_after program before)) acts
+outside-from : (program : TreeView) → Checked program → (acts before : List Act) → acts_of program ≡ before ++ acts
+    → Outside (around_here (here_after program before)) acts
 unfolding Outside
 outside-from program checked [] before are = tt
 outside-from program checked (act ∷ acts) before are = (

@@ -38,9 +38,11 @@ record IsFunctionWalked (some : List Act) (tree : Tree) : Type 0 where
 
 module _ (gives : Returns) (spot : Spot) (other number : ℕ) (text : List ℕ) where
   abbrev Named : Children → Type 0
-  Named children = Outside [] (function gives children) → IsFunctionWalked (function gives children) (Node (node.Function gives) spot other number text children)
+  Named children =
+      Outside [] (function gives children) → IsFunctionWalked (function gives children) (Node (node.Function gives) spot other number text children)
 
-  third-child : (named : Tree) (params : NodeKind) (s1 : Spot) (n1 u1 : ℕ) (t1 : List ℕ) (parameters children : Children) → HasChild is_block IsOver children → AreFormed children → Named (Child named (Child (Node params s1 n1 u1 t1 parameters) children))
+  third-child : (named : Tree) (params : NodeKind) (s1 : Spot) (n1 u1 : ℕ) (t1 : List ℕ) (parameters children : Children) → HasChild is_block IsOver children
+      → AreFormed children → Named (Child named (Child (Node params s1 n1 u1 t1 parameters) children))
   unfolding function AreFormed IsFormed ReturnsOutside Outside around_all
   third-child named params s1 n1 u1 t1 parameters (Child (Node node.Block s2 n2 u2 t2 items) rest) form formed outside =
       let walked = behind_walked [] (names naming.Parameters parameters ++ each role.Plain items) (End ∷ []) (ReturnOutsideEach items) _ refl outside.1
@@ -51,9 +53,11 @@ module _ (gives : Returns) (spot : Spot) (other number : ℕ) (text : List ℕ) 
   third-child named params s1 n1 u1 t1 parameters Over form formed outside = absurd form
   third-child named params s1 n1 u1 t1 parameters (Absent more) form formed outside = absurd form
 
-  second-child : (named : Tree) (children : Children) → HasChild is_params (HasChild is_block IsOver) children → AreFormed children → Named (Child named children)
+  second-child : (named : Tree) (children : Children) → HasChild is_params (HasChild is_block IsOver) children → AreFormed children
+      → Named (Child named children)
   unfolding AreFormed
-  second-child named (Child (Node params s1 n1 u1 t1 parameters) children) form formed outside = third-child named params s1 n1 u1 t1 parameters children form.1 formed.1 outside
+  second-child named (Child (Node params s1 n1 u1 t1 parameters) children) form formed outside =
+      third-child named params s1 n1 u1 t1 parameters children form.1 formed.1 outside
   second-child named Over form formed outside = absurd form
   second-child named (Absent more) form formed outside = absurd form
 
@@ -67,7 +71,8 @@ module _ (gives : Returns) (spot : Spot) (other number : ℕ) (text : List ℕ) 
 behind-part : (some more : List Act) → around_all [] some ≡ [] → Outside [] (some ++ more) → Outside [] more
 behind-part some more back outside = subst (λ (around : List Directive). Outside around more) back (outside_both [] some more outside).1
 
-file-walked : (children : Children) → AreInRow is_file_part children → AreFormed children → Outside [] (each role.Plain children) → All IfFunction (trees_in children)
+file-walked : (children : Children) → AreInRow is_file_part children → AreFormed children → Outside [] (each role.Plain children)
+    → All IfFunction (trees_in children)
 unfolding acts each trees_in AreInRow AreFormed IsFormed
 file-walked Over row formed outside = All-nil IfFunction
 file-walked (Absent rest) row formed outside = All-nil IfFunction
@@ -97,7 +102,8 @@ is-named : (is same : Bool) → (if is then same else false) ≡ true → is ≡
 is-named true same found = refl
 is-named false same found = absurd (cc)
 
-chosen-walked : (name : ℕ) (tree other : Tree) (found : Bool) → is_function_named name tree ≡ found → IfFunction tree → ReturnsOutside (body_of other) → ReturnsOutside (body_of (if found then tree else other))
+chosen-walked : (name : ℕ) (tree other : Tree) (found : Bool) → is_function_named name tree ≡ found → IfFunction tree → ReturnsOutside (body_of other)
+    → ReturnsOutside (body_of (if found then tree else other))
 chosen-walked name tree other false is walked also = also
 chosen-walked name tree other true is walked also = walked (is-named (is_function (kind_of tree)) _ is)
 

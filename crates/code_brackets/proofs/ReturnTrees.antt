@@ -92,7 +92,8 @@ sections-behind true tree trees place free each = each place
 sections-behind false tree trees zero free each = section-statement-free tree free
 sections-behind false tree trees (suc place) free each = each place
 
-sections-among : (children : Children) → (IsTrue (has_return_among children) → ⊥) → (place : ℕ) → IsFree (slice_index_or (map (λ (tree : Tree). section_statement (kind_of tree) tree) (statements_among (trees_in children))) place nothing)
+sections-among : (children : Children) → (IsTrue (has_return_among children) → ⊥) → (place : ℕ)
+    → IsFree (slice_index_or (map (λ (tree : Tree). section_statement (kind_of tree) tree) (statements_among (trees_in children))) place nothing)
 unfolding has_return_among statements_among trees_in
 sections-among Over free place = nothing_free
 sections-among (Absent rest) free place = nothing_free
@@ -130,5 +131,6 @@ body-shared false statement free = nothing_free
 body-shared true statement free = body-of statement free
 
 pub body_free : (construct : Tree) → HasNoReturn construct → IsFree (loop_of construct).body
-body_free (Node (node.Construct which) spot name number text children) free = body-shared (shares_loop which) (statement_of children) (statement-free children free)
+body_free (Node (node.Construct which) spot name number text children) free =
+    body-shared (shares_loop which) (statement_of children) (statement-free children free)
 body_free (Node other spot name number text children) free = nothing_free

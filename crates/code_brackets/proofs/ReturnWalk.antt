@@ -81,7 +81,8 @@ row-over Over is = tt
 row-over (Child tree rest) is = absurd is
 row-over (Absent rest) is = absurd is
 
-row-child : (test : NodeKind → Bool) (next : Children → Type 0) → ((kind : NodeKind) → IsTrue (test kind) → IsTrue (is_code kind)) → ((rest : Children) → next rest → AreInRow is_code rest)
+row-child : (test : NodeKind → Bool) (next : Children → Type 0) → ((kind : NodeKind) → IsTrue (test kind) → IsTrue (is_code kind))
+    → ((rest : Children) → next rest → AreInRow is_code rest)
     → (children : Children) → HasChild test next children → AreInRow is_code children
 unfolding AreInRow
 row-child test next code each Over form = absurd form
@@ -94,7 +95,8 @@ row-last Over form = absurd form
 row-last (Absent rest) form = form
 row-last (Child tree rest) form = (quiet-code (kind_of tree) form.0, row-over rest form.1)
 
-pub row_of : (test : NodeKind → Bool) → ((kind : NodeKind) → IsTrue (test kind) → IsTrue (is_code kind)) → (children : Children) → AreInRow test children → AreInRow is_code children
+pub row_of : (test : NodeKind → Bool) → ((kind : NodeKind) → IsTrue (test kind) → IsTrue (is_code kind)) → (children : Children) → AreInRow test children
+    → AreInRow is_code children
 unfolding AreInRow
 row_of test code Over row = tt
 row_of test code (Absent rest) row = row
@@ -128,7 +130,8 @@ module _ (around : List Directive) where
   outside-behind : (some more : List Act) → around_all around some ≡ around → Outside around (some ++ more) → Outside around more
   outside-behind some more back outside = subst (λ (around : List Directive). Outside around more) back (outside_both around some more outside).1
 
-  pub then_walked : (some more : List Act) (first second : Type 0) (one other : Bool) → Outside around (some ++ more) → (Outside around some → Walked around some first one) → (Outside around more → Walked around more second other)
+  pub then_walked : (some more : List Act) (first second : Type 0) (one other : Bool) → Outside around (some ++ more)
+      → (Outside around some → Walked around some first one) → (Outside around more → Walked around more second other)
       → Walked around (some ++ more) (first × second) (one || other)
   then_walked some more first second one other outside walks then_walks =
       let before = walks (outside_both around some more outside).0 in
@@ -136,11 +139,13 @@ module _ (around : List Directive) where
       record { back = both-back some more before.back behind.back; proper = (before.proper, behind.proper); outside = λ is. either one other is before.outside behind.outside }
 
   -- before or behind acts that leave what is around
-  pub before_walked : (some more : List Act) (So : Type 0) (returns : Bool) → around_all around some ≡ around → Outside around (some ++ more) → (Outside around more → Walked around more So returns) → Walked around (some ++ more) So returns
+  pub before_walked : (some more : List Act) (So : Type 0) (returns : Bool) → around_all around some ≡ around → Outside around (some ++ more)
+      → (Outside around more → Walked around more So returns) → Walked around (some ++ more) So returns
   before_walked some more So returns back outside walks =
       let behind = walks (outside-behind some more back outside) in record { back = both-back some more back behind.back; proper = behind.proper; outside = behind.outside }
 
-  pub behind_walked : (some more : List Act) (So : Type 0) (returns : Bool) → around_all around more ≡ around → Outside around (some ++ more) → (Outside around some → Walked around some So returns) → Walked around (some ++ more) So returns
+  pub behind_walked : (some more : List Act) (So : Type 0) (returns : Bool) → around_all around more ≡ around → Outside around (some ++ more)
+      → (Outside around some → Walked around some So returns) → Walked around (some ++ more) So returns
   behind_walked some more So returns back outside walks =
       let before = walks (outside_both around some more outside).0 in record { back = both-back some more before.back back; proper = before.proper; outside = before.outside }
 
@@ -198,7 +203,8 @@ module _ (around : List Directive) where
   unfolding around_all inside_acts
   inside-back Over = refl
   inside-back (Absent rest) = refl
-  inside-back (Child (Node (node.Clause lead) spot name number text children) rest) = both-back (first_inside children) (inside_acts rest) (first-back children) (inside-back rest)
+  inside-back (Child (Node (node.Clause lead) spot name number text children) rest) =
+      both-back (first_inside children) (inside_acts rest) (first-back children) (inside-back rest)
   inside-back (Child (Node other spot name number text children) rest) = inside-back rest
 
 head-free : (tree : Tree) → is_head (kind_of tree) ≡ true → has_return tree ≡ false
@@ -220,10 +226,12 @@ none-around : (which : Directive) (around : List Directive) → which ∷ around
 none-around which around is = cc
 
 -- a head has no return and does nothing, and what else a construct has is walked
-head-walked : (around : List Directive) (head : Bool) (tree : Tree) (some : List Act) → is_head (kind_of tree) ≡ head → (head ≡ false → Outside around some → Walked around some (Unit {0}) (has_return tree)) → Outside around (if head then [] else some)
+head-walked : (around : List Directive) (head : Bool) (tree : Tree) (some : List Act) → is_head (kind_of tree) ≡ head
+    → (head ≡ false → Outside around some → Walked around some (Unit {0}) (has_return tree)) → Outside around (if head then [] else some)
     → Walked around (if head then [] else some) (Unit {0}) (has_return tree)
 unfolding around_all
-head-walked around true tree some is each outside = record { back = refl; proper = tt; outside = λ returns. never (subst (λ (returns : Bool). IsTrue returns) (head-free tree is) returns) }
+head-walked around true tree some is each outside =
+    record { back = refl; proper = tt; outside = λ returns. never (subst (λ (returns : Bool). IsTrue returns) (head-free tree is) returns) }
 head-walked around false tree some is each outside = each refl outside
 
 -- a construct
@@ -260,10 +268,12 @@ construct-walked around which spot children clauses inner outside =
 mutual
   unfolding acts each target first_part second_part third_part init statements outside_acts clause_outside IsFormed AreFormed AreInRow ReturnsOutside ReturnOutsideEach has_return has_return_among Outside around_all
 
-  pub tree_walked : (tree : Tree) → IsTrue (is_code (kind_of tree)) → IsFormed tree → (manner : Role) (around : List Directive) → Outside around (acts manner tree) → Walked around (acts manner tree) (ReturnsOutside tree) (has_return tree)
+  pub tree_walked : (tree : Tree) → IsTrue (is_code (kind_of tree)) → IsFormed tree → (manner : Role) (around : List Directive)
+      → Outside around (acts manner tree) → Walked around (acts manner tree) (ReturnsOutside tree) (has_return tree)
   tree_walked (Node node.Program spot name number text children) is formed manner around outside = never is
   tree_walked (Node (node.Function returns) spot name number text children) is formed manner around outside = never is
-  tree_walked (Node node.Globals spot name number text children) is formed manner around outside = each_walked children (row_of is_global global-code children formed.0) formed.1 role.Plain around outside
+  tree_walked (Node node.Globals spot name number text children) is formed manner around outside =
+      each_walked children (row_of is_global global-code children formed.0) formed.1 role.Plain around outside
   tree_walked (Node node.Locks spot name number text children) is formed manner around outside =
       record {
         back = names_back around naming.Locks children;
@@ -274,11 +284,14 @@ mutual
       before_walked around (Open ∷ []) (each role.Plain children ++ Close ∷ []) (ReturnOutsideEach children) (has_return_among children) refl outside
       (λ outside. behind_walked around (each role.Plain children) (Close ∷ []) (ReturnOutsideEach children) (has_return_among children) refl outside
       (λ outside. each_walked children (row_of is_part part_code children formed.0) formed.1 role.Plain around outside))
-  tree_walked (Node node.Locals spot name number text children) is formed manner around outside = each_walked children (row_of is_local local-code children formed.0) formed.1 role.Plain around outside
+  tree_walked (Node node.Locals spot name number text children) is formed manner around outside =
+      each_walked children (row_of is_local local-code children formed.0) formed.1 role.Plain around outside
   tree_walked (Node node.LocalSet spot name number text children) is formed manner around outside =
       behind_walked around (each role.Used children) (Declare name spot thing.Int ∷ []) (Unit {0}) false refl outside (λ outside. only-back around _ _ _ (each_walked children (one-row children formed.0) formed.1 role.Used around outside))
-  tree_walked (Node node.If spot name number text children) is formed manner around outside = each_walked children (if-row children formed.0) formed.1 role.Plain around outside
-  tree_walked (Node node.While spot name number text children) is formed manner around outside = each_walked children (two-row children formed.0) formed.1 role.Plain around outside
+  tree_walked (Node node.If spot name number text children) is formed manner around outside =
+      each_walked children (if-row children formed.0) formed.1 role.Plain around outside
+  tree_walked (Node node.While spot name number text children) is formed manner around outside =
+      each_walked children (two-row children formed.0) formed.1 role.Plain around outside
   tree_walked (Node node.For spot name number text children) is formed manner around outside =
       before_walked around (Open ∷ []) (first_part (looped manner) children ++ Close ∷ []) (ReturnOutsideEach children) (has_return_among children) refl outside
       (λ outside. behind_walked around (first_part (looped manner) children) (Close ∷ []) (ReturnOutsideEach children) (has_return_among children) refl outside
@@ -293,12 +306,15 @@ mutual
       record { back = walked.back; proper = tt; outside = λ is. walked.outside (right_true (has_return_among children) true refl) }
   tree_walked (Node node.SetCall spot name number text children) is formed manner around outside =
       only-back around _ _ _ (target-walked children (row-child is_place (HasChild is_quiet IsOver) place-code one-row children formed.0) formed.1 role.Used around outside)
-  tree_walked (Node node.Step spot name number text children) is formed manner around outside = only-back around _ _ _ (each_walked children (one-row children formed.0) formed.1 role.Plain around outside)
-  tree_walked (Node node.Called spot name number text children) is formed manner around outside = only-back around _ _ _ (each_walked children (one-row children formed.0) formed.1 role.Plain around outside)
+  tree_walked (Node node.Step spot name number text children) is formed manner around outside =
+      only-back around _ _ _ (each_walked children (one-row children formed.0) formed.1 role.Plain around outside)
+  tree_walked (Node node.Called spot name number text children) is formed manner around outside =
+      only-back around _ _ _ (each_walked children (one-row children formed.0) formed.1 role.Plain around outside)
   tree_walked (Node node.Print spot name number text children) is formed manner around outside =
       behind_walked around (each role.Plain children) (Print spot (as_many (numbers_in text) (child_count children)) ∷ []) (Unit {0}) false refl outside
       (λ outside. only-back around _ _ _ (each_walked children (row_of is_quiet quiet-code children formed.0) formed.1 role.Plain around outside))
-  tree_walked (Node (node.LockCall which) spot name number text children) is formed manner around outside = leaving around _ (names_back around naming.Locked children)
+  tree_walked (Node (node.LockCall which) spot name number text children) is formed manner around outside =
+      leaving around _ (names_back around naming.Locked children)
   tree_walked (Node (node.Assign setting) spot name number text children) is formed manner around outside =
       only-back around _ _ _ (target-walked children (row-child is_place (HasChild is_quiet IsOver) place-code one-row children formed.0) formed.1 role.Plain around outside)
   tree_walked (Node (node.Bump which side) spot name number text children) is formed manner around outside =
@@ -310,18 +326,23 @@ mutual
       before_walked around (Use name spot (usage.Called (child_count children) (call_value manner)) ∷ []) (each role.Plain children) (Unit {0}) false refl outside
       (λ outside. only-back around _ _ _ (each_walked children (row_of is_quiet quiet-code children formed.0) formed.1 role.Plain around outside))
   tree_walked (Node node.TestLock spot name number text children) is formed manner around outside = leaving around _ (names_back around naming.Locked children)
-  tree_walked (Node (node.Binary operator) spot name number text children) is formed manner around outside = only-back around _ _ _ (each_walked children (two-row children formed.0) formed.1 role.Plain around outside)
-  tree_walked (Node (node.Unary operator) spot name number text children) is formed manner around outside = only-back around _ _ _ (each_walked children (one-row children formed.0) formed.1 role.Plain around outside)
-  tree_walked (Node node.Paren spot name number text children) is formed manner around outside = only-back around _ _ _ (each_walked children (one-row children formed.0) formed.1 role.Plain around outside)
+  tree_walked (Node (node.Binary operator) spot name number text children) is formed manner around outside =
+      only-back around _ _ _ (each_walked children (two-row children formed.0) formed.1 role.Plain around outside)
+  tree_walked (Node (node.Unary operator) spot name number text children) is formed manner around outside =
+      only-back around _ _ _ (each_walked children (one-row children formed.0) formed.1 role.Plain around outside)
+  tree_walked (Node node.Paren spot name number text children) is formed manner around outside =
+      only-back around _ _ _ (each_walked children (one-row children formed.0) formed.1 role.Plain around outside)
   tree_walked (Node (node.Standalone standalone.Barrier) spot name number text children) is formed manner around outside = leaving around _ refl
   tree_walked (Node (node.Standalone standalone.Taskwait) spot name number text children) is formed manner around outside = leaving around _ refl
   tree_walked (Node (node.Construct which) spot name number text children) is formed manner around outside =
       construct-walked around which spot children (λ outside. outside-walked children formed.1 around outside)
       (λ outside. statements-walked children formed.0 formed.1 (statement_role which children) (which ∷ around) outside) outside
-  tree_walked (Node node.Section spot name number text children) is formed manner around outside = each_walked children (one-row children formed.0) formed.1 role.Plain around outside
+  tree_walked (Node node.Section spot name number text children) is formed manner around outside =
+      each_walked children (one-row children formed.0) formed.1 role.Plain around outside
   tree_walked (Node other spot name number text children) is formed manner around outside = leaving around _ refl
 
-  pub each_walked : (children : Children) → AreInRow is_code children → AreFormed children → (manner : Role) (around : List Directive) → Outside around (each manner children) → Walked around (each manner children) (ReturnOutsideEach children) (has_return_among children)
+  pub each_walked : (children : Children) → AreInRow is_code children → AreFormed children → (manner : Role) (around : List Directive)
+      → Outside around (each manner children) → Walked around (each manner children) (ReturnOutsideEach children) (has_return_among children)
   each_walked Over row formed manner around outside = record { back = refl; proper = tt; outside = λ is. never is }
   each_walked (Absent Over) row formed manner around outside = record { back = refl; proper = tt; outside = λ is. never is }
   each_walked (Absent (Child tree rest)) row formed manner around outside = absurd row
@@ -330,7 +351,8 @@ mutual
       then_walked around (acts manner tree) (each manner rest) (ReturnsOutside tree) (ReturnOutsideEach rest) (has_return tree) (has_return_among rest) outside
       (λ outside. tree_walked tree row.0 formed.0 manner around outside) (λ outside. each_walked rest row.1 formed.1 manner around outside)
 
-  target-walked : (children : Children) → AreInRow is_code children → AreFormed children → (manner : Role) (around : List Directive) → Outside around (target manner children) → Walked around (target manner children) (ReturnOutsideEach children) (has_return_among children)
+  target-walked : (children : Children) → AreInRow is_code children → AreFormed children → (manner : Role) (around : List Directive)
+      → Outside around (target manner children) → Walked around (target manner children) (ReturnOutsideEach children) (has_return_among children)
   target-walked Over row formed manner around outside = record { back = refl; proper = tt; outside = λ is. never is }
   target-walked (Absent Over) row formed manner around outside = record { back = refl; proper = tt; outside = λ is. never is }
   target-walked (Absent (Child tree rest)) row formed manner around outside = absurd row
@@ -340,23 +362,28 @@ mutual
       (λ outside. tree_walked tree row.0 formed.0 role.Target around outside) (λ outside. each_walked rest row.1 formed.1 manner around outside)
 
   -- the parts of a plain `for`
-  first-walked : (children : Children) → HasPart is_first_part (HasPart is_quiet (HasPart is_quiet (HasChild is_quiet IsOver))) children → AreFormed children → (mark : List Act) (around : List Directive) → around_all around mark ≡ around
+  first-walked : (children : Children) → HasPart is_first_part (HasPart is_quiet (HasPart is_quiet (HasChild is_quiet IsOver))) children → AreFormed children
+      → (mark : List Act) (around : List Directive) → around_all around mark ≡ around
       → Outside around (first_part mark children) → Walked around (first_part mark children) (ReturnOutsideEach children) (has_return_among children)
   first-walked Over form formed mark around back outside = absurd form
-  first-walked (Absent rest) form formed mark around back outside = let walked = second-walked rest form formed mark around back outside in record { back = walked.back; proper = walked.proper; outside = walked.outside }
+  first-walked (Absent rest) form formed mark around back outside =
+      let walked = second-walked rest form formed mark around back outside in record { back = walked.back; proper = walked.proper; outside = walked.outside }
   first-walked (Child tree rest) form formed mark around back outside =
       then_walked around (acts role.Plain tree) (second_part mark rest) (ReturnsOutside tree) (ReturnOutsideEach rest) (has_return tree) (has_return_among rest) outside
       (λ outside. tree_walked tree (first-code (kind_of tree) form.0) formed.0 role.Plain around outside) (λ outside. second-walked rest form.1 formed.1 mark around back outside)
 
-  second-walked : (children : Children) → HasPart is_quiet (HasPart is_quiet (HasChild is_quiet IsOver)) children → AreFormed children → (mark : List Act) (around : List Directive) → around_all around mark ≡ around
+  second-walked : (children : Children) → HasPart is_quiet (HasPart is_quiet (HasChild is_quiet IsOver)) children → AreFormed children
+      → (mark : List Act) (around : List Directive) → around_all around mark ≡ around
       → Outside around (second_part mark children) → Walked around (second_part mark children) (ReturnOutsideEach children) (has_return_among children)
   second-walked Over form formed mark around back outside = absurd form
-  second-walked (Absent rest) form formed mark around back outside = let walked = third-walked rest form formed mark around back outside in record { back = walked.back; proper = walked.proper; outside = walked.outside }
+  second-walked (Absent rest) form formed mark around back outside =
+      let walked = third-walked rest form formed mark around back outside in record { back = walked.back; proper = walked.proper; outside = walked.outside }
   second-walked (Child tree rest) form formed mark around back outside =
       then_walked around (acts role.Plain tree) (third_part mark rest) (ReturnsOutside tree) (ReturnOutsideEach rest) (has_return tree) (has_return_among rest) outside
       (λ outside. tree_walked tree (quiet-code (kind_of tree) form.0) formed.0 role.Plain around outside) (λ outside. third-walked rest form.1 formed.1 mark around back outside)
 
-  third-walked : (children : Children) → HasPart is_quiet (HasChild is_quiet IsOver) children → AreFormed children → (mark : List Act) (around : List Directive) → around_all around mark ≡ around
+  third-walked : (children : Children) → HasPart is_quiet (HasChild is_quiet IsOver) children → AreFormed children
+      → (mark : List Act) (around : List Directive) → around_all around mark ≡ around
       → Outside around (third_part mark children) → Walked around (third_part mark children) (ReturnOutsideEach children) (has_return_among children)
   third-walked Over form formed mark around back outside = absurd form
   third-walked (Absent rest) form formed mark around back outside =
@@ -367,7 +394,8 @@ mutual
       (λ outside. before_walked around mark (each role.Plain rest) (ReturnOutsideEach rest) (has_return_among rest) back outside (λ outside. each_walked rest (one-row rest form.1) formed.1 role.Plain around outside))
 
   -- what a construct has behind its clauses
-  statements-walked : (children : Children) → AreInRow is_construct_part children → AreFormed children → (manner : Role) (around : List Directive) → Outside around (statements manner children) → Walked around (statements manner children) (Unit {0}) (has_return_among children)
+  statements-walked : (children : Children) → AreInRow is_construct_part children → AreFormed children → (manner : Role) (around : List Directive)
+      → Outside around (statements manner children) → Walked around (statements manner children) (Unit {0}) (has_return_among children)
   statements-walked Over row formed manner around outside = leaving around [] refl
   statements-walked (Absent Over) row formed manner around outside = leaving around [] refl
   statements-walked (Absent (Child tree rest)) row formed manner around outside = absurd row
@@ -381,7 +409,8 @@ mutual
       record { back = walked.back; proper = tt; outside = walked.outside }
 
   -- what its clauses compute and list
-  outside-walked : (children : Children) → AreFormed children → (around : List Directive) → Outside around (outside_acts children) → Walked around (outside_acts children) (Unit {0}) false
+  outside-walked : (children : Children) → AreFormed children → (around : List Directive) → Outside around (outside_acts children)
+      → Walked around (outside_acts children) (Unit {0}) false
   outside-walked Over formed around outside = leaving around [] refl
   outside-walked (Absent rest) formed around outside = leaving around [] refl
   outside-walked (Child (Node (node.Clause lead) spot name number text children) rest) formed around outside =
@@ -389,13 +418,16 @@ mutual
       (λ outside. clause-walked children formed.0.1 around outside) (λ outside. outside-walked rest formed.1 around outside))
   outside-walked (Child (Node other spot name number text children) rest) formed around outside = outside-walked rest formed.1 around outside
 
-  clause-walked : (children : Children) → AreFormed children → (around : List Directive) → Outside around (clause_outside children) → Walked around (clause_outside children) (Unit {0}) false
+  clause-walked : (children : Children) → AreFormed children → (around : List Directive) → Outside around (clause_outside children)
+      → Walked around (clause_outside children) (Unit {0}) false
   clause-walked Over formed around outside = leaving around [] refl
   clause-walked (Absent rest) formed around outside = leaving around [] refl
   clause-walked (Child (Node node.NumThreads spot name number text children) rest) formed around outside =
       only-back around _ _ _ (each_walked children (one-row children formed.0.0) formed.0.1 role.Plain around outside)
   clause-walked (Child (Node node.IfClause spot name number text children) rest) formed around outside =
       only-back around _ _ _ (each_walked children (one-row children formed.0.0) formed.0.1 role.Plain around outside)
-  clause-walked (Child (Node (node.Data which) spot name number text children) rest) formed around outside = leaving around _ (names_back around (naming.Mentioned (data_of which)) children)
-  clause-walked (Child (Node (node.Reduction operator) spot name number text children) rest) formed around outside = leaving around _ (names_back around (naming.Mentioned clause.Reduced) children)
+  clause-walked (Child (Node (node.Data which) spot name number text children) rest) formed around outside =
+      leaving around _ (names_back around (naming.Mentioned (data_of which)) children)
+  clause-walked (Child (Node (node.Reduction operator) spot name number text children) rest) formed around outside =
+      leaving around _ (names_back around (naming.Mentioned clause.Reduced) children)
   clause-walked (Child (Node other spot name number text children) rest) formed around outside = leaving around [] refl

@@ -42,7 +42,8 @@ CreatesFree point items = Unit {0}
 -- an event of the item
 pub record LeadsOn (here : Here) (item : Item) (point : Point) : Type 0 where
   pub apart : is_fall_off item ≡ false
-  pub effect : (executes : Bool) → LeadsTo (effect_of point executes) (open_items (item ∷ here.task.todo)) (open_items (items_after point executes (length here.task.env) item ++ here.task.todo))
+  pub effect : (executes : Bool)
+      → LeadsTo (effect_of point executes) (open_items (item ∷ here.task.todo)) (open_items (items_after point executes (length here.task.env) item ++ here.task.todo))
   pub order : (executes : Bool) → AreInOrder (items_after point executes (length here.task.env) item ++ here.task.todo)
   pub follows : link_item item ≡ link_of point
   pub makes : (executes : Bool) → link_next (items_after point executes (length here.task.env) item ++ here.task.todo) ≡ link_made point
@@ -55,7 +56,8 @@ Turns here item (Ends number) = ⊥
 Turns here item other = Unit {0}
 
 -- outcomes
-pub turns_choice : (here : Here) (item : Item) (choice : Bool) (one other : Outcome) → Turns here item one → Turns here item other → Turns here item (if choice then one else other)
+pub turns_choice : (here : Here) (item : Item) (choice : Bool) (one other : Outcome) → Turns here item one → Turns here item other
+    → Turns here item (if choice then one else other)
 turns_choice here item true one other first second = first
 turns_choice here item false one other first second = second
 
@@ -67,14 +69,17 @@ pub turns_step : (here : Here) (item : Item) (next : Moment) → StepsOn here it
 unfolding Turns
 turns_step here item next is = is
 
-pub turns_unless : (here : Here) (item : Item) (choice : Bool) (limit : ℕ) (next : Moment) → StepsOn here item next → Turns here item (if choice then Limits limit else StepsTo next)
-turns_unless here item choice limit next is = turns_choice here item choice (Limits limit) (StepsTo next) (turns_limit here item limit) (turns_step here item next is)
+pub turns_unless : (here : Here) (item : Item) (choice : Bool) (limit : ℕ) (next : Moment) → StepsOn here item next
+    → Turns here item (if choice then Limits limit else StepsTo next)
+turns_unless here item choice limit next is =
+    turns_choice here item choice (Limits limit) (StepsTo next) (turns_limit here item limit) (turns_step here item next is)
 
 pub turns_event : (here : Here) (item : Item) (point : Point) (tree : Tree) → LeadsOn here item point → Turns here item (Occurs point tree)
 unfolding Turns
 turns_event here item point tree is = is
 
-pub turns_result : {A : Type 0} (here : Here) (item : Item) (result : Result A ℕ) (next : A → Outcome) → ((a : A) → Turns here item (next a)) → Turns here item (with_result result next)
+pub turns_result : {A : Type 0} (here : Here) (item : Item) (result : Result A ℕ) (next : A → Outcome) → ((a : A) → Turns here item (next a))
+    → Turns here item (with_result result next)
 unfolding Turns
 turns_result here item (Ok a) next each = each a
 turns_result here item (Err trap) next each = tt
@@ -104,7 +109,8 @@ module _ (here : Here) (item : Item) (room : IsRoom here item) (plain : open_ite
   pub turns_with : (names : ℕ) (items : List Item) → IsAdded (items ++ here.task.todo) here.task.todo → Turns here item (goes_on_with here names items)
   turns_with names items added = turns_step here item _ (moves (items ++ here.task.todo) (take names here.task.env) here.store added)
 
-  pub turns_sets : (cell : ℕ) (number : ℤ) (items : List Item) → IsAdded (items ++ here.task.todo) here.task.todo → Turns here item (sets here cell number items)
+  pub turns_sets : (cell : ℕ) (number : ℤ) (items : List Item) → IsAdded (items ++ here.task.todo) here.task.todo
+      → Turns here item (sets here cell number items)
   turns_sets cell number items added = turns_step here item _ (moves (items ++ here.task.todo) here.task.env _ added)
 
   pub turns_binds : (bound : Bound) (items : List Item) → IsAdded (items ++ here.task.todo) here.task.todo → Turns here item (binds here bound items)

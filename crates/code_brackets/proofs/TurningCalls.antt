@@ -25,7 +25,8 @@ use Rattle.code_brackets.proofs.Turning.{IsRoom, StepsOn, Turns, framed_behind, 
 
 module _ (here : Here) (item : Item) (room : IsRoom here item) (plain : open_item item ≡ []) where
   -- nothing is open in the function that ends
-  pub turns_returns : (opened : List OpenCall) (number : ℤ) → here.task.calls ≡ opened → open_items here.task.todo ≡ [] → AreCallsKept opened → Turns here item (returns_to opened here number)
+  pub turns_returns : (opened : List OpenCall) (number : ℤ) → here.task.calls ≡ opened → open_items here.task.todo ≡ [] → AreCallsKept opened
+      → Turns here item (returns_to opened here number)
   unfolding AreInOrder AreBehind AreCallsKept open_items open_calls
   turns_returns [] number are quiet kept =
       turns_step here item _ (record {
@@ -43,7 +44,8 @@ module _ (here : Here) (item : Item) (room : IsRoom here item) (plain : open_ite
       })
 
   module _ (apart : is_fall_off item ≡ false) (linkless : link_item item ≡ None) where
-    turns-enters : (function : Tree) (env : List Entry) (to : Target) (bound : Bound) → ReturnsOutside (body_of function) → (IsTrue (is_return to) → open_items here.task.todo ≡ [])
+    turns-enters : (function : Tree) (env : List Entry) (to : Target) (bound : Bound) → ReturnsOutside (body_of function)
+        → (IsTrue (is_return to) → open_items here.task.todo ≡ [])
         → Turns here item (enters here function (open_call here env to) bound)
     unfolding AreInOrder AreBehind AreCallsKept open_items open_calls falls_off
     turns-enters function env to bound proper returns =
@@ -62,13 +64,15 @@ module _ (here : Here) (item : Item) (room : IsRoom here item) (plain : open_ite
         } in
         search (turns_choice, turns_limit, turns_step, on)
 
-    turns-call : (call : Tree) (env : List Entry) (to : Target) → (IsTrue (is_return to) → open_items here.task.todo ≡ []) → Turns here item (begin_call here call env to)
+    turns-call : (call : Tree) (env : List Entry) (to : Target) → (IsTrue (is_return to) → open_items here.task.todo ≡ [])
+        → Turns here item (begin_call here call env to)
     turns-call call env to returns =
         turns_result here item (all_values (scope_of here) (parts call)) _ (λ numbers.
         turns-enters (function_named here.program (name_of call)) env to (bound_in here (function_named here.program (name_of call)) numbers) (room.program (name_of call)) returns)
 
     -- an `omp_test_lock` is an event, behind which its test stands next
-    pub turns_right : (kind : NodeKind) (call : Tree) (env : List Entry) (to : Target) → (IsTrue (is_return to) → open_items here.task.todo ≡ []) → Turns here item (begin_right kind here call env to)
+    pub turns_right : (kind : NodeKind) (call : Tree) (env : List Entry) (to : Target) → (IsTrue (is_return to) → open_items here.task.todo ≡ [])
+        → Turns here item (begin_right kind here call env to)
     unfolding AreInOrder open_items
     turns_right node.TestLock call env to returns =
         turns_event here item _ call (record {

@@ -27,24 +27,28 @@ use Rattle.code_brackets.proofs.Turning.{LeadsOn, StepsOn, Turns}
 use Rattle.code_brackets.proofs.TurningTasks.{answered_goes, here_at, settled_is_orderly, turned}
 
 -- what a task goes past stands behind no event, and neither does what is next then
-settled-start : (passed : Bool) (tree : Tree) (items settled : List Item) → link_next settled ≡ None → link_next (if passed then settled else Start tree ∷ items) ≡ None
+settled-start : (passed : Bool) (tree : Tree) (items settled : List Item) → link_next settled ≡ None
+    → link_next (if passed then settled else Start tree ∷ items) ≡ None
 settled-start true tree items settled none = none
 settled-start false tree items settled none = refl
 
-settled-by : (view : View) (item : Item) (items settled : List Item) → link_next settled ≡ None → link_next (if is_passed_over item view then settled else item ∷ items) ≡ link_item item
+settled-by : (view : View) (item : Item) (items settled : List Item) → link_next settled ≡ None
+    → link_next (if is_passed_over item view then settled else item ∷ items) ≡ link_item item
 settled-by view (Start tree) items settled none = settled-start (is_masked (kind_of tree) && not (view.index == 0)) tree items settled none
 settled-by view other items settled none = refl
 
 settled-next : (view : View) (items : List Item) → AreInOrder items → link_next (items_from_next view items) ≡ link_next items
 unfolding items_from_next AreInOrder
 settled-next view [] are = refl
-settled-next view (item ∷ items) are = settled-by view item items (items_from_next view items) (settled-next view items (in_order items are.1) ∙ none_next items are.1)
+settled-next view (item ∷ items) are =
+    settled-by view item items (items_from_next view items) (settled-next view items (in_order items are.1) ∙ none_next items are.1)
 
 pub settled_next : (view : View) (task : Task) → IsOrderly task → link_next (settled_task view task).todo ≡ link_next task.todo
 settled_next view task is = settled-next view task.todo is.now
 
 -- steps and events
-step-next : (program : TreeView) (view : View) (now next : Moment) (items : List Item) → HasReturnsOutside program → AreInOrder items → IsFramed items now.task.calls → AreCallsKept now.task.calls → step_at items program view now ≡ StepsTo next
+step-next : (program : TreeView) (view : View) (now next : Moment) (items : List Item) → HasReturnsOutside program → AreInOrder items
+    → IsFramed items now.task.calls → AreCallsKept now.task.calls → step_at items program view now ≡ StepsTo next
     → link_next next.task.todo ≡ None
 unfolding Turns
 step-next program view now next [] outside are framed calls comes = absurd (cc)
@@ -52,7 +56,8 @@ step-next program view now next (item ∷ items) outside are framed calls comes 
     let on : StepsOn (here_at program view now items) item next = turned program view now item items (StepsTo next) outside are framed calls comes in
     none_next next.task.todo on.behind
 
-pub step_next : (program : TreeView) (view : View) (now next : Moment) → HasReturnsOutside program → IsOrderly now.task → silent program view now ≡ StepsTo next → link_next next.task.todo ≡ None
+pub step_next : (program : TreeView) (view : View) (now next : Moment) → HasReturnsOutside program → IsOrderly now.task
+    → silent program view now ≡ StepsTo next → link_next next.task.todo ≡ None
 unfolding silent
 step_next program view now next outside is comes =
     let settled : IsOrderly (settled_task view now.task) = settled_is_orderly view now.task is in
@@ -62,7 +67,8 @@ record IsLinked (items after : List Item) (point : Point) : Type 0 where
   follows : link_next items ≡ link_of point
   makes : link_next after ≡ link_made point
 
-event-next : (program : TreeView) (view : View) (point : Point) (executes : Bool) (now : Moment) (tree : Tree) (items : List Item) → HasReturnsOutside program → AreInOrder items → IsFramed items now.task.calls → AreCallsKept now.task.calls
+event-next : (program : TreeView) (view : View) (point : Point) (executes : Bool) (now : Moment) (tree : Tree) (items : List Item) → HasReturnsOutside program
+    → AreInOrder items → IsFramed items now.task.calls → AreCallsKept now.task.calls
     → step_at items program view now ≡ Occurs point tree → IsLinked items (passed_at items point executes (settled_task view now.task)).todo point
 unfolding Turns
 event-next program view point executes now tree [] outside are framed calls comes = absurd (cc)
@@ -70,17 +76,21 @@ event-next program view point executes now tree (item ∷ items) outside are fra
     let leads : LeadsOn (here_at program view now items) item point = turned program view now item items (Occurs point tree) outside are framed calls comes in
     record { follows = leads.follows; makes = leads.makes executes }
 
-event-of : (program : TreeView) (view : View) (point : Point) (executes : Bool) (now : Moment) (tree : Tree) → HasReturnsOutside program → IsOrderly now.task → silent program view now ≡ Occurs point tree
+event-of : (program : TreeView) (view : View) (point : Point) (executes : Bool) (now : Moment) (tree : Tree) → HasReturnsOutside program → IsOrderly now.task
+    → silent program view now ≡ Occurs point tree
     → IsLinked (settled_task view now.task).todo (after_event view point executes now.task).todo point
 unfolding silent
 event-of program view point executes now tree outside is comes =
     let settled : IsOrderly (settled_task view now.task) = settled_is_orderly view now.task is in
     event-next program view point executes now tree (settled_task view now.task).todo outside settled.now settled.framed settled.calls comes
 
-pub event_follows : (program : TreeView) (view : View) (point : Point) (now : Moment) (tree : Tree) → HasReturnsOutside program → IsOrderly now.task → silent program view now ≡ Occurs point tree → link_next now.task.todo ≡ link_of point
-event_follows program view point now tree outside is comes = sym (settled_next view now.task is) ∙ (event-of program view point false now tree outside is comes).follows
+pub event_follows : (program : TreeView) (view : View) (point : Point) (now : Moment) (tree : Tree) → HasReturnsOutside program → IsOrderly now.task
+    → silent program view now ≡ Occurs point tree → link_next now.task.todo ≡ link_of point
+event_follows program view point now tree outside is comes =
+    sym (settled_next view now.task is) ∙ (event-of program view point false now tree outside is comes).follows
 
-pub event_makes : (program : TreeView) (view : View) (point : Point) (executes : Bool) (now : Moment) (tree : Tree) → HasReturnsOutside program → IsOrderly now.task → silent program view now ≡ Occurs point tree
+pub event_makes : (program : TreeView) (view : View) (point : Point) (executes : Bool) (now : Moment) (tree : Tree) → HasReturnsOutside program
+    → IsOrderly now.task → silent program view now ≡ Occurs point tree
     → link_next (after_event view point executes now.task).todo ≡ link_made point
 event_makes program view point executes now tree outside is comes = (event-of program view point executes now tree outside is comes).makes
 
@@ -102,7 +112,8 @@ answer_next view given now is = elim (answer-of view given now is) [ inl kept �
 pub main_next : (program : TreeView) → link_next (main_task program).todo ≡ None
 main_next program = refl
 
-made-next : (has : Bool) (construct : Tree) (tree : Tree) (items : List Item) → link_next ((if has then MakeCells construct ∷ [] else []) ++ Start tree ∷ items) ≡ None
+made-next : (has : Bool) (construct : Tree) (tree : Tree) (items : List Item)
+    → link_next ((if has then MakeCells construct ∷ [] else []) ++ Start tree ∷ items) ≡ None
 made-next true construct tree items = refl
 made-next false construct tree items = refl
 

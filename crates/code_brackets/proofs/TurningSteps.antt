@@ -50,7 +50,8 @@ use Rattle.code_brackets.proofs.Turning.{IsRoom, LeadsOn, Turns, moves, plain_sa
 use Rattle.code_brackets.proofs.TurningCalls.{turns_return, turns_returns, turns_right, turns_tested}
 
 -- one item without a return comes to stand before what remains
-one-added : (tree : Tree) (items : List Item) → ReturnsOutside tree → (IsTrue (has_return tree) → open_items items ≡ []) → AreBehind items → IsAdded (Start tree ∷ items) items
+one-added : (tree : Tree) (items : List Item) → ReturnsOutside tree → (IsTrue (has_return tree) → open_items items ≡ []) → AreBehind items
+    → IsAdded (Start tree ∷ items) items
 unfolding AreBehind open_items falls_off
 one-added tree items proper returns behind = record { behind = (refl, (proper, returns), behind); same = refl; falls = λ is. is }
 
@@ -59,7 +60,8 @@ module _ (here : Here) (item : Item) (room : IsRoom here item) (plain : open_ite
   remains : IsAdded here.task.todo here.task.todo
   remains = none_added here.task.todo room.behind
 
-  turns-set-to-value : (named expression : Tree) (items : List Item) → IsAdded (items ++ here.task.todo) here.task.todo → Turns here item (begin_set_to_value here named expression items)
+  turns-set-to-value : (named expression : Tree) (items : List Item) → IsAdded (items ++ here.task.todo) here.task.todo
+      → Turns here item (begin_set_to_value here named expression items)
   turns-set-to-value named expression items added =
       turns_result here item (value_here here expression) _ (λ number. turns_binds here item room plain apart (with_cells (bound_of here) (name_of named) (slot_of_name here.program named) (number ∷ [])) items added)
 
@@ -78,23 +80,27 @@ module _ (here : Here) (item : Item) (room : IsRoom here item) (plain : open_ite
   turns-declares node.LocalSet tree = turns-local (kind_of (child_at tree 0)) tree
   turns-declares other tree = turns_binds here item room plain apart (with_declarator here.program (bound_of here) tree) [] remains
 
-  turns-assigns : (which : Setting) (place : Tree) (right : Result ℤ ℕ) (items : List Item) → IsAdded (items ++ here.task.todo) here.task.todo → Turns here item (assigns here which place right items)
+  turns-assigns : (which : Setting) (place : Tree) (right : Result ℤ ℕ) (items : List Item) → IsAdded (items ++ here.task.todo) here.task.todo
+      → Turns here item (assigns here which place right items)
   turns-assigns which place right items added =
       turns_result here item (cell_of (scope_of here) place) _ (λ cell.
       turns_result here item (new_number which (cell_at here.store.cells cell) right) _ (λ number. turns_sets here item room plain apart cell number items added))
 
-  turns-makes : (kind : NodeKind) (tree : Tree) (items : List Item) → IsAdded (items ++ here.task.todo) here.task.todo → Turns here item (makes_step kind here tree items)
+  turns-makes : (kind : NodeKind) (tree : Tree) (items : List Item) → IsAdded (items ++ here.task.todo) here.task.todo
+      → Turns here item (makes_step kind here tree items)
   turns-makes (node.Assign which) tree items added = turns-assigns which (child_at tree 0) (value_here here (child_at tree 1)) items added
   turns-makes (node.Bump which side) tree items added = turns-assigns (setting_of which) (child_at tree 0) (Ok (pos 1)) items added
   turns-makes other tree items added = turns_on here item room plain apart items added
 
-  turns-first : (kind : NodeKind) (tree : Tree) (items : List Item) → IsAdded (items ++ here.task.todo) here.task.todo → Turns here item (makes_first_step kind here tree items)
+  turns-first : (kind : NodeKind) (tree : Tree) (items : List Item) → IsAdded (items ++ here.task.todo) here.task.todo
+      → Turns here item (makes_first_step kind here tree items)
   turns-first node.Init tree items added =
       turns_choice here item (has_child tree 0) _ _ (turns-set-to-value (child_at tree 0) (child_at tree 1) items added) (turns_on here item room plain apart items added)
   turns-first other tree items added = turns-makes other tree items added
 
 -- statements
-branch-added : (zero has : Bool) (tree : Tree) (items : List Item) → ReturnOutsideEach (children_of tree) → (IsTrue (has_return_among (children_of tree)) → open_items items ≡ []) → AreBehind items
+branch-added : (zero has : Bool) (tree : Tree) (items : List Item) → ReturnOutsideEach (children_of tree)
+    → (IsTrue (has_return_among (children_of tree)) → open_items items ≡ []) → AreBehind items
     → IsAdded ((if zero then (if has then Start (child_at tree 2) ∷ [] else []) else Start (child_at tree 1) ∷ []) ++ items) items
 branch-added true true tree items proper returns behind =
     one-added (child_at tree 2) items (proper_at (children_of tree) 2 proper) (λ is. returns (return_at (children_of tree) 2 is)) behind
@@ -102,7 +108,8 @@ branch-added true false tree items proper returns behind = none_added items behi
 branch-added false has tree items proper returns behind =
     one-added (child_at tree 1) items (proper_at (children_of tree) 1 proper) (λ is. returns (return_at (children_of tree) 1 is)) behind
 
-again-added : (over : Bool) (body tree : Tree) (items : List Item) → ReturnsOutside body → (IsTrue (has_return body) → open_items items ≡ []) → IsAdded (Start tree ∷ items) items
+again-added : (over : Bool) (body tree : Tree) (items : List Item) → ReturnsOutside body → (IsTrue (has_return body) → open_items items ≡ [])
+    → IsAdded (Start tree ∷ items) items
     → IsAdded ((if over then [] else Start body ∷ Start tree ∷ []) ++ items) items
 unfolding AreBehind open_items falls_off
 again-added true body tree items proper returns again = record { behind = again.behind.2; same = refl; falls = λ is. is }
@@ -113,7 +120,8 @@ record IsBegun (here : Here) (construct : Tree) (kind : Work) (executes : Bool) 
   behind : AreBehind (work_items kind construct (length here.task.env) executes ++ here.task.todo)
   same : open_items (work_items kind construct (length here.task.env) executes ++ here.task.todo) ≡ work_open kind executes ∷ open_items here.task.todo
 
-begun : (here : Here) (item : Item) (construct : Tree) (codeptr : ℕ) (kind : Work) → IsRoom here item → open_item item ≡ [] → is_fall_off item ≡ false → link_item item ≡ None → tree_at_event item ≡ construct
+begun : (here : Here) (item : Item) (construct : Tree) (codeptr : ℕ) (kind : Work) → IsRoom here item → open_item item ≡ [] → is_fall_off item ≡ false
+    → link_item item ≡ None → tree_at_event item ≡ construct
     → ((executes : Bool) → IsBegun here construct kind executes) → LeadsOn here item (WorkBegin codeptr kind)
 begun here item construct codeptr kind room plain apart linkless is each =
     let work = λ (executes : Bool). work_items kind construct (length here.task.env) executes ++ here.task.todo in
@@ -130,19 +138,22 @@ begun here item construct codeptr kind room plain apart linkless is each =
       creates = tt;
     }
 
-turns-loop : (here : Here) (item : Item) (construct : Tree) → IsRoom here item → open_item item ≡ [] → is_fall_off item ≡ false → link_item item ≡ None → tree_at_event item ≡ construct → HasNoReturn construct → Turns here item (begin_loop here construct)
+turns-loop : (here : Here) (item : Item) (construct : Tree) → IsRoom here item → open_item item ≡ [] → is_fall_off item ≡ false → link_item item ≡ None
+    → tree_at_event item ≡ construct → HasNoReturn construct → Turns here item (begin_loop here construct)
 unfolding AreBehind open_items
 turns-loop here item construct room plain apart linkless is free =
     turns_result here item (value_here here (loop_of construct).start) _ (λ start.
     turns_result here item (value_here here (loop_of construct).end) _ (λ end.
     turns_event here item _ construct (begun here item construct _ _ room plain apart linkless is (λ executes. record { behind = (refl, (free, λ is. never is), room.behind); same = refl }))))
 
-turns-sections : (here : Here) (item : Item) (construct : Tree) → IsRoom here item → open_item item ≡ [] → is_fall_off item ≡ false → link_item item ≡ None → tree_at_event item ≡ construct → HasNoReturn construct → Turns here item (begin_sections construct)
+turns-sections : (here : Here) (item : Item) (construct : Tree) → IsRoom here item → open_item item ≡ [] → is_fall_off item ≡ false → link_item item ≡ None
+    → tree_at_event item ≡ construct → HasNoReturn construct → Turns here item (begin_sections construct)
 unfolding AreBehind open_items
 turns-sections here item construct room plain apart linkless is free =
     turns_event here item _ construct (begun here item construct _ _ room plain apart linkless is (λ executes. record { behind = (refl, (free, λ is. never is), room.behind); same = refl }))
 
-single-begun : (here : Here) (construct : Tree) (executes : Bool) → AreBehind here.task.todo → HasNoReturn construct → IsBegun here construct work.Single executes
+single-begun : (here : Here) (construct : Tree) (executes : Bool) → AreBehind here.task.todo → HasNoReturn construct
+    → IsBegun here construct work.Single executes
 unfolding AreBehind open_items
 single-begun here construct true behind free =
     record { behind = (refl, start_kept (construct_statement construct) (EndWork construct work_kind.SingleExecutor 1 (length here.task.env) ∷ here.task.todo) (statement_free construct free), (refl, (tt, λ is. never is), behind)); same = refl }
@@ -244,7 +255,8 @@ turns-lock lock.Unset here tree behind =
     turns_event here (Start tree) _ tree (record { apart = refl; effect = λ executes. refl; order = λ executes. in_order here.task.todo behind; follows = refl; makes = λ executes. none_next here.task.todo behind; creates = tt })
 
 -- a statement begins
-turns-block : (here : Here) (tree : Tree) → IsRoom here (Start tree) → ReturnOutsideEach (children_of tree) → (IsTrue (has_return_among (children_of tree)) → open_items here.task.todo ≡ []) → Turns here (Start tree) (begin_block here tree)
+turns-block : (here : Here) (tree : Tree) → IsRoom here (Start tree) → ReturnOutsideEach (children_of tree)
+    → (IsTrue (has_return_among (children_of tree)) → open_items here.task.todo ≡ []) → Turns here (Start tree) (begin_block here tree)
 unfolding AreBehind open_items falls_off
 turns-block here tree room proper returns =
     turns_on here (Start tree) room refl refl (items_of_parts (flat_declarations (parts tree)) ++ Leave (length here.task.env) ∷ [])
@@ -252,7 +264,8 @@ turns-block here tree room proper returns =
     (block_added (children_of tree) (Leave (length here.task.env) ∷ here.task.todo) here.task.todo proper returns
     (record { behind = (refl, (tt, λ is. never is), room.behind); same = refl; falls = λ is. is })))
 
-turns-for : (here : Here) (tree : Tree) → IsRoom here (Start tree) → ReturnOutsideEach (children_of tree) → (IsTrue (has_return_among (children_of tree)) → open_items here.task.todo ≡ []) → Turns here (Start tree) (begin_for here tree)
+turns-for : (here : Here) (tree : Tree) → IsRoom here (Start tree) → ReturnOutsideEach (children_of tree)
+    → (IsTrue (has_return_among (children_of tree)) → open_items here.task.todo ≡ []) → Turns here (Start tree) (begin_for here tree)
 unfolding AreBehind open_items falls_off
 turns-for here tree room proper returns =
     turns-first here (Start tree) room refl refl (kind_of (child_at tree 0)) (child_at tree 0) (Test tree (length here.task.env) ∷ [])
@@ -262,7 +275,8 @@ turns-for here tree room proper returns =
       falls = λ is. is;
     })
 
-turns-construct : (which : Directive) (here : Here) (construct : Tree) → IsRoom here (Start construct) → tree_at_event (Start construct) ≡ construct → HasNoReturn construct → Turns here (Start construct) (begin_construct which here construct)
+turns-construct : (which : Directive) (here : Here) (construct : Tree) → IsRoom here (Start construct) → tree_at_event (Start construct) ≡ construct
+    → HasNoReturn construct → Turns here (Start construct) (begin_construct which here construct)
 turns-construct directive.Parallel here construct room is free = turns-parallel here construct room is free
 turns-construct directive.For here construct room is free = turns-loop here (Start construct) construct room refl refl refl is free
 turns-construct directive.Sections here construct room is free = turns-sections here (Start construct) construct room refl refl refl is free
@@ -276,7 +290,8 @@ turns-construct directive.Task here construct room is free = turns-task here con
 
 turns-statement : (here : Here) (tree : Tree) → IsRoom here (Start tree) → Turns here (Start tree) (begin_statement (kind_of tree) here tree)
 unfolding ReturnsOutside has_return
-turns-statement here (Node node.Block spot name number text children) room = turns-block here (Node node.Block spot name number text children) room room.now.0 room.now.1
+turns-statement here (Node node.Block spot name number text children) room =
+    turns-block here (Node node.Block spot name number text children) room room.now.0 room.now.1
 turns-statement here (Node node.If spot name number text children) room =
     let tree = Node node.If spot name number text children in
     turns_result here (Start tree) (value_here here (child_at tree 0)) _ (λ value.
@@ -287,7 +302,8 @@ turns-statement here (Node node.While spot name number text children) room =
     turns_on here (Start tree) room refl refl (if is_zero value then [] else Start (child_at tree 1) ∷ Start tree ∷ [])
     (again-added (is_zero value) (child_at tree 1) tree here.task.todo (proper_at children 1 room.now.0) (λ is. room.now.1 (return_at children 1 is))
     (one-added tree here.task.todo room.now.0 room.now.1 room.behind)))
-turns-statement here (Node node.For spot name number text children) room = turns-for here (Node node.For spot name number text children) room room.now.0 room.now.1
+turns-statement here (Node node.For spot name number text children) room =
+    turns-for here (Node node.For spot name number text children) room room.now.0 room.now.1
 turns-statement here (Node node.Return spot name number text children) room =
     let tree = Node node.Return spot name number text children in
     turns_return here (Start tree) room refl refl refl (kind_of (child_at tree 0)) (child_at tree 0) (room.now.1 refl)
@@ -305,8 +321,10 @@ turns-statement here (Node node.Print spot name number text children) room =
     let tree = Node node.Print spot name number text children in
     turns_result here (Start tree) (all_values (scope_of here) (parts tree)) _ (λ numbers.
     turns_unless here (Start tree) _ _ _ (moves here (Start tree) room refl refl here.task.todo here.task.env _ (none_added here.task.todo room.behind)))
-turns-statement here (Node (node.LockCall which) spot name number text children) room = turns-lock which here (Node (node.LockCall which) spot name number text children) room.behind
-turns-statement here (Node (node.Standalone which) spot name number text children) room = turns-standalone which here (Node (node.Standalone which) spot name number text children) room.behind
+turns-statement here (Node (node.LockCall which) spot name number text children) room =
+    turns-lock which here (Node (node.LockCall which) spot name number text children) room.behind
+turns-statement here (Node (node.Standalone which) spot name number text children) room =
+    turns-standalone which here (Node (node.Standalone which) spot name number text children) room.behind
 turns-statement here (Node (node.Construct which) spot name number text children) room =
     turns-construct which here (Node (node.Construct which) spot name number text children) room refl room.now.0
 turns-statement here (Node kind spot name number text children) room =
@@ -322,13 +340,15 @@ turns-test here tree stay room =
     (turns_on here (Test tree stay) room refl refl (Start (child_at tree 3) ∷ Third tree stay ∷ [])
     (record { behind = (refl, room.now, (refl, room.now, room.behind)); same = refl; falls = λ is. is })))
 
-turns-third : (here : Here) (tree : Tree) (stay : ℕ) → IsRoom here (Third tree stay) → Turns here (Third tree stay) (makes_step (kind_of (child_at tree 2)) here (child_at tree 2) (Test tree stay ∷ []))
+turns-third : (here : Here) (tree : Tree) (stay : ℕ) → IsRoom here (Third tree stay)
+    → Turns here (Third tree stay) (makes_step (kind_of (child_at tree 2)) here (child_at tree 2) (Test tree stay ∷ []))
 unfolding AreBehind open_items falls_off
 turns-third here tree stay room =
     turns-makes here (Third tree stay) room refl refl (kind_of (child_at tree 2)) (child_at tree 2) (Test tree stay ∷ [])
     (record { behind = (refl, room.now, room.behind); same = refl; falls = λ is. is })
 
-turns-inside : (here : Here) (construct : Tree) → IsRoom here (Inside construct) → Turns here (Inside construct) (begin_inside (kind_of construct) here construct)
+turns-inside : (here : Here) (construct : Tree) → IsRoom here (Inside construct)
+    → Turns here (Inside construct) (begin_inside (kind_of construct) here construct)
 turns-inside here (Node (node.Construct directive.ParallelFor) spot name number text children) room =
     let tree = Node (node.Construct directive.ParallelFor) spot name number text children in turns-loop here (Inside tree) tree room refl refl refl refl room.now.0
 turns-inside here (Node (node.Construct directive.ParallelSections) spot name number text children) room =
@@ -337,7 +357,8 @@ turns-inside here (Node kind spot name number text children) room =
     turns_on here (Inside (Node kind spot name number text children)) room refl refl [] (none_added here.task.todo room.behind)
 
 -- an iteration
-turns-iteration : (here : Here) (loop : SharedLoop) (at upto : ℕ) → IsRoom here (Iterations loop at upto) → Turns here (Iterations loop at upto) (begin_iteration here loop at upto)
+turns-iteration : (here : Here) (loop : SharedLoop) (at upto : ℕ) → IsRoom here (Iterations loop at upto)
+    → Turns here (Iterations loop at upto) (begin_iteration here loop at upto)
 unfolding AreInOrder AreBehind open_items falls_off
 turns-iteration here loop at upto room =
     let more = iterations_added loop (at + 1) upto here.task.todo room.now.0 room.behind in

@@ -52,13 +52,15 @@ goes-same items = record { order = λ are. are; same = λ are. refl; falls = λ 
 passed-next : (items settled : List Item) → AreBehind items → (link_next settled ≡ link_next items) ⊎ (link_next settled ≡ None) → link_next settled ≡ None
 passed-next items settled behind either = elim either [ inl same ↦ same ∙ none_next items behind | inr none ↦ none ]
 
-settled-start : (passed : Bool) (tree : Tree) (items settled : List Item) → GoesOn settled items → GoesOn (if passed then settled else Start tree ∷ items) (Start tree ∷ items)
+settled-start : (passed : Bool) (tree : Tree) (items settled : List Item) → GoesOn settled items
+    → GoesOn (if passed then settled else Start tree ∷ items) (Start tree ∷ items)
 unfolding AreInOrder open_items falls_off
 settled-start true tree items settled goes =
     record { order = λ are. goes.order (in_order items are.1); same = λ are. goes.same (in_order items are.1); falls = goes.falls; next = λ are. inr (passed-next items settled are.1 (goes.next (in_order items are.1))) }
 settled-start false tree items settled goes = goes-same (Start tree ∷ items)
 
-settled-by : (view : View) (item : Item) (items settled : List Item) → GoesOn settled items → GoesOn (if is_passed_over item view then settled else item ∷ items) (item ∷ items)
+settled-by : (view : View) (item : Item) (items settled : List Item) → GoesOn settled items
+    → GoesOn (if is_passed_over item view then settled else item ∷ items) (item ∷ items)
 settled-by view (Start tree) items settled goes = settled-start (is_masked (kind_of tree) && not (view.index == 0)) tree items settled goes
 settled-by view other items settled goes = goes-same (other ∷ items)
 
@@ -78,7 +80,8 @@ settled_same view task is = ap (λ (opened : List Open). opened ++ open_calls ta
 abbrev pub here_at : TreeView → View → Moment → List Item → Here
 here_at program view now items = record { program = program; view = view; task = record now.task { todo = items }; store = now.store }
 
-pub turned : (program : TreeView) (view : View) (now : Moment) (item : Item) (items : List Item) (outcome : Outcome) → HasReturnsOutside program → AreInOrder (item ∷ items) → IsFramed (item ∷ items) now.task.calls → AreCallsKept now.task.calls
+pub turned : (program : TreeView) (view : View) (now : Moment) (item : Item) (items : List Item) (outcome : Outcome) → HasReturnsOutside program
+    → AreInOrder (item ∷ items) → IsFramed (item ∷ items) now.task.calls → AreCallsKept now.task.calls
     → step_at (item ∷ items) program view now ≡ outcome → Turns (here_at program view now items) item outcome
 unfolding AreInOrder
 turned program view now item items outcome outside are framed calls comes =
@@ -90,7 +93,8 @@ record IsSame (opened : List Open) (next : Task) : Type 0 where
   is : IsOrderly next
   same : open_task next ≡ opened
 
-step-same : (program : TreeView) (view : View) (now next : Moment) (items : List Item) → HasReturnsOutside program → AreInOrder items → IsFramed items now.task.calls → AreCallsKept now.task.calls → step_at items program view now ≡ StepsTo next
+step-same : (program : TreeView) (view : View) (now next : Moment) (items : List Item) → HasReturnsOutside program → AreInOrder items
+    → IsFramed items now.task.calls → AreCallsKept now.task.calls → step_at items program view now ≡ StepsTo next
     → IsSame (open_items items ++ open_calls now.task.calls) next.task
 unfolding Turns
 step-same program view now next [] outside are framed calls comes = absurd (cc)
@@ -98,16 +102,19 @@ step-same program view now next (item ∷ items) outside are framed calls comes 
     let on : StepsOn (here_at program view now items) item next = turned program view now item items (StepsTo next) outside are framed calls comes in
     record { is = on.is; same = on.same }
 
-step-of : (program : TreeView) (view : View) (now next : Moment) → HasReturnsOutside program → IsOrderly now.task → silent program view now ≡ StepsTo next → IsSame (open_task (settled_task view now.task)) next.task
+step-of : (program : TreeView) (view : View) (now next : Moment) → HasReturnsOutside program → IsOrderly now.task → silent program view now ≡ StepsTo next
+    → IsSame (open_task (settled_task view now.task)) next.task
 unfolding silent
 step-of program view now next outside is comes =
     let settled : IsOrderly (settled_task view now.task) = settled_is_orderly view now.task is in
     step-same program view now next (settled_task view now.task).todo outside settled.now settled.framed settled.calls comes
 
-pub step_is_orderly : (program : TreeView) (view : View) (now next : Moment) → HasReturnsOutside program → IsOrderly now.task → silent program view now ≡ StepsTo next → IsOrderly next.task
+pub step_is_orderly : (program : TreeView) (view : View) (now next : Moment) → HasReturnsOutside program → IsOrderly now.task
+    → silent program view now ≡ StepsTo next → IsOrderly next.task
 step_is_orderly program view now next outside is comes = (step-of program view now next outside is comes).is
 
-pub step_same : (program : TreeView) (view : View) (now next : Moment) → HasReturnsOutside program → IsOrderly now.task → silent program view now ≡ StepsTo next → open_task next.task ≡ open_task now.task
+pub step_same : (program : TreeView) (view : View) (now next : Moment) → HasReturnsOutside program → IsOrderly now.task
+    → silent program view now ≡ StepsTo next → open_task next.task ≡ open_task now.task
 step_same program view now next outside is comes = (step-of program view now next outside is comes).same ∙ settled_same view now.task is
 
 -- an event opens or ends the newest
@@ -120,8 +127,10 @@ record IsLed (what : Effect) (opened : List Open) (next : Task) : Type 0 where
   is : IsOrderly next
   leads : LeadsTo what opened (open_task next)
 
-event-leads : (program : TreeView) (view : View) (point : Point) (executes : Bool) (now : Moment) (tree : Tree) (items : List Item) → HasReturnsOutside program → AreInOrder items → IsFramed items now.task.calls → AreCallsKept now.task.calls
-    → step_at items program view now ≡ Occurs point tree → IsLed (effect_of point executes) (open_items items ++ open_calls now.task.calls) (passed_at items point executes (settled_task view now.task))
+event-leads : (program : TreeView) (view : View) (point : Point) (executes : Bool) (now : Moment) (tree : Tree) (items : List Item)
+    → HasReturnsOutside program → AreInOrder items → IsFramed items now.task.calls → AreCallsKept now.task.calls
+    → step_at items program view now ≡ Occurs point tree
+    → IsLed (effect_of point executes) (open_items items ++ open_calls now.task.calls) (passed_at items point executes (settled_task view now.task))
 unfolding Turns
 event-leads program view point executes now tree [] outside are framed calls comes = absurd (cc)
 event-leads program view point executes now tree (item ∷ items) outside are framed calls comes =
@@ -131,25 +140,29 @@ event-leads program view point executes now tree (item ∷ items) outside are fr
       leads = leads-more (effect_of point executes) (open_items (item ∷ items)) _ (open_calls now.task.calls) (leads.effect executes);
     }
 
-event-of : (program : TreeView) (view : View) (point : Point) (executes : Bool) (now : Moment) (tree : Tree) → HasReturnsOutside program → IsOrderly now.task → silent program view now ≡ Occurs point tree
+event-of : (program : TreeView) (view : View) (point : Point) (executes : Bool) (now : Moment) (tree : Tree) → HasReturnsOutside program → IsOrderly now.task
+    → silent program view now ≡ Occurs point tree
     → IsLed (effect_of point executes) (open_task (settled_task view now.task)) (after_event view point executes now.task)
 unfolding silent
 event-of program view point executes now tree outside is comes =
     let settled : IsOrderly (settled_task view now.task) = settled_is_orderly view now.task is in
     event-leads program view point executes now tree (settled_task view now.task).todo outside settled.now settled.framed settled.calls comes
 
-pub event_is_orderly : (program : TreeView) (view : View) (point : Point) (executes : Bool) (now : Moment) (tree : Tree) → HasReturnsOutside program → IsOrderly now.task → silent program view now ≡ Occurs point tree
+pub event_is_orderly : (program : TreeView) (view : View) (point : Point) (executes : Bool) (now : Moment) (tree : Tree) → HasReturnsOutside program
+    → IsOrderly now.task → silent program view now ≡ Occurs point tree
     → IsOrderly (after_event view point executes now.task)
 event_is_orderly program view point executes now tree outside is comes = (event-of program view point executes now tree outside is comes).is
 
-pub event_leads : (program : TreeView) (view : View) (point : Point) (executes : Bool) (now : Moment) (tree : Tree) → HasReturnsOutside program → IsOrderly now.task → silent program view now ≡ Occurs point tree
+pub event_leads : (program : TreeView) (view : View) (point : Point) (executes : Bool) (now : Moment) (tree : Tree) → HasReturnsOutside program
+    → IsOrderly now.task → silent program view now ≡ Occurs point tree
     → LeadsTo (effect_of point executes) (open_task now.task) (open_task (after_event view point executes now.task))
 event_leads program view point executes now tree outside is comes =
     subst (λ (opened : List Open). LeadsTo (effect_of point executes) opened (open_task (after_event view point executes now.task))) (settled_same view now.task is)
     (event-of program view point executes now tree outside is comes).leads
 
 -- answers
-chunk-goes : (loop : SharedLoop) (chunk : Option (ℕ × ℕ)) (items : List Item) → AreInOrder (NextChunk loop ∷ items) → GoesOn (items_of_chunk loop chunk ++ items) (NextChunk loop ∷ items)
+chunk-goes : (loop : SharedLoop) (chunk : Option (ℕ × ℕ)) (items : List Item) → AreInOrder (NextChunk loop ∷ items)
+    → GoesOn (items_of_chunk loop chunk ++ items) (NextChunk loop ∷ items)
 unfolding AreInOrder AreBehind open_items falls_off
 chunk-goes loop (Some chunk) items are =
     let more = iterations_added loop chunk.0 (chunk.0 + chunk.1) items are.0.0 are.1 in
@@ -160,7 +173,8 @@ chunk-goes loop None items are =
     subst (λ (full : List Item). GoesOn full (NextChunk loop ∷ items)) (sym (append_assoc (combines loop.construct loop.names) (last ∷ []) items))
     (record { order = λ are. in_order (combines loop.construct loop.names ++ last ∷ items) added.behind; same = λ are. added.same; falls = added.falls; next = λ are. inr (none_next (combines loop.construct loop.names ++ last ∷ items) added.behind) })
 
-section-goes : (construct : Tree) (names : ℕ) (section : Option ℕ) (items : List Item) → AreInOrder (NextSection construct names ∷ items) → GoesOn (items_of_section construct names section ++ items) (NextSection construct names ∷ items)
+section-goes : (construct : Tree) (names : ℕ) (section : Option ℕ) (items : List Item) → AreInOrder (NextSection construct names ∷ items)
+    → GoesOn (items_of_section construct names section ++ items) (NextSection construct names ∷ items)
 unfolding AreInOrder AreBehind open_items falls_off
 section-goes construct names (Some section) items are =
     record { order = λ more. (start_kept (slice_index_or (sections_of construct) section nothing) (NextSection construct names ∷ items) (section_free construct are.0.0 section), (refl, are.0, are.1)); same = λ are. refl; falls = λ is. is; next = λ are. inr refl }
@@ -170,9 +184,11 @@ section-goes construct names None items are =
     subst (λ (full : List Item). GoesOn full (NextSection construct names ∷ items)) (sym (append_assoc (combines construct names) (last ∷ []) items))
     (record { order = λ are. in_order (combines construct names ++ last ∷ items) added.behind; same = λ are. added.same; falls = added.falls; next = λ are. inr (none_next (combines construct names ++ last ∷ items) added.behind) })
 
-test-goes : (call : Tree) (id : ℕ) (to : Target) (free : Bool) (items : List Item) → AreInOrder (TestLock call id to ∷ items) → GoesOn (items_of_test call id to free ++ items) (TestLock call id to ∷ items)
+test-goes : (call : Tree) (id : ℕ) (to : Target) (free : Bool) (items : List Item) → AreInOrder (TestLock call id to ∷ items)
+    → GoesOn (items_of_test call id to free ++ items) (TestLock call id to ∷ items)
 unfolding AreInOrder AreBehind open_items falls_off
-test-goes call id to true items are = record { order = λ more. ((tt, λ is. never is), (refl, (tt, are.0.1), are.1)); same = λ are. refl; falls = λ is. is; next = λ are. inl refl }
+test-goes call id to true items are =
+    record { order = λ more. ((tt, λ is. never is), (refl, (tt, are.0.1), are.1)); same = λ are. refl; falls = λ is. is; next = λ are. inl refl }
 test-goes call id to false items are =
     let added = value_added to (pos 0) items are.1 are.0.1 in record { order = λ are. in_order (value_items to (pos 0) ++ items) added.behind; same = λ are. added.same; falls = added.falls; next = λ are. inr (none_next (value_items to (pos 0) ++ items) added.behind) }
 
@@ -182,7 +198,8 @@ answered_goes (answer.Section section) (NextSection construct names) items are =
 answered_goes (answer.Free free) (TestLock call id to) items are = test-goes call id to free items are
 answered_goes given item items are = goes-same (item ∷ items)
 
-answer-same : (given : Answer) (items : List Item) (now : Moment) → AreInOrder items → IsFramed items now.task.calls → IsOrderly now.task → open_items items ≡ open_items now.task.todo
+answer-same : (given : Answer) (items : List Item) (now : Moment) → AreInOrder items → IsFramed items now.task.calls → IsOrderly now.task
+    → open_items items ≡ open_items now.task.todo
     → IsSame (open_task now.task) (answered_at items given now).task
 answer-same given [] now are framed is same = record { is = is; same = refl }
 answer-same given (item ∷ items) now are framed is same =
@@ -192,7 +209,8 @@ answer-same given (item ∷ items) now are framed is same =
       same = ap (λ (opened : List Open). opened ++ open_calls now.task.calls) (goes.same are ∙ same);
     }
 
-answer-of : (view : View) (given : Answer) (now : Moment) → IsOrderly now.task → IsSame (open_task (settled_task view now.task)) (after_answer view given now).task
+answer-of : (view : View) (given : Answer) (now : Moment) → IsOrderly now.task
+    → IsSame (open_task (settled_task view now.task)) (after_answer view given now).task
 answer-of view given now is =
     let settled : IsOrderly (settled_task view now.task) = settled_is_orderly view now.task is in
     answer-same given (settled_task view now.task).todo (settled_moment view now) settled.now settled.framed settled refl
@@ -209,13 +227,16 @@ unfolding open_calls falls_off
 no-calls [] framed = refl
 no-calls (call ∷ calls) framed = never (framed refl)
 
-ended-at : (program : TreeView) (view : View) (now : Moment) (number : ℤ) (items : List Item) → HasReturnsOutside program → AreInOrder items → IsFramed items now.task.calls → AreCallsKept now.task.calls → step_at items program view now ≡ Ends number
+ended-at : (program : TreeView) (view : View) (now : Moment) (number : ℤ) (items : List Item) → HasReturnsOutside program → AreInOrder items
+    → IsFramed items now.task.calls → AreCallsKept now.task.calls → step_at items program view now ≡ Ends number
     → open_items items ++ open_calls now.task.calls ≡ []
 unfolding Turns open_items
 ended-at program view now number [] outside are framed calls comes = no-calls now.task.calls framed
-ended-at program view now number (item ∷ items) outside are framed calls comes = absurd (turned program view now item items (Ends number) outside are framed calls comes)
+ended-at program view now number (item ∷ items) outside are framed calls comes =
+    absurd (turned program view now item items (Ends number) outside are framed calls comes)
 
-pub ended_none : (program : TreeView) (view : View) (now : Moment) (number : ℤ) → HasReturnsOutside program → IsOrderly now.task → silent program view now ≡ Ends number → open_task now.task ≡ []
+pub ended_none : (program : TreeView) (view : View) (now : Moment) (number : ℤ) → HasReturnsOutside program → IsOrderly now.task
+    → silent program view now ≡ Ends number → open_task now.task ≡ []
 unfolding silent
 ended_none program view now number outside is comes =
     let settled : IsOrderly (settled_task view now.task) = settled_is_orderly view now.task is in
@@ -263,7 +284,8 @@ record IsFresh (items : List Item) : Type 0 where
   order : AreInOrder items
   none : open_items items ≡ []
 
-plain-fresh : (construct : Tree) (count : ℕ) → HasNoReturn construct → IsFresh ((makes_cells construct ++ Start (construct_statement construct) ∷ combines construct count) ++ Sync construct sync.Parallel stage.RegionBegin ∷ [])
+plain-fresh : (construct : Tree) (count : ℕ) → HasNoReturn construct
+    → IsFresh ((makes_cells construct ++ Start (construct_statement construct) ∷ combines construct count) ++ Sync construct sync.Parallel stage.RegionBegin ∷ [])
 unfolding open_items
 plain-fresh construct count free = let added = plain-added construct count free in
     record { order = in_order ((makes_cells construct ++ Start (construct_statement construct) ∷ combines construct count) ++ Sync construct sync.Parallel stage.RegionBegin ∷ []) added.behind; none = added.same }
@@ -283,10 +305,12 @@ member_is_orderly task is =
 
 pub member_none : (task : Task) → IsOrderly task → open_task (member_task task) ≡ []
 unfolding open_calls
-member_none task is = ap (λ (opened : List Open). opened ++ []) (member-fresh (forked_construct task.todo) (length task.env) (forked-free task.todo is.now)).none
+member_none task is =
+    ap (λ (opened : List Open). opened ++ []) (member-fresh (forked_construct task.todo) (length task.env) (forked-free task.todo is.now)).none
 
 -- an explicit task
-created-free : (program : TreeView) (view : View) (now : Moment) (codeptr : ℕ) (undeferred : Bool) (tree : Tree) (items : List Item) → HasReturnsOutside program → AreInOrder items → IsFramed items now.task.calls → AreCallsKept now.task.calls
+created-free : (program : TreeView) (view : View) (now : Moment) (codeptr : ℕ) (undeferred : Bool) (tree : Tree) (items : List Item)
+    → HasReturnsOutside program → AreInOrder items → IsFramed items now.task.calls → AreCallsKept now.task.calls
     → step_at items program view now ≡ Occurs (TaskCreate codeptr undeferred) tree → IsFree (construct_statement (created_construct items))
 unfolding Turns
 created-free program view now codeptr undeferred tree [] outside are framed calls comes = absurd (cc)
@@ -294,7 +318,8 @@ created-free program view now codeptr undeferred tree (item ∷ items) outside a
     let leads : LeadsOn (here_at program view now items) item (TaskCreate codeptr undeferred) = turned program view now item items (Occurs (TaskCreate codeptr undeferred) tree) outside are framed calls comes in
     leads.creates
 
-pub explicit_is_orderly : (program : TreeView) (view : View) (now : Moment) (codeptr : ℕ) (undeferred : Bool) (tree : Tree) → HasReturnsOutside program → IsOrderly now.task
+pub explicit_is_orderly : (program : TreeView) (view : View) (now : Moment) (codeptr : ℕ) (undeferred : Bool) (tree : Tree) → HasReturnsOutside program
+    → IsOrderly now.task
     → silent program view now ≡ Occurs (TaskCreate codeptr undeferred) tree → IsOrderly (explicit_task program view now).task
 unfolding silent AreInOrder AreBehind AreCallsKept
 explicit_is_orderly program view now codeptr undeferred tree outside is comes =
