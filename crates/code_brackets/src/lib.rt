@@ -17,7 +17,9 @@
 //! - a forked region is the newest of what is open, and the only one ([`forked_regions_end_next`]);
 //! - what only stands next stands behind the event that leads to it ([`events_follow_what_led_to_them`]).
 //!
-//! A `return` leaves all that stands behind it in its function, so nothing may be open there: this is why the rule on returns counts here. In `proofs/OpenExamples` small programs are computed at some moments. The crate has no code that runs.
+//! A `return` leaves all that stands behind it in its function, so nothing may be open there: this is why the rule on returns counts here.
+//!
+//! In `proofs/OpenExamples` small programs are computed at some moments. The crate has no code that runs.
 #![tactic(auto)]
 
 mod laws;
