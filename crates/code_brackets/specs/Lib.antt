@@ -1,0 +1,5 @@
+pub mod Opened
+pub mod Effects
+pub mod Returns
+pub mod Links
+pub mod Orderly
