@@ -5,9 +5,9 @@ use std::sync::atomic::{AtomicBool, Ordering};
 use std::thread;
 use std::thread::Parker;
 
-/// How often a thread lets others have its processor before it sleeps. Most waits are over by then, and to lay a thread down and to wake it
-/// again costs more than most of them.
-const YIELDS: u32 = 400;
+/// How often a thread lets others have its processor before it looks for itself, and again before it parks. Most waits are over by then, and to
+/// park a thread and to wake it again costs more than most of them.
+const YIELDS: u32 = 200;
 
 /// The bell of a thread. It may be rung before the thread sleeps, which then goes on at once. No clause says that a sleep ends.
 ///
@@ -17,6 +17,8 @@ const YIELDS: u32 = 400;
 pub(crate) struct Bell {
     /// Whether the bell was rung since the last sleep.
     rung: AtomicBool,
+    /// Whether the next sleep is a deep one.
+    is_deep: AtomicBool,
     /// Where the thread parks.
     parker: Parker,
 }
@@ -26,6 +28,7 @@ impl Bell {
     pub fn new() -> Bell {
         Bell {
             rung: AtomicBool::new(false),
+            is_deep: AtomicBool::new(false),
             parker: Parker::new(),
         }
     }
@@ -36,13 +39,21 @@ impl Bell {
         self.parker.unpark();
     }
 
-    /// Sleeps until the bell is rung.
+    /// Says whether the next sleep is a deep one. The thread that sleeps says so itself.
+    pub fn set_deep(&self, is_deep: bool) {
+        self.is_deep.store(is_deep, Ordering::Relaxed);
+    }
+
+    /// Sleeps until the bell is rung, and no longer than the yields where the sleep isn't deep.
     pub fn sleep(&self, rt: &impl Wait) {
         for _ in 0..YIELDS {
             if self.take_ring() {
                 return;
             }
             thread::yield_now();
+        }
+        if !self.is_deep.load(Ordering::Relaxed) {
+            return;
         }
         for _ in rt.forever() {
             if self.take_ring() {
@@ -52,8 +63,8 @@ impl Bell {
         }
     }
 
-    /// Whether the bell was rung. The ring is taken, and isn't there any more.
+    /// Whether the bell was rung. The ring is taken, and isn't there any more. To look first leaves the word with whoever rings.
     fn take_ring(&self) -> bool {
-        self.rung.swap(false, Ordering::SeqCst)
+        self.rung.load(Ordering::Relaxed) && self.rung.swap(false, Ordering::SeqCst)
     }
 }

@@ -27,8 +27,8 @@
 //!
 //! No tool is called under the lock. That a wait for it ends isn't proved. A thread that is told not yet may sleep
 //! ([`SharedBook::sleep`]): the locked book notes who sleeps, and a visit wakes one of those that may go on after it, and
-//! all of them where the run is over. Before it sleeps a thread lets others have its processor for a while. Nothing is
-//! proved of that.
+//! all of them where the run is over. Before it sleeps deeply a thread lets others have its processor for a while, and
+//! looks for itself. Nothing is proved of that.
 //!
 //! # The rule
 //!

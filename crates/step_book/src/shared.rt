@@ -144,16 +144,24 @@ impl<K: BookName> SharedBook<K> {
     }
 
     /// Sleeps, where the last call of the pass told it not yet, until the pass's thread may go on or the run is over. The thread may wake
-    /// earlier. No clause says that it wakes.
+    /// earlier, and first it does so soon, to look for itself. No clause says that it wakes.
     pub fn sleep(&self, rt: &impl Wait, pass: &Pass<K>) {
         if let Some(bell) = self.bells.get(pass.thread() as usize) {
             bell.sleep(rt);
         }
     }
 
-    /// Wakes these threads.
+    /// The end of a hold, once the lock is given back: its thread is told how deep its next sleep is, and others wake.
     fn ring(&self, woken: Woken) {
-        for (bell, wakes) in self.bells.iter().zip(woken) {
+        let Woken {
+            thread,
+            sleeps_deeply,
+            others,
+        } = woken;
+        if let Some(bell) = self.bells.get(thread as usize) {
+            bell.set_deep(sleeps_deeply);
+        }
+        for (bell, wakes) in self.bells.iter().zip(others) {
             if wakes {
                 bell.ring();
             }
