@@ -10,3 +10,4 @@ pub mod Walks
 pub mod Telling
 pub mod Recorded
 pub mod Traced
+pub mod NestedRuns

@@ -3,7 +3,9 @@ use Rattle.std.specs.Prelude.{ℕ, List, [], ◌∷◌, ◌++◌, Option, codes}
 use Rattle.std.specs.Io.KnownBytes.{Appends, Keeps}
 use Rattle.run_edges.specs.Edges.{AppendsFront}
 use Rattle.trace_check.specs.declared.checked.Checked.TheVariants as checked
+use Rattle.trace_format.specs.declared.trace.Trace.{Trace}
 use Rattle.trace_check.specs.Answering.{HasChecked}
+use Rattle.trace_check.specs.Nested.{Nested}
 use Rattle.trace_copy.specs.declared.copied.Copied.TheVariants as copied
 use Rattle.trace_copy.specs.declared.form.Form.{Form}
 use Rattle.trace_copy.specs.declared.form.Form.TheVariants.{Lines, SecondVersion}
@@ -12,6 +14,10 @@ use Rattle.ompt_words.specs.declared.settings.TraceCommand.{TraceCommand}
 use Rattle.ompt_words.specs.declared.settings.TraceCommand.TheVariants.{Check, Migrate, Show}
 use Rattle.ompt_cli.specs.declared.end.End.{End}
 use Rattle.ompt_cli.specs.declared.end.End.TheVariants.{Done, Returned, Shown, Read, TraceRefused, Broken, Usage, Refused, Trapped, Deadlock, Limit, ReadFault, WriteFault, Memory}
+
+-- the trace breaks no rule of the checker
+abbrev pub IsNested : Trace → Type 0
+IsNested trace = Nested trace.header trace.events trace.end
 
 -- Over what the source has left before and after, and what the output holds before and after.
 

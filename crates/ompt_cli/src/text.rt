@@ -2,7 +2,7 @@
 
 ghost use Rattle.std.specs.Prelude.{ℕ, ◌≡◌, ◌≢◌, ◌≤◌, List, IfSome, IsSomeAnd, IfOk, IfErr, IsErrAnd, length};
 ghost use Rattle.run_edges.specs.Edges.{Rose};
-ghost use Rattle.ompt_cli.specs.Text.{IsProgram, IsReadAs, IsRefused, Spells, text_for};
+ghost use Rattle.ompt_cli.specs.Text.{IsProgram, IsReadAs, IsRefused, IsSpelled, Spells, text_for};
 ghost use Rattle.tool_report.specs.Generator.{generated};
 ghost use Rattle.ompt_cli.specs.Commands.{IsBeforeRun, MayRefuse, MayRun};
 
@@ -25,6 +25,7 @@ pub(crate) fn program_for<S: Source>(
     source: &mut S,
 ) -> Result<Program, End>
     ensures program { IfOk result (λ program. IfSome (text_for command (S.left source.old)) (λ text. Spells text program)) }
+    ensures spelled { IfOk result IsSpelled }
     ensures before { IfErr result IsBeforeRun }
     ensures refused { (why : Refusal) → result ≡ Err (End.Refused why) →
         IfSome (text_for command (S.left source.old)) (IsRefused why) }
@@ -44,6 +45,7 @@ pub(crate) fn program_for<S: Source>(
 /// The program with so many generated blocks.
 fn generated_program(alloc: Global, blocks: u16) -> Result<Program, End>
     ensures program { IfOk result (Spells (generated blocks)) }
+    ensures spelled { IfOk result IsSpelled }
     ensures before { IfErr result IsBeforeRun }
     ensures refused { (why : Refusal) → result ≡ Err (End.Refused why) → IsRefused why (generated blocks) }
     ensures accepted { (why : Refusal) → IsRefused why (generated blocks) → IsErrAnd result (MayRefuse why) }
@@ -62,6 +64,7 @@ fn generated_program(alloc: Global, blocks: u16) -> Result<Program, End>
 /// Reads the text to its end. It spells the program, or the command ends for want of a program that runs.
 fn read_program_of<S: Source>(alloc: Global, source: &mut S) -> Result<Program, End>
     ensures program { IfOk result (λ program. IfSome (S.left source.old) (λ text. Spells text program)) }
+    ensures spelled { IfOk result IsSpelled }
     ensures before { IfErr result IsBeforeRun }
     ensures refused { (why : Refusal) → result ≡ Err (End.Refused why) →
         IfSome (S.left source.old) (IsRefused why) }
@@ -83,6 +86,7 @@ fn read_program_of<S: Source>(alloc: Global, source: &mut S) -> Result<Program, 
 fn program_of(alloc: Global, text: &[u8]) -> Result<Program, End>
     requires { length text.now ≤ 65536 }
     ensures program { IfOk result (Spells text.now) }
+    ensures spelled { IfOk result IsSpelled }
     ensures before { IfErr result IsBeforeRun }
     ensures refused { (why : Refusal) → result ≡ Err (End.Refused why) → IsRefused why text.now }
     ensures accepted { (why : Refusal) → IsRefused why text.now → IsErrAnd result (MayRefuse why) }

@@ -8,10 +8,9 @@ ghost use Rattle.omp_model.specs.Legal.{Legal};
 ghost use Rattle.run_edges.specs.Edges.{Rose, AppendsFront};
 ghost use Rattle.ompt_words.specs.Answers.{AreReadAs, AreWrong, AskForText};
 ghost use Rattle.ompt_words.specs.Form.{AskInForm, InForm, own_settings};
-ghost use Rattle.ompt_cli.specs.Traces.{HasRead};
+ghost use Rattle.ompt_cli.specs.Traces.{HasRead, IsNested};
 ghost use Rattle.ompt_cli.specs.Words.{AskFor, AskForRun, AskToRead, texts};
 ghost use Rattle.run_trace.specs.TraceOf.{trace_of};
-ghost use Rattle.trace_check.specs.Nested.{Nested};
 ghost use Rattle.trace_check.specs.declared.breach.Breach.{Breach};
 ghost use Rattle.trace_format.specs.Validity.{IsTrace, Writes};
 ghost use Rattle.trace_format.specs.declared.refusal.Refusal.{Refusal as TraceRefusal};
@@ -91,7 +90,7 @@ pub fn top<R: Threads + Wait + Sync, S: Source, O: Sink, E: Sink>(
     ensures unrefused { IfSome result.read (λ command. (trace : Trace) → IsSomeAnd (S.left source.old) (Writes trace) → (refusal : TraceRefusal) →
         result.end ≢ End.TraceRefused refusal) }
     ensures unbroken { IfSome result.read (λ command. (trace : Trace) → IsSomeAnd (S.left source.old) (Writes trace) →
-        Nested trace.header trace.events trace.end → (breach : Breach) → result.end ≢ End.Broken breach) }
+        IsNested trace → (breach : Breach) → result.end ≢ End.Broken breach) }
     ensures migrated { result.read ≡ Some TraceCommand.Migrate → result.end ≢ End.Memory }
 
     // A text is refused for what it is: what the source has left, or the program that is generated.
@@ -166,6 +165,9 @@ pub fn top<R: Threads + Wait + Sync, S: Source, O: Sink, E: Sink>(
     ensures kept { IsNone result.read → result.end ≡ End.Memory → Keeps (O.held out.old) (O.held out.new) }
     ensures traced { result.end ≢ End.WriteFault → result.end ≢ End.Memory → IfSome result.ran (λ report. report.command ≡ Command.Record →
         IsTrace (trace_of (run_of report) report.cause report.history)) }
+    // It breaks no rule of the checker.
+    ensures nested { result.end ≢ End.WriteFault → result.end ≢ End.Memory → IfSome result.ran (λ report. report.command ≡ Command.Record →
+        IsNested (trace_of (run_of report) report.cause report.history)) }
 {
     let settings = match request_of(alloc, words) {
         Ok(Request::Run(settings)) => settings,

@@ -1,11 +1,16 @@
 use Rattle.std.proofs.Common.{IfSome, IsSomeAnd, ap, inl, inr, subst, sym, ◌∙◌}
+use Rattle.c_syntax.specs.language.Numbered.{TreeView}
+use Rattle.ompt_words.specs.Answers.{AreReadAs}
 use Rattle.ompt_words.specs.declared.settings.Command.{Command}
+use Rattle.ompt_words.specs.declared.settings.Command.TheVariants.{Run as Running}
 use Rattle.ompt_words.specs.declared.settings.Settings.{Settings}
 use Rattle.ompt_cli.specs.Job.{JobView}
 use Rattle.ompt_cli.specs.Commands.{IsAfterRun, run_of, settings_in}
-use Rattle.ompt_cli.specs.Text.{IsRefused, Spells, text_for}
+use Rattle.ompt_cli.specs.Text.{IsRefused, IsSpelled, Spells, text_for}
 use Rattle.ompt_cli.proofs.Finishing.{finished}
-use Rattle.ompt_cli.proofs.Telling.{after-may, asked-settings, ends-done, ends-found, ends-limit, ends-returned, ends-stuck, ends-trapped, is-none, err-end, lost-read, lost-write, none-if, not-reading, not-running, not-shown, not-usage, ok-not-refused, read-as, same-settings, settings-as, spells-as, where_some, where_when}
+use Rattle.ompt_cli.proofs.NestedRuns.{nested-run}
+use Rattle.ompt_cli.proofs.Recorded.{ends-found}
+use Rattle.ompt_cli.proofs.Telling.{after-may, asked-settings, ends-done, ends-found, ends-limit, ends-returned, ends-stuck, ends-trapped, is-none, err-end, lost-read, lost-write, none-if, not-reading, not-running, not-shown, not-usage, ok-not-refused, read-as, same-settings, settings-as, spells-as, where_both, where_some, where_when}
 use Rattle.ompt_cli.proofs.Traced.{trace_unbroken, trace_unrefused}
 use Rattle.ompt_cli.specs.declared.end.End.TheVariants.{ReadFault}
 use Rattle.ompt_cli.proofs.top_call.top.Goals as goal
@@ -211,3 +216,15 @@ returns-in-Ok-Read-clause-unbroken g c =
 pub returns-in-Err-clause-unread : goal.returns-in-Err-clause-unread
 returns-in-Err-clause-unread g c =
     rw (c.tell-in-Err.ensures.end, c.without_run-in-Err.ensures) (lost-read c.in-Err.end _ _ (λ other. c.program_for.ensures.steady (λ wrong. other (err-end c.program_for.result c.in-Err.end ReadFault c.in-Err.is wrong))))
+
+pub returns-clause-nested : goal.returns-clause-nested
+returns-clause-nested g c =
+    rw (c.tell-2.ensures.end, c.tell-2.ensures.ran)
+    (λ whole memory. where_both c.run_command.result.ran c.run_command.ensures.ended c.run_command.ensures.report (λ report ends r recorded.
+    let found = ends-found report.cause c.run_command.result.end ends memory in
+    let read = subst (AreReadAs _) c.in-Ok-Run.field-0-is c.in-Ok-Run.ensures.read in
+    let threads = r.observes.threads_are ∙ ap (λ (job : JobView). job.threads) c.new-job.ensures in
+    let program = r.observes.program_is ∙ ap (λ (job : JobView). job.program) c.new-job.ensures in
+    let mask = (r.stays (λ (is : _ ≡ Running). let same = sym recorded ∙ (r.observes.command_is ∙ is) in cc)).mask_is in
+    nested-run (run_of report) report.history report.cause (subst (λ (n : ℕ). 1 ≤ n) (sym threads) read.some_threads) (subst (λ (n : ℕ). n ≤ 16) (sym threads) read.few_threads) mask
+    (subst (λ (view : TreeView). IsSpelled view) (sym program) c.in-Ok.ensures.spelled) r.observes.legal (r.observes.ends found) (r.observes.outside found)))
