@@ -1,0 +1,6 @@
+//! Slots.
+#![tactic(auto)]
+
+mod laws;
+
+pub use laws::copies_are_in_scope;
