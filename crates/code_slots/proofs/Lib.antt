@@ -6,3 +6,6 @@ pub mod Parts
 pub mod EntrySlots
 pub mod Outcomes
 pub mod Blocks
+pub mod Calls
+pub mod Steps
+pub mod Tasks

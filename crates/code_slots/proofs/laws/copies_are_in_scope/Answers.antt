@@ -1,8 +1,6 @@
--- The copies of a task are in scope.
+-- What a task copies by rule is in scope.
 use Rattle.code_slots.proofs.laws.copies_are_in_scope.Goals as goal
-use Rattle.code_slots.proofs.Parts.{never}
-use Rattle.code_slots.proofs.Outcomes.{keeps_bound}
-use Rattle.code_slots.proofs.Blocks.{block_slotted}
+use Rattle.code_slots.proofs.Tasks.{copies_in_scope}
 
 pub returns : goal.returns
-returns c = λ program task own is. ?
+returns c = copies_in_scope
