@@ -9,3 +9,4 @@ pub mod Blocks
 pub mod Calls
 pub mod Steps
 pub mod Tasks
+pub mod Files
