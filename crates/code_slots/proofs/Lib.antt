@@ -10,3 +10,4 @@ pub mod Calls
 pub mod Steps
 pub mod Tasks
 pub mod Files
+pub mod ProductionPlaces
