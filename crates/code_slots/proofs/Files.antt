@@ -62,7 +62,7 @@ has-all program [] tree there = absurd (omega (arith, there.1))
 has-all program (first ∷ trees) tree there =
     elim (contains_case first tree trees there) [
       | inl here ↦ subst (λ (tree : Tree). Contains (slot_of_name program first ∷ map (slot_of_name program) trees) (slot_of_name program tree)) here
-            (Contains-append_left (slot_of_name program first ∷ []) (map (slot_of_name program) trees) (slot_of_name program first) (Contains-push [] (slot_of_name program first)))
+          (Contains-append_left (slot_of_name program first ∷ []) (map (slot_of_name program) trees) (slot_of_name program first) (Contains-push [] (slot_of_name program first)))
       | inr behind ↦ Contains-append_right (slot_of_name program first ∷ []) (map (slot_of_name program) trees) (slot_of_name program tree) (has-all program trees tree behind)
     ]
 
@@ -150,13 +150,13 @@ module _ (program : TreeView) (own : HasOwnPlaces program) (checked : Checked pr
   function-behind slots name spot gives count inner more adds stands =
       stands_behind program slots slots (Begin name spot gives count ∷ inner ++ End ∷ []) more
       (λ before behind are covered.
-          let here = here_after program before in
-          let scope = with_next here.names name (thing.Function gives count) in
-          let begun = after here (Begin name spot gives count) in
-          let below = function-below here name gives count (is_below program before) in
-          let one = adds.adds begun (begun_is_below scope below) in
-          subst (λ (new : Here). Cover slots new.names.visible) (sym (after_both begun inner (End ∷ [])))
-          (subst (λ (visible : List Declared). Cover slots visible) (sym (scope_is_dropped false scope (after_all begun inner).names below one)) (function-covered slots here name gives count covered)))
+      let here = here_after program before in
+      let scope = with_next here.names name (thing.Function gives count) in
+      let begun = after here (Begin name spot gives count) in
+      let below = function-below here name gives count (is_below program before) in
+      let one = adds.adds begun (begun_is_below scope below) in
+      subst (λ (new : Here). Cover slots new.names.visible) (sym (after_both begun inner (End ∷ [])))
+      (subst (λ (visible : List Declared). Cover slots visible) (sym (scope_is_dropped false scope (after_all begun inner).names below one)) (function-covered slots here name gives count covered)))
       stands
 
   right-main : (before behind : List Act) (name : ℕ) (spot : Spot) (gives : Returns) (count : ℕ) → acts_of program ≡ before ++ Begin name spot gives count ∷ behind → name ≡ program.main → count ≡ 0

@@ -11,3 +11,4 @@ pub mod Steps
 pub mod Tasks
 pub mod Files
 pub mod ProductionPlaces
+pub mod Comes

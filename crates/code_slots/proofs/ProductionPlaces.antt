@@ -377,9 +377,17 @@ module _ (place : Spot) where
       let least : told place (enter ∷ []) ≤ word_at place word = omega (arith, there place word full, sum_by-cons (placed_at place) enter []) in
       record {
         fits = omega (
-          arith, before.fits, none, also, within.fits, least,
-          sum_by-append (placed_at place) (((outside ++ enter ∷ inside) ++ odd) ++ inner) (Leave ∷ []), sum_by-append (placed_at place) ((outside ++ enter ∷ inside) ++ odd) inner,
-          sum_by-append (placed_at place) (outside ++ enter ∷ inside) odd, sum_by-append (placed_at place) outside (enter ∷ inside), sum_by-append (placed_at place) (enter ∷ []) inside,
+          arith,
+          before.fits,
+          none,
+          also,
+          within.fits,
+          least,
+          sum_by-append (placed_at place) (((outside ++ enter ∷ inside) ++ odd) ++ inner) (Leave ∷ []),
+          sum_by-append (placed_at place) ((outside ++ enter ∷ inside) ++ odd) inner,
+          sum_by-append (placed_at place) (outside ++ enter ∷ inside) odd,
+          sum_by-append (placed_at place) outside (enter ∷ inside),
+          sum_by-append (placed_at place) (enter ∷ []) inside,
         );
       }
 

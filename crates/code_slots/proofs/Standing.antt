@@ -76,8 +76,8 @@ module _ (program : TreeView) where
   stands_next slots some more adds stands =
       stands_behind slots slots some more
       (λ before behind are covered.
-          let added = adds.adds (here_after program before) (is_below program before) in
-          same-visible slots added.added (here_after program before).names.visible (after_all (here_after program before) some).names.visible (added.none refl) added.visible covered)
+      let added = adds.adds (here_after program before) (is_below program before) in
+      same-visible slots added.added (here_after program before).names.visible (after_all (here_after program before) some).names.visible (added.none refl) added.visible covered)
       stands
 
   -- a scope begins
@@ -93,11 +93,11 @@ module _ (program : TreeView) where
       let slot : ℕ = unwrap_or (slot_at program spot) 0 in
       stands_behind slots (slots ++ slot ∷ []) (Declare name spot what ∷ []) more
       (λ before behind are covered.
-          let here = here_after program before in
-          let is : slot ≡ length here.names.all = ap (λ (found : Option ℕ). unwrap_or found 0) (declared_slot program own before behind name spot what are) in
-          All-cons (λ (it : Declared). IsTrue (is_variable it.thing) → Contains (slots ++ slot ∷ []) it.slot) (next_of here.names name what) here.names.visible
-          (λ variable. subst (λ (other : ℕ). Contains (slots ++ slot ∷ []) other) is (Contains-push slots slot))
-          (cover_wider slots (slots ++ slot ∷ []) here.names.visible (part_left slots (slot ∷ [])) covered))
+      let here = here_after program before in
+      let is : slot ≡ length here.names.all = ap (λ (found : Option ℕ). unwrap_or found 0) (declared_slot program own before behind name spot what are) in
+      All-cons (λ (it : Declared). IsTrue (is_variable it.thing) → Contains (slots ++ slot ∷ []) it.slot) (next_of here.names name what) here.names.visible
+      (λ variable. subst (λ (other : ℕ). Contains (slots ++ slot ∷ []) other) is (Contains-push slots slot))
+      (cover_wider slots (slots ++ slot ∷ []) here.names.visible (part_left slots (slot ∷ [])) covered))
       stands
 
   -- a task begins

@@ -83,7 +83,6 @@ module _ (place : Spot) (first : ℕ) (Q : Head → Type 0) (P : TaskCopy → Ty
     (enters : (head : Head) → is_same_spot head.spot place ≡ false → Q head)
     (declares : (it : Declared) → first ≤ it.slot → S it)
     (copied : (it : Declared) (head : Head) → S it → Q head → nat_le head.first it.slot ≡ false → IsTrue (is_variable it.thing) → P (record { task = head.spot; slot = it.slot })) where
-
   record Holds (here : Here) : Type 0 where
     enough : first ≤ length here.names.all
     seen : All S here.names.visible

@@ -1,7 +1,7 @@
 //! What follows from the definitions alone: each law is the contract of a function with an empty body.
 
-ghost use Rattle.std.specs.Prelude.{◌≡◌, ◌≤◌, ℕ, Bool, length};
-ghost use Rattle.c_syntax.specs.Numbered.{TreeView};
+ghost use Rattle.std.specs.Prelude.{◌≡◌, ◌≤◌, ℕ, Bool, List, length};
+ghost use Rattle.c_syntax.specs.Numbered.{TreeView, root_tree};
 ghost use Rattle.c_syntax.specs.Tree.{Tree as Part};
 ghost use Rattle.c_check.specs.Checked.{Checked};
 ghost use Rattle.c_model.specs.declared.view.View.{View as Seen};
@@ -16,8 +16,15 @@ ghost use Rattle.c_model.specs.Step.{settled_task, silent};
 ghost use Rattle.c_model.specs.Formed.{IsProgramFormed};
 ghost use Rattle.c_model.specs.Scoped.{IsScoped, IsWellScoped};
 ghost use Rattle.c_model.specs.Made.{AreCopiesInScope, IsTaskMade};
+ghost use Rattle.c_grammar.specs.Texts.{IsTreeOf};
+ghost use Rattle.code_slots.specs.Coming.{ComesTo, IsWhole};
 ghost use Rattle.code_slots.specs.OwnPlaces.{HasOwnPlaces};
 ghost use Rattle.code_slots.specs.Slotted.{IsSlotted, IsWellSlotted};
+
+/// In a text no two of the names that are declared or used and of the constructs stand at one place.
+pub fn each_name_and_construct_has_its_own_place()
+    ensures { (text : List ℕ) (program : TreeView) → IsTreeOf text (root_tree program) → HasOwnPlaces program }
+{}
 
 /// In a task's scope are the slots that the checker gives to the variables in scope where the task's code stands, now and in functions that go on
 /// behind a call. The functions of a program that breaks no rule begin so, and so does main. It stays so in each silent step, behind each answer and
@@ -51,4 +58,11 @@ pub fn each_cell_of_an_explicit_task_was_made()
         IsTaskMade program (length now.store.cells) now.task → silent program view now ≡ Occurs (TaskCreate codeptr undeferred) tree →
         (IsTaskMade program (length (explicit_task program view now).store.cells) (explicit_task program view now).task) ×
         (length now.store.cells ≤ length (explicit_task program view now).store.cells) }
+{}
+
+/// Whatever a task of a text that breaks no rule comes to, all that it uses is there: no step of it meets a name that isn't in scope, a function that
+/// there isn't, or a cell that wasn't made. So it is for main, for each member of a team and for each explicit task, from where it begins.
+pub fn all_that_a_task_uses_is_there()
+    ensures { (text : List ℕ) (program : TreeView) (now : Moment) → IsTreeOf text (root_tree program) → Checked program → ComesTo program now →
+        IsWhole program now }
 {}

@@ -1,7 +1,6 @@
 -- What a task copies by rule is in scope.
 use Rattle.code_slots.proofs.laws.copies_are_in_scope.Goals as goal
 use Rattle.code_slots.proofs.Tasks.{copies_in_scope}
-use Rattle.code_slots.proofs.ProductionPlaces.{texts_have_own_places}
 
 pub returns : goal.returns
 returns c = copies_in_scope
