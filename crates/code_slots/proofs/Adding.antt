@@ -1,7 +1,7 @@
 -- What a part of a function does to the declarations in scope: it adds those that it makes in the scope in which it stands, and a statement adds none.
-use Rattle.std.specs.Prelude.{ℕ, ◌+◌, ◌-◌, ◌≤◌, ◌≡◌, ◌&&◌, nat_le, not, if◌then◌else◌, Bool, true, false, IsTrue, List, [], ◌∷◌, ◌++◌, Option, Some, None, refl}
+use Rattle.std.specs.Prelude.{ℕ, ◌+◌, ◌≤◌, ◌≡◌, ◌&&◌, nat_le, not, if◌then◌else◌, Bool, true, false, IsTrue, List, [], ◌∷◌, ◌++◌, Option, Some, None, refl}
 use Rattle.std.specs.List.{All}
-use Rattle.std.proofs.Common.{arith, ap, sym, ◌∙◌, append_assoc, subst, inl, inr}
+use Rattle.std.proofs.Common.{arith, ap, sym, ◌∙◌, append_assoc, subst}
 use Rattle.std.proofs.lemmas.Bool.Decides.{nat_tests}
 use Rattle.std.proofs.lemmas.List.Elements.{All-append, All-cons, All-head, All-nil, All-tail, All-weaker}
 use Rattle.c_tokens.specs.declared.token.Spot.{Spot}
@@ -12,7 +12,7 @@ use Rattle.c_syntax.specs.Tree.{Tree, Children, kind_of, name_of, spot_of}
 use Rattle.c_syntax.specs.Tree.Tree.{Node}
 use Rattle.c_syntax.specs.Tree.Children.{Over, Child, Absent}
 use Rattle.c_check.specs.declared.acts.act.Act.{Act}
-use Rattle.c_check.specs.declared.acts.act.Act.TheVariants.{Open, Close, Begin, End, Declare, OddLoop, Use}
+use Rattle.c_check.specs.declared.acts.act.Act.TheVariants.{Open, Close, Declare, OddLoop, Use}
 use Rattle.c_check.specs.declared.acts.act.DataClause.{DataClause}
 use Rattle.c_check.specs.declared.acts.act.Usage.{Usage}
 use Rattle.c_check.specs.declared.acts.act.Usage.TheVariants as usage

@@ -1,5 +1,5 @@
 -- What stands next, form by form: a block's declarators and statements, iterations, a construct's work.
-use Rattle.std.specs.Prelude.{ℕ, ◌≡◌, ◌||◌, not, nat_lt, if◌then◌else◌, Bool, true, false, IsTrue, List, [], ◌∷◌, ◌++◌, length, map, take, ℤ, refl}
+use Rattle.std.specs.Prelude.{ℕ, ◌≡◌, ◌||◌, not, nat_lt, if◌then◌else◌, Bool, true, false, IsTrue, List, [], ◌∷◌, ◌++◌, length, take, ℤ, refl}
 use Rattle.std.proofs.Common.{ap, sym, ◌∙◌, append-nil, append_assoc, subst}
 use Rattle.std.proofs.lemmas.List.{map-append, take_at}
 use Rattle.c_syntax.specs.declared.node.NodeKind.{NodeKind}
@@ -24,7 +24,7 @@ use Rattle.c_model.specs.Clauses.{Copying, Listed}
 use Rattle.c_model.specs.Clauses.Copying.{Private, First, Reduced}
 use Rattle.c_model.specs.Constructs.{iterations_from}
 use Rattle.c_model.specs.Copies.{combines, combining_all, combining_of, has_own_cells, is_empty, is_loop, listed_variables, makes_cells}
-use Rattle.c_model.specs.Formed.{AreFormed, AreInRow, IsFormed, is_local, is_part, is_quiet}
+use Rattle.c_model.specs.Formed.{AreFormed, AreInRow, IsFormed, is_local, is_part}
 use Rattle.c_model.specs.Loops.{is_declared, loop_of}
 use Rattle.c_model.specs.Task.{Item, SharedLoop, is_declarator, item_of_part, items_of_parts}
 use Rattle.c_model.specs.Task.Item.{Start, Declare, Leave, Iterations, MakeCells, NextChunk}

@@ -1,11 +1,13 @@
 -- Whatever a task of a text that breaks no rule comes to, all that it uses is there.
-use Rattle.std.specs.Prelude.{ℕ, List}
+use Rattle.std.specs.Prelude.{ℕ, List, length}
 use Rattle.c_syntax.specs.Numbered.{TreeView, root_tree}
 use Rattle.c_syntax.specs.Words.{words_of}
 use Rattle.c_syntax.specs.Derivation.{depth_limit}
 use Rattle.c_check.specs.Checked.{Checked}
 use Rattle.c_model.specs.Formed.{IsProgramFormed}
-use Rattle.c_model.specs.Scoped.{IsWellScoped}
+use Rattle.c_model.specs.Made.{IsTaskMade}
+use Rattle.c_model.specs.Scoped.{IsScoped, IsWellScoped}
+use Rattle.c_model.specs.Step.{settled_task}
 use Rattle.c_model.specs.Task.{Moment}
 use Rattle.c_model.proofs.GrammarTrees.{spelled_is_formed}
 use Rattle.c_model.proofs.MadeCells.{task_more}
@@ -15,13 +17,19 @@ use Rattle.c_model.proofs.ScopeTasks.{answer_is_scoped, event_is_scoped, explici
 use Rattle.c_grammar.specs.Texts.{IsTreeOf}
 use Rattle.c_grammar.proofs.ProgramWords.{program_derives}
 use Rattle.code_slots.specs.Coming.{ComesTo, IsWhole}
-use Rattle.code_slots.specs.Slotted.{IsWellSlotted}
+use Rattle.code_slots.specs.Slotted.{IsSlotted, IsWellSlotted}
 use Rattle.code_slots.proofs.Files.{well_slotted}
 use Rattle.code_slots.proofs.ProductionPlaces.{texts_have_own_places}
 use Rattle.code_slots.proofs.Tasks.{answer_is_slotted, copies_in_scope, event_is_slotted, explicit_is_slotted, main_is_slotted, member_is_slotted, settled_is_slotted, step_is_slotted}
 
+-- all that is so but for the copies, which follow from it
+record HasAll (program : TreeView) (now : Moment) : Type 0 where
+  scoped : IsScoped program now.task
+  slotted : IsSlotted program now.task
+  made : IsTaskMade program (length now.store.cells) now.task
+
 module _ (program : TreeView) (well : IsWellScoped program) (places : IsWellSlotted program) where
-  whole : {now : Moment} → ComesTo program now → IsWhole program now
+  whole : {now : Moment} → ComesTo program now → HasAll program now
   whole ComesTo.begins = record { scoped = main_is_scoped program well; slotted = main_is_slotted program places; made = main_is_made program well }
   whole (ComesTo.waits {now = now} comes store more) =
       let is = whole comes in
@@ -62,4 +70,11 @@ pub text_is_whole : (text : List ℕ) (program : TreeView) (now : Moment) → Is
 text_is_whole text program now is checked comes =
     let words = words_of text is.tokens in
     let formed : IsProgramFormed program = spelled_is_formed words program (program_derives depth_limit words (root_tree program) is.spelled) in
-    whole program (well_scoped program checked formed) (well_slotted program (texts_have_own_places text program is) checked formed) comes
+    let places = well_slotted program (texts_have_own_places text program is) checked formed in
+    let has = whole program (well_scoped program checked formed) places comes in
+    record {
+      scoped = has.scoped;
+      slotted = has.slotted;
+      made = has.made;
+      copied = λ view. copies_in_scope program (settled_task view now.task) places (settled_is_slotted program view now.task has.slotted);
+    }

@@ -1,10 +1,10 @@
 -- In a program that breaks no rule the slots of the file and of a function's parameters are those in scope where the function's block stands.
-use Rattle.std.specs.Prelude.{ℕ, ◌+◌, ◌-◌, ◌≤◌, ◌<◌, ◌≡◌, ◌&&◌, ◌==◌, nat_eq, nat_lt, if◌then◌else◌, Bool, true, false, IsTrue, List, [], ◌∷◌, ◌++◌, length, map, unwrap_or, refl}
+use Rattle.std.specs.Prelude.{ℕ, ◌≤◌, ◌≡◌, ◌&&◌, ◌==◌, nat_eq, nat_lt, if◌then◌else◌, Bool, true, false, IsTrue, List, [], ◌∷◌, ◌++◌, map, unwrap_or, refl}
 use Rattle.std.specs.List.{All, Contains, IsAmong}
 use Rattle.std.proofs.Common.{arith, ap, sym, ◌∙◌, append-nil, append_assoc, inl, inr, subst}
 use Rattle.std.proofs.lemmas.Bool.{eqb-true}
 use Rattle.std.proofs.lemmas.Bool.Decides.{nat_tests}
-use Rattle.std.proofs.lemmas.List.Elements.{All-cons, All-head, All-nil, All-tail, All-weaker, Contains-append_left, Contains-append_right, Contains-push, Contains-push_cases}
+use Rattle.std.proofs.lemmas.List.Elements.{All-cons, All-head, All-nil, All-tail, Contains-append_left, Contains-append_right, Contains-push, Contains-push_cases}
 use Rattle.c_tokens.specs.declared.token.Spot.{Spot}
 use Rattle.c_syntax.specs.declared.node.Returns.{Returns}
 use Rattle.c_syntax.specs.declared.node.Returns.TheVariants as returns
@@ -24,22 +24,22 @@ use Rattle.c_check.specs.declared.fault.CheckFault.TheVariants as fault
 use Rattle.c_check.specs.declared.scopes.declared.Declared.{Declared}
 use Rattle.c_check.specs.Acts.{acts, each, function}
 use Rattle.c_check.specs.Checked.{Checked, acts_of, after_all, here_after}
-use Rattle.c_check.specs.Declarations.{Declarations, next_of, scope_begun, with_next}
+use Rattle.c_check.specs.Declarations.{next_of, with_next}
 use Rattle.c_check.specs.Here.{Here, after, before_all, is_variable}
 use Rattle.c_check.specs.Loops.{child_at}
 use Rattle.c_check.specs.NameLists.{child_count, names}
 use Rattle.c_check.specs.Rules.{is_odd_main, where_so, wrong_uses}
 use Rattle.c_check.specs.Seen.{slot_at, slot_of_name}
-use Rattle.c_model.specs.Parts.{declarators_in, flat_declarations, parts, trees_in}
-use Rattle.c_model.specs.Program.{body_of, file_variables, function_among, function_named, is_function, is_function_named, is_of_variables, parameters_of, variables_among}
+use Rattle.c_model.specs.Parts.{flat_declarations, parts, trees_in}
+use Rattle.c_model.specs.Program.{body_of, file_variables, function_among, is_function, is_function_named, parameters_of, variables_among}
 use Rattle.c_model.specs.Loops.{is_declared}
-use Rattle.c_model.specs.Formed.{AreFormed, AreInRow, HasChild, IsFormed, IsOver, IsProgramFormed, is_block, is_file_part, is_global, is_params, is_part}
+use Rattle.c_model.specs.Formed.{AreFormed, AreInRow, HasChild, IsFormed, IsOver, IsProgramFormed, is_block, is_file_part, is_global, is_params}
 use Rattle.c_model.proofs.ScopeActs.{after_both, unplaced}
 use Rattle.c_model.proofs.ScopeNames.{contains_case}
 use Rattle.code_slots.specs.OwnPlaces.{HasOwnPlaces}
 use Rattle.code_slots.specs.Slotted.{Cover, IsPlaced, IsWellSlotted, StandsIn, file_slots}
 use Rattle.code_slots.proofs.ActPlaces.{IsBelow, is_below, main_same}
-use Rattle.code_slots.proofs.Adding.{Added, Adds, added_below, adds_both, begun_is_below, items_add, names_add, scope_is_dropped}
+use Rattle.code_slots.proofs.Adding.{Adds, adds_both, begun_is_below, items_add, names_add, scope_is_dropped}
 use Rattle.code_slots.proofs.EntrySlots.{declared_slots}
 use Rattle.code_slots.proofs.Parts.{never}
 use Rattle.code_slots.proofs.Standing.{nothing_placed, stands_behind, stands_declared, stands_first, stands_wider}

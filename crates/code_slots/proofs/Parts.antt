@@ -1,15 +1,15 @@
 -- What the parts of a statement stand in.
-use Rattle.std.specs.Prelude.{ℕ, zero, suc, ◌≡◌, ◌&&◌, not, if◌then◌else◌, Bool, true, false, IsTrue, List, [], ◌∷◌, ◌++◌, map, Option, Some, None, slice_index_or, unwrap_or, refl, ℤ}
+use Rattle.std.specs.Prelude.{ℕ, zero, suc, ◌≡◌, if◌then◌else◌, Bool, true, false, IsTrue, List, [], ◌∷◌, ◌++◌, map, Option, Some, None, slice_index_or, unwrap_or, refl, ℤ}
 use Rattle.std.specs.List.{All, Contains}
-use Rattle.std.proofs.Common.{arith, ap, sym, ◌∙◌, append_assoc, append-nil, subst, inl, inr}
-use Rattle.std.proofs.lemmas.List.Elements.{All-nil, Contains-append_left, Contains-append_right, Contains-push, Contains-append_cases, Contains-push_cases}
+use Rattle.std.proofs.Common.{arith, sym, append_assoc, append-nil, subst, inl, inr}
+use Rattle.std.proofs.lemmas.List.Elements.{All-nil, Contains-append_left, Contains-append_right, Contains-append_cases, Contains-push_cases}
 use Rattle.c_tokens.specs.declared.token.Spot.{Spot}
 use Rattle.c_syntax.specs.declared.node.BinaryOp.{BinaryOp}
 use Rattle.c_syntax.specs.declared.node.Directive.{Directive}
 use Rattle.c_syntax.specs.declared.node.Directive.TheVariants as directive
 use Rattle.c_syntax.specs.declared.node.NodeKind.{NodeKind}
 use Rattle.c_syntax.specs.declared.node.NodeKind.TheVariants as node
-use Rattle.c_syntax.specs.Tree.{Tree, Children, at_place, child_of, children_of, kind_of, name_of, spot_of}
+use Rattle.c_syntax.specs.Tree.{Tree, Children, at_place, child_of, kind_of, name_of, spot_of}
 use Rattle.c_syntax.specs.Tree.Tree.{Node}
 use Rattle.c_syntax.specs.Tree.Children.{Over, Child, Absent}
 use Rattle.c_syntax.specs.Numbered.{TreeView}
@@ -28,17 +28,16 @@ use Rattle.c_check.specs.Statements.{is_head, looped, name_of_critical, odd_loop
 use Rattle.c_check.specs.Checked.{end_of}
 use Rattle.c_check.specs.Seen.{copies_of_task, slot_of_name, task_copies}
 use Rattle.c_model.specs.Clauses.{construct_statement, section_statement, sections_of, statements_among}
-use Rattle.c_model.specs.Copies.{is_loop}
 use Rattle.c_model.specs.Formed.{AreFormed, AreInRow, HasChild, HasPart, IsFormed, IsOver, is_construct_part, is_first_part, is_quiet}
-use Rattle.c_model.specs.Loops.{declares_variable, is_declared, loop_of, no_loop}
+use Rattle.c_model.specs.Loops.{is_declared, loop_of, no_loop}
 use Rattle.c_model.specs.Parts.{has_child, trees_in}
 use Rattle.c_model.proofs.ScopeChecked.{if_quiet}
 use Rattle.c_model.proofs.ScopeLoops.{one_quiet, two_quiet}
 use Rattle.c_model.proofs.ScopeTrees.{IsPart}
 use Rattle.code_slots.specs.OwnPlaces.{HasOwnPlaces}
-use Rattle.code_slots.specs.Slotted.{HasLoopSlot, IsPlaced, StandsIn, told_by}
-use Rattle.code_slots.proofs.Adding.{Adds, adds_both, adds_less, adds_nothing, adds_silent, inside_quiet, looped_quiet, odd_quiet, outside_add, quiet_adds, IsSilent}
-use Rattle.code_slots.proofs.Standing.{enter_covers, nothing_placed, part_left, placed, placed_wider, stands_behind, stands_declared, stands_first, stands_next, stands_open}
+use Rattle.code_slots.specs.Slotted.{HasLoopSlot, IsPlaced, StandsIn}
+use Rattle.code_slots.proofs.Adding.{Adds, adds_both, adds_nothing, adds_silent, inside_quiet, looped_quiet, odd_quiet, outside_add, quiet_adds, IsSilent}
+use Rattle.code_slots.proofs.Standing.{enter_covers, nothing_placed, part_left, placed, placed_wider, stands_declared, stands_first, stands_next, stands_open}
 use Rattle.code_slots.proofs.TaskCopies.{copied_slots_covered}
 
 pub never : {A : Type 0} → IsTrue false → A

@@ -1,11 +1,10 @@
 -- No more names and constructs stand at a place than words, so in a text no two of them do.
-use Rattle.std.specs.Prelude.{ℕ, ◌+◌, ◌≤◌, ◌≡◌, ◌&&◌, nat_eq, not, if◌then◌else◌, Bool, true, false, IsTrue, List, [], ◌∷◌, ◌++◌, Option, Some, None, All, sum_by, refl}
-use Rattle.std.proofs.Common.{arith, ap, sym, ◌∙◌, append_assoc, subst, ◌≢◌}
+use Rattle.std.specs.Prelude.{ℕ, ◌+◌, ◌≤◌, ◌≡◌, ◌&&◌, nat_eq, not, if◌then◌else◌, Bool, true, false, IsTrue, List, [], ◌∷◌, ◌++◌, Option, All, sum_by, refl}
+use Rattle.std.proofs.Common.{arith, ap, sym, ◌∙◌, subst, ◌≢◌}
 use Rattle.std.proofs.lemmas.Bool.{and_parts, eqb-true}
 use Rattle.std.proofs.lemmas.List.Elements.{All-head, All-tail, All-weaker}
 use Rattle.std.proofs.lemmas.List.Sums.{sum_by-append, sum_by-cons}
 use Rattle.c_tokens.specs.declared.token.Spot.{Spot}
-use Rattle.c_syntax.specs.declared.term.Term.{Term}
 use Rattle.c_syntax.specs.declared.term.Term.TheVariants as term
 use Rattle.c_syntax.specs.declared.head.Head.{Head}
 use Rattle.c_syntax.specs.declared.head.Head.TheVariants as head
@@ -20,10 +19,9 @@ use Rattle.c_syntax.specs.Words.{Word, words_of}
 use Rattle.c_syntax.specs.Tree.{Tree, Children, children_of, kind_of, name_of, spot_of}
 use Rattle.c_syntax.specs.Tree.Tree.{Node}
 use Rattle.c_syntax.specs.Tree.Children.{Over, Child, Absent}
-use Rattle.c_syntax.specs.Derivation.{depth_limit}
 use Rattle.c_syntax.proofs.WordSpots.{HaveOwnSpots, has_bytes, name_at-bytes, words-own}
 use Rattle.c_check.specs.declared.acts.act.Act.{Act}
-use Rattle.c_check.specs.declared.acts.act.Act.TheVariants.{Open, Close, Begin, End, Declare, Use, Enter, Finish, Leave, OddLoop}
+use Rattle.c_check.specs.declared.acts.act.Act.TheVariants.{Open, Close, Begin, End, Enter, Finish, Leave, OddLoop}
 use Rattle.c_check.specs.declared.acts.act.DataClause.{DataClause}
 use Rattle.c_check.specs.declared.acts.act.Usage.{Usage}
 use Rattle.c_check.specs.declared.acts.act.Usage.TheVariants as usage
@@ -38,7 +36,7 @@ use Rattle.c_check.specs.Loops.{has_form}
 use Rattle.c_check.specs.NameLists.{child_count, named, names}
 use Rattle.c_check.specs.Statements.{is_head, looped, name_of_critical, odd_loop, shares_loop, statement_of, statement_role}
 use Rattle.c_check.specs.Usages.{assigned}
-use Rattle.c_grammar.specs.Productions.{ArgumentsPart, Block, Call, Chunk, Clause, Clauses, ConditionPart, Construct, DirectiveOf, DirectiveWords, FileParts, FirstPart, Function, IndexPart, Is, IsName, IsProgram, Items, Local, Locals, Lock, Locks, MoreArguments, MoreLocals, MoreNames, MoreParameters, MoreSections, MoreVariables, Names, Operand, Parameters, Place, Ranked, Section, Sections, Size, Statement, StepOf, StepPart, Value, Variable, Variables, kids, maybe}
+use Rattle.c_grammar.specs.Productions.{ArgumentsPart, Block, Call, Chunk, Clause, Clauses, ConditionPart, Construct, DirectiveOf, DirectiveWords, FileParts, FirstPart, Function, IndexPart, Is, IsProgram, Items, Local, Locals, Lock, Locks, MoreArguments, MoreLocals, MoreNames, MoreParameters, MoreSections, MoreVariables, Names, Operand, Parameters, Place, Ranked, Section, Sections, Size, Statement, StepOf, StepPart, Value, Variable, Variables, kids, maybe}
 use Rattle.c_grammar.specs.Texts.{IsTreeOf}
 use Rattle.code_slots.specs.OwnPlaces.{HasOwnPlaces, one_if_same, placed_at}
 

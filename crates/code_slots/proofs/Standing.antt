@@ -1,12 +1,12 @@
 -- Where acts stand in a program: parts of what stands there stand there too, with what is in scope before them.
-use Rattle.std.specs.Prelude.{ℕ, ◌≡◌, Bool, true, false, IsTrue, List, [], ◌∷◌, ◌++◌, length, Option, Some, unwrap_or, refl}
+use Rattle.std.specs.Prelude.{ℕ, ◌≡◌, true, IsTrue, List, [], ◌∷◌, ◌++◌, length, Option, unwrap_or, refl}
 use Rattle.std.specs.List.{All, Contains}
-use Rattle.std.proofs.Common.{ap, sym, ◌∙◌, append_assoc, append-nil, subst}
-use Rattle.std.proofs.lemmas.List.Elements.{All-append, All-cons, All-nil, All-weaker, Contains-append_left, Contains-push}
+use Rattle.std.proofs.Common.{ap, sym, ◌∙◌, append_assoc, subst}
+use Rattle.std.proofs.lemmas.List.Elements.{All-cons, All-nil, All-weaker, Contains-append_left, Contains-push}
 use Rattle.c_tokens.specs.declared.token.Spot.{Spot}
 use Rattle.c_syntax.specs.declared.node.Directive.{Directive}
 use Rattle.c_syntax.specs.declared.node.NodeKind.TheVariants as node
-use Rattle.c_syntax.specs.Tree.{Tree, Children, kind_of, spot_of}
+use Rattle.c_syntax.specs.Tree.{Tree}
 use Rattle.c_syntax.specs.Tree.Tree.{Node}
 use Rattle.c_syntax.specs.Numbered.{TreeView}
 use Rattle.c_syntax.specs.Derivation.{nothing}
@@ -27,7 +27,7 @@ use Rattle.c_model.proofs.ScopeTrees.{IsPart}
 use Rattle.code_slots.specs.OwnPlaces.{HasOwnPlaces}
 use Rattle.code_slots.specs.Slotted.{Cover, IsPlaced, StandsIn, told_by}
 use Rattle.code_slots.proofs.ActPlaces.{declared_slot, is_below}
-use Rattle.code_slots.proofs.Adding.{Added, Adds}
+use Rattle.code_slots.proofs.Adding.{Adds}
 use Rattle.code_slots.proofs.TaskCopies.{IsCopyOf, copies_are_covered}
 
 pub cover_wider : (some more : List ℕ) (visible : List Declared) → IsPart some more → Cover some visible → Cover more visible

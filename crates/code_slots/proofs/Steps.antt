@@ -1,9 +1,7 @@
 -- Behind each silent step, and behind each event that a step comes to, what stands next stands where the slots in scope are.
-use Rattle.std.specs.Prelude.{ℕ, ◌+◌, ◌≡◌, if◌then◌else◌, Bool, true, false, List, [], ◌∷◌, ◌++◌, length, slice_index_or, take, unwrap_or, Result, Ok, ℤ, pos, refl}
-use Rattle.std.specs.List.{Contains}
-use Rattle.std.proofs.Common.{ap, sym, ◌∙◌, append-nil, append_assoc, subst}
+use Rattle.std.specs.Prelude.{ℕ, ◌+◌, ◌≡◌, if◌then◌else◌, Bool, true, false, List, [], ◌∷◌, ◌++◌, length, slice_index_or, take, Result, Ok, ℤ, pos, refl}
+use Rattle.std.proofs.Common.{sym, append-nil, append_assoc, subst}
 use Rattle.std.proofs.lemmas.List.{take_at, take-map}
-use Rattle.std.proofs.lemmas.List.Elements.{Contains-push}
 use Rattle.c_tokens.specs.declared.token.Spot.{Spot}
 use Rattle.c_syntax.specs.declared.node.Directive.{Directive}
 use Rattle.c_syntax.specs.declared.node.Directive.TheVariants as directive
@@ -14,9 +12,8 @@ use Rattle.c_syntax.specs.declared.node.NodeKind.TheVariants as node
 use Rattle.c_syntax.specs.declared.node.Setting.{Setting}
 use Rattle.c_syntax.specs.declared.node.Standalone.{Standalone}
 use Rattle.c_syntax.specs.declared.node.Standalone.TheVariants as standalone
-use Rattle.c_syntax.specs.Tree.{Tree, Children, at_place, children_of, kind_of, name_of}
+use Rattle.c_syntax.specs.Tree.{Tree, Children, kind_of, name_of}
 use Rattle.c_syntax.specs.Tree.Tree.{Node}
-use Rattle.c_syntax.specs.Tree.Children.{Over, Child, Absent}
 use Rattle.c_syntax.specs.Numbered.{TreeView}
 use Rattle.c_syntax.specs.Derivation.{nothing}
 use Rattle.c_check.specs.Loops.{child_at}
@@ -38,7 +35,7 @@ use Rattle.c_model.specs.Clauses.{condition_of, construct_statement, has_nowait,
 use Rattle.c_model.specs.Formed.{IsFormed}
 use Rattle.c_model.specs.Coming.{bound_of, goes_on, goes_on_with, scope_of, value_here}
 use Rattle.c_model.specs.Constructs.{begin_loop, begin_sections, begin_critical, begin_masked, begin_parallel, begin_single, begin_task, iterations_from, reduction_result, value_or}
-use Rattle.c_model.specs.Copies.{is_loop, makes_cells, with_own_cells}
+use Rattle.c_model.specs.Copies.{makes_cells, with_own_cells}
 use Rattle.c_model.specs.Going.{next_stage, tree_at_event, work_items}
 use Rattle.c_model.specs.Loops.{iteration_value, loop_of}
 use Rattle.c_model.specs.Statements.{assigns, begin_block, begin_for, begin_local_set, begin_set_to_call, begin_set_to_value, branch_taken, declares, makes_first_step, makes_step, new_number, setting_of, test_for, test_value}

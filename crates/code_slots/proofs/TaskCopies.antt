@@ -1,8 +1,7 @@
 -- A task copies by rule only variables that are in scope where it begins.
-use Rattle.std.specs.Prelude.{ℕ, ◌+◌, ◌≤◌, ◌≡◌, ◌&&◌, ◌||◌, ◌⊎◌, nat_eq, nat_le, not, if◌then◌else◌, Bool, true, false, IsTrue, List, [], ◌∷◌, ◌++◌, length, Option, Some, None, is_none, option_map, sum_by, refl}
+use Rattle.std.specs.Prelude.{ℕ, ◌≤◌, ◌≡◌, ◌&&◌, ◌||◌, ◌⊎◌, nat_eq, nat_le, not, if◌then◌else◌, Bool, true, false, IsTrue, List, [], ◌∷◌, ◌++◌, length, Option, Some, None, is_none, option_map, sum_by, refl}
 use Rattle.std.specs.List.{All, Contains}
 use Rattle.std.proofs.Common.{arith, ap, sym, ◌∙◌, subst, inl, inr, length-append}
-use Rattle.std.proofs.lemmas.Bool.{cases_Bool}
 use Rattle.std.proofs.lemmas.Bool.Decides.{nat_tests}
 use Rattle.std.proofs.lemmas.List.Elements.{All-append, All-cons, All-head, All-nil, All-push, All-tail, All-weaker}
 use Rattle.c_tokens.specs.declared.token.Spot.{Spot}
@@ -15,17 +14,17 @@ use Rattle.c_check.specs.declared.acts.act.Thing.{Thing}
 use Rattle.c_check.specs.declared.constructs.parts.Head.{Head}
 use Rattle.c_check.specs.declared.scopes.declared.Declared.{Declared}
 use Rattle.c_check.specs.Checked.{acts_of, after_all, end_of, here_after}
-use Rattle.c_check.specs.Constructs.{Construct, Constructs, begun_construct, open_constructs, with_ended, with_newest, with_use, without_innermost}
+use Rattle.c_check.specs.Constructs.{Construct, Constructs, begun_construct, open_constructs, with_newest, with_use, without_innermost}
 use Rattle.c_check.specs.Declarations.{Declarations, find, next_of, still_in_scope, with_next}
 use Rattle.c_check.specs.Faults.{is_same_spot}
-use Rattle.c_check.specs.Here.{Here, after, before_all, copies_at, is_of_file, is_variable, listed, looped, used, used_in}
-use Rattle.c_check.specs.Once.{each_once, is_among, with_each, with_one}
+use Rattle.c_check.specs.Here.{Here, after, before_all, copies_at, is_of_file, is_variable, listed, looped, used}
+use Rattle.c_check.specs.Once.{is_among, with_each, with_one}
 use Rattle.c_check.specs.Seen.{copies_of_task, slots_copied}
 use Rattle.c_check.specs.Shares.{TaskCopy, copies_around, copies_by_rule, copy_by_rule, is_task, own_sharing, shared_by_rule}
 use Rattle.c_model.proofs.ScopeActs.{after_both}
 use Rattle.code_slots.specs.OwnPlaces.{HasOwnPlaces, placed_at}
 use Rattle.code_slots.specs.Slotted.{Cover}
-use Rattle.code_slots.proofs.ActPlaces.{IsAlone, apart, at_itself, is_alone, none_behind, none_first}
+use Rattle.code_slots.proofs.ActPlaces.{apart, at_itself, is_alone, none_behind, none_first}
 
 -- what is so of the heads of the constructs that are open
 abbrev AreOpen : (Head → Type 0) → Constructs → Type 0

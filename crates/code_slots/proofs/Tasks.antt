@@ -5,7 +5,7 @@ use Rattle.std.proofs.Common.{append_assoc, subst, sym}
 use Rattle.std.proofs.lemmas.List.Elements.{All-cons, All-nil}
 use Rattle.c_syntax.specs.declared.node.Directive.TheVariants as directive
 use Rattle.c_syntax.specs.declared.node.NodeKind.TheVariants as node
-use Rattle.c_syntax.specs.Tree.{Tree, children_of, kind_of}
+use Rattle.c_syntax.specs.Tree.{Tree, kind_of}
 use Rattle.c_syntax.specs.Tree.Tree.{Node}
 use Rattle.c_syntax.specs.Numbered.{TreeView}
 use Rattle.c_syntax.specs.Derivation.{nothing}
@@ -23,10 +23,9 @@ use Rattle.c_model.specs.declared.question.Answer.TheVariants as answer
 use Rattle.c_model.specs.declared.view.View.{View}
 use Rattle.c_model.specs.Begin.{created_construct, explicit_task, forked_construct, main_task, member_items, member_task}
 use Rattle.c_model.specs.Calls.{file_bound}
-use Rattle.c_model.specs.Clauses.{clauses_among, construct_statement, expression_among, listed_among, sections_of}
+use Rattle.c_model.specs.Clauses.{construct_statement, sections_of}
 use Rattle.c_model.specs.Copies.{combines, makes_cells}
 use Rattle.c_model.specs.Going.{after_answer, after_event, answered_at, items_answered, items_of_chunk, items_of_section, items_of_test, passed_at}
-use Rattle.c_model.specs.Parts.{trees_in}
 use Rattle.c_model.specs.Step.{is_masked, is_passed_over, items_from_next, settled_moment, settled_task, silent, step_at}
 use Rattle.c_model.specs.Task.{Here, Item, Moment, Outcome, SharedLoop, Task}
 use Rattle.c_model.specs.Task.Item.{Start, Forked, NextChunk, NextSection, EndWork, Sync, TestLock}

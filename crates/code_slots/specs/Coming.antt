@@ -9,9 +9,9 @@ use Rattle.c_model.specs.declared.question.Answer.{Answer}
 use Rattle.c_model.specs.declared.view.View.{View}
 use Rattle.c_model.specs.Begin.{explicit_task, first_store, main_task, member_task}
 use Rattle.c_model.specs.Going.{after_answer, after_event}
-use Rattle.c_model.specs.Made.{IsTaskMade}
+use Rattle.c_model.specs.Made.{AreCopiesInScope, IsTaskMade}
 use Rattle.c_model.specs.Scoped.{IsScoped}
-use Rattle.c_model.specs.Step.{silent}
+use Rattle.c_model.specs.Step.{settled_task, silent}
 use Rattle.c_model.specs.Task.{Moment, Store}
 use Rattle.c_model.specs.Task.Outcome.{Occurs, StepsTo}
 use Rattle.code_slots.specs.Slotted.{IsSlotted}
@@ -31,8 +31,10 @@ pub data ComesTo : TreeView → Moment → Type 0 where
   creates : {program : TreeView} {now : Moment} → ComesTo program now → (view : View) (codeptr : ℕ) (undeferred : Bool) (tree : Tree)
       → silent program view now ≡ Occurs (TaskCreate codeptr undeferred) tree → ComesTo program (explicit_task program view now)
 
--- All that a task uses is there: its names are in scope, with the slots that they have where the code stands, and each of its cells was made.
+-- All that a task uses is there: its names are in scope, with the slots that they have where the code stands, each of its cells was made, and so is in
+-- scope what a task that it creates next copies by rule.
 pub record IsWhole (program : TreeView) (now : Moment) : Type 0 where
   pub scoped : IsScoped program now.task
   pub slotted : IsSlotted program now.task
   pub made : IsTaskMade program (length now.store.cells) now.task
+  pub copied : (view : View) → AreCopiesInScope program (settled_task view now.task)
