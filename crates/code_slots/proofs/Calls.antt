@@ -27,28 +27,34 @@ use Rattle.code_slots.proofs.Outcomes.{IsRoomFor, Keeps, keeps_choice, keeps_eve
 use Rattle.code_slots.proofs.EntrySlots.{parameters_slots}
 
 module _ (here : Here) (item : Item) (room : IsRoomFor here item) where
-  keeps-enters : (function : Tree) (call : OpenCall) (bound : Bound) → IsPlaced here.program (slots_of bound.env) (body_of function) → IsCallSlotted here.program call → Keeps here item (enters here function call bound)
+  keeps-enters : (function : Tree) (call : OpenCall) (bound : Bound) → IsPlaced here.program (slots_of bound.env) (body_of function)
+      → IsCallSlotted here.program call → Keeps here item (enters here function call bound)
   unfolding Slotted
   keeps-enters function call bound knows is =
-      let entered : IsSlotted here.program (record here.task { todo = Start (body_of function) ∷ FallOff ∷ []; env = bound.env; calls = call ∷ here.task.calls }) =
+      let entered : IsSlotted here.program
+      (record here.task { todo = Start (body_of function) ∷ FallOff ∷ []; env = bound.env; calls = call ∷ here.task.calls }) =
       record { now = (knows, tt); calls = All-cons (IsCallSlotted here.program) call here.task.calls is room.calls }
       in
       search (keeps_choice, keeps_limit, keeps_step, entered)
 
-  keeps-call : (call : Tree) (env : List Entry) (to : Target) → Slotted here.program here.task.todo (slots_of env) → Keeps here item (begin_call here call env to)
+  keeps-call : (call : Tree) (env : List Entry) (to : Target) → Slotted here.program here.task.todo (slots_of env)
+      → Keeps here item (begin_call here call env to)
   keeps-call call env to now =
       keeps_result here item (all_values (scope_of here) (parts call)) _ (λ numbers.
       keeps-enters (function_named here.program (name_of call)) (open_call here env to) (bound_in here (function_named here.program (name_of call)) numbers)
       (subst (λ (slots : List ℕ). IsPlaced here.program slots (body_of (function_named here.program (name_of call))))
-      (sym (parameters_slots here.program (parameters_of (function_named here.program (name_of call))) (record { env = (file_bound here.program).env; cells = here.store.cells }) numbers))
+      (sym (parameters_slots here.program (parameters_of (function_named here.program (name_of call)))
+      (record { env = (file_bound here.program).env; cells = here.store.cells }) numbers))
       (room.program.functions (name_of call)))
       now)
 
   -- an `omp_test_lock` is an event, behind which its test stands next
   pub keeps_right : (kind : NodeKind) (call : Tree) (env : List Entry) (to : Target) → Slotted here.program here.task.todo (slots_of env)
-      → ((codeptr id : ℕ) → Slotted here.program here.task.todo (slots_of (names_after (MutexAcquire codeptr id mutex.TestLock to) item here.task.env))) → Keeps here item (begin_right kind here call env to)
+      → ((codeptr id : ℕ) → Slotted here.program here.task.todo (slots_of (names_after (MutexAcquire codeptr id mutex.TestLock to) item here.task.env)))
+      → Keeps here item (begin_right kind here call env to)
   unfolding Slotted
-  keeps_right node.TestLock call env to now tested = keeps_event here item _ call (record { leads = λ executes. tested (place_of call) (lock_id here call); creates = tt })
+  keeps_right node.TestLock call env to now tested =
+      keeps_event here item _ call (record { leads = λ executes. tested (place_of call) (lock_id here call); creates = tt })
   keeps_right other call env to now tested = keeps-call call env to now
 
   pub keeps_returns : (opened : List OpenCall) (number : ℤ) → All (IsCallSlotted here.program) opened → Keeps here item (returns_to opened here number)
@@ -61,7 +67,8 @@ module _ (here : Here) (item : Item) (room : IsRoomFor here item) where
       }
 
   pub keeps_return : (kind : NodeKind) (right : Tree) → Slotted here.program here.task.todo (slots_of here.task.env)
-      → ((codeptr id : ℕ) → Slotted here.program here.task.todo (slots_of (names_after (MutexAcquire codeptr id mutex.TestLock target.Return) item here.task.env))) → Keeps here item (begin_return_of kind here right)
+      → ((codeptr id : ℕ) → Slotted here.program here.task.todo (slots_of (names_after (MutexAcquire codeptr id mutex.TestLock target.Return) item here.task.env)))
+      → Keeps here item (begin_return_of kind here right)
   keeps_return node.Call right now tested = keeps-call right here.task.env target.Return now
   keeps_return node.TestLock right now tested = keeps_right node.TestLock right here.task.env target.Return now tested
   keeps_return other right now tested = keeps_result here item (value_here here right) _ (λ number. keeps_returns here.task.calls number room.calls)

@@ -20,7 +20,8 @@ use Rattle.code_slots.specs.Coming.{ComesTo, IsWhole}
 use Rattle.code_slots.specs.Slotted.{IsSlotted, IsWellSlotted}
 use Rattle.code_slots.proofs.Files.{well_slotted}
 use Rattle.code_slots.proofs.ProductionPlaces.{texts_have_own_places}
-use Rattle.code_slots.proofs.Tasks.{answer_is_slotted, copies_in_scope, event_is_slotted, explicit_is_slotted, main_is_slotted, member_is_slotted, settled_is_slotted, step_is_slotted}
+use Rattle.code_slots.proofs.Tasks.{answer_is_slotted, copies_in_scope, event_is_slotted, explicit_is_slotted, main_is_slotted, member_is_slotted}
+use Rattle.code_slots.proofs.Tasks.{settled_is_slotted, step_is_slotted}
 
 -- all that is so but for the copies, which follow from it
 record HasAll (program : TreeView) (now : Moment) : Type 0 where
@@ -57,16 +58,22 @@ module _ (program : TreeView) (well : IsWellScoped program) (places : IsWellSlot
       }
   whole (ComesTo.forks {now = now} comes) =
       let is = whole comes in
-      record { scoped = member_is_scoped program now.task is.scoped; slotted = member_is_slotted program now.task is.slotted; made = member_is_made program _ now.task is.made }
+      record {
+        scoped = member_is_scoped program now.task is.scoped;
+        slotted = member_is_slotted program now.task is.slotted;
+        made = member_is_made program _ now.task is.made;
+      }
   whole (ComesTo.creates {now = now} comes view codeptr undeferred tree same) =
       let is = whole comes in
       record {
         scoped = explicit_is_scoped program view now codeptr undeferred tree well is.scoped same;
         slotted = explicit_is_slotted program view now codeptr undeferred tree places is.slotted same;
-        made = (explicit_is_made program view now codeptr undeferred tree well is.scoped is.made same (copies_in_scope program _ places (settled_is_slotted program view now.task is.slotted))).0;
+        made = (explicit_is_made program view now codeptr undeferred tree well is.scoped is.made same
+            (copies_in_scope program _ places (settled_is_slotted program view now.task is.slotted))).0;
       }
 
-pub text_is_whole : (text : List ℕ) (program : TreeView) (now : Moment) → IsTreeOf text (root_tree program) → Checked program → ComesTo program now → IsWhole program now
+pub text_is_whole : (text : List ℕ) (program : TreeView) (now : Moment) → IsTreeOf text (root_tree program) → Checked program → ComesTo program now
+    → IsWhole program now
 text_is_whole text program now is checked comes =
     let words = words_of text is.tokens in
     let formed : IsProgramFormed program = spelled_is_formed words program (program_derives depth_limit words (root_tree program) is.spelled) in

@@ -25,7 +25,8 @@ pub slots_length : (env : List Entry) → length (slots_of env) ≡ length env
 slots_length env = length-map env (λ (entry : Entry). entry.slot)
 
 -- the file's variables and parameters
-pub declared_slots : (program : TreeView) (trees : List Tree) (bound : Bound) → slots_of (with_declarators program bound trees).env ≡ slots_of bound.env ++ map (slot_of_name program) trees
+pub declared_slots : (program : TreeView) (trees : List Tree) (bound : Bound)
+    → slots_of (with_declarators program bound trees).env ≡ slots_of bound.env ++ map (slot_of_name program) trees
 unfolding with_declarators
 declared_slots program [] bound = sym (append-nil (slots_of bound.env))
 declared_slots program (tree ∷ trees) bound =
@@ -33,16 +34,19 @@ declared_slots program (tree ∷ trees) bound =
     ∙ ap (λ (slots : List ℕ). slots ++ map (slot_of_name program) trees) (slots_push bound.env _)
     ∙ append_assoc (slots_of bound.env) (slot_of_name program tree ∷ []) (map (slot_of_name program) trees)
 
-pub parameters_slots : (program : TreeView) (parameters : List Tree) (bound : Bound) (numbers : List ℤ) → slots_of (with_parameters program bound parameters numbers).env ≡ slots_of bound.env ++ map (slot_of_name program) parameters
+pub parameters_slots : (program : TreeView) (parameters : List Tree) (bound : Bound) (numbers : List ℤ)
+    → slots_of (with_parameters program bound parameters numbers).env ≡ slots_of bound.env ++ map (slot_of_name program) parameters
 unfolding with_parameters
 parameters_slots program [] bound numbers = sym (append-nil (slots_of bound.env))
 parameters_slots program (parameter ∷ parameters) bound numbers =
-    parameters_slots program parameters (with_cells bound (name_of parameter) (slot_of_name program parameter) (first_or_zero numbers ∷ [])) (behind_first numbers)
+    parameters_slots program parameters (with_cells bound (name_of parameter) (slot_of_name program parameter) (first_or_zero numbers ∷ []))
+    (behind_first numbers)
     ∙ ap (λ (slots : List ℕ). slots ++ map (slot_of_name program) parameters) (slots_push bound.env _)
     ∙ append_assoc (slots_of bound.env) (slot_of_name program parameter ∷ []) (map (slot_of_name program) parameters)
 
 -- the cells of a construct's own
-listed-slots : (listed : List Listed) (around bound : Bound) → slots_of (with_listed around bound listed).env ≡ slots_of bound.env ++ map (λ (one : Listed). (entry_of around.env one.name).slot) listed
+listed-slots : (listed : List Listed) (around bound : Bound)
+    → slots_of (with_listed around bound listed).env ≡ slots_of bound.env ++ map (λ (one : Listed). (entry_of around.env one.name).slot) listed
 unfolding with_listed
 listed-slots [] around bound = sym (append-nil (slots_of bound.env))
 listed-slots (one ∷ rest) around bound =
@@ -52,7 +56,8 @@ listed-slots (one ∷ rest) around bound =
 
 module _ (program : TreeView) where
   loop-slot : (around : Bound) (construct : Tree) (declares : Bool) → IsTrue declares
-      → (if declares then slot_of_name program (loop_of construct).variable else (entry_of around.env (name_of (loop_of construct).variable)).slot) ≡ slot_of_name program (loop_of construct).variable
+      → (if declares then slot_of_name program (loop_of construct).variable else (entry_of around.env (name_of (loop_of construct).variable)).slot)
+      ≡ slot_of_name program (loop_of construct).variable
   loop-slot around construct true is = refl
   loop-slot around construct false is = absurd (let wrong : false ≡ true = is in cc)
 
@@ -62,28 +67,38 @@ module _ (program : TreeView) where
     known : IsTrue shares → IsTrue (declares_variable construct) → Contains own (slot_of_name program (loop_of construct).variable)
 
   own-with : (shares : Bool) (around bound : Bound) (construct : Tree) (some own : List ℕ) → slots_of bound.env ≡ some ++ own
-      → IsOwn construct shares (slots_of (if shares then with_cells bound (name_of (loop_of construct).variable) (loop_slot program around construct) (pos 0 ∷ []) else bound).env) some
+      → IsOwn construct shares
+      (slots_of (if shares then with_cells bound (name_of (loop_of construct).variable) (loop_slot program around construct) (pos 0 ∷ []) else bound).env) some
   own-with true around bound construct some own are =
       let slot : ℕ = loop_slot program around construct in
       record {
         own = own ++ slot ∷ [];
         are = slots_push bound.env _ ∙ ap (λ (slots : List ℕ). slots ++ slot ∷ []) are ∙ append_assoc some own (slot ∷ []);
-        known = λ shares declares. subst (λ (one : ℕ). Contains (own ++ slot ∷ []) one) (loop-slot around construct (declares_variable construct) declares) (Contains-push own slot);
+        known = λ shares declares. subst (λ (one : ℕ). Contains (own ++ slot ∷ []) one) (loop-slot around construct (declares_variable construct) declares)
+            (Contains-push own slot);
       }
-  own-with false around bound construct some own are = record { own = own; are = are; known = λ shares declares. absurd (let wrong : false ≡ true = shares in cc) }
+  own-with false around bound construct some own are =
+      record { own = own; are = are; known = λ shares declares. absurd (let wrong : false ≡ true = shares in cc) }
 
   -- behind those of the scope around come the slots of a construct's own
-  pub own_slots : (P : List ℕ → Type 0) (around : Bound) (construct : Tree) → ((own : List ℕ) → HasLoopSlot program own construct → P (slots_of around.env ++ own)) → P (slots_of (with_own_cells program around construct).env)
+  pub own_slots : (P : List ℕ → Type 0) (around : Bound) (construct : Tree)
+      → ((own : List ℕ) → HasLoopSlot program own construct → P (slots_of around.env ++ own)) → P (slots_of (with_own_cells program around construct).env)
   own_slots P around construct each =
-      let is = own-with (is_loop construct) around (with_listed around around (listed_variables construct)) construct (slots_of around.env) _ (listed-slots (listed_variables construct) around around) in
+      let is =
+      own-with (is_loop construct) around (with_listed around around (listed_variables construct)) construct (slots_of around.env) _
+      (listed-slots (listed_variables construct) around around)
+      in
       subst P (sym is.are) (each is.own is.known)
 
 -- an explicit task has all that is in scope around it
-part-made : (around : List ℕ) (bound : Bound) (name slot : ℕ) (numbers : List ℤ) → IsPart around (slots_of bound.env) → IsPart around (slots_of (with_cells bound name slot numbers).env)
+part-made : (around : List ℕ) (bound : Bound) (name slot : ℕ) (numbers : List ℤ) → IsPart around (slots_of bound.env)
+    → IsPart around (slots_of (with_cells bound name slot numbers).env)
 part-made around bound name slot numbers part known is =
-    subst (λ (slots : List ℕ). Contains slots known) (sym (slots_push bound.env _)) (Contains-append_left (slots_of bound.env) (slot ∷ []) known (part known is))
+    subst (λ (slots : List ℕ). Contains slots known) (sym (slots_push bound.env _))
+    (Contains-append_left (slots_of bound.env) (slot ∷ []) known (part known is))
 
-part-listed : (slots : List ℕ) (listed : List Listed) (around bound : Bound) → IsPart slots (slots_of bound.env) → IsPart slots (slots_of (with_listed around bound listed).env)
+part-listed : (slots : List ℕ) (listed : List Listed) (around bound : Bound) → IsPart slots (slots_of bound.env)
+    → IsPart slots (slots_of (with_listed around bound listed).env)
 unfolding with_listed
 part-listed slots [] around bound part = part
 part-listed slots (one ∷ rest) around bound part =
@@ -95,7 +110,8 @@ part-slots slots [] around bound part = part
 part-slots slots (slot ∷ copied) around bound part =
     part-slots slots copied around (with_copy around bound (entry_at_slot around.env slot) First) (part-made slots bound _ _ _ part)
 
-pub part_task : (program : TreeView) (around : Bound) (construct : Tree) → IsPart (slots_of around.env) (slots_of (with_task_cells program around construct).env)
+pub part_task : (program : TreeView) (around : Bound) (construct : Tree)
+    → IsPart (slots_of around.env) (slots_of (with_task_cells program around construct).env)
 part_task program around construct =
     part-slots (slots_of around.env) (task_copies program construct) around (with_listed around around (listed_variables construct))
     (part-listed (slots_of around.env) (listed_variables construct) around around (λ slot is. is))

@@ -4,7 +4,8 @@ use Rattle.std.specs.List.{All, Contains, IsAmong}
 use Rattle.std.proofs.Common.{arith, ap, sym, ◌∙◌, append-nil, append_assoc, inl, inr, subst}
 use Rattle.std.proofs.lemmas.Bool.{eqb-true}
 use Rattle.std.proofs.lemmas.Bool.Decides.{nat_tests}
-use Rattle.std.proofs.lemmas.List.Elements.{All-cons, All-head, All-nil, All-tail, Contains-append_left, Contains-append_right, Contains-push, Contains-push_cases}
+use Rattle.std.proofs.lemmas.List.Elements.{All-cons, All-head, All-nil, All-tail, Contains-append_left, Contains-append_right, Contains-push}
+use Rattle.std.proofs.lemmas.List.Elements.{Contains-push_cases}
 use Rattle.c_tokens.specs.declared.token.Spot.{Spot}
 use Rattle.c_syntax.specs.declared.node.Returns.{Returns}
 use Rattle.c_syntax.specs.declared.node.Returns.TheVariants as returns
@@ -48,7 +49,8 @@ use Rattle.code_slots.proofs.Standing.{nothing_placed, stands_behind, stands_dec
 abbrev HasSlots : TreeView → List ℕ → List Tree → Type 0
 HasSlots program slots trees = (tree : Tree) → Contains trees tree → Contains slots (slot_of_name program tree)
 
-has-first : (program : TreeView) (slots : List ℕ) (tree : Tree) (trees : List Tree) → HasSlots program slots (tree ∷ trees) → Contains slots (slot_of_name program tree)
+has-first : (program : TreeView) (slots : List ℕ) (tree : Tree) (trees : List Tree) → HasSlots program slots (tree ∷ trees)
+    → Contains slots (slot_of_name program tree)
 has-first program slots tree trees has = has tree (Contains-append_left (tree ∷ []) trees tree (Contains-push [] tree))
 
 has-rest : (program : TreeView) (slots : List ℕ) (front trees : List Tree) → HasSlots program slots (front ++ trees) → HasSlots program slots trees
@@ -62,8 +64,10 @@ has-all program [] tree there = absurd (omega (arith, there.1))
 has-all program (first ∷ trees) tree there =
     elim (contains_case first tree trees there) [
       | inl here ↦ subst (λ (tree : Tree). Contains (slot_of_name program first ∷ map (slot_of_name program) trees) (slot_of_name program tree)) here
-          (Contains-append_left (slot_of_name program first ∷ []) (map (slot_of_name program) trees) (slot_of_name program first) (Contains-push [] (slot_of_name program first)))
-      | inr behind ↦ Contains-append_right (slot_of_name program first ∷ []) (map (slot_of_name program) trees) (slot_of_name program tree) (has-all program trees tree behind)
+          (Contains-append_left (slot_of_name program first ∷ []) (map (slot_of_name program) trees) (slot_of_name program first)
+          (Contains-push [] (slot_of_name program first)))
+      | inr behind ↦ Contains-append_right (slot_of_name program first ∷ []) (map (slot_of_name program) trees) (slot_of_name program tree)
+          (has-all program trees tree behind)
     ]
 
 -- what is known of a function
@@ -94,58 +98,78 @@ no-parameters name main count gives spot right is =
 
 module _ (program : TreeView) (own : HasOwnPlaces program) (checked : Checked program) where
   -- variables of the file
-  known-behind : (slots : List ℕ) (name : ℕ) (spot : Spot) (what : Thing) (more : List Act) → Contains slots (unwrap_or (slot_at program spot) 0) → StandsIn program slots (Declare name spot what ∷ more) → StandsIn program slots more
+  known-behind : (slots : List ℕ) (name : ℕ) (spot : Spot) (what : Thing) (more : List Act) → Contains slots (unwrap_or (slot_at program spot) 0)
+      → StandsIn program slots (Declare name spot what ∷ more) → StandsIn program slots more
   known-behind slots name spot what more there stands =
       stands_wider program (slots ++ unwrap_or (slot_at program spot) 0 ∷ []) slots more
-      (λ slot is. elim (Contains-push_cases slots (unwrap_or (slot_at program spot) 0) slot is) [ inl front ↦ front | inr same ↦ subst (λ (slot : ℕ). Contains slots slot) same there ])
+      (λ slot is. elim (Contains-push_cases slots (unwrap_or (slot_at program spot) 0) slot is) [
+        | inl front ↦ front
+        | inr same ↦ subst
+            (λ (slot : ℕ). Contains slots slot) same there
+      ])
       (stands_declared program own slots name spot what more stands)
 
-  globals-behind : (children : Children) (more : List Act) (slots : List ℕ) → AreInRow is_global children → HasSlots program slots (trees_in children) → StandsIn program slots (each role.Plain children ++ more) → StandsIn program slots more
+  globals-behind : (children : Children) (more : List Act) (slots : List ℕ) → AreInRow is_global children → HasSlots program slots (trees_in children)
+      → StandsIn program slots (each role.Plain children ++ more) → StandsIn program slots more
   unfolding acts each trees_in AreInRow
   globals-behind Over more slots row has stands = stands
   globals-behind (Absent rest) more slots row has stands = stands
   globals-behind (Child (Node node.GlobalVar spot name number text below) rest) more slots row has stands =
       let tree = Node node.GlobalVar spot name number text below in
-      globals-behind rest more slots row.1 (has-rest program slots (tree ∷ []) (trees_in rest) has) (known-behind slots name spot thing.Int (each role.Plain rest ++ more) (has-first program slots tree (trees_in rest) has) stands)
+      globals-behind rest more slots row.1 (has-rest program slots (tree ∷ []) (trees_in rest) has)
+      (known-behind slots name spot thing.Int (each role.Plain rest ++ more) (has-first program slots tree (trees_in rest) has) stands)
   globals-behind (Child (Node node.GlobalArray spot name number text below) rest) more slots row has stands =
       let tree = Node node.GlobalArray spot name number text below in
-      globals-behind rest more slots row.1 (has-rest program slots (tree ∷ []) (trees_in rest) has) (known-behind slots name spot (thing.Array number) (each role.Plain rest ++ more) (has-first program slots tree (trees_in rest) has) stands)
+      globals-behind rest more slots row.1 (has-rest program slots (tree ∷ []) (trees_in rest) has)
+      (known-behind slots name spot (thing.Array number) (each role.Plain rest ++ more) (has-first program slots tree (trees_in rest) has) stands)
   globals-behind (Child (Node (node.GlobalSet sign) spot name number text below) rest) more slots row has stands =
       let tree = Node (node.GlobalSet sign) spot name number text below in
-      globals-behind rest more slots row.1 (has-rest program slots (tree ∷ []) (trees_in rest) has) (known-behind slots name spot thing.Int (each role.Plain rest ++ more) (has-first program slots tree (trees_in rest) has) stands)
+      globals-behind rest more slots row.1 (has-rest program slots (tree ∷ []) (trees_in rest) has)
+      (known-behind slots name spot thing.Int (each role.Plain rest ++ more) (has-first program slots tree (trees_in rest) has) stands)
   globals-behind (Child (Node other spot name number text below) rest) more slots row has stands = never row.0
 
-  locks-behind : (children : Children) (more : List Act) (slots : List ℕ) → HasSlots program slots (trees_in children) → StandsIn program slots (names naming.Locks children ++ more) → StandsIn program slots more
+  locks-behind : (children : Children) (more : List Act) (slots : List ℕ) → HasSlots program slots (trees_in children)
+      → StandsIn program slots (names naming.Locks children ++ more) → StandsIn program slots more
   unfolding names trees_in
   locks-behind Over more slots has stands = stands
   locks-behind (Absent rest) more slots has stands = stands
   locks-behind (Child tree rest) more slots has stands =
       locks-behind rest more slots (has-rest program slots (tree ∷ []) (trees_in rest) has)
-      (known-behind slots (name_of tree) (spot_of tree) thing.Lock (names naming.Locks rest ++ more) (has-first program slots tree (trees_in rest) has) stands)
+      (known-behind slots (name_of tree) (spot_of tree) thing.Lock (names naming.Locks rest ++ more)
+      (has-first program slots tree (trees_in rest) has) stands)
 
   -- a function
-  parameters-behind : (children : Children) (more : List Act) (slots : List ℕ) → StandsIn program slots (names naming.Parameters children ++ more) → StandsIn program (slots ++ map (slot_of_name program) (trees_in children)) more
+  parameters-behind : (children : Children) (more : List Act) (slots : List ℕ) → StandsIn program slots (names naming.Parameters children ++ more)
+      → StandsIn program (slots ++ map (slot_of_name program) (trees_in children)) more
   unfolding names trees_in
   parameters-behind Over more slots stands = subst (λ (slots : List ℕ). StandsIn program slots more) (sym (append-nil slots)) stands
   parameters-behind (Absent rest) more slots stands = subst (λ (slots : List ℕ). StandsIn program slots more) (sym (append-nil slots)) stands
   parameters-behind (Child tree rest) more slots stands =
-      subst (λ (slots : List ℕ). StandsIn program slots more) (append_assoc slots (slot_of_name program tree ∷ []) (map (slot_of_name program) (trees_in rest)))
-      (parameters-behind rest more (slots ++ slot_of_name program tree ∷ []) (stands_declared program own slots (name_of tree) (spot_of tree) thing.Int (names naming.Parameters rest ++ more) stands))
+      subst (λ (slots : List ℕ). StandsIn program slots more)
+      (append_assoc slots (slot_of_name program tree ∷ []) (map (slot_of_name program) (trees_in rest)))
+      (parameters-behind rest more (slots ++ slot_of_name program tree ∷ [])
+      (stands_declared program own slots (name_of tree) (spot_of tree) thing.Int (names naming.Parameters rest ++ more) stands))
 
-  function-covered : (slots : List ℕ) (here : Here) (name : ℕ) (gives : Returns) (count : ℕ) → Cover slots here.names.visible → Cover slots (with_next here.names name (thing.Function gives count)).visible
+  function-covered : (slots : List ℕ) (here : Here) (name : ℕ) (gives : Returns) (count : ℕ) → Cover slots here.names.visible
+      → Cover slots (with_next here.names name (thing.Function gives count)).visible
   function-covered slots here name gives count covered =
-      All-cons (λ (it : Declared). IsTrue (is_variable it.thing) → Contains slots it.slot) (next_of here.names name (thing.Function gives count)) here.names.visible (λ is. never is) covered
+      All-cons (λ (it : Declared). IsTrue (is_variable it.thing) → Contains slots it.slot)
+      (next_of here.names name (thing.Function gives count)) here.names.visible (λ is. never is) covered
 
-  begin-behind : (slots : List ℕ) (name : ℕ) (spot : Spot) (gives : Returns) (count : ℕ) (more : List Act) → StandsIn program slots (Begin name spot gives count ∷ more) → StandsIn program slots more
+  begin-behind : (slots : List ℕ) (name : ℕ) (spot : Spot) (gives : Returns) (count : ℕ) (more : List Act)
+      → StandsIn program slots (Begin name spot gives count ∷ more) → StandsIn program slots more
   unfolding after_all after
   begin-behind slots name spot gives count more stands =
-      stands_behind program slots slots (Begin name spot gives count ∷ []) more (λ before behind are covered. function-covered slots (here_after program before) name gives count covered) stands
+      stands_behind program slots slots (Begin name spot gives count ∷ []) more
+      (λ before behind are covered. function-covered slots (here_after program before) name gives count covered) stands
 
-  function-below : (here : Here) (name : ℕ) (gives : Returns) (count : ℕ) → IsBelow here.names → IsBelow (with_next here.names name (thing.Function gives count))
+  function-below : (here : Here) (name : ℕ) (gives : Returns) (count : ℕ) → IsBelow here.names
+      → IsBelow (with_next here.names name (thing.Function gives count))
   function-below here name gives count below =
       All-cons (λ (it : Declared). it.level ≤ here.names.level) (next_of here.names name (thing.Function gives count)) here.names.visible (omega arith) below
 
-  function-behind : (slots : List ℕ) (name : ℕ) (spot : Spot) (gives : Returns) (count : ℕ) (inner more : List Act) → Adds false inner → StandsIn program slots ((Begin name spot gives count ∷ inner ++ End ∷ []) ++ more) → StandsIn program slots more
+  function-behind : (slots : List ℕ) (name : ℕ) (spot : Spot) (gives : Returns) (count : ℕ) (inner more : List Act) → Adds false inner
+      → StandsIn program slots ((Begin name spot gives count ∷ inner ++ End ∷ []) ++ more) → StandsIn program slots more
   unfolding after_all after
   function-behind slots name spot gives count inner more adds stands =
       stands_behind program slots slots (Begin name spot gives count ∷ inner ++ End ∷ []) more
@@ -156,22 +180,28 @@ module _ (program : TreeView) (own : HasOwnPlaces program) (checked : Checked pr
       let below = function-below here name gives count (is_below program before) in
       let one = adds.adds begun (begun_is_below scope below) in
       subst (λ (new : Here). Cover slots new.names.visible) (sym (after_both begun inner (End ∷ [])))
-      (subst (λ (visible : List Declared). Cover slots visible) (sym (scope_is_dropped false scope (after_all begun inner).names below one)) (function-covered slots here name gives count covered)))
+      (subst (λ (visible : List Declared). Cover slots visible) (sym (scope_is_dropped false scope (after_all begun inner).names below one))
+      (function-covered slots here name gives count covered)))
       stands
 
-  right-main : (before behind : List Act) (name : ℕ) (spot : Spot) (gives : Returns) (count : ℕ) → acts_of program ≡ before ++ Begin name spot gives count ∷ behind → name ≡ program.main → count ≡ 0
+  right-main : (before behind : List Act) (name : ℕ) (spot : Spot) (gives : Returns) (count : ℕ)
+      → acts_of program ≡ before ++ Begin name spot gives count ∷ behind → name ≡ program.main → count ≡ 0
   right-main before behind name spot gives count are is =
       let right : wrong_uses (here_after program before) (Begin name spot gives count) ≡ [] =
-      no-place _ (λ place there. checked (fault.WrongUse place) (record { before = before; act = Begin name spot gives count; behind = behind; acts_are = are; there = there }))
+      no-place _ (λ place there. checked (fault.WrongUse place)
+      (record { before = before; act = Begin name spot gives count; behind = behind; acts_are = are; there = there }))
       in
       no-parameters name (here_after program before).main count gives spot right (is ∙ sym (main_same (before_all program.main) before))
 
   -- the forms of a function, one child after another
   module _ (slots : List ℕ) (more : List Act) (gives : Returns) (spot : Spot) (other number : ℕ) (text : List ℕ) where
     abbrev IsDone : Children → Type 0
-    IsDone children = StandsIn program slots (function gives children ++ more) → IsFunctionPlaced program slots (Node (node.Function gives) spot other number text children) × StandsIn program slots more
+    IsDone children =
+        StandsIn program slots (function gives children ++ more) → IsFunctionPlaced program slots
+        (Node (node.Function gives) spot other number text children) × StandsIn program slots more
 
-    third-child : (named : Tree) (params : NodeKind) (s1 : Spot) (n1 u1 : ℕ) (t1 : List ℕ) (parameters children : Children) → HasChild is_block IsOver children → AreFormed children → IsDone (Child named (Child (Node params s1 n1 u1 t1 parameters) children))
+    third-child : (named : Tree) (params : NodeKind) (s1 : Spot) (n1 u1 : ℕ) (t1 : List ℕ) (parameters children : Children)
+        → HasChild is_block IsOver children → AreFormed children → IsDone (Child named (Child (Node params s1 n1 u1 t1 parameters) children))
     unfolding function AreFormed IsFormed
     third-child named params s1 n1 u1 t1 parameters (Child (Node node.Block s2 n2 u2 t2 items) Over) form formed stands =
         let name = name_of named in
@@ -184,25 +214,31 @@ module _ (program : TreeView) (own : HasOwnPlaces program) (checked : Checked pr
               around = role.Plain;
               formed = formed.0;
               stands = stands_first program (slots ++ map (slot_of_name program) (trees_in parameters)) body (End ∷ more)
-                  (parameters-behind parameters (body ++ End ∷ more) slots (subst (λ (acts : List Act). StandsIn program slots acts) (append_assoc listed body (End ∷ more)) rest));
+                  (parameters-behind parameters (body ++ End ∷ more) slots
+                  (subst (λ (acts : List Act). StandsIn program slots acts) (append_assoc listed body (End ∷ more)) rest));
             };
             main = λ is. none-counted parameters (right-main stands.before _ name (spot_of named) gives count stands.acts_are is);
           },
-          function-behind slots name (spot_of named) gives count (listed ++ body) more (adds_both false listed body (names_add naming.Parameters parameters) (items_add items formed.0.0 formed.0.1)) stands,
+          function-behind slots name (spot_of named) gives count (listed ++ body) more
+              (adds_both false listed body (names_add naming.Parameters parameters) (items_add items formed.0.0 formed.0.1)) stands,
         )
       where
-        behind-begin : (name count : ℕ) (inner : List Act) → StandsIn program slots ((Begin name (spot_of named) gives count ∷ inner ++ End ∷ []) ++ more) → StandsIn program slots (inner ++ End ∷ more)
+        behind-begin : (name count : ℕ) (inner : List Act) → StandsIn program slots ((Begin name (spot_of named) gives count ∷ inner ++ End ∷ []) ++ more)
+            → StandsIn program slots (inner ++ End ∷ more)
         behind-begin name count inner stands =
-            subst (λ (acts : List Act). StandsIn program slots acts) (append_assoc inner (End ∷ []) more) (begin-behind slots name (spot_of named) gives count ((inner ++ End ∷ []) ++ more) stands)
+            subst (λ (acts : List Act). StandsIn program slots acts) (append_assoc inner (End ∷ []) more)
+            (begin-behind slots name (spot_of named) gives count ((inner ++ End ∷ []) ++ more) stands)
     third-child named params s1 n1 u1 t1 parameters (Child (Node node.Block s2 n2 u2 t2 items) (Child tree rest)) form formed stands = absurd form.1
     third-child named params s1 n1 u1 t1 parameters (Child (Node node.Block s2 n2 u2 t2 items) (Absent rest)) form formed stands = absurd form.1
     third-child named params s1 n1 u1 t1 parameters (Child (Node kind s2 n2 u2 t2 items) rest) form formed stands = never form.0
     third-child named params s1 n1 u1 t1 parameters Over form formed stands = absurd form
     third-child named params s1 n1 u1 t1 parameters (Absent rest) form formed stands = absurd form
 
-    second-child : (named : Tree) (children : Children) → HasChild is_params (HasChild is_block IsOver) children → AreFormed children → IsDone (Child named children)
+    second-child : (named : Tree) (children : Children) → HasChild is_params (HasChild is_block IsOver) children → AreFormed children
+        → IsDone (Child named children)
     unfolding AreFormed
-    second-child named (Child (Node params s1 n1 u1 t1 parameters) children) form formed stands = third-child named params s1 n1 u1 t1 parameters children form.1 formed.1 stands
+    second-child named (Child (Node params s1 n1 u1 t1 parameters) children) form formed stands =
+        third-child named params s1 n1 u1 t1 parameters children form.1 formed.1 stands
     second-child named Over form formed stands = absurd form
     second-child named (Absent rest) form formed stands = absurd form
 
@@ -213,24 +249,29 @@ module _ (program : TreeView) (own : HasOwnPlaces program) (checked : Checked pr
     first-child (Absent rest) form formed stands = absurd form
 
   -- the file as a whole
-  file-placed : (children : Children) (slots : List ℕ) → AreInRow is_file_part children → AreFormed children → HasSlots program slots (flat_declarations (variables_among (trees_in children))) → StandsIn program slots (each role.Plain children)
+  file-placed : (children : Children) (slots : List ℕ) → AreInRow is_file_part children → AreFormed children
+      → HasSlots program slots (flat_declarations (variables_among (trees_in children))) → StandsIn program slots (each role.Plain children)
       → All (IfFunction program slots) (trees_in children)
   unfolding acts each trees_in variables_among flat_declarations AreInRow AreFormed IsFormed
   file-placed Over slots row formed has stands = All-nil (IfFunction program slots)
   file-placed (Absent rest) slots row formed has stands = All-nil (IfFunction program slots)
   file-placed (Child (Node node.Include spot name number text children) rest) slots row formed has stands =
-      All-cons (IfFunction program slots) (Node node.Include spot name number text children) (trees_in rest) (λ is. never is) (file-placed rest slots row.1 formed.1 has stands)
+      All-cons (IfFunction program slots) (Node node.Include spot name number text children) (trees_in rest) (λ is. never is)
+      (file-placed rest slots row.1 formed.1 has stands)
   file-placed (Child (Node node.Globals spot name number text children) rest) slots row formed has stands =
       let others = flat_declarations (variables_among (trees_in rest)) in
       All-cons (IfFunction program slots) (Node node.Globals spot name number text children) (trees_in rest) (λ is. never is)
-      (file-placed rest slots row.1 formed.1 (has-rest program slots (trees_in children) others has) (globals-behind children (each role.Plain rest) slots formed.0.0 (has-front program slots (trees_in children) others has) stands))
+      (file-placed rest slots row.1 formed.1 (has-rest program slots (trees_in children) others has)
+      (globals-behind children (each role.Plain rest) slots formed.0.0 (has-front program slots (trees_in children) others has) stands))
   file-placed (Child (Node node.Locks spot name number text children) rest) slots row formed has stands =
       let others = flat_declarations (variables_among (trees_in rest)) in
       All-cons (IfFunction program slots) (Node node.Locks spot name number text children) (trees_in rest) (λ is. never is)
-      (file-placed rest slots row.1 formed.1 (has-rest program slots (trees_in children) others has) (locks-behind children (each role.Plain rest) slots (has-front program slots (trees_in children) others has) stands))
+      (file-placed rest slots row.1 formed.1 (has-rest program slots (trees_in children) others has)
+      (locks-behind children (each role.Plain rest) slots (has-front program slots (trees_in children) others has) stands))
   file-placed (Child (Node (node.Function gives) spot name number text children) rest) slots row formed has stands =
       let done = first-child slots (each role.Plain rest) gives spot name number text children formed.0.0 formed.0.1 stands in
-      All-cons (IfFunction program slots) (Node (node.Function gives) spot name number text children) (trees_in rest) (λ is. done.0) (file-placed rest slots row.1 formed.1 has done.1)
+      All-cons (IfFunction program slots) (Node (node.Function gives) spot name number text children) (trees_in rest) (λ is. done.0)
+      (file-placed rest slots row.1 formed.1 has done.1)
   file-placed (Child (Node other spot name number text children) rest) slots row formed has stands = never row.0
 
   -- whichever function is named
@@ -242,7 +283,8 @@ module _ (program : TreeView) (own : HasOwnPlaces program) (checked : Checked pr
   both-named true same found = (refl, found)
   both-named false same found = absurd (cc)
 
-  chosen-placed : (slots : List ℕ) (name : ℕ) (tree other : Tree) (found : Bool) → is_function_named name tree ≡ found → IfFunction program slots tree → IsNamedPlaced slots name other → IsNamedPlaced slots name (if found then tree else other)
+  chosen-placed : (slots : List ℕ) (name : ℕ) (tree other : Tree) (found : Bool) → is_function_named name tree ≡ found → IfFunction program slots tree
+      → IsNamedPlaced slots name other → IsNamedPlaced slots name (if found then tree else other)
   chosen-placed slots name tree other false is known also = also
   chosen-placed slots name tree other true is known also =
       let both = both-named (is_function (kind_of tree)) (name_of (child_at tree 0) == name) is in
@@ -250,24 +292,29 @@ module _ (program : TreeView) (own : HasOwnPlaces program) (checked : Checked pr
       record {
         body = function.body;
         main = λ main. subst (λ (slots : List ℕ). IsPlaced program slots (body_of tree))
-            (ap (λ (parameters : List Tree). slots ++ map (slot_of_name program) parameters) (function.main (eqb-true (name_of (child_at tree 0)) name both.1 ∙ main)) ∙ append-nil slots) function.body;
+            (ap (λ (parameters : List Tree). slots ++ map (slot_of_name program) parameters)
+            (function.main (eqb-true (name_of (child_at tree 0)) name both.1 ∙ main)) ∙ append-nil slots) function.body;
       }
 
   named-placed : (slots : List ℕ) (name : ℕ) (trees : List Tree) → All (IfFunction program slots) trees → IsNamedPlaced slots name (function_among name trees)
   unfolding function_among
   named-placed slots name [] are = record { body = nothing_placed program _; main = λ is. nothing_placed program slots }
   named-placed slots name (tree ∷ trees) are =
-      chosen-placed slots name tree (function_among name trees) (is_function_named name tree) refl (All-head (IfFunction program slots) tree trees are) (named-placed slots name trees (All-tail (IfFunction program slots) tree trees are))
+      chosen-placed slots name tree (function_among name trees) (is_function_named name tree) refl (All-head (IfFunction program slots) tree trees are)
+      (named-placed slots name trees (All-tail (IfFunction program slots) tree trees are))
 
   file-has : HasSlots program (file_slots program) (flat_declarations (file_variables program))
   file-has tree there =
-      subst (λ (slots : List ℕ). Contains slots (slot_of_name program tree)) (sym (declared_slots program (flat_declarations (file_variables program)) (record { env = []; cells = [] })))
+      subst (λ (slots : List ℕ). Contains slots (slot_of_name program tree))
+      (sym (declared_slots program (flat_declarations (file_variables program)) (record { env = []; cells = [] })))
       (has-all program (flat_declarations (file_variables program)) tree there)
 
-  root-placed : (root : Tree) → root_tree program ≡ root → kind_of root ≡ node.Program → IsFormed root → All (IfFunction program (file_slots program)) (parts root)
+  root-placed : (root : Tree) → root_tree program ≡ root → kind_of root ≡ node.Program → IsFormed root
+      → All (IfFunction program (file_slots program)) (parts root)
   unfolding acts IsFormed after_all
   root-placed (Node node.Program spot name number text children) is kind formed =
-      file-placed children (file_slots program) formed.0 formed.1 (subst (λ (root : Tree). HasSlots program (file_slots program) (flat_declarations (variables_among (parts root)))) is file-has)
+      file-placed children (file_slots program) formed.0 formed.1
+      (subst (λ (root : Tree). HasSlots program (file_slots program) (flat_declarations (variables_among (parts root)))) is file-has)
       (record {
         before = [];
         behind = Finish program.end ∷ [];

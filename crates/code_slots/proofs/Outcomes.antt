@@ -26,7 +26,8 @@ CreatesSlotted program names point items = Unit {0}
 
 -- what comes of an event of an item that stands before what remains
 pub record LeadsOn (here : Here) (item : Item) (point : Point) : Type 0 where
-  pub leads : (executes : Bool) → Slotted here.program (items_after point executes (length here.task.env) item ++ here.task.todo) (slots_of (names_after point item here.task.env))
+  pub leads : (executes : Bool)
+      → Slotted here.program (items_after point executes (length here.task.env) item ++ here.task.todo) (slots_of (names_after point item here.task.env))
   pub creates : CreatesSlotted here.program (slots_of here.task.env) point (item ∷ here.task.todo)
 
 unfoldable pub Keeps : Here → Item → Outcome → Type 0
@@ -41,7 +42,8 @@ pub record IsRoomFor (here : Here) (item : Item) : Type 0 where
   pub calls : All (IsCallSlotted here.program) here.task.calls
 
 -- outcomes
-pub keeps_choice : (here : Here) (item : Item) (choice : Bool) (one other : Outcome) → Keeps here item one → Keeps here item other → Keeps here item (if choice then one else other)
+pub keeps_choice : (here : Here) (item : Item) (choice : Bool) (one other : Outcome) → Keeps here item one → Keeps here item other
+    → Keeps here item (if choice then one else other)
 keeps_choice here item true one other first second = first
 keeps_choice here item false one other first second = second
 
@@ -53,37 +55,50 @@ pub keeps_step : (here : Here) (item : Item) (next : Moment) → IsSlotted here.
 unfolding Keeps
 keeps_step here item next is = is
 
-pub keeps_unless : (here : Here) (item : Item) (choice : Bool) (limit : ℕ) (next : Moment) → IsSlotted here.program next.task → Keeps here item (if choice then Limits limit else StepsTo next)
-keeps_unless here item choice limit next is = keeps_choice here item choice (Limits limit) (StepsTo next) (keeps_limit here item limit) (keeps_step here item next is)
+pub keeps_unless : (here : Here) (item : Item) (choice : Bool) (limit : ℕ) (next : Moment) → IsSlotted here.program next.task
+    → Keeps here item (if choice then Limits limit else StepsTo next)
+keeps_unless here item choice limit next is =
+    keeps_choice here item choice (Limits limit) (StepsTo next) (keeps_limit here item limit) (keeps_step here item next is)
 
 pub keeps_event : (here : Here) (item : Item) (point : Point) (tree : Tree) → LeadsOn here item point → Keeps here item (Occurs point tree)
 unfolding Keeps
 keeps_event here item point tree is = is
 
-pub keeps_result : {A : Type 0} (here : Here) (item : Item) (result : Result A ℕ) (next : A → Outcome) → ((a : A) → Keeps here item (next a)) → Keeps here item (with_result result next)
+pub keeps_result : {A : Type 0} (here : Here) (item : Item) (result : Result A ℕ) (next : A → Outcome) → ((a : A) → Keeps here item (next a))
+    → Keeps here item (with_result result next)
 unfolding Keeps
 keeps_result here item (Ok a) next each = each a
 keeps_result here item (Err trap) next each = tt
 
 -- the words of the forms
-pub keeps_on : (here : Here) (item : Item) (items : List Item) → Slotted here.program (items ++ here.task.todo) (slots_of here.task.env) → IsRoomFor here item → Keeps here item (goes_on here items)
+pub keeps_on : (here : Here) (item : Item) (items : List Item) → Slotted here.program (items ++ here.task.todo) (slots_of here.task.env)
+    → IsRoomFor here item → Keeps here item (goes_on here items)
 unfolding Keeps
 keeps_on here item items now room = record { now = now; calls = room.calls }
 
-pub keeps_with : (here : Here) (item : Item) (names : ℕ) → Slotted here.program here.task.todo (take names (slots_of here.task.env)) → IsRoomFor here item → Keeps here item (goes_on_with here names [])
+pub keeps_with : (here : Here) (item : Item) (names : ℕ) → Slotted here.program here.task.todo (take names (slots_of here.task.env)) → IsRoomFor here item
+    → Keeps here item (goes_on_with here names [])
 unfolding Keeps
 keeps_with here item names now room =
-    record { now = subst (λ (known : List ℕ). Slotted here.program here.task.todo known) (take-map (λ (entry : Entry). entry.slot) names here.task.env) now; calls = room.calls }
+    record {
+      now = subst (λ (known : List ℕ). Slotted here.program here.task.todo known)
+          (take-map (λ (entry : Entry). entry.slot) names here.task.env) now;
+      calls = room.calls;
+    }
 
-pub keeps_sets : (here : Here) (item : Item) (cell : ℕ) (number : ℤ) (items : List Item) → Slotted here.program (items ++ here.task.todo) (slots_of here.task.env) → IsRoomFor here item → Keeps here item (sets here cell number items)
+pub keeps_sets : (here : Here) (item : Item) (cell : ℕ) (number : ℤ) (items : List Item)
+    → Slotted here.program (items ++ here.task.todo) (slots_of here.task.env) → IsRoomFor here item → Keeps here item (sets here cell number items)
 unfolding Keeps
 keeps_sets here item cell number items now room = record { now = now; calls = room.calls }
 
-pub keeps_binds : (here : Here) (item : Item) (bound : Bound) (items : List Item) → Slotted here.program (items ++ here.task.todo) (slots_of bound.env) → IsRoomFor here item → Keeps here item (binds here bound items)
+pub keeps_binds : (here : Here) (item : Item) (bound : Bound) (items : List Item) → Slotted here.program (items ++ here.task.todo) (slots_of bound.env)
+    → IsRoomFor here item → Keeps here item (binds here bound items)
 keeps_binds here item bound items now room = keeps_unless here item _ _ _ (record { now = now; calls = room.calls })
 
 -- a name comes into scope
-pub keeps_bound : (here : Here) (item : Item) (name slot : ℕ) (numbers : List ℤ) (items : List Item) → Slotted here.program (items ++ here.task.todo) (slots_of here.task.env ++ slot ∷ []) → IsRoomFor here item → Keeps here item (binds here (with_cells (bound_of here) name slot numbers) items)
+pub keeps_bound : (here : Here) (item : Item) (name slot : ℕ) (numbers : List ℤ) (items : List Item)
+    → Slotted here.program (items ++ here.task.todo) (slots_of here.task.env ++ slot ∷ []) → IsRoomFor here item
+    → Keeps here item (binds here (with_cells (bound_of here) name slot numbers) items)
 keeps_bound here item name slot numbers items now room =
     keeps_binds here item (with_cells (bound_of here) name slot numbers) items
     (subst (λ (known : List ℕ). Slotted here.program (items ++ here.task.todo) known) (sym (slots_push here.task.env _)) now) room

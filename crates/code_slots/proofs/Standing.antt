@@ -32,7 +32,8 @@ use Rattle.code_slots.proofs.TaskCopies.{IsCopyOf, copies_are_covered}
 
 pub cover_wider : (some more : List ℕ) (visible : List Declared) → IsPart some more → Cover some visible → Cover more visible
 cover_wider some more visible part covered =
-    All-weaker (λ (it : Declared). IsTrue (is_variable it.thing) → Contains some it.slot) (λ (it : Declared). IsTrue (is_variable it.thing) → Contains more it.slot) (λ it has variable. part it.slot (has variable)) visible covered
+    All-weaker (λ (it : Declared). IsTrue (is_variable it.thing) → Contains some it.slot)
+    (λ (it : Declared). IsTrue (is_variable it.thing) → Contains more it.slot) (λ it has variable. part it.slot (has variable)) visible covered
 
 pub part_left : (some more : List ℕ) → IsPart some (some ++ more)
 part_left some more slot there = Contains-append_left some more slot there
@@ -56,7 +57,8 @@ module _ (program : TreeView) where
 
   -- what stands behind some acts, where these lead to other slots
   pub stands_behind : (slots later : List ℕ) (some more : List Act)
-      → ((before behind : List Act) → acts_of program ≡ before ++ (some ++ behind) → Cover slots (here_after program before).names.visible → Cover later (after_all (here_after program before) some).names.visible)
+      → ((before behind : List Act) → acts_of program ≡ before ++ (some ++ behind) → Cover slots (here_after program before).names.visible
+      → Cover later (after_all (here_after program before) some).names.visible)
       → StandsIn program slots (some ++ more) → StandsIn program later more
   stands_behind slots later some more leads stands =
       let are = stands.acts_are ∙ ap (λ (acts : List Act). stands.before ++ acts) (append_assoc some more stands.behind) in
@@ -64,7 +66,8 @@ module _ (program : TreeView) where
         before = stands.before ++ some;
         behind = stands.behind;
         acts_are = are ∙ sym (append_assoc stands.before some (more ++ stands.behind));
-        covered = subst (λ (here : Here). Cover later here.names.visible) (sym (here_both stands.before some)) (leads stands.before (more ++ stands.behind) are stands.covered);
+        covered = subst (λ (here : Here). Cover later here.names.visible) (sym (here_both stands.before some))
+            (leads stands.before (more ++ stands.behind) are stands.covered);
       }
 
   same-visible : (slots : List ℕ) (added visible new : List Declared) → added ≡ [] → new ≡ added ++ visible → Cover slots visible → Cover slots new
@@ -77,7 +80,8 @@ module _ (program : TreeView) where
       stands_behind slots slots some more
       (λ before behind are covered.
       let added = adds.adds (here_after program before) (is_below program before) in
-      same-visible slots added.added (here_after program before).names.visible (after_all (here_after program before) some).names.visible (added.none refl) added.visible covered)
+      same-visible slots added.added (here_after program before).names.visible (after_all (here_after program before) some).names.visible
+      (added.none refl) added.visible covered)
       stands
 
   -- a scope begins
@@ -86,7 +90,8 @@ module _ (program : TreeView) where
   stands_open slots more stands = stands_behind slots slots (Open ∷ []) more (λ before behind are covered. covered) stands
 
   -- a declaration
-  pub stands_declared : HasOwnPlaces program → (slots : List ℕ) (name : ℕ) (spot : Spot) (what : Thing) (more : List Act) → StandsIn program slots (Declare name spot what ∷ more)
+  pub stands_declared : HasOwnPlaces program → (slots : List ℕ) (name : ℕ) (spot : Spot) (what : Thing) (more : List Act)
+      → StandsIn program slots (Declare name spot what ∷ more)
       → StandsIn program (slots ++ unwrap_or (slot_at program spot) 0 ∷ []) more
   unfolding after_all after
   stands_declared own slots name spot what more stands =
@@ -101,14 +106,17 @@ module _ (program : TreeView) where
       stands
 
   -- a task begins
-  pub enter_covers : HasOwnPlaces program → (slots : List ℕ) (spot : Spot) (which : Directive) (critical : ℕ) (more : List Act) → StandsIn program slots (Enter spot which critical ∷ more)
+  pub enter_covers : HasOwnPlaces program → (slots : List ℕ) (spot : Spot) (which : Directive) (critical : ℕ) (more : List Act)
+      → StandsIn program slots (Enter spot which critical ∷ more)
       → All (IsCopyOf spot slots) (end_of program).copies
-  enter_covers own slots spot which critical more stands = copies_are_covered program own slots stands.before (more ++ stands.behind) spot which critical stands.acts_are stands.covered
+  enter_covers own slots spot which critical more stands =
+      copies_are_covered program own slots stands.before (more ++ stands.behind) spot which critical stands.acts_are stands.covered
 
   -- statements
   pub stands_told : (slots : List ℕ) (around : Role) (tree : Tree) → StandsIn program slots (acts around tree) → StandsIn program slots (told_by around tree)
   unfolding acts
-  stands_told slots around (Node node.Block spot name number text children) stands = stands_first slots (each role.Plain children) (Close ∷ []) (stands_open slots (each role.Plain children ++ Close ∷ []) stands)
+  stands_told slots around (Node node.Block spot name number text children) stands =
+      stands_first slots (each role.Plain children) (Close ∷ []) (stands_open slots (each role.Plain children ++ Close ∷ []) stands)
   stands_told slots around (Node other spot name number text children) stands = stands
 
   pub placed : (slots : List ℕ) (around : Role) (tree : Tree) → IsFormed tree → StandsIn program slots (acts around tree) → IsPlaced program slots tree
@@ -124,5 +132,11 @@ module _ (program : TreeView) where
       record {
         around = role.Plain;
         formed = (tt, tt);
-        stands = record { before = []; behind = acts_of program; acts_are = refl; covered = All-nil (λ (it : Declared). IsTrue (is_variable it.thing) → Contains slots it.slot) };
+        stands = record {
+          before = [];
+          behind = acts_of program;
+          acts_are = refl;
+          covered = All-nil
+              (λ (it : Declared). IsTrue (is_variable it.thing) → Contains slots it.slot);
+        };
       }

@@ -24,7 +24,8 @@ use Rattle.c_model.specs.Loops.{declares_variable, loop_of}
 use Rattle.c_model.specs.Made.{slots_of}
 use Rattle.c_model.specs.Program.{body_of, function_named, parameters_of}
 use Rattle.c_model.specs.Task.{Item, OpenCall, Task}
-use Rattle.c_model.specs.Task.Item.{Start, Declare, Leave, Test, Third, Initialise, Return, FallOff, Forked, Inside, MakeCells, NextChunk, Iterations, NextSection, Combine, EndWork, EndMasked, Sync, Acquire, Release, TestLock, Tested}
+use Rattle.c_model.specs.Task.Item.{Start, Declare, Leave, Test, Third, Initialise, Return, FallOff, Forked, Inside, MakeCells, NextChunk, Iterations}
+use Rattle.c_model.specs.Task.Item.{NextSection, Combine, EndWork, EndMasked, Sync, Acquire, Release, TestLock, Tested}
 use Rattle.code_slots.specs.OwnPlaces.{HasOwnPlaces}
 
 -- the variables among some declarations have their slots among these
@@ -103,7 +104,10 @@ pub record IsSlotted (program : TreeView) (task : Task) : Type 0 where
 abbrev pub file_slots : TreeView → List ℕ
 file_slots program = slots_of (file_bound program).env
 
+abbrev pub parameter_slots : TreeView → Tree → List ℕ
+parameter_slots program function = map (slot_of_name program) (parameters_of function)
+
 pub record IsWellSlotted (program : TreeView) : Type 0 where
   pub places : HasOwnPlaces program
-  pub functions : (name : ℕ) → IsPlaced program (file_slots program ++ map (slot_of_name program) (parameters_of (function_named program name))) (body_of (function_named program name))
+  pub functions : (name : ℕ) → IsPlaced program (file_slots program ++ parameter_slots program (function_named program name)) (body_of (function_named program name))
   pub main : IsPlaced program (file_slots program) (body_of (function_named program program.main))
