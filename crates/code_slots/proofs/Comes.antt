@@ -2,7 +2,6 @@
 use Rattle.std.specs.Prelude.{ℕ, List, length}
 use Rattle.c_syntax.specs.language.Numbered.{TreeView, root_tree}
 use Rattle.c_syntax.specs.language.Words.{words_of}
-use Rattle.c_syntax.specs.language.Productions.{depth_limit}
 use Rattle.c_check.specs.Checked.{Checked}
 use Rattle.c_model.specs.Formed.{IsProgramFormed}
 use Rattle.c_model.specs.Made.{IsTaskMade}
