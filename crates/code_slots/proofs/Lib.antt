@@ -1,0 +1,14 @@
+pub mod ActPlaces
+pub mod Adding
+pub mod TaskCopies
+pub mod Standing
+pub mod Parts
+pub mod EntrySlots
+pub mod Outcomes
+pub mod Blocks
+pub mod Calls
+pub mod Steps
+pub mod Tasks
+pub mod Files
+pub mod ProductionPlaces
+pub mod Comes

@@ -1,0 +1,3 @@
+pub mod OwnPlaces
+pub mod Slotted
+pub mod Coming
