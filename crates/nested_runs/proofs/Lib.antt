@@ -52,8 +52,6 @@ pub mod RegionHeads
 pub mod TeamMembers
 pub mod ListTests
 pub mod MemberJoins
-pub mod MemberGos
-pub mod MemberBacks
 pub mod CarriedMembers
 pub mod JoinReadings
 pub mod GoMembers
