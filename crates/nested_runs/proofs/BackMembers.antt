@@ -23,8 +23,9 @@ use Rattle.nested_runs.specs.Known.{HasGone, IsLeaving, IsSeated, TellsMembers, 
 use Rattle.nested_runs.specs.Knows.{ComesBack, IsWholeRun, Knows, Stays}
 use Rattle.nested_runs.specs.Recorded.{Inside, inside}
 use Rattle.nested_runs.specs.Touching.{head_back, is_summoned, pooled_back, thread_back}
-use Rattle.nested_runs.proofs.CarriedMembers.{Carries, all-with-set, gone-carried, region-carried, seated-carried, seated-started}
+use Rattle.nested_runs.proofs.CarriedMembers.{Carries, gone-carried, region-carried, seated-carried, seated-started}
 use Rattle.nested_runs.proofs.FirstWorlds.{first-inside, first-threads}
+use Rattle.nested_runs.proofs.ListCounts.{all-with-set}
 use Rattle.nested_runs.proofs.PooledTasks.{by-case, same-back}
 use Rattle.nested_runs.proofs.RegionHeads.{BackHead, back-head}
 

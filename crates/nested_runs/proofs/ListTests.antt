@@ -29,10 +29,12 @@ any-filter keeps test (x ∷ xs) found =
     ]
 
 -- all within a range pass
-pub all-in-range : (test : ℕ → Bool) (from count : ℕ) → ((i : ℕ) → from ≤ i → i < from + count → test i ≡ true) → list_all test (range_with_len from count) ≡ true
+pub all-in-range : (test : ℕ → Bool) (from count : ℕ) → ((i : ℕ) → from ≤ i → i < from + count → test i ≡ true) →
+    list_all test (range_with_len from count) ≡ true
 all-in-range test from zero each = refl
 all-in-range test from (suc count) each =
-    and_from (test from) _ (each from (omega arith) (omega arith)) (all-in-range test (from + 1) count (λ i low high. each i (omega (arith, low)) (omega (arith, high))))
+    and_from (test from) _ (each from (omega arith) (omega arith))
+    (all-in-range test (from + 1) count (λ i low high. each i (omega (arith, low)) (omega (arith, high))))
 
 -- where all of the first flags are set, each is
 pub flag-at : (flags : List Bool) (size i : ℕ) → list_all (λ (flag : Bool). flag) (take size flags) ≡ true → i < size → size ≤ length flags →
@@ -51,17 +53,18 @@ all-set (flag ∷ flags) (suc size) (suc i) all = let parts = and_parts flag _ a
 
 -- ---- the first of a list are at least 1, and no others
 
-abbrev pub is_some : ℕ → Bool
-is_some n = not (n == 0)
+abbrev pub is_nonzero : ℕ → Bool
+is_nonzero n = not (n == 0)
 
+-- so many of them
 pub count-first : (xs : List ℕ) (n : ℕ) → n ≤ length xs → ((i : ℕ) → i < n → 1 ≤ slice_index_or xs i 0) → ((i : ℕ) → n ≤ i → slice_index_or xs i 0 ≡ 0) →
-    count_by is_some xs ≡ n
+    count_by is_nonzero xs ≡ n
 count-first [] n fits first beyond = omega (arith, fits)
 count-first (x ∷ xs) zero fits first beyond =
     let none : x ≡ 0 = beyond zero (omega arith) in
     let rest = count-first xs zero (omega arith) (λ i below. absurd (omega (arith, below))) (λ i far. beyond (suc i) (omega arith)) in
-    sum_by-cons (λ (k : ℕ). if is_some k then 1 else 0) x xs ∙ rw (eq-eqb x 0 none) (omega (arith, rest))
+    sum_by-cons (λ (k : ℕ). if is_nonzero k then 1 else 0) x xs ∙ rw (eq-eqb x 0 none) (omega (arith, rest))
 count-first (x ∷ xs) (suc n) fits first beyond =
     let some : 1 ≤ x = first zero (omega arith) in
     let rest = count-first xs n (omega (arith, fits)) (λ i below. first (suc i) (omega (arith, below))) (λ i far. beyond (suc i) (omega (arith, far))) in
-    sum_by-cons (λ (k : ℕ). if is_some k then 1 else 0) x xs ∙ rw (ne_eqb x 0 (λ is. omega (arith, is, some))) (omega (arith, rest))
+    sum_by-cons (λ (k : ℕ). if is_nonzero k then 1 else 0) x xs ∙ rw (ne_eqb x 0 (λ is. omega (arith, is, some))) (omega (arith, rest))

@@ -30,10 +30,13 @@ pub record HasJoin (W : World) (past : List EventRecord) (r i : ℕ) : Type 0 wh
   pub task : (slice_index_or (joins_of r past) place no_join).task ≡ task_of_member W r i
   pub actual : (slice_index_or (joins_of r past) place no_join).actual ≡ (region_at W r).head.size
 
+-- a task that is under way hasn't finished
 unlike : {now : Condition} → now ≡ condition.Started → now ≡ condition.Finished → ⊥
 unlike started finished = cc
 
-module _ (run : Run) (W : World) (I : Inside) (past : List EventRecord) (knows : Knows run W I past) (r : ℕ) (forked : 2 ≤ r) (made : r < length W.regions) where
+module _ (run : Run) (W : World) (I : Inside) (past : List EventRecord) (knows : Knows run W I past) (r : ℕ) (forked : 2 ≤ r)
+    (made : r < length W.regions) where
+  -- a member that has begun has joined
   pub has-join : (i : ℕ) → 1 ≤ task_of_member W r i → HasJoin W past r i
   has-join i some =
       let told = knows.members.region r forked made in
@@ -60,7 +63,8 @@ module _ (run : Run) (W : World) (I : Inside) (past : List EventRecord) (knows :
       flag-at (region_at W r).head.left (region_at W r).head.size i all below (omega (arith, (knows.members.region r forked made).left, size-fits))
 
   -- a region with a member that is under way isn't over
-  pub not-over : (i : ℕ) → i < (region_at W r).head.size → (pooled_at W (task_of_member W r i)).condition ≡ condition.Started → (region_at W r).head.ended ≡ false
+  pub not-over : (i : ℕ) → i < (region_at W r).head.size → (pooled_at W (task_of_member W r i)).condition ≡ condition.Started →
+      (region_at W r).head.ended ≡ false
   not-over i below started =
       elim (cases_Bool (region_at W r).head.ended) [
         | inr still ↦ still
@@ -69,6 +73,7 @@ module _ (run : Run) (W : World) (I : Inside) (past : List EventRecord) (knows :
             absurd (unlike started (told.gone i (left-each (told.ended ended) i below)).finished)
       ]
 
+  -- a region that isn't over is open by what was told
   pub open-told : (region_at W r).head.ended ≡ false → is_open_region r past ≡ true
   open-told still =
       and_from _ _ (knows.members.begun r ∙ and_from _ _ (le-leb 2 r forked) (lt-ltb r (length W.regions) made))
@@ -78,7 +83,8 @@ module _ (run : Run) (W : World) (I : Inside) (past : List EventRecord) (knows :
   pub waited-told : (n : ℕ) → ((j : ℕ) → j < (region_at W r).head.size → (1 ≤ task_of_member W r j) × (n ≤ waits_of (task_of_member W r j) past)) →
       have_waited past r (region_at W r).head.size n ≡ true
   waited-told n each =
-      all-in-range (λ index. list_any (λ (join : Join). (join.index == index) && nat_le n (waits_of join.task past)) (joins_of r past)) 0 (region_at W r).head.size
+      all-in-range (λ index. list_any (λ (join : Join). (join.index == index) && nat_le n (waits_of join.task past)) (joins_of r past)) 0
+      (region_at W r).head.size
       (λ j low high.
       let told = each j (omega (arith, high)) in
       let join = has-join j told.0 in

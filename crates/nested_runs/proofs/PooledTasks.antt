@@ -16,15 +16,17 @@ use Rattle.omp_model.specs.Made.{IsMadeWorld, IsTaskOf}
 use Rattle.omp_model.specs.Members.{current}
 use Rattle.omp_model.proofs.MadeWords.{pool-at}
 use Rattle.nested_runs.specs.Coming.{Comes}
-use Rattle.nested_runs.specs.Effects.{come_to, pooled_after}
+use Rattle.nested_runs.specs.Effects.{come_to, pooled_after, tasks_after}
 use Rattle.nested_runs.specs.Touching.{is_summoned, pooled_back, thread_back}
 
 -- ---- where no task was made
 
+-- a list of tasks ends
 nothing-past : (tasks : List PoolTask) (k : ℕ) → length tasks + 1 ≤ k → pool_task_at tasks k ≡ no_pooled
 nothing-past tasks zero past = refl
 nothing-past tasks (suc k) past = pool-at tasks k ∙ get_or_past tasks k no_pooled (omega (arith, past))
 
+-- nothing is read there
 pub unmade-pooled : (W : World) → IsMadeWorld W → (k : ℕ) → length W.tasks ≤ k → pooled_at W k ≡ no_pooled
 unmade-pooled W made k past = nothing-past W.pool.tasks k (omega (arith, made.pooled, past))
 
@@ -33,6 +35,7 @@ unmade-task W k past = get_or_past W.tasks k no_task past
 
 -- ---- one of two
 
+-- what is so of both is so of the one that is chosen
 pub by-case : {X : Type 0} (P : X → Type 0) (k task : ℕ) (one other : X) → (k ≡ task → P one) → P other → P (if k == task then one else other)
 by-case P k task one other first second =
     elim (cases_eq k task) [ inl is ↦ rw (eq-eqb k task is) (first is) | inr apart ↦ rw (ne_eqb k task apart) second ]
@@ -44,7 +47,7 @@ pub record SameTask (task after : PoolTask) : Type 0 where
   pub region : after.region ≡ task.region
   pub kind : after.kind ≡ task.kind
 
-pub same-task : (task : PoolTask) → SameTask task task
+same-task : (task : PoolTask) → SameTask task task
 same-task task = record { parent = refl; region = refl; kind = refl }
 
 come-same : (task : PoolTask) (now : Condition) → SameTask task (come_to task now)
@@ -55,6 +58,7 @@ abbrev pub Starting : World → Event → Type 0
 Starting W (TaskBegin prior task) = has_started (pooled_at W task).condition ≡ false
 Starting W other = Unit {0}
 
+-- how far a task has come
 unlike : {now : Condition} → now ≡ condition.Finished → now ≡ condition.Made → ⊥
 unlike finished made = cc
 
@@ -89,15 +93,19 @@ module _ (W : World) (t : ℕ) where
   pub finished-stays : (e : Event) → Comes W t e → Starting W e → (k : ℕ) → k ≢ length W.tasks → (pooled_at W k).condition ≡ condition.Finished →
       (pooled_after W t e k).condition ≡ condition.Finished
   finished-stays InitialTaskBegin comes starting k other finished =
-      by-case (λ (p : PoolTask). p.condition ≡ condition.Finished) k INITIAL_TASK _ _ (λ is. absurd (unlike (ap (λ i. (pooled_at W i).condition) (sym is) ∙ finished) comes.made)) finished
-  finished-stays InitialTaskEnd comes starting k other finished = by-case (λ (p : PoolTask). p.condition ≡ condition.Finished) k INITIAL_TASK _ _ (λ is. refl) finished
+      by-case (λ (p : PoolTask). p.condition ≡ condition.Finished) k INITIAL_TASK _ _
+      (λ is. absurd (unlike (ap (λ i. (pooled_at W i).condition) (sym is) ∙ finished) comes.made)) finished
+  finished-stays InitialTaskEnd comes starting k other finished =
+      by-case (λ (p : PoolTask). p.condition ≡ condition.Finished) k INITIAL_TASK _ _ (λ is. refl) finished
   finished-stays (MemberBegin r task) comes starting k other finished =
       by-case (λ (p : PoolTask). p.condition ≡ condition.Finished) k task _ _ (λ is. absurd (other (is ∙ comes.task))) finished
-  finished-stays (MemberEnd r task) comes starting k other finished = by-case (λ (p : PoolTask). p.condition ≡ condition.Finished) k task _ _ (λ is. refl) finished
+  finished-stays (MemberEnd r task) comes starting k other finished =
+      by-case (λ (p : PoolTask). p.condition ≡ condition.Finished) k task _ _ (λ is. refl) finished
   finished-stays (TaskCreate task undeferred codeptr) comes starting k other finished =
       by-case (λ (p : PoolTask). p.condition ≡ condition.Finished) k task _ _ (λ is. absurd (other (is ∙ comes.1))) finished
   finished-stays (TaskBegin prior task) comes starting k other finished =
-      by-case (λ (p : PoolTask). p.condition ≡ condition.Finished) k task _ _ (λ is. absurd (unstarted starting (ap (λ i. (pooled_at W i).condition) (sym is) ∙ finished))) finished
+      by-case (λ (p : PoolTask). p.condition ≡ condition.Finished) k task _ _
+      (λ is. absurd (unstarted starting (ap (λ i. (pooled_at W i).condition) (sym is) ∙ finished))) finished
   finished-stays e comes starting k other finished = finished
 
 -- the same through its Back
@@ -107,8 +115,20 @@ same-back W (TaskCreate task true codeptr) k = same-task _
 same-back W (TaskEnd task) k = by-case (SameTask (pooled_at W k)) k task _ _ (λ is. come-same _ _) (same-task _)
 same-back W e k = same-task _
 
+-- how many tasks there are
+pub tasks-grow : (e : Event) (count : ℕ) → count ≤ tasks_after e count
+tasks-grow (MemberBegin r k) count = omega arith
+tasks-grow (TaskCreate task undeferred codeptr) count = omega arith
+tasks-grow e count = omega arith
+
+pub tasks-few : (e : Event) (count : ℕ) → tasks_after e count ≤ count + 1
+tasks-few (MemberBegin r k) count = omega arith
+tasks-few (TaskCreate task undeferred codeptr) count = omega arith
+tasks-few e count = omega arith
+
 -- ---- the current task of a thread
 
+-- what is so of all on a stack is so of the first one
 first-of : (P : ℕ → Type 0) (stack : List ℕ) → All P stack → 1 ≤ slice_index_or stack 0 0 → P (slice_index_or stack 0 0)
 first-of P [] all some = absurd (omega (arith, some))
 first-of P (k ∷ rest) all some = all zero 0 (omega arith)
@@ -124,7 +144,8 @@ module _ (W : World) (t : ℕ) where
 -- that of another thread is another one
 pub apart : (W : World) → AreOrderly W → (t u : ℕ) → 1 ≤ current W u → current W u ≡ current W t → u ≡ t
 apart W orderly t u some same =
-    sym (current-under-way W u orderly some).thread ∙ (ap (λ k. (task_at W k).thread) same ∙ (current-under-way W t orderly (subst (λ k. 1 ≤ k) same some)).thread)
+    sym (current-under-way W u orderly some).thread ∙
+    (ap (λ k. (task_at W k).thread) same ∙ (current-under-way W t orderly (subst (λ k. 1 ≤ k) same some)).thread)
 
 -- where a thread has the same stack it has the same current task
 pub current-same : (W after : World) (t : ℕ) → (thread_at after t).stack ≡ (thread_at W t).stack → current after t ≡ current W t

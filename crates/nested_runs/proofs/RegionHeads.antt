@@ -36,6 +36,7 @@ pub record SameHead (head after : RegionHead) : Type 0 where
 same-head : (head : RegionHead) → SameHead head head
 same-head head = record { task = refl; size = refl; left = refl }
 
+-- the Go of an event leaves them, but for a region that it makes
 head-stays : (W : World) (t : ℕ) (e : Event) → Comes W t e → (q : ℕ) → q ≢ length W.regions → SameHead (region_at W q).head (head_after W t e q)
 head-stays W t (ParallelBegin r requested codeptr) comes q other =
     by-case (SameHead (region_at W q).head) q r _ _ (λ is. absurd (other (is ∙ comes.1.region))) (same-head _)
@@ -55,6 +56,7 @@ Joins other q = ⊥
 abbrev pub JoinsAt : World → ℕ → Event → ℕ → ℕ → Type 0
 JoinsAt W t e q i = Joins e q × (i ≡ member_index W t q)
 
+-- it does or it doesn't
 joins-cases : (W : World) (t : ℕ) (e : Event) (q i : ℕ) → JoinsAt W t e q i ⊎ (JoinsAt W t e q i → ⊥)
 joins-cases W t (MemberBegin r k) q i =
     elim (cases_eq q r) [
@@ -65,16 +67,19 @@ joins-cases W t e q i = inr (λ joins. joins.0)
 
 module _ (run : Run) (W after : World) (I J : Inside) (past : List EventRecord) (t : ℕ) where
   module _ (e : Event) (goes : Goes run W after I J past t e) where
+    -- the region and the kind of a task
     pub region-stays : (k : ℕ) → k ≢ length W.tasks → region_of after k ≡ region_of W k
     region-stays k other = ap (λ (x : PoolTask). x.region) (goes.touches.pooled k) ∙ (same-pooled W t e goes.comes k other).region
 
     pub kind-stays : (k : ℕ) → k ≢ length W.tasks → (pooled_at after k).kind ≡ (pooled_at W k).kind
     kind-stays k other = ap (λ (x : PoolTask). x.kind) (goes.touches.pooled k) ∙ (same-pooled W t e goes.comes k other).kind
 
+    -- the head of a region
     pub head-same : (q : ℕ) → q ≢ length W.regions → SameHead (region_at W q).head (region_at after q).head
     head-same q other = subst (SameHead (region_at W q).head) (sym (goes.touches.head q)) (head-stays W t e goes.comes q other)
 
-    pub outermost-stays : (q : ℕ) → 1 ≤ q → q < length W.regions → is_outermost after q ≡ is_outermost W q
+    -- whether it is outermost, and the numbers of its members
+    outermost-stays : (q : ℕ) → 1 ≤ q → q < length W.regions → is_outermost after q ≡ is_outermost W q
     outermost-stays q some within =
         let made = goes.knows.sound.made.regions q (record { some = some; below = within }) in
         let task : (region_at after q).head.task ≡ (region_at W q).head.task = (head-same q (λ is. omega (arith, is, within))).task in
@@ -91,7 +96,8 @@ module _ (run : Run) (W after : World) (I J : Inside) (past : List EventRecord) 
   head-member (ParallelEnd r codeptr) goes q i forked other apart =
       by-case (λ (head : RegionHead). slice_index_or head.members i 0 ≡ task_of_member W q i) q r _ _ (λ is. refl) refl
   head-member InitialTaskBegin goes q i forked other apart =
-      by-case (λ (head : RegionHead). slice_index_or head.members i 0 ≡ task_of_member W q i) q IMPLICIT_REGION _ _ (λ is. absurd (omega (arith, is, forked))) refl
+      by-case (λ (head : RegionHead). slice_index_or head.members i 0 ≡ task_of_member W q i) q IMPLICIT_REGION _ _
+      (λ is. absurd (omega (arith, is, forked))) refl
   head-member (MemberBegin r k) goes q i forked other apart =
       by-case (λ (head : RegionHead). slice_index_or head.members i 0 ≡ task_of_member W q i) q r _ _
       (λ is. get_or-set_other (region_at W q).head.members (member_index W t r) i k 0 (λ here. apart (is, here ∙ ap (member_index W t) (sym is)))) refl
@@ -123,15 +129,29 @@ module _ (run : Run) (W after : World) (I J : Inside) (past : List EventRecord) 
       let forked : 2 ≤ (thread_at W t).invited = named.forks some in
       let told = goes.knows.members.region (thread_at W t).invited forked joined.made.below in
       let few : i < (region_at W q).head.size =
-      subst (λ p. i < (region_at W p).head.size) (sym is) (subst (λ n. i < n) region.team (subst (λ j. j < length (region_at W (thread_at W t).invited).team.members) (sym here) joined.member)) in
+      subst (λ p. i < (region_at W p).head.size) (sym is)
+      (subst (λ n. i < n) region.team (subst (λ j. j < length (region_at W (thread_at W t).invited).team.members) (sym here) joined.member)) in
       let within : i < length (region_at W q).head.members =
-      omega (arith, few, ap (λ p. (region_at W p).head.size) is, region.fits, goes.knows.sound.threads, goes.knows.sound.whole.few, told.members, ap (λ p. length (region_at W p).head.members) is) in
+      omega (
+        arith,
+        few,
+        ap (λ p. (region_at W p).head.size) is,
+        region.fits,
+        goes.knows.sound.threads,
+        goes.knows.sound.whole.few,
+        told.members,
+        ap
+            (λ p. length (region_at W p).head.members) is,
+      ) in
       let joined-head : (region_at after q).head.members ≡ slice_set (region_at W q).head.members (member_index W t r) k =
       ap (λ (head : RegionHead). head.members) (goes.touches.head q) ∙ rw (eq-eqb q r joins.0) refl in
       record {
-        none = subst (λ p. task_of_member W p i ≡ 0) (sym is) (subst (λ j. task_of_member W (thread_at W t).invited j ≡ 0) (sym here) (goes.knows.members.room t some));
+        none =
+            subst (λ p. task_of_member W p i ≡ 0) (sym is)
+            (subst (λ j. task_of_member W (thread_at W t).invited j ≡ 0) (sym here) (goes.knows.members.room t some));
         task = ap (λ (members : List ℕ). slice_index_or members i 0) joined-head
-            ∙ (subst (λ j. slice_index_or (slice_set (region_at W q).head.members j k) i 0 ≡ k) (joins.1 ∙ ap (member_index W t) joins.0) (get_or-set_same (region_at W q).head.members i k 0 within)
+            ∙ (subst (λ j. slice_index_or (slice_set (region_at W q).head.members j k) i 0 ≡ k) (joins.1 ∙ ap (member_index W t) joins.0)
+            (get_or-set_same (region_at W q).head.members i k 0 within)
             ∙ goes.comes.task);
         few = few;
         within = within;
@@ -141,6 +161,7 @@ module _ (run : Run) (W after : World) (I J : Inside) (past : List EventRecord) 
       }
   new-member e goes q i joins = absurd joins.0
 
+  -- each member is new or was there
   pub member-cases : (e : Event) → Goes run W after I J past t e → (q i : ℕ) → 2 ≤ q → q ≢ length W.regions →
       (JoinsAt W t e q i × IsNewMember q i) ⊎ ((JoinsAt W t e q i → ⊥) × (task_of_member after q i ≡ task_of_member W q i))
   member-cases e goes q i forked other =
@@ -151,6 +172,10 @@ module _ (run : Run) (W after : World) (I J : Inside) (past : List EventRecord) 
 
 -- ---- the place of a thread's current task in its team
 
+-- the initial task is no member's
+pub unlike-kinds : {one : TaskKind} → one ≡ kind.Implicit → one ≡ kind.Initial → ⊥
+unlike-kinds implicit initial = cc
+
 -- a task that isn't explicit is the initial one or a member's
 pub plain-kinds : (now : TaskKind) → is_explicit now ≡ false → (now ≡ kind.Initial) ⊎ (now ≡ kind.Implicit)
 plain-kinds kind.Initial plain = inl refl
@@ -160,7 +185,8 @@ plain-kinds kind.Undeferred plain = absurd cc
 
 module _ (run : Run) (W : World) (I : Inside) (past : List EventRecord) (t : ℕ) (knows : Knows run W I past) (some : 1 ≤ current W t) where
   -- a member stands at its place
-  pub member-seated : (pooled_at W (current W t)).kind ≡ kind.Implicit → (2 ≤ current_region W t) × (task_of_member W (current_region W t) (current_index W t) ≡ current W t)
+  pub member-seated : (pooled_at W (current W t)).kind ≡ kind.Implicit →
+      (2 ≤ current_region W t) × (task_of_member W (current_region W t) (current_index W t) ≡ current W t)
   member-seated implicit =
       let seated = knows.members.seated (current W t) (current-made W t knows.sound.made some).made implicit in
       let thread = (current-under-way W t knows.sound.orderly some).thread in
@@ -188,6 +214,7 @@ module _ (run : Run) (W : World) (I : Inside) (past : List EventRecord) (t : ℕ
   pub place-within : current_index W t < length (region_at W (current_region W t)).team.members
   place-within = (current-made W t knows.sound.made some).within.member
 
+  -- and its region was made
   pub region-made : IsRegion W (current_region W t)
   region-made = (current-made W t knows.sound.made some).within.made
 
@@ -200,7 +227,9 @@ pub record IsFreshRegion (W after : World) (t r : ℕ) : Type 0 where
   pub member : (i : ℕ) → task_of_member after r i ≡ 0
   pub new : (i : ℕ) → member_at (region_at after r).team i ≡ new_member
 
-fresh-of : (W after : World) (t r size : ℕ) → (region_at after r).head ≡ fresh_head (current W t) size → (region_at after r).team ≡ fresh_team size → IsFreshRegion W after t r
+-- it has no members, and its team has met nothing
+fresh-of : (W after : World) (t r size : ℕ) → (region_at after r).head ≡ fresh_head (current W t) size → (region_at after r).team ≡ fresh_team size →
+    IsFreshRegion W after t r
 fresh-of W after t r size head team =
     record {
       size = size;
@@ -210,7 +239,9 @@ fresh-of W after t r size head team =
       new = λ i. ap (λ (x : TeamView). member_at x i) team ∙ replicated new_member size i;
     }
 
-pub fresh-region : (run : Run) (W after : World) (I J : Inside) (past : List EventRecord) (t : ℕ) (e : Event) → Goes run W after I J past t e → (r : ℕ) → r ≡ length W.regions →
+-- the region of the begin of one
+pub fresh-region : (run : Run) (W after : World) (I J : Inside) (past : List EventRecord) (t : ℕ) (e : Event) → Goes run W after I J past t e → (r : ℕ) →
+    r ≡ length W.regions →
     r < length after.regions → IsFreshRegion W after t r
 fresh-region run W after I J past t (ParallelBegin q requested codeptr) goes r is within =
     let same : r ≡ q = is ∙ sym goes.comes.1.region in
@@ -222,7 +253,8 @@ regions-grow : (e : Event) (count : ℕ) → regions_after e count ≤ count + 1
 regions-grow (ParallelBegin r requested codeptr) count = omega arith
 regions-grow e count = omega arith
 
-pub old-region : (run : Run) (W after : World) (I J : Inside) (past : List EventRecord) (t : ℕ) (e : Event) → Goes run W after I J past t e → (r : ℕ) → r < length after.regions →
+pub old-region : (run : Run) (W after : World) (I J : Inside) (past : List EventRecord) (t : ℕ) (e : Event) → Goes run W after I J past t e → (r : ℕ) →
+    r < length after.regions →
     r ≢ length W.regions → r < length W.regions
 old-region run W after I J past t e goes r made other =
     elim (cases_order r (length W.regions)) [
@@ -238,11 +270,13 @@ pub record BackHead (head after : RegionHead) : Type 0 where
   pub members : after.members ≡ head.members
   pub ended : after.ended ≡ head.ended
 
+-- all but who has left it stays
 head-returns : (W : World) (t : ℕ) (e : Event) (q : ℕ) → BackHead (region_at W q).head (head_back W t e q)
 head-returns W t (MemberEnd r k) q =
     by-case (BackHead (region_at W q).head) q r _ _ (λ is. record { task = refl; size = refl; members = refl; ended = refl })
     (record { task = refl; size = refl; members = refl; ended = refl })
 head-returns W t e q = record { task = refl; size = refl; members = refl; ended = refl }
 
-pub back-head : (W after : World) (t : ℕ) (e : Event) (q : ℕ) → (region_at after q).head ≡ head_back W t e q → BackHead (region_at W q).head (region_at after q).head
+pub back-head : (W after : World) (t : ℕ) (e : Event) (q : ℕ) → (region_at after q).head ≡ head_back W t e q →
+    BackHead (region_at W q).head (region_at after q).head
 back-head W after t e q is = subst (BackHead (region_at W q).head) (sym is) (head-returns W t e q)

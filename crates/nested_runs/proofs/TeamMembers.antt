@@ -29,6 +29,7 @@ use Rattle.nested_runs.proofs.PooledTasks.{by-case, current-same}
 
 -- ---- events of the code of the current task
 
+-- where the code of the current task stands, and that there is one
 pub comes-stand : (W : World) (t : ℕ) (e : Event) → is_of_code e ≡ true → Comes W t e → stand_at W (current W t) ≡ stand_before e
 comes-stand W t ThreadBegin code comes = absurd (true≢false (sym code))
 comes-stand W t ThreadEnd code comes = absurd (true≢false (sym code))
@@ -55,13 +56,16 @@ comes-some W t e code comes = comes.0.within.some
 
 -- ---- a team where one member meets something
 
+-- a meeting is new or was there, and the members are the same
 placed-members : (team : TeamView) (met : Option TeamMeeting) (what : Meeting) → (with_place team met what).members ≡ team.members
 placed-members team None what = refl
 placed-members team (Some met) what = refl
 
+-- one member has met something
 met-members : (team : TeamView) (i : ℕ) (what : Meeting) → (after_meeting team i what).members ≡ slice_set team.members i (with_meeting (member_at team i) what)
 met-members team i what = ap (λ (members : List Member). slice_set members i (with_meeting (member_at team i) what)) (placed-members team _ what)
 
+-- each other member is the same
 other-met : (team : TeamView) (i j : ℕ) (what : Meeting) → (j ≡ i → ⊥) → member_at (after_meeting team i what) j ≡ member_at team j
 other-met team i j what other =
     ap (λ (members : List Member). slice_index_or members j new_member) (met-members team i what) ∙ get_or-set_other team.members i j _ new_member other
@@ -99,6 +103,7 @@ pub record OwnMember (e : Event) (member after : Member) : Type 0 where
   pub begun : after.begun ≡ member.begun
   pub passed : after.passed ≡ passed_by e member
 
+-- one of two, by whether the event is at a barrier
 at-barrier : (b : Bool) (P Q R : Type 0) → AtBarrierElse b P Q → (b ≡ true → P → R) → (b ≡ false → Q → R) → R
 at-barrier true P Q R at first second = first refl at
 at-barrier false P Q R at first second = second refl at
@@ -141,9 +146,12 @@ module _ (run : Run) (W after : World) (I J : Inside) (past : List EventRecord) 
   own-meeting q i what is here within meets =
       ap (λ (team : TeamView). member_at team i) meets.team
       ∙ rw (eq-eqb q (current_region W t) is)
-      (subst (λ j. member_at (after_meeting (region_at W q).team j what) i ≡ with_meeting (member_at (region_at W q).team i) what) here (own-met (region_at W q).team i what within))
+      (subst (λ j. member_at (after_meeting (region_at W q).team j what) i ≡ with_meeting (member_at (region_at W q).team i) what) here
+      (own-met (region_at W q).team i what within))
 
-  unmoved : (e : Event) (q i : ℕ) → met_by e ≡ 0 → passed_by e (member_at (region_at W q).team i) ≡ (member_at (region_at W q).team i).passed → SameMember W after q i →
+  -- the member is the same, where nothing is met and no wait ends
+  unmoved : (e : Event) (q i : ℕ) → met_by e ≡ 0 → passed_by e (member_at (region_at W q).team i) ≡ (member_at (region_at W q).team i).passed →
+      SameMember W after q i →
       OwnMember e (member_at (region_at W q).team i) (member_at (region_at after q).team i)
   unmoved e q i none passed same =
       record {
@@ -152,6 +160,7 @@ module _ (run : Run) (W after : World) (I J : Inside) (past : List EventRecord) 
         passed = ap (λ (m : Member). m.passed) same ∙ sym passed;
       }
 
+  -- the member of the current task
   pub own-member : (e : Event) → Goes run W after I J past t e → (q i : ℕ) → q ≢ length W.regions → q ≡ current_region W t → i ≡ current_index W t →
       i < length (region_at W q).team.members → OwnMember e (member_at (region_at W q).team i) (member_at (region_at after q).team i)
   own-member (Work Begin which count codeptr) goes q i other is here within =
@@ -176,10 +185,12 @@ module _ (run : Run) (W after : World) (I J : Inside) (past : List EventRecord) 
   own-member (Sync which stage.WaitEnd codeptr) goes q i other is here within =
       elim (cases_Bool (is_barrier which)) [
         | inl barrier ↦
-            let passed : member_at (region_at after q).team i ≡ record (member_at (region_at W q).team i) { passed = (member_at (region_at W q).team i).barriers } =
+            let passed : member_at (region_at after q).team i ≡ record
+            (member_at (region_at W q).team i) { passed = (member_at (region_at W q).team i).barriers } =
             ap (λ (team : TeamView). member_at team i) (goes.touches.team q)
             ∙ rw (barrier, eq-eqb q (current_region W t) is)
-            (subst (λ j. member_at (with_passed (region_at W q).team j) i ≡ record (member_at (region_at W q).team i) { passed = (member_at (region_at W q).team i).barriers }) here
+            (subst (λ j. member_at (with_passed (region_at W q).team j) i ≡ record
+            (member_at (region_at W q).team i) { passed = (member_at (region_at W q).team i).barriers }) here
             (get_or-set_same (region_at W q).team.members i _ new_member within)) in
             record {
               barriers = ap (λ (m : Member). m.barriers) passed ∙ omega arith;
@@ -191,9 +202,11 @@ module _ (run : Run) (W after : World) (I J : Inside) (past : List EventRecord) 
             (same-member (Sync which stage.WaitEnd codeptr) goes q i other (λ moved. absurd (true≢false (sym moved ∙ barrier))))
       ]
   own-member (Sync which stage.WaitBegin codeptr) goes q i other is here within =
-      unmoved (Sync which stage.WaitBegin codeptr) q i refl refl (same-member (Sync which stage.WaitBegin codeptr) goes q i other (λ moved. absurd (true≢false (sym moved))))
+      unmoved (Sync which stage.WaitBegin codeptr) q i refl refl
+      (same-member (Sync which stage.WaitBegin codeptr) goes q i other (λ moved. absurd (true≢false (sym moved))))
   own-member (Sync which stage.RegionEnd codeptr) goes q i other is here within =
-      unmoved (Sync which stage.RegionEnd codeptr) q i refl refl (same-member (Sync which stage.RegionEnd codeptr) goes q i other (λ moved. absurd (true≢false (sym moved))))
+      unmoved (Sync which stage.RegionEnd codeptr) q i refl refl
+      (same-member (Sync which stage.RegionEnd codeptr) goes q i other (λ moved. absurd (true≢false (sym moved))))
   own-member e goes q i other is here within = unmoved e q i refl refl (same-member e goes q i other (λ moved. absurd (true≢false (sym moved))))
 
 -- ---- waits
@@ -206,6 +219,7 @@ waits_by other = 0
 abbrev one_if : Bool → ℕ
 one_if b = if b then 1 else 0
 
+-- one more wait is counted for this task, and none for another one
 counted : (b : Bool) (k c : ℕ) → c ≡ k → one_if (is_just k (if b then Some c else None)) ≡ one_if b
 counted true k c is = rw (eq-eqb c k is) refl
 counted false k c is = refl
@@ -215,6 +229,7 @@ uncounted true k c other = rw (ne_eqb c k other) refl
 uncounted false k c other = refl
 
 module _ (position t : ℕ) (W : World) (e : Event) (past : List EventRecord) where
+  -- how many waits a task has begun
   waits-grow : (k : ℕ) → waits_of k (recorded position t W e ∷ past) ≡ waits_of k past + one_if (is_just k (waiting_by W t e))
   waits-grow k =
       sum_by-cons (λ (event : EventRecord). if is_just k (waiter event.call) then 1 else 0) (recorded position t W e) past
@@ -224,14 +239,17 @@ module _ (position t : ℕ) (W : World) (e : Event) (past : List EventRecord) wh
   waits-more k = omega (arith, waits-grow k)
 
 module _ (run : Run) (W after : World) (I J : Inside) (past : List EventRecord) (t position : ℕ) where
+  -- what is counted for the current task, and for another one
   own-wait : (e : Event) → Goes run W after I J past t e → one_if (is_just (current W t) (waiting_by after t e)) ≡ waits_by e
-  own-wait (Sync which stage.WaitBegin codeptr) goes = counted (is_barrier which) (current W t) (current after t) (current-same W after t (ap (λ (x : Thread). x.stack) goes.touches.own))
+  own-wait (Sync which stage.WaitBegin codeptr) goes =
+      counted (is_barrier which) (current W t) (current after t) (current-same W after t (ap (λ (x : Thread). x.stack) goes.touches.own))
   own-wait (Sync which stage.RegionBegin codeptr) goes = refl
   own-wait (Sync which stage.WaitEnd codeptr) goes = refl
   own-wait (Sync which stage.RegionEnd codeptr) goes = refl
   own-wait e goes = refl
 
-  other-wait : (e : Event) → Goes run W after I J past t e → (k : ℕ) → (is_of_code e ≡ true → k ≡ current W t → ⊥) → one_if (is_just k (waiting_by after t e)) ≡ 0
+  other-wait : (e : Event) → Goes run W after I J past t e → (k : ℕ) → (is_of_code e ≡ true → k ≡ current W t → ⊥) →
+      one_if (is_just k (waiting_by after t e)) ≡ 0
   other-wait (Sync which stage.WaitBegin codeptr) goes k apart =
       uncounted (is_barrier which) k (current after t) (λ is. apart refl (sym is ∙ current-same W after t (ap (λ (x : Thread). x.stack) goes.touches.own)))
   other-wait (Sync which stage.RegionBegin codeptr) goes k apart = refl
@@ -239,8 +257,11 @@ module _ (run : Run) (W after : World) (I J : Inside) (past : List EventRecord) 
   other-wait (Sync which stage.RegionEnd codeptr) goes k apart = refl
   other-wait e goes k apart = refl
 
-  pub waits-own : (e : Event) → Goes run W after I J past t e → waits_of (current W t) (recorded position t after e ∷ past) ≡ waits_of (current W t) past + waits_by e
+  -- the waits of the current task, and of another one
+  pub waits-own : (e : Event) → Goes run W after I J past t e →
+      waits_of (current W t) (recorded position t after e ∷ past) ≡ waits_of (current W t) past + waits_by e
   waits-own e goes = waits-grow position t after e past (current W t) ∙ ap (λ n. waits_of (current W t) past + n) (own-wait e goes)
 
-  pub waits-same : (e : Event) → Goes run W after I J past t e → (k : ℕ) → (is_of_code e ≡ true → k ≡ current W t → ⊥) → waits_of k (recorded position t after e ∷ past) ≡ waits_of k past
+  pub waits-same : (e : Event) → Goes run W after I J past t e → (k : ℕ) → (is_of_code e ≡ true → k ≡ current W t → ⊥) →
+      waits_of k (recorded position t after e ∷ past) ≡ waits_of k past
   waits-same e goes k apart = waits-grow position t after e past k ∙ (ap (λ n. waits_of k past + n) (other-wait e goes k apart) ∙ omega arith)

@@ -20,8 +20,9 @@ use Rattle.trace_check.specs.Before.{Join, has_left, join_of, joins_of}
 use Rattle.nested_runs.specs.Known.{HasGone, IsJoin, TellsMembers, task_of_member}
 use Rattle.nested_runs.proofs.BackMembers.{back-members, first-members, stay-members}
 use Rattle.nested_runs.proofs.CallReadings.{join-is}
-use Rattle.nested_runs.proofs.CarriedMembers.{count-first}
-use Rattle.nested_runs.proofs.GoMembers.{begun-go, carries-go, ended-go, leaving-go, region-go, regions-grow, room-go, seated-go, unjoined-go}
+use Rattle.nested_runs.proofs.ListCounts.{count-first}
+use Rattle.nested_runs.proofs.GoMembers.{begun-go, carries-go, ended-go, region-go, regions-grow, unjoined-go}
+use Rattle.nested_runs.proofs.GoPlaces.{leaving-go, room-go, seated-go}
 use Rattle.nested_runs.proofs.MemberJoins.{left-each, open-told, size-fits}
 use Rattle.nested_runs.proofs.RegionHeads.{new-member}
 
@@ -41,14 +42,16 @@ members-go run W after I J past t position e goes =
       begun = begun-go run W after I J past t position e goes;
       ended = ended-go run W after I J past t position e goes;
       region = region-go run W after I J past t position e goes;
-      unjoined = λ r past-end. unjoined-go run W after I J past t position e goes r (omega (arith, past-end, goes.touches.regions, regions-grow e (length W.regions)));
+      unjoined =
+          λ r past-end. unjoined-go run W after I J past t position e goes r (omega (arith, past-end, goes.touches.regions, regions-grow e (length W.regions)));
       seated = seated-go run W after I J past t position e goes;
       room = room-go run W after I J past t position e goes;
       leaving = leaving-go run W after I J past t position e goes;
     }
 
 -- after its Back
-pub members-back : (run : Run) (W after : World) (I J : Inside) (past : List EventRecord) (t : ℕ) (e : Event) → ComesBack run W after I J past t e → TellsMembers after J past
+pub members-back : (run : Run) (W after : World) (I J : Inside) (past : List EventRecord) (t : ℕ) (e : Event) → ComesBack run W after I J past t e →
+    TellsMembers after J past
 members-back run W after I J past t e back = back-members run W after I J past t e back
 
 -- ---- rule 5, of members
@@ -77,7 +80,8 @@ module _ (run : Run) (W after : World) (I J : Inside) (past : List EventRecord) 
       (list_all-from_AllPass
       (λ (other : Join). not (other.index == member_index after t r) && (other.actual == (region_at after r).head.size)) (joins_of r past)
       (λ n d within.
-      other-join W r (member_index after t r) (region_at after r).head.size (slice_index_or (joins_of r past) n d) (ap (task_of_member W r) place ∙ new.none) (sym size)
+      other-join W r (member_index after t r) (region_at after r).head.size (slice_index_or (joins_of r past) n d)
+      (ap (task_of_member W r) place ∙ new.none) (sym size)
       ((goes.knows.members.region r new.forked new.made).joined n d within)))))
   joins e goes = refl
 

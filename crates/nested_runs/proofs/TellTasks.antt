@@ -1,5 +1,5 @@
 -- Created tasks are the explicit ones (rule 11, and the taskwait of rule 12).
-use Rattle.std.proofs.Common.{ℕ, zero, suc, ◌≡◌, ◌≢◌, ◌≤◌, ◌==◌, ◌&&◌, ◌||◌, not, Bool, true, false, if◌then◌else◌, List, [], ◌∷◌, length, slice_index_or, refl, sym, ap, ◌∙◌, subst, inl, inr, arith}
+use Rattle.std.proofs.Common.{ℕ, zero, suc, ◌≡◌, ◌≤◌, ◌==◌, ◌&&◌, ◌||◌, not, Bool, true, false, if◌then◌else◌, List, [], ◌∷◌, length, slice_index_or, refl, sym, ap, ◌∙◌, subst, inl, inr, arith}
 use Rattle.std.specs.Prelude.{All, count_by, Option, Some, None}
 use Rattle.std.specs.List.{list_any}
 use Rattle.std.proofs.lemmas.Bool.{cases_eq, cases_lt, eq-eqb, eqb-false, ne_eqb, or_parts, or_right, true≢false}
@@ -33,88 +33,10 @@ use Rattle.nested_runs.specs.Knows.{ComesBack, Goes, IsWholeRun, Knows, Stays}
 use Rattle.nested_runs.specs.Known.{IsOver, TellsTasks}
 use Rattle.trace_check.specs.Before.{Creation, and_one, creations, has_started as was_started, is_complete, is_created, is_just}
 use Rattle.trace_check.specs.Rules.{has_no_child, keeps_starts}
-use Rattle.nested_runs.proofs.CallReadings.{completed-is, creation-is, started-is}
+use Rattle.nested_runs.proofs.CallReadings.{creation-is}
 use Rattle.nested_runs.proofs.FirstWorlds.{first-inside, first-pooled}
 use Rattle.nested_runs.proofs.PooledTasks.{by-case, current-same, same-back, same-pooled, unmade-pooled}
-
--- ---- what is told of one task
-
--- who created a task is its parent
-abbrev pub HasMaker : World → Creation → Type 0
-HasMaker W creation = (pooled_at W creation.task).parent ≡ creation.creator
-
-pub record TellsTask (past : List EventRecord) (k : ℕ) (task : PoolTask) : Type 0 where
-  pub created : is_created k past ≡ is_explicit task.kind
-  pub started : was_started k past ≡ (is_explicit task.kind && has_started task.condition)
-  pub finished : is_explicit task.kind ≡ true → task.condition ≡ condition.Finished → is_complete k past ≡ true
-  pub ready : task.condition ≡ condition.Ready → is_explicit task.kind ≡ true
-
-told-of : (W : World) (I : Inside) (past : List EventRecord) → TellsTasks W I past → (k : ℕ) → TellsTask past k (pooled_at W k)
-told-of W I past known k = record { created = known.created k; started = known.started k; finished = known.finished k; ready = known.ready k }
-
-tells-each : (W : World) (I : Inside) (past : List EventRecord) → ((k : ℕ) → TellsTask past k (pooled_at W k)) →
-    All (HasMaker W) (creations past) → ((t : ℕ) → IsOver past (I t)) → TellsTasks W I past
-tells-each W I past each creators over =
-    record {
-      created = λ k. (each k).created;
-      started = λ k. (each k).started;
-      creators = creators;
-      finished = λ k. (each k).finished;
-      ready = λ k. (each k).ready;
-      over = over;
-    }
-
--- ---- how what is told of it grows
-
--- the explicit task that is made
-abbrev pub made_by : Event → Option ℕ
-made_by (TaskCreate task undeferred codeptr) = Some task
-made_by other = None
-
-one-more : (W : World) (t : ℕ) (e : Event) (past : List EventRecord) (k : ℕ) →
-    list_any (λ (creation : Creation). creation.task == k) (and_one (created_by W t e) (creations past)) ≡ (is_just k (made_by e) || is_created k past)
-one-more W t (TaskCreate task undeferred codeptr) past k = refl
-one-more W t other past k = refl
-
-module _ (position t : ℕ) (W : World) (e : Event) (past : List EventRecord) (k : ℕ) where
-  created-more : is_created k (recorded position t W e ∷ past) ≡ (is_just k (made_by e) || is_created k past)
-  created-more = ap (λ c. list_any (λ (creation : Creation). creation.task == k) (and_one c (creations past))) (creation-is W t e) ∙ one-more W t e past k
-
-  started-more : was_started k (recorded position t W e ∷ past) ≡ (is_just k (started_by e) || was_started k past)
-  started-more = ap (λ one. is_just k one || was_started k past) (started-is W t e)
-
-  complete-more : is_complete k (recorded position t W e ∷ past) ≡ (is_just k (completed_by e) || is_complete k past)
-  complete-more = ap (λ one. is_just k one || is_complete k past) (completed-is W t e)
-
-  -- what is told of the task stays, where it isn't made and doesn't start
-  same-told : (task : PoolTask) → is_just k (made_by e) ≡ false → is_just k (started_by e) ≡ false → TellsTask past k task →
-      TellsTask (recorded position t W e ∷ past) k task
-  same-told task unmade unstarted known =
-      record {
-        created = created-more ∙ (ap (λ b. b || is_created k past) unmade ∙ known.created);
-        started = started-more ∙ (ap (λ b. b || was_started k past) unstarted ∙ known.started);
-        finished = λ explicit finished. complete-more ∙ or_right (is_just k (completed_by e)) _ (known.finished explicit finished);
-        ready = known.ready;
-      }
-
--- a task that isn't explicit comes further
-plain-told : (past : List EventRecord) (k : ℕ) (task : PoolTask) (now : Condition) → is_explicit task.kind ≡ false → now ≢ condition.Ready → TellsTask past k task →
-    TellsTask past k (come_to task now)
-plain-told past k task now plain unready known =
-    record {
-      created = known.created;
-      started = known.started ∙ rw plain refl;
-      finished = λ explicit finished. absurd (true≢false (sym explicit ∙ plain));
-      ready = λ ready. absurd (unready ready);
-    }
-
--- none was told of where there was none
-nothing-told : (past : List EventRecord) (k : ℕ) (task : PoolTask) → task ≡ no_pooled → TellsTask past k task → TellsTask past k no_pooled
-nothing-told past k task none known = subst (TellsTask past k) none known
-
-pub kind-explicit : (undeferred : Bool) → is_explicit (kind_of_task undeferred) ≡ true
-kind-explicit true = refl
-kind-explicit false = refl
+use Rattle.nested_runs.proofs.ToldTasks.{HasMaker, TellsTask, complete-more, created-more, kind-explicit, made_by, nothing-told, plain-told, same-told, started-more, tells-each, told-of}
 
 -- ---- the task that starts
 
@@ -124,10 +46,11 @@ pub record IsNew (W : World) (task : ℕ) : Type 0 where
   pub unstarted : has_started (pooled_at W task).condition ≡ false
 
 module _ (run : Run) (W : World) (I : Inside) (past : List EventRecord) (t : ℕ) (task : ℕ) where
-  pub picked : Knows run W I past → PicksTask W t task → IsNew W task
+  picked : Knows run W I past → PicksTask W t task → IsNew W task
   picked knows picks = record { explicit = knows.tasks.ready task picks.ready; unstarted = ap has_started picks.ready }
 
-  pub detained : Knows run W I past → 1 ≤ task → PicksUndeferred W t task → IsNew W task
+  -- or it is an undeferred one, that its thread is to start
+  detained : Knows run W I past → 1 ≤ task → PicksUndeferred W t task → IsNew W task
   detained knows some picks =
       let starts = knows.sound.orderly.starts t (subst (λ k. 1 ≤ k) (sym picks.task) some) in
       let is = picks.task in
@@ -136,11 +59,13 @@ module _ (run : Run) (W : World) (I : Inside) (past : List EventRecord) (t : ℕ
         unstarted = ap (λ k. has_started (pooled_at W k).condition) (sym is) ∙ ap has_started starts.made;
       }
 
+  -- in either case
   pub starts-new : Knows run W I past → (prior : ℕ) → ComesToTask W t prior task → IsNew W task
   starts-new knows prior comes = elim comes.picks [ inl picks ↦ picked knows picks | inr picks ↦ detained knows comes.some picks ]
 
 -- ---- after the Go of an event
 
+-- who creates a task is its parent
 abbrev pub IsMaker : World → Option Creation → Type 0
 IsMaker W None = Unit {0}
 IsMaker W (Some creation) = HasMaker W creation
@@ -153,7 +78,9 @@ module _ (run : Run) (W after : World) (I J : Inside) (past : List EventRecord) 
       let none : TellsTask past k no_pooled =
       nothing-told past k (pooled_at W k) (unmade-pooled W goes.knows.sound.made k (omega (arith, is, new))) (told-of W I past goes.knows.tasks k) in
       record {
-        created = created-more position t after e past k ∙ (ap (λ one. is_just k one || is_created k past) made ∙ rw (eq-eqb task k (sym is)) (sym (kind-explicit undeferred)));
+        created =
+            created-more position t after e past k ∙
+            (ap (λ one. is_just k one || is_created k past) made ∙ rw (eq-eqb task k (sym is)) (sym (kind-explicit undeferred)));
         started = started-more position t after e past k ∙ (ap (λ one. is_just k one || was_started k past) started ∙ (none.started ∙ rw kind-explicit refl));
         finished = λ explicit finished. cc;
         ready = λ ready. cc;
@@ -170,6 +97,7 @@ module _ (run : Run) (W after : World) (I J : Inside) (past : List EventRecord) 
         ready = λ ready. cc;
       }
 
+  -- what is told of each task
   told-after : (e : Event) → Goes run W after I J past t e → (k : ℕ) → TellsTask (recorded position t after e ∷ past) k (pooled_after W t e k)
   told-after InitialTaskBegin goes k =
       let known = same-told position t after InitialTaskBegin past k (pooled_at W k) refl refl (told-of W I past goes.knows.tasks k) in
@@ -200,7 +128,8 @@ module _ (run : Run) (W after : World) (I J : Inside) (past : List EventRecord) 
   told-after (TaskBegin prior task) goes k =
       elim (cases_eq k task) [
         | inl is ↦ rw (eq-eqb k task is)
-            (told-started (TaskBegin prior task) refl k (eq-eqb task k (sym is)) goes (subst (IsNew W) (sym is) (starts-new run W I past t task goes.knows prior goes.comes)))
+            (told-started (TaskBegin prior task) refl k (eq-eqb task k (sym is)) goes
+            (subst (IsNew W) (sym is) (starts-new run W I past t task goes.knows prior goes.comes)))
         | inr apart ↦ rw (ne_eqb k task apart)
             (same-told position t after (TaskBegin prior task) past k (pooled_at W k) refl (ne_eqb task k (λ is. apart (sym is)))
             (told-of W I past goes.knows.tasks k))
@@ -214,6 +143,7 @@ module _ (run : Run) (W after : World) (I J : Inside) (past : List EventRecord) 
       ap (λ (x : PoolTask). x.parent) (goes.touches.pooled task) ∙ (own ∙ sym (current-same W after t (ap (λ (x : Thread). x.stack) goes.touches.own)))
   made-by-current e goes = tt
 
+  -- a task that ends is complete
   told-over : (e : Event) → IsOver (recorded position t after e ∷ past) (Some e)
   told-over (TaskEnd task) = complete-more position t after (TaskEnd task) past task ∙ rw (eq-eqb task task refl) refl
   told-over e = tt
@@ -238,24 +168,31 @@ creators-more W None cs new all = all
 creators-more W (Some creation) cs new all = All-cons (HasMaker W) creation cs new all
 
 module _ (run : Run) (W after : World) (I J : Inside) (past : List EventRecord) (t position : ℕ) (e : Event) where
+  -- each task that was created has its creator
   creators-after : Goes run W after I J past t e →
       All (HasMaker after) (creations (recorded position t after e ∷ past))
   creators-after goes =
       let unmade : is_created (length W.tasks) past ≡ false =
-      goes.knows.tasks.created (length W.tasks) ∙ ap (λ (task : PoolTask). is_explicit task.kind) (unmade-pooled W goes.knows.sound.made (length W.tasks) (omega arith)) in
+      goes.knows.tasks.created (length W.tasks) ∙ ap (λ (task : PoolTask). is_explicit task.kind)
+      (unmade-pooled W goes.knows.sound.made (length W.tasks) (omega arith)) in
       let old = creators-kept W after (length W.tasks) (creations past)
-      (λ k other. ap (λ (task : PoolTask). task.parent) (goes.touches.pooled k) ∙ (same-pooled W t e goes.comes k other).parent) unmade goes.knows.tasks.creators in
+      (λ k other. ap (λ (task : PoolTask). task.parent) (goes.touches.pooled k) ∙
+      (same-pooled W t e goes.comes k other).parent) unmade goes.knows.tasks.creators in
       All-same (HasMaker after) _ _ (ap (λ one. and_one one (creations past)) (creation-is after t e))
       (creators-more after (created_by after t e) (creations past) (made-by-current run W after I J past t position e goes) old)
 
+  -- all that is told
   pub tasks-go : Goes run W after I J past t e → TellsTasks after J (recorded position t after e ∷ past)
   tasks-go goes =
       tells-each after J _
       (λ k. subst (TellsTask (recorded position t after e ∷ past) k) (sym (goes.touches.pooled k)) (told-after run W after I J past t position e goes k))
       (creators-after goes)
       (λ u. elim (cases_eq u t) [
-        | inl is ↦ subst (λ within. IsOver (recorded position t after e ∷ past) within) (sym (ap J is ∙ goes.enters.own)) (told-over run W after I J past t position e)
-        | inr other ↦ subst (λ within. IsOver (recorded position t after e ∷ past) within) (sym (goes.enters.others u other)) (over-more run W after I J past t position e (I u) (goes.knows.tasks.over u))
+        | inl is ↦
+            subst (λ within. IsOver (recorded position t after e ∷ past) within) (sym (ap J is ∙ goes.enters.own)) (told-over run W after I J past t position e)
+        | inr other ↦
+            subst (λ within. IsOver (recorded position t after e ∷ past) within) (sym (goes.enters.others u other))
+            (over-more run W after I J past t position e (I u) (goes.knows.tasks.over u))
       ])
 
 -- ---- after its Back, after what is no event, and at the start
@@ -294,10 +231,13 @@ module _ (run : Run) (W after : World) (I J : Inside) (past : List EventRecord) 
       let ended = (back.knows.sound.events t _ back.within).orderly.task in
       let complete : is_complete task past ≡ true = subst (λ within. IsOver past within) back.within (back.knows.tasks.over t) in
       by-case (TellsTask past k) k task _ _
-      (λ is. finished-told past k (pooled_at W k) (ap (λ i. (pooled_at W i).condition) is ∙ ended.started) (ap (λ i. is_complete i past) is ∙ complete) known) known
+      (λ is. finished-told past k (pooled_at W k) (ap (λ i. (pooled_at W i).condition) is ∙ ended.started)
+      (ap (λ i. is_complete i past) is ∙ complete) known) known
   told-back e back k = told-of W I past back.knows.tasks k
 
-pub tasks-back : (run : Run) (W after : World) (I J : Inside) (past : List EventRecord) (t : ℕ) (e : Event) → ComesBack run W after I J past t e → TellsTasks after J past
+-- all that is told
+pub tasks-back : (run : Run) (W after : World) (I J : Inside) (past : List EventRecord) (t : ℕ) (e : Event) → ComesBack run W after I J past t e →
+    TellsTasks after J past
 tasks-back run W after I J past t e back =
     tells-each after J past
     (λ k. subst (TellsTask past k) (sym (back.returns.pooled k)) (told-back run W after I J past t e back k))
@@ -309,18 +249,21 @@ tasks-back run W after I J past t e back =
       | inr other ↦ subst (λ within. IsOver past within) (sym (back.enters.others u other)) (back.knows.tasks.over u)
     ])
 
+-- nothing changes
 pub tasks-stays : (run : Run) (W after : World) (I J : Inside) (past : List EventRecord) → Stays run W after I J past → TellsTasks after J past
 tasks-stays run W after I J past stays =
     let pooled : (k : ℕ) → pooled_at after k ≡ pooled_at W k = λ k. ap (λ (pool : PoolView). pool_task_at pool.tasks k) stays.alike.pool in
     tells-each after J past
     (λ k. subst (TellsTask past k) (sym (pooled k)) (told-of W I past stays.knows.tasks k))
-    (All-weaker (HasMaker W) (HasMaker after) (λ creation is. ap (λ (task : PoolTask). task.parent) (pooled creation.task) ∙ is) (creations past) stays.knows.tasks.creators)
+    (All-weaker (HasMaker W) (HasMaker after) (λ creation is. ap (λ (task : PoolTask). task.parent) (pooled creation.task) ∙ is)
+    (creations past) stays.knows.tasks.creators)
     (λ u. subst (λ within. IsOver past within) (sym (stays.same u)) (stays.knows.tasks.over u))
 
 -- at the start
 first-pooled-told : (run : Run) (k : ℕ) → TellsTask [] k (pooled_at (first_world run) k)
 first-pooled-told run k =
-    first-pooled run (TellsTask [] k) (record { created = refl; started = refl; finished = λ explicit finished. absurd (true≢false (sym explicit)); ready = λ ready. cc })
+    first-pooled run (TellsTask [] k)
+    (record { created = refl; started = refl; finished = λ explicit finished. absurd (true≢false (sym explicit)); ready = λ ready. cc })
     (record { created = refl; started = refl; finished = λ explicit finished. absurd (true≢false (sym explicit)); ready = λ ready. cc }) k
 
 pub tasks-first : (run : Run) → IsWholeRun run → TellsTasks (first_world run) (inside (first run)) []
@@ -339,11 +282,13 @@ unopened condition.Made none = absurd (omega (arith, none))
 unopened condition.Ready none = absurd (omega (arith, none))
 unopened condition.Started none = absurd (omega (arith, none))
 
-closed-child : (k : ℕ) (task : PoolTask) → (if is_open_child k task then 1 else 0) ≤ 0 → task.parent ≡ k → is_explicit task.kind ≡ true → task.condition ≡ condition.Finished
+closed-child : (k : ℕ) (task : PoolTask) → (if is_open_child k task then 1 else 0) ≤ 0 → task.parent ≡ k → is_explicit task.kind ≡ true →
+    task.condition ≡ condition.Finished
 closed-child k task none parent explicit = unopened task.condition (rw (eq-eqb task.parent k parent, explicit) at none)
 
 -- a child of a task with no unfinished child has finished
-child-finished : (W : World) (k task : ℕ) → IsMadeWorld W → 1 ≤ k → open_children W.pool.tasks k ≡ 0 → (pooled_at W task).parent ≡ k → is_explicit_task W task ≡ true →
+child-finished : (W : World) (k task : ℕ) → IsMadeWorld W → 1 ≤ k → open_children W.pool.tasks k ≡ 0 → (pooled_at W task).parent ≡ k →
+    is_explicit_task W task ≡ true →
     (pooled_at W task).condition ≡ condition.Finished
 child-finished W k zero made some none parent explicit = absurd (true≢false (sym explicit))
 child-finished W k (suc task) made some none parent explicit =
@@ -356,12 +301,14 @@ child-finished W k (suc task) made some none parent explicit =
           (subst (λ n. (if is_open_child k (slice_index_or W.pool.tasks task no_pooled) then 1 else 0) ≤ n) all
           (get_or-le-sum_by (λ (x : PoolTask). if is_open_child k x then 1 else 0) W.pool.tasks task no_pooled within))
           (subst (λ (x : PoolTask). x.parent ≡ k) is parent) (subst (λ (x : PoolTask). is_explicit x.kind ≡ true) is explicit))
-      | inr past ↦ absurd (true≢false (sym explicit ∙ ap (λ (x : PoolTask). is_explicit x.kind) (unmade-pooled W made (suc task) (omega (arith, made.pooled, past)))))
+      | inr past ↦
+          absurd (true≢false (sym explicit ∙ ap (λ (x : PoolTask). is_explicit x.kind) (unmade-pooled W made (suc task) (omega (arith, made.pooled, past)))))
     ]
 
 -- a task with no unfinished child has no child that isn't complete
 module _ (run : Run) (W : World) (I : Inside) (past : List EventRecord) (k : ℕ) where
-  one-child : Knows run W I past → 1 ≤ k → open_children W.pool.tasks k ≡ 0 → (creation : Creation) → HasMaker W creation → is_created creation.task past ≡ true →
+  one-child : Knows run W I past → 1 ≤ k → open_children W.pool.tasks k ≡ 0 → (creation : Creation) → HasMaker W creation →
+      is_created creation.task past ≡ true →
       (not (creation.creator == k) || is_complete creation.task past) ≡ true
   one-child knows some none creation maker created =
       let explicit : is_explicit_task W creation.task ≡ true = sym (knows.tasks.created creation.task) ∙ created in
