@@ -1,6 +1,7 @@
 -- The trace of a run of a program that a text spells is nested.
-use Rattle.std.proofs.Common.{◌≡◌, ◌≢◌, ℕ, zero, suc, ◌≤◌, ◌<◌, List, [], ◌∷◌, length, Option, Some, None, true, refl, sym, subst, arith}
-use Rattle.std.specs.Prelude.{IfOk, Ok, Err, Result, is_none, list_all, slice_index_or}
+use Rattle.std.proofs.Common.{◌≡◌, ℕ, suc, ◌≤◌, ◌<◌, List, [], ◌∷◌, length, Option, Some, None, true, refl, arith}
+use Rattle.std.specs.Prelude.{is_none, slice_index_or}
+use Rattle.std.specs.List.{list_all}
 use Rattle.omp_codes.specs.declared.callbacks.TheConstants.{PROFILE_MASK}
 use Rattle.c_syntax.specs.language.Words.{words_of}
 use Rattle.c_check.proofs.Earliest.{none-broken}
@@ -8,20 +9,15 @@ use Rattle.c_model.proofs.GrammarTrees.{spelled_is_formed}
 use Rattle.omp_model.specs.declared.cause.Cause.{Cause}
 use Rattle.omp_model.specs.declared.event.Callback.{Callback}
 use Rattle.omp_model.specs.declared.history.Entry.{Entry}
-use Rattle.omp_model.specs.State.{Run, pending_at}
+use Rattle.omp_model.specs.State.{Run}
 use Rattle.omp_model.specs.Cause.{cause_of, none_pending}
 use Rattle.omp_model.specs.Legal.{Legal, after}
 use Rattle.omp_model.proofs.MadeRuns.{made-after}
 use Rattle.run_trace.specs.TraceOf.{trace_of}
 use Rattle.nested_runs.proofs.Nesting.{nested}
 use Rattle.ompt_cli.specs.Runs.{AreOutside}
-use Rattle.ompt_cli.specs.Text.{IsSpelled, Spells}
+use Rattle.ompt_cli.specs.Text.{IsSpelled}
 use Rattle.ompt_cli.specs.Traces.{IsNested}
-
--- a program that a text spells is spelled by some text
-pub spelled-some : {E P : Type 0} (program_of : P → Rattle.c_syntax.specs.language.Numbered.TreeView) (text : List ℕ) (read : Result P E) → IfOk read (λ program. Spells text (program_of program)) → IfOk read (λ program. IsSpelled (program_of program))
-spelled-some program_of text (Ok program) spells = (text, spells)
-spelled-some program_of text (Err fault) spells = tt
 
 -- no thread is inside a callback where none of the run is
 all-none : (pending : List (Option Callback)) → ((k : ℕ) → k < length pending → slice_index_or pending k None ≡ None) → list_all (λ (callback : Option Callback). is_none callback) pending ≡ true

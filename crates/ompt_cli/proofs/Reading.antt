@@ -86,6 +86,12 @@ module _ (text : List ℕ) where
   tokens-accepted short (fault.OpenComment spot) known why refused = found-accepted _ why (short, known (λ same. cc)) refused
   tokens-accepted short (fault.BadNumber spot) known why refused = found-accepted _ why (short, known (λ same. cc)) refused
 
+  pub tokens-runs : length text ≤ 65536 → (found : TokenFault) → (found ≢ fault.Memory → EndsIn beginning text found) → IsProgram text → MayRun (end_of_fault found)
+  tokens-runs short fault.Memory known program = tt
+  tokens-runs short (fault.BadByte spot) known program = program-not_refused (Tokens _) program (short, known (λ same. cc))
+  tokens-runs short (fault.OpenComment spot) known program = program-not_refused (Tokens _) program (short, known (λ same. cc))
+  tokens-runs short (fault.BadNumber spot) known program = program-not_refused (Tokens _) program (short, known (λ same. cc))
+
   -- what is refused for this fault of the grammar, if it is one
   module _ (short : length text ≤ 65536) where
     syntax-ends : (P : End → Type 0) → P Memory → ((found : SyntaxFault) → IsRefused (Syntax found) text → P (Refused (Syntax found))) → (found : SyntaxFault) → (found ≢ syntax.Memory → HasSyntaxFault text found) → P (end_of_syntax_fault found)

@@ -1,9 +1,13 @@
-use Rattle.ompt_cli.proofs.Reading.{end-is, syntax-accepted, syntax-runs, tokens-accepted}
+use Rattle.ompt_cli.proofs.Reading.{end-is, syntax-accepted, syntax-runs, tokens-accepted, tokens-runs}
 use Rattle.ompt_cli.proofs.text.tree_of.Goals as goal
 
 pub returns-in-Err-clause-accepted : goal.returns-in-Err-clause-accepted
 returns-in-Err-clause-accepted c = λ why refused.
     rw c.end_of_fault.ensures (tokens-accepted c.args.text.now c.requires c.in-Err.fault c.in-Err.ensures.ended why refused)
+
+pub returns-in-Err-clause-runs : goal.returns-in-Err-clause-runs
+returns-in-Err-clause-runs c =
+    rw c.end_of_fault.ensures (tokens-runs c.args.text.now c.requires c.in-Err.fault c.in-Err.ensures.ended)
 
 pub returns-in-Ok-read_program-clause-tree : goal.returns-in-Ok-read_program-clause-tree
 returns-in-Ok-read_program-clause-tree c =

@@ -1,4 +1,4 @@
-use Rattle.std.proofs.Common.{IfSome, IsSomeAnd, ap, inl, inr, subst, sym, ◌∙◌}
+use Rattle.std.proofs.Common.{IfSome, IsSomeAnd, ap, inl, inr, subst, sym, ℕ, ◌≡◌, ◌≤◌, ◌∙◌}
 use Rattle.c_syntax.specs.language.Numbered.{TreeView}
 use Rattle.ompt_words.specs.Answers.{AreReadAs}
 use Rattle.ompt_words.specs.declared.settings.Command.{Command}
@@ -9,7 +9,7 @@ use Rattle.ompt_cli.specs.Commands.{IsAfterRun, run_of, settings_in}
 use Rattle.ompt_cli.specs.Text.{IsRefused, IsSpelled, Spells, text_for}
 use Rattle.ompt_cli.proofs.Finishing.{finished}
 use Rattle.ompt_cli.proofs.NestedRuns.{nested-run}
-use Rattle.ompt_cli.proofs.Recorded.{ends-found}
+use Rattle.ompt_cli.proofs.Recorded.{ends-found as memory-found}
 use Rattle.ompt_cli.proofs.Telling.{after-may, asked-settings, ends-done, ends-found, ends-limit, ends-returned, ends-stuck, ends-trapped, is-none, err-end, lost-read, lost-write, none-if, not-reading, not-running, not-shown, not-usage, ok-not-refused, read-as, same-settings, settings-as, spells-as, where_both, where_some, where_when}
 use Rattle.ompt_cli.proofs.Traced.{trace_unbroken, trace_unrefused}
 use Rattle.ompt_cli.specs.declared.end.End.TheVariants.{ReadFault}
@@ -221,7 +221,7 @@ pub returns-clause-nested : goal.returns-clause-nested
 returns-clause-nested g c =
     rw (c.tell-2.ensures.end, c.tell-2.ensures.ran)
     (λ whole memory. where_both c.run_command.result.ran c.run_command.ensures.ended c.run_command.ensures.report (λ report ends r recorded.
-    let found = ends-found report.cause c.run_command.result.end ends memory in
+    let found = memory-found report.cause c.run_command.result.end ends memory in
     let read = subst (AreReadAs _) c.in-Ok-Run.field-0-is c.in-Ok-Run.ensures.read in
     let threads = r.observes.threads_are ∙ ap (λ (job : JobView). job.threads) c.new-job.ensures in
     let program = r.observes.program_is ∙ ap (λ (job : JobView). job.program) c.new-job.ensures in
