@@ -24,13 +24,14 @@
 //! - `Formed`: which forms the nodes of a program's tree have.
 //!
 //! `docs/statements.md` tells the same in a page. `src/` has the types and numbers that the definitions share with the code. Nothing
-//! here runs a program: the interpreter is to be proved equal to `silent`, `after_answer` and `after_event`.
+//! here runs a program: the interpreter, `c_steps`, is proved equal to `silent`, `after_answer` and `after_event`.
 //!
 //! The definitions are total. A child that is missing is an empty program, a name that nothing declares reads as 0, traps with an
 //! index and can't be set, a function that there isn't has an empty body, a cell that wasn't made reads as 0, a form that can't stand where it
 //! stands is an empty statement, as a declarator that no block has. In a program that breaks no rule no task uses a name, a function or a cell that
-//! there isn't, and the nodes of its tree have the forms of `Formed`: the laws below say it. That what an explicit task copies by rule is in scope where
-//! it is created isn't proved, and of its cells the law speaks only where it is. An answer to what wasn't asked changes nothing; `Answers` says which answers are given.
+//! there isn't, and the nodes of its tree have the forms of `Formed`: the laws below say it. The law on
+//! cells takes what an explicit task copies by rule to be in scope where it is created; of the texts that spell such programs `code_slots`
+//! proves that it is. An answer to what wasn't asked changes nothing; `Answers` says which answers are given.
 //!
 //! Proved, by the contract of the function that is named:
 //!
