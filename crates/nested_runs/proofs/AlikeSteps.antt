@@ -1,8 +1,8 @@
 -- Silent steps, what a task goes past and what a tool stores make a world that is alike.
-use Rattle.std.proofs.Common.{◌≡◌, ◌≢◌, ℕ, zero, suc, ◌<◌, ◌≤◌, ◌+◌, ◌⊎◌, nat_le, nat_lt, Bool, true, false, if◌then◌else◌, List, [], ◌∷◌, map, slice_set, slice_index_or, length, refl, sym, ap, ◌∙◌, subst, inl, inr, arith}
-use Rattle.std.specs.Prelude.{Option, Some, None, is_some, option_map}
+use Rattle.std.proofs.Common.{◌≡◌, ℕ, ◌<◌, ◌≤◌, ◌+◌, ◌⊎◌, nat_le, nat_lt, Bool, true, false, if◌then◌else◌, List, [], ◌∷◌, slice_index_or, length, refl, sym, ap, ◌∙◌, subst, inl, inr, arith}
+use Rattle.std.specs.Prelude.{Option, Some, None, option_map}
 use Rattle.std.proofs.lemmas.Bool.{and_parts, leb-true, true≢false}
-use Rattle.std.proofs.lemmas.List.{get_or-set_other, length-set}
+use Rattle.std.proofs.lemmas.List.{length-set}
 use Rattle.c_syntax.specs.language.Numbered.{TreeView}
 use Rattle.c_syntax.specs.language.Tree.{Tree}
 use Rattle.c_model.specs.declared.question.Answer.{Answer}
@@ -23,62 +23,34 @@ use Rattle.ompt_calls.specs.declared.snapshot.Target.TheVariants as target
 use Rattle.task_pool.specs.declared.task.TaskKind.TheVariants as kind
 use Rattle.task_pool.specs.Tasks.{task_at as pool_task_at}
 use Rattle.task_pool.specs.View.{PoolView}
-use Rattle.team_parts.specs.Meetings.{TeamMeeting}
-use Rattle.team_parts.specs.Team.{TeamView, after_taking, last_meeting, last_number, next_chunk, next_section, no_meeting, with_taken}
 use Rattle.omp_model.specs.declared.event.Arrival.TheVariants.{Steps}
 use Rattle.omp_model.specs.declared.event.Share.{Share}
 use Rattle.omp_model.specs.declared.event.Share.TheVariants.{Chunk, Section}
-use Rattle.omp_model.specs.declared.parts.RegionHead.{RegionHead}
-use Rattle.omp_model.specs.State.{Region, Run, Task, Thread, World, no_region, no_task, pooled_at, region_at, task_at, thread_at, unmade, with_region, with_task, with_thread}
-use Rattle.omp_model.specs.Members.{code_of, current, current_index, current_region, current_team, is_member, moment_of, view_of}
+use Rattle.omp_model.specs.State.{Run, Task, Thread, World, no_task, pooled_at, region_at, task_at, thread_at, unmade}
+use Rattle.omp_model.specs.Members.{code_of, current, current_region, moment_of, view_of}
+use Rattle.omp_model.specs.Alike.{AlikeWorld}
 use Rattle.omp_model.specs.Changes.{gone_past, gone_to, sharing}
 use Rattle.omp_model.specs.Conditions.{AreOrderly}
 use Rattle.omp_model.specs.Gates.{arrival}
 use Rattle.omp_model.specs.Made.{IsMadeWorld}
-use Rattle.omp_model.specs.Silent.{answer_to, answered, chunk_dealt, fits_loop, fitting_chunk, fitting_section, items_asking, section_dealt, share_of_chunk, share_of_section, share_taken, silence_of, silent_step, team_after, team_asked}
+use Rattle.omp_model.specs.Silent.{answer_to, answered, chunk_dealt, fits_loop, fitting_chunk, fitting_section, items_asking, section_dealt, share_of_chunk, share_of_section, share_taken, silence_of, silent_step}
 use Rattle.omp_model.specs.Words.{stored}
+use Rattle.omp_model.proofs.AlikeWorlds.{alike-gone as world-gone, alike-region as world-region, alike-same as world-same, alike-stored as world-stored, alike-then as world-then, alike-thread as world-thread, same-head, taken-stored, team-asks}
 use Rattle.omp_model.proofs.Later.{at-set}
+use Rattle.omp_model.proofs.Reading.{read-same}
 use Rattle.omp_model.proofs.Turning.{AfterSilence}
+use Rattle.omp_model.proofs.Arriving.{Arrives, AtStep, arrives}
 use Rattle.nested_runs.specs.Shown.{opens_at}
 use Rattle.nested_runs.specs.Standing.{HasCourse, Stand, is_behind, stand_among, stand_at}
 use Rattle.nested_runs.specs.Standing.Stand.{Free}
-use Rattle.nested_runs.specs.Touching.{Alike, AlikeHead, AlikeTeam, AlikeThread, AreCodes, ComesFree, Fits, MayTake, TakesShare}
-use Rattle.nested_runs.proofs.Beside.{AtStep, at-step}
+use Rattle.nested_runs.specs.Touching.{Alike, AreCodes, ComesFree, Fits, MayTake, TakesShare}
 use Rattle.nested_runs.proofs.Codes.{answer-open, answer-orderly, settled-open, settled-orderly, step-open, step-orderly}
 use Rattle.nested_runs.proofs.Courses.{KeepsCourse, course-answer, course-settled, course-step}
-use Rattle.nested_runs.proofs.Rewrites.{read-same}
 use Rattle.nested_runs.proofs.Stands.{asks-chunk, asks-section, stand-answer, stand-settled, stand-step}
-
--- Parts that are the same.
-
-same-thread : (thread : Thread) → AlikeThread thread thread
-same-thread thread = record { stage = refl; stack = refl; invited = refl; undeferred = refl }
-
-same-head : (head : RegionHead) → AlikeHead head head
-same-head head = record { task = refl; size = refl; members = refl; left = refl; ended = refl }
-
-same-team : (team : TeamView) → AlikeTeam team team
-same-team team = record { members = refl; met = refl }
 
 pub alike-same : (W : World) → AreCodes W → Alike W W
 alike-same W codes =
-    record {
-      thread = λ u. same-thread (thread_at W u);
-      taken = λ u. inl refl;
-      threads = refl;
-      tasks = refl;
-      owner = λ k. refl;
-      forked = λ k. refl;
-      opens = λ k. refl;
-      stands = λ k. inl refl;
-      behind = λ k within is. refl;
-      codes = codes;
-      pool = refl;
-      regions = refl;
-      head = λ q. same-head (region_at W q).head;
-      team = λ q. same-team (region_at W q).team;
-      locks = refl;
-    }
+    record { world = world-same W; taken = λ u. inl refl; opens = λ k. refl; stands = λ k. inl refl; behind = λ k within is. refl; codes = codes }
 
 -- One world alike after another.
 
@@ -86,7 +58,7 @@ alike-same W codes =
 share-alike : (W after : World) (t : ℕ) (share : Option Share) → Alike W after → MayTake W t share → MayTake after t share
 share-alike W after t None alike may = tt
 share-alike W after t (Some share) alike takes =
-    let thread = alike.thread t in
+    let thread = alike.world.thread t in
     let same : current after t ≡ current W t = ap (λ stack. slice_index_or stack 0 0) thread.stack in
     record {
       some = rw same takes.some;
@@ -106,10 +78,7 @@ stands-then before between after (inr first) (inr next) = inr (record { forked =
 pub alike-then : (W between after : World) → Alike W between → Alike between after → Alike W after
 alike-then W between after first next =
     record {
-      thread = λ u.
-          let a = first.thread u in
-          let b = next.thread u in
-          record { stage = b.stage ∙ a.stage; stack = b.stack ∙ a.stack; invited = b.invited ∙ a.invited; undeferred = b.undeferred ∙ a.undeferred };
+      world = world-then W between after first.world next.world;
       taken = λ u. elim (next.taken u) [
         | inl same ↦ elim (first.taken u) [
           | inl before ↦ inl (same ∙ before)
@@ -117,23 +86,12 @@ alike-then W between after first next =
         ]
         | inr may ↦ inr may
       ];
-      threads = next.threads ∙ first.threads;
-      tasks = next.tasks ∙ first.tasks;
-      owner = λ k. next.owner k ∙ first.owner k;
-      forked = λ k. next.forked k ∙ first.forked k;
       opens = λ k. next.opens k ∙ first.opens k;
       stands = λ k. stands-then (stand_at W k) (stand_at between k) (stand_at after k) (first.stands k) (next.stands k);
       behind = λ k within is.
-          next.behind k (rw first.tasks within) (ap (λ (pool : PoolView). (pool_task_at pool.tasks k).kind) first.pool ∙ is) ∙ first.behind k within is;
+          next.behind k (rw first.world.tasks within) (ap (λ (pool : PoolView). (pool_task_at pool.tasks k).kind) first.world.pool ∙ is)
+          ∙ first.behind k within is;
       codes = next.codes;
-      pool = next.pool ∙ first.pool;
-      regions = next.regions ∙ first.regions;
-      head = λ q.
-          let a = first.head q in
-          let b = next.head q in
-          record { task = b.task ∙ a.task; size = b.size ∙ a.size; members = b.members ∙ a.members; left = b.left ∙ a.left; ended = b.ended ∙ a.ended };
-      team = λ q. record { members = (next.team q).members ∙ (first.team q).members; met = (next.team q).met ∙ (first.team q).met };
-      locks = next.locks ∙ first.locks;
     }
 
 -- The code of a task.
@@ -149,12 +107,8 @@ alike-code : (W : World) (k : ℕ) (now : Moment) → AreCodes W → KeepsCode W
 alike-code W k now codes keeps =
     let task : Task = record (task_at W k) { code = now.task } in
     record {
-      thread = λ u. same-thread (thread_at W u);
+      world = world-gone W k now;
       taken = λ u. inl refl;
-      threads = refl;
-      tasks = length-set W.tasks k task;
-      owner = λ j. read-same (λ (x : Task). x.thread) no_task W.tasks k j task refl;
-      forked = λ j. read-same (λ (x : Task). x.forked) no_task W.tasks k j task refl;
       opens = λ j. read-same (λ (x : Task). open_task x.code) no_task W.tasks k j task keeps.opens;
       stands = λ j. at-set (λ (x : Task). (stand_among x.code.todo ≡ stand_at W j) ⊎ ComesFree (stand_at W j)
           (stand_among x.code.todo)) no_task W.tasks k j task (inl refl)
@@ -170,11 +124,6 @@ alike-code W k now codes keeps =
             at-set (λ (x : Task). HasCourse x.code) no_task W.tasks k j task (codes.course j is inside)
             (λ here. (keeps.course (subst (λ i. (pooled_at W i).kind ≡ kind.Implicit) here is) (subst (λ i. i < length W.tasks) here inside)).course);
       };
-      pool = refl;
-      regions = refl;
-      head = λ q. same-head (region_at W q).head;
-      team = λ q. same-team (region_at W q).team;
-      locks = refl;
     }
 
 -- where there is no code there is none to go past
@@ -195,139 +144,43 @@ alike-past W t codes =
       course = λ is within. course-settled view (code_of W t) (codes.orderly k) (codes.course k is within);
     })
 
--- What a tool stores.
+-- What leaves all codes as they are.
 
-alike-thread : (W : World) (t : ℕ) (thread : Thread) → AreCodes W → AlikeThread (thread_at W t) thread → thread.taken ≡ (thread_at W t).taken →
-    Alike W (with_thread W t thread)
-alike-thread W t thread codes alike taken =
+alike-coded : (W after : World) → AlikeWorld W after → AreCodes W → ((k : ℕ) → (task_at after k).code ≡ (task_at W k).code) →
+    ((u : ℕ) → ((thread_at after u).taken ≡ (thread_at W u).taken) ⊎ MayTake after u (thread_at after u).taken) → Alike W after
+alike-coded W after world codes same taken =
     record {
-      thread = λ u. at-set (λ (x : Thread). AlikeThread (thread_at W u) x) unmade W.threads t u thread (same-thread (thread_at W u))
-          (λ is. subst (λ v. AlikeThread (thread_at W v) thread) (sym is) alike);
-      taken = λ u. inl (read-same (λ (x : Thread). x.taken) unmade W.threads t u thread taken);
-      threads = length-set W.threads t thread;
-      tasks = refl;
-      owner = λ k. refl;
-      forked = λ k. refl;
-      opens = λ k. refl;
-      stands = λ k. inl refl;
-      behind = λ k within is. refl;
-      codes = record { none = codes.none; orderly = codes.orderly; course = codes.course };
-      pool = refl;
-      regions = refl;
-      head = λ q. same-head (region_at W q).head;
-      team = λ q. same-team (region_at W q).team;
-      locks = refl;
-    }
-
-alike-region : (W : World) (r : ℕ) (region : Region) → AreCodes W → AlikeHead (region_at W r).head region.head → AlikeTeam (region_at W r).team region.team →
-    Alike W (with_region W r region)
-alike-region W r region codes head team =
-    record {
-      thread = λ u. same-thread (thread_at W u);
-      taken = λ u. inl refl;
-      threads = refl;
-      tasks = refl;
-      owner = λ k. refl;
-      forked = λ k. refl;
-      opens = λ k. refl;
-      stands = λ k. inl refl;
-      behind = λ k within is. refl;
-      codes = record { none = codes.none; orderly = codes.orderly; course = codes.course };
-      pool = refl;
-      regions = length-set W.regions r region;
-      head = λ q. at-set (λ (x : Region). AlikeHead (region_at W q).head x.head) no_region W.regions r q region (same-head (region_at W q).head)
-          (λ is. subst (λ p. AlikeHead (region_at W p).head region.head) (sym is) head);
-      team = λ q. at-set (λ (x : Region). AlikeTeam (region_at W q).team x.team) no_region W.regions r q region (same-team (region_at W q).team)
-          (λ is. subst (λ p. AlikeTeam (region_at W p).team region.team) (sym is) team);
-      locks = refl;
-    }
-
-alike-word : (W : World) (k word : ℕ) → AreCodes W → Alike W (with_task W k (record (task_at W k) { word = word }))
-alike-word W k word codes =
-    let task : Task = record (task_at W k) { word = word } in
-    let code : (j : ℕ) → (slice_index_or (slice_set W.tasks k task) j no_task).code ≡ (task_at W j).code =
-    λ j. read-same (λ (x : Task). x.code) no_task W.tasks k j task refl in
-    record {
-      thread = λ u. same-thread (thread_at W u);
-      taken = λ u. inl refl;
-      threads = refl;
-      tasks = length-set W.tasks k task;
-      owner = λ j. read-same (λ (x : Task). x.thread) no_task W.tasks k j task refl;
-      forked = λ j. read-same (λ (x : Task). x.forked) no_task W.tasks k j task refl;
-      opens = λ j. ap open_task (code j);
-      stands = λ j. inl (ap (λ (x : Code). stand_among x.todo) (code j));
-      behind = λ j within is. ap is_behind (code j);
+      world = world;
+      taken = taken;
+      opens = λ k. ap open_task (same k);
+      stands = λ k. inl (ap (λ (x : Code). stand_among x.todo) (same k));
+      behind = λ k within is. ap is_behind (same k);
       codes = record {
-        none = ap (λ (x : Code). x.todo) (code 0) ∙ codes.none;
-        orderly = λ j. rw (code j) (codes.orderly j);
-        course = λ j is within. rw (code j) (codes.course j is (omega (arith, within, length-set W.tasks k task)));
+        none = ap (λ (x : Code). x.todo) (same 0) ∙ codes.none;
+        orderly = λ k. rw (same k) (codes.orderly k);
+        course = λ k is within. rw (same k)
+            (codes.course k (sym (ap (λ (pool : PoolView). (pool_task_at pool.tasks k).kind) world.pool) ∙ is) (omega (arith, within, world.tasks)));
       };
-      pool = refl;
-      regions = refl;
-      head = λ q. same-head (region_at W q).head;
-      team = λ q. same-team (region_at W q).team;
-      locks = refl;
     }
+
+-- what a tool stores
+code-stored : (W : World) (place : Target) (word k : ℕ) → (task_at (stored W place word) k).code ≡ (task_at W k).code
+code-stored W (target.Thread t) word k = refl
+code-stored W (target.Parallel r) word k = refl
+code-stored W (target.Task j) word k = read-same (λ (x : Task). x.code) no_task W.tasks j k _ refl
 
 pub alike-stored : (W : World) (place : Target) (word : ℕ) → AreCodes W → Alike W (stored W place word)
-alike-stored W (target.Thread t) word codes = alike-thread W t _ codes (record { stage = refl; stack = refl; invited = refl; undeferred = refl }) refl
-alike-stored W (target.Parallel r) word codes = alike-region W r _ codes (record { task = refl; size = refl; members = refl; left = refl; ended = refl })
-    (same-team (region_at W r).team)
-alike-stored W (target.Task k) word codes = alike-word W k word codes
+alike-stored W place word codes =
+    alike-coded W (stored W place word) (world-stored W place word) codes (code-stored W place word) (λ u. inl (taken-stored W place word u))
 
--- What a team deals: it meets nothing then.
-
-map-set : {A B : Type 0} (f : A → B) (d : A) (xs : List A) (i : ℕ) (x : A) → f x ≡ f (slice_index_or xs i d) → map f (slice_set xs i x) ≡ map f xs
-map-set f d [] i x same = refl
-map-set f d (y ∷ ys) zero x same = ap (λ z. z ∷ map f ys) same
-map-set f d (y ∷ ys) (suc i) x same = ap (λ zs. f y ∷ zs) (map-set f d ys i x same)
-
-team-taking : (team : TeamView) (i : ℕ) → AlikeTeam team (after_taking team i)
-team-taking team i = record {
-  members = refl;
-  met = map-set (λ (met : TeamMeeting). met.what) no_meeting team.meetings (last_number team i)
-      (with_taken (last_meeting team i) i) refl;
-}
-
-team-either : (team one other : TeamView) (b : Bool) → AlikeTeam team one → AlikeTeam team other → AlikeTeam team (if b then one else other)
-team-either team one other true first second = first
-team-either team one other false first second = second
-
-team-dealt : (team : TeamView) (i : ℕ) (what : Ask) → AlikeTeam team (team_asked team i what)
-team-dealt team i ask.Chunk = team-either team (after_taking team i) team (is_some (next_chunk team i)) (team-taking team i) (same-team team)
-team-dealt team i ask.Section = team-either team (after_taking team i) team (is_some (next_section team i)) (team-taking team i) (same-team team)
-team-dealt team i (ask.LockFree id) = same-team team
-
-team-asks : (W : World) (t : ℕ) (what : Ask) → AlikeTeam (current_team W t) (team_after W t what)
-team-asks W t what =
-    team-either (current_team W t) (team_asked (current_team W t) (current_index W t) what) (current_team W t) (is_member W t)
-    (team-dealt (current_team W t) (current_index W t) what) (same-team (current_team W t))
-
--- A share that is taken.
-
+-- a share that is taken
 alike-sharing : (W : World) (t : ℕ) (share : Option Share) → AreCodes W → MayTake (sharing W t share) t share → Alike W (sharing W t share)
 alike-sharing W t share codes may =
     let after = sharing W t share in
     let thread : Thread = record (thread_at W t) { taken = share } in
-    record {
-      thread = λ u. at-set (λ (x : Thread). AlikeThread (thread_at W u) x) unmade W.threads t u thread (same-thread (thread_at W u))
-          (λ is. subst (λ v. AlikeThread (thread_at W v) thread) (sym is) (record { stage = refl; stack = refl; invited = refl; undeferred = refl }));
-      taken = λ u. at-set (λ (x : Thread). (x.taken ≡ (thread_at W u).taken) ⊎ MayTake after u x.taken) unmade W.threads t u thread (inl refl)
-          (λ is. inr (subst (λ v. MayTake after v share) (sym is) may));
-      threads = length-set W.threads t thread;
-      tasks = refl;
-      owner = λ k. refl;
-      forked = λ k. refl;
-      opens = λ k. refl;
-      stands = λ k. inl refl;
-      behind = λ k within is. refl;
-      codes = record { none = codes.none; orderly = codes.orderly; course = codes.course };
-      pool = refl;
-      regions = refl;
-      head = λ q. same-head (region_at W q).head;
-      team = λ q. same-team (region_at W q).team;
-      locks = refl;
-    }
+    alike-coded W after (world-thread W t thread (record { stage = refl; stack = refl; invited = refl; undeferred = refl })) codes (λ k. refl)
+    (λ u. at-set (λ (x : Thread). (x.taken ≡ (thread_at W u).taken) ⊎ MayTake after u x.taken) unmade W.threads t u thread (inl refl)
+    (λ is. inr (subst (λ v. MayTake after v share) (sym is) may)))
 
 -- a chunk or section is one where it fits
 chunk-fits : (W : World) (t count : ℕ) (chunk : Option (ℕ × ℕ)) → ((start size : ℕ) → start + size ≤ count → TakesShare W t (Chunk start size)) →
@@ -462,7 +315,8 @@ module _ (run : Run) (W : World) (t : ℕ) (returns : HasReturnsOutside run.prog
       let heard = alike-told what tree is in
       let shared = alike-sharing first t (share what tree is) heard.codes (may-take what tree is) in
       alike-then W first after heard (alike-then first next after shared
-      (alike-region next (current_region W t) _ shared.codes (same-head (region_at W (current_region W t)).head) (team-asks W t what)))
+      (alike-coded next after (world-region next (current_region W t) _ (same-head (region_at W (current_region W t)).head) (team-asks W t what))
+      shared.codes (λ j. refl) (λ u. inl refl)))
 
   by-outcome : (outcome : Outcome) → silent run.program (view_of W t) (moment_of W t) ≡ outcome → AfterSilence (Alike W) (silence_of W t outcome)
   by-outcome (StepsTo next) is = alike-gone next is
@@ -477,24 +331,4 @@ pub alike-step : (run : Run) (W : World) (t : ℕ) → HasReturnsOutside run.pro
     AfterSilence (Alike W) (silent_step run W t)
 unfolding silent_step
 alike-step run W t returns codes made orderly steps =
-    by-outcome run W t returns codes made (at-step W t steps) (silent run.program (view_of W t) (moment_of W t)) refl
-
--- what other threads have taken
-taken-outcome : (W : World) (t : ℕ) (outcome : Outcome) →
-    AfterSilence (λ (after : World). (u : ℕ) → u ≢ t → (thread_at after u).taken ≡ (thread_at W u).taken) (silence_of W t outcome)
-taken-outcome W t (Asks what tree) = λ u other. ap (λ (x : Thread). x.taken) (get_or-set_other W.threads t u _ unmade other)
-taken-outcome W t (StepsTo next) = λ u other. refl
-taken-outcome W t (Occurs what tree) = λ u other. refl
-taken-outcome W t (Ends number) = λ u other. refl
-taken-outcome W t (Traps trap) = tt
-taken-outcome W t (Limits limit) = tt
-
-pub taken-step : (run : Run) (W : World) (t : ℕ) → AfterSilence (λ (after : World). (u : ℕ) → u ≢ t →
-    (thread_at after u).taken ≡ (thread_at W u).taken) (silent_step run W t)
-unfolding silent_step
-taken-step run W t = taken-outcome W t (silent run.program (view_of W t) (moment_of W t))
-
-pub taken-stored : (W : World) (place : Target) (word : ℕ) (u : ℕ) → (thread_at (stored W place word) u).taken ≡ (thread_at W u).taken
-taken-stored W (target.Thread t) word u = read-same (λ (x : Thread). x.taken) unmade W.threads t u _ refl
-taken-stored W (target.Parallel r) word u = refl
-taken-stored W (target.Task k) word u = refl
+    by-outcome run W t returns codes made (subst (Arrives W t) steps (arrives W t)) (silent run.program (view_of W t) (moment_of W t)) refl

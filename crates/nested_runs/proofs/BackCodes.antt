@@ -13,13 +13,13 @@ use Rattle.omp_model.specs.declared.event.Event.TheVariants.{TaskCreate, TaskEnd
 use Rattle.omp_model.specs.State.{Run, State, World, first, first_world, pending_at, pooled_at, task_at}
 use Rattle.omp_model.specs.Conditions.{IsOrderly, PendingOrderly}
 use Rattle.omp_model.specs.Made.{IsMadeState, MadePending}
+use Rattle.omp_model.specs.Touching.{Returns, come_to, pooled_back}
 use Rattle.omp_model.proofs.MadeRuns.{first-made}
 use Rattle.omp_model.proofs.OrderlyRuns.{orderly-after}
 use Rattle.nested_runs.specs.Recorded.{event_in, inside}
 use Rattle.nested_runs.specs.Knows.{IsSound, IsSoundEvent, IsWholeRun}
 use Rattle.nested_runs.specs.Standing.{HasCourse}
-use Rattle.nested_runs.specs.Touching.{AreCodes, Returns, pooled_back}
-use Rattle.nested_runs.specs.Effects.{come_to}
+use Rattle.nested_runs.specs.Touching.{AreCodes}
 use Rattle.nested_runs.proofs.Codes.{main-orderly}
 
 -- where there is no code it stands in order, and is behind all that it has

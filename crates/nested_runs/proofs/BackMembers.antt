@@ -19,10 +19,10 @@ use Rattle.omp_model.specs.Conditions.{has_started}
 use Rattle.omp_model.specs.Gates.{all_left}
 use Rattle.omp_model.specs.Made.{IsTask}
 use Rattle.omp_model.specs.Members.{member_index, region_of}
+use Rattle.omp_model.specs.Touching.{head_back, is_summoned, pooled_back, thread_back}
 use Rattle.nested_runs.specs.Known.{HasGone, IsLeaving, IsSeated, TellsMembers, TellsRegion, has_left_region, task_of_member}
 use Rattle.nested_runs.specs.Knows.{ComesBack, IsWholeRun, Knows, Stays}
 use Rattle.nested_runs.specs.Recorded.{Inside, inside}
-use Rattle.nested_runs.specs.Touching.{head_back, is_summoned, pooled_back, thread_back}
 use Rattle.nested_runs.proofs.CarriedMembers.{Carries, gone-carried, region-carried, seated-carried, seated-started}
 use Rattle.nested_runs.proofs.FirstWorlds.{first-inside, first-threads}
 use Rattle.nested_runs.proofs.ListCounts.{all-with-set}
@@ -202,44 +202,44 @@ module _ (run : Run) (W after : World) (I J : Inside) (past : List EventRecord) 
 pub stay-members : (run : Run) (W after : World) (I J : Inside) (past : List EventRecord) → Stays run W after I J past → TellsMembers after J past
 stay-members run W after I J past stays =
     let known = stays.knows.members in
-    let pooled : (k : ℕ) → pooled_at after k ≡ pooled_at W k = λ k. ap (λ (pool : PoolView). pool_task_at pool.tasks k) stays.alike.pool in
+    let pooled : (k : ℕ) → pooled_at after k ≡ pooled_at W k = λ k. ap (λ (pool : PoolView). pool_task_at pool.tasks k) stays.alike.world.pool in
     let region : (k : ℕ) → region_of after k ≡ region_of W k = λ k. ap (λ (x : PoolTask). x.region) (pooled k) in
-    let members : (q : ℕ) → (region_at after q).head.members ≡ (region_at W q).head.members = λ q. (stays.alike.head q).members in
+    let members : (q : ℕ) → (region_at after q).head.members ≡ (region_at W q).head.members = λ q. (stays.alike.world.head q).members in
     let index : (u q : ℕ) → member_index after u q ≡ member_index W u q =
     λ u q.
     ap (λ r. if r == IMPLICIT_REGION then u else 0)
-    (ap (region_of after) (stays.alike.head q).task ∙ region (region_at W q).head.task) in
+    (ap (region_of after) (stays.alike.world.head q).task ∙ region (region_at W q).head.task) in
     let carries : Carries W after =
     record {
-      tasks = omega (arith, stays.alike.tasks);
+      tasks = omega (arith, stays.alike.world.tasks);
       started = λ k made started.
           record {
             kind = ap (λ (x : PoolTask). x.kind) (pooled k);
             region = region k;
-            thread = stays.alike.owner k;
+            thread = stays.alike.world.owner k;
             started = ap (λ (x : PoolTask). has_started x.condition) (pooled k) ∙ started;
             finished = λ finished. ap (λ (x : PoolTask). x.condition) (pooled k) ∙ finished;
           };
       index = λ u q some below. index u q;
-      size = λ q below. (stays.alike.head q).size;
+      size = λ q below. (stays.alike.world.head q).size;
     } in
     record {
-      begun = λ r. known.begun r ∙ ap (λ n. nat_le 2 r && nat_lt r n) (sym stays.alike.regions);
-      ended = λ r. known.ended r ∙ sym (stays.alike.head r).ended;
+      begun = λ r. known.begun r ∙ ap (λ n. nat_le 2 r && nat_lt r n) (sym stays.alike.world.regions);
+      ended = λ r. known.ended r ∙ sym (stays.alike.world.head r).ended;
       region = λ r forked below.
-          let before : r < length W.regions = omega (arith, below, stays.alike.regions) in
+          let before : r < length W.regions = omega (arith, below, stays.alike.world.regions) in
           let told = known.region r forked before in
-          region-carried W after past past carries r (omega (arith, forked)) before told (members r) refl (ap (λ flags. length flags) (stays.alike.head r).left)
+          region-carried W after past past carries r (omega (arith, forked)) before told (members r) refl (ap (λ flags. length flags) (stays.alike.world.head r).left)
           (λ i left.
-          let gone = told.gone i (subst (λ flags. slice_index_or flags i false ≡ true) (stays.alike.head r).left left) in
+          let gone = told.gone i (subst (λ flags. slice_index_or flags i false ≡ true) (stays.alike.world.head r).left left) in
           gone-carried W after past past carries (task_of_member W r i) (told.implicit i gone.some).made (λ before. before) gone)
           (λ ended.
-          ap₂ (λ n flags. list_all (λ (flag : Bool). flag) (take n flags)) (stays.alike.head r).size (stays.alike.head r).left
-          ∙ told.ended (sym (stays.alike.head r).ended ∙ ended));
-      unjoined = λ r past-end. known.unjoined r (omega (arith, past-end, stays.alike.regions));
-      seated = all-seated run W after I past stays.knows carries stays.alike.tasks members (λ k. ap (λ (x : PoolTask). x.kind) (pooled k));
+          ap₂ (λ n flags. list_all (λ (flag : Bool). flag) (take n flags)) (stays.alike.world.head r).size (stays.alike.world.head r).left
+          ∙ told.ended (sym (stays.alike.world.head r).ended ∙ ended));
+      unjoined = λ r past-end. known.unjoined r (omega (arith, past-end, stays.alike.world.regions));
+      seated = all-seated run W after I past stays.knows carries stays.alike.world.tasks members (λ k. ap (λ (x : PoolTask). x.kind) (pooled k));
       room = λ u some.
-          let same = (stays.alike.thread u).invited in
+          let same = (stays.alike.world.thread u).invited in
           subst (λ q. task_of_member after q (member_index after u q) ≡ 0) (sym same)
           (ap (task_of_member after (thread_at W u).invited) (index u (thread_at W u).invited)
           ∙ (ap (λ ms. slice_index_or ms (member_index W u (thread_at W u).invited) 0) (members (thread_at W u).invited)

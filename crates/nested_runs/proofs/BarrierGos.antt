@@ -13,8 +13,9 @@ use Rattle.omp_model.specs.declared.event.Event.TheVariants.{MutexAcquire, Paral
 use Rattle.omp_model.specs.State.{Run, Thread, World, first, region_at}
 use Rattle.omp_model.specs.Gates.{is_barrier}
 use Rattle.omp_model.specs.Members.{current, current_index, current_region, is_explicit_task}
+use Rattle.omp_model.specs.Touching.{is_of_code}
 use Rattle.trace_check.specs.Before.{joins, waits_of}
-use Rattle.nested_runs.specs.Effects.{is_of_code, stand_after}
+use Rattle.nested_runs.specs.Effects.{stand_after}
 use Rattle.nested_runs.specs.Known.{AtBarrier, HasNotMet, HaveBegun, IsWaiting, TellsMember, owed, task_of_member}
 use Rattle.nested_runs.specs.Knows.{Goes}
 use Rattle.nested_runs.specs.Recorded.{Inside, recorded}
@@ -271,7 +272,7 @@ module _ (run : Run) (W after : World) (I J : Inside) (past : List EventRecord) 
   -- a thread that is inside the begin of a wait
   waiting-own : (e : Event) → Goes run W after I J past t e → IsWaiting after t (Some e)
   waiting-own (Sync which stage.WaitBegin codeptr) goes =
-      let same = current-same W after t (ap (λ (x : Thread). x.stack) goes.touches.own) in
+      let same = current-same W after t (ap (λ (x : Thread). x.stack) goes.touches.world.own) in
       (subst (λ k. 1 ≤ k) (sym same) goes.comes.0.within.some, ap (stand_at after) same ∙ goes.touches.stand_own refl)
   waiting-own (Sync which stage.RegionBegin codeptr) goes = tt
   waiting-own (Sync which stage.WaitEnd codeptr) goes = tt
@@ -285,7 +286,7 @@ module _ (run : Run) (W after : World) (I J : Inside) (past : List EventRecord) 
             subst (λ within. IsWaiting after u within) (sym (ap J is ∙ goes.enters.own)) (subst (λ v. IsWaiting after v (Some e)) (sym is) (waiting-own e goes))
         | inr other ↦
             subst (λ within. IsWaiting after u within) (sym (goes.enters.others u other))
-            (waiting-kept W after u (I u) (current-same W after u (ap (λ (x : Thread). x.stack) (goes.touches.others u other)))
+            (waiting-kept W after u (I u) (current-same W after u (ap (λ (x : Thread). x.stack) (goes.touches.world.others u other)))
             (λ some which at. goes.touches.stands (current W u) (λ code same. other (apart W goes.knows.sound.orderly t u some same)) ∙ at)
             (goes.knows.barriers.waiting u))
       ]
@@ -293,5 +294,5 @@ module _ (run : Run) (W after : World) (I J : Inside) (past : List EventRecord) 
   -- a task that isn't made has begun no wait
   pub fresh-go : (e : Event) → Goes run W after I J past t e → (k : ℕ) → length after.tasks ≤ k → waits_of k (recorded position t after e ∷ past) ≡ 0
   fresh-go e goes k new =
-      let old : length W.tasks ≤ k = omega (arith, new, goes.touches.tasks, tasks-grow e (length W.tasks)) in
+      let old : length W.tasks ≤ k = omega (arith, new, goes.touches.world.tasks, tasks-grow e (length W.tasks)) in
       waits-same run W after I J past t position e goes k (not-new e goes k old) ∙ goes.knows.barriers.fresh k old

@@ -47,7 +47,7 @@ is-section region task others other codeptr whole older same own = rw (eq-eqb ot
 module _ (run : Run) (W after : World) (I J : Inside) (past : List EventRecord) (t : ℕ) (share : Share) (goes : Goes run W after I J past t (Dispatch share))
   where
     same-current : current after t ≡ current W t
-    same-current = ap (λ (x : Thread). slice_index_or x.stack 0 0) goes.touches.own
+    same-current = ap (λ (x : Thread). slice_index_or x.stack 0 0) goes.touches.world.own
 
     same-region : current_region after t ≡ current_region W t
     same-region =

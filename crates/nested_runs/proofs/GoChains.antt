@@ -16,9 +16,9 @@ use Rattle.omp_model.specs.State.{Run, Thread, World, pooled_at, region_at, task
 use Rattle.omp_model.specs.Members.{current, current_region, is_explicit_task, is_outermost, region_of}
 use Rattle.omp_model.specs.Conditions.{IsToStart}
 use Rattle.omp_model.specs.Made.{IsRegion, IsTaskOf}
+use Rattle.omp_model.specs.Touching.{come_to, forked_after, is_of_code, thread_after}
 use Rattle.omp_model.proofs.MadeEvents.{current-below}
 use Rattle.nested_runs.specs.Recorded.{Inside}
-use Rattle.nested_runs.specs.Effects.{come_to, forked_after, is_of_code, thread_after}
 use Rattle.nested_runs.specs.Standing.{Stand, stand_at}
 use Rattle.nested_runs.specs.Standing.Stand.{AtFork}
 use Rattle.nested_runs.specs.Known.{IsChain, IsDetained, IsInitialOn, IsInvited, IsMemberOf, IsMemberOn, IsTaskOn}
@@ -45,7 +45,7 @@ module _ (run : Run) (W after : World) (I J : Inside) (past : List EventRecord) 
   place-other e goes k other =
       let stands = goes.touches.stands k (λ code is. other is) in
       record {
-        forked = goes.touches.forked k ∙ forked-other W t e k (task_at W k).forked other;
+        forked = goes.touches.world.forked k ∙ forked-other W t e k (task_at W k).forked other;
         at = λ at. stands ∙ at;
         apart = λ apart at. apart (sym stands ∙ at);
       }
@@ -54,7 +54,7 @@ module _ (run : Run) (W after : World) (I J : Inside) (past : List EventRecord) 
   place-beside e goes beside k =
       let stands = goes.touches.stands k (λ code is. cc) in
       record {
-        forked = goes.touches.forked k ∙ forked-beside W t e k (task_at W k).forked beside;
+        forked = goes.touches.world.forked k ∙ forked-beside W t e k (task_at W k).forked beside;
         at = λ at. stands ∙ at;
         apart = λ apart at. apart (sym stands ∙ at);
       }
@@ -86,7 +86,7 @@ module _ (run : Run) (W after : World) (I J : Inside) (past : List EventRecord) 
   chain-member r k goes =
       let seats = goes.knows.seats in
       let invited : IsInvited W t r = subst (IsInvited W t) goes.comes.region (seats.invited t (rw goes.comes.region goes.comes.some)) in
-      let now = goes.touches.pooled k ∙ pool-new (k == k) (come_to (fresh_task (region_at W r).head.task r kind.Implicit) condition.Started) (pooled_at W k)
+      let now = goes.touches.world.pooled k ∙ pool-new (k == k) (come_to (fresh_task (region_at W r).head.task r kind.Implicit) condition.Started) (pooled_at W k)
       (eq-eqb k k refl) in
       let implicit : (pooled_at after k).kind ≡ kind.Implicit = ap (λ (x : PoolTask). x.kind) now in
       let region : region_of after k ≡ r = ap (λ (x : PoolTask). x.region) now in
@@ -127,7 +127,7 @@ module _ (run : Run) (W after : World) (I J : Inside) (past : List EventRecord) 
   chain-task prior k goes =
       let knows = goes.knows in
       let grown = grown-go W after t (TaskBegin prior k) goes.comes goes.touches in
-      let there : k < length W.tasks = rw (← goes.touches.tasks) (goes.sound.events t (TaskBegin prior k) goes.enters.own).occurred.named.task.below in
+      let there : k < length W.tasks = rw (← goes.touches.world.tasks) (goes.sound.events t (TaskBegin prior k) goes.enters.own).occurred.named.task.below in
       let place = place-beside (TaskBegin prior k) goes refl (current W t) in
       let same = grown.region k there in
       let under = grown.region (current W t) (current-below W t knows.sound.made) in
@@ -167,6 +167,6 @@ module _ (run : Run) (W after : World) (I J : Inside) (past : List EventRecord) 
   chain-go e goes u =
       elim (cases_eq u t) [
         | inl same ↦ subst (λ v. IsChain after v (thread_at after v).stack) (sym same)
-            (subst (λ (x : Thread). IsChain after t x.stack) (sym goes.touches.own) (chain-own e goes))
-        | inr other ↦ subst (λ (x : Thread). IsChain after u x.stack) (sym (goes.touches.others u other)) (chain-kept e goes u)
+            (subst (λ (x : Thread). IsChain after t x.stack) (sym goes.touches.world.own) (chain-own e goes))
+        | inr other ↦ subst (λ (x : Thread). IsChain after u x.stack) (sym (goes.touches.world.others u other)) (chain-kept e goes u)
       ]

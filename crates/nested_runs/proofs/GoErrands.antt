@@ -14,10 +14,10 @@ use Rattle.omp_model.specs.Gates.{all_left}
 use Rattle.omp_model.specs.Members.{current, current_region, member_index, region_of}
 use Rattle.omp_model.specs.Going.{kind_of_task}
 use Rattle.omp_model.specs.Made.{IsMadeWorld}
+use Rattle.omp_model.specs.Touching.{thread_after}
 use Rattle.omp_model.proofs.MadeEvents.{current-below}
 use Rattle.nested_runs.specs.Recorded.{Inside}
 use Rattle.nested_runs.specs.Coming.{IsQuiet}
-use Rattle.nested_runs.specs.Effects.{thread_after}
 use Rattle.nested_runs.specs.Standing.{Stand, stand_at}
 use Rattle.nested_runs.specs.Standing.Stand.{AtFork}
 use Rattle.nested_runs.specs.Touching.{MayTake}
@@ -45,7 +45,7 @@ record StaysThread (W after : World) (t : ℕ) : Type 0 where
 
 module _ (run : Run) (W after : World) (I J : Inside) (past : List EventRecord) (t : ℕ) where
   quiet-calm : (e : Event) → Goes run W after I J past t e → thread_after e (thread_at W t) ≡ thread_at W t → IsQuiet W t → IsCalm after t
-  quiet-calm e goes same quiet = calm-of after t (thread_at W t) (goes.touches.own ∙ same) quiet.free.invited quiet.free.undeferred quiet.taken
+  quiet-calm e goes same quiet = calm-of after t (thread_at W t) (goes.touches.world.own ∙ same) quiet.free.invited quiet.free.undeferred quiet.taken
 
   -- a thread that takes a task up has no share
   untaken : (prior k : ℕ) → Goes run W after I J past t (TaskBegin prior k) → (thread_at W t).taken ≡ None
@@ -58,7 +58,7 @@ module _ (run : Run) (W after : World) (I J : Inside) (past : List EventRecord) 
   -- the event's thread is calm behind it
   own-calm : (e : Event) → Goes run W after I J past t e → StaysThread W after t ⊎ IsCalm after t
   own-calm ThreadBegin goes =
-      let own = goes.touches.own in
+      let own = goes.touches.world.own in
       let stands = goes.touches.stands (current W t) (λ code is. cc) in
       inl (record {
         like = record {
@@ -72,16 +72,16 @@ module _ (run : Run) (W after : World) (I J : Inside) (past : List EventRecord) 
         taken = ap (λ (x : Thread). x.taken) own;
       })
   own-calm ThreadEnd goes = inr (quiet-calm ThreadEnd goes refl goes.comes.quiet)
-  own-calm InitialTaskBegin goes = inr (calm-of after t _ goes.touches.own refl refl goes.comes.quiet.taken)
+  own-calm InitialTaskBegin goes = inr (calm-of after t _ goes.touches.world.own refl refl goes.comes.quiet.taken)
   own-calm InitialTaskEnd goes =
-      let quiet = goes.comes.within.quiet in inr (calm-of after t _ goes.touches.own quiet.free.invited quiet.free.undeferred quiet.taken)
-  own-calm (MemberBegin r k) goes = inr (calm-of after t _ goes.touches.own refl refl (goes.knows.seats.invited t (rw goes.comes.region goes.comes.some)).taken)
+      let quiet = goes.comes.within.quiet in inr (calm-of after t _ goes.touches.world.own quiet.free.invited quiet.free.undeferred quiet.taken)
+  own-calm (MemberBegin r k) goes = inr (calm-of after t _ goes.touches.world.own refl refl (goes.knows.seats.invited t (rw goes.comes.region goes.comes.some)).taken)
   own-calm (MemberEnd r k) goes =
-      let quiet = goes.comes.within.quiet in inr (calm-of after t _ goes.touches.own quiet.free.invited quiet.free.undeferred quiet.taken)
-  own-calm (TaskBegin prior k) goes = inr (calm-of after t _ goes.touches.own refl refl (untaken prior k goes))
+      let quiet = goes.comes.within.quiet in inr (calm-of after t _ goes.touches.world.own quiet.free.invited quiet.free.undeferred quiet.taken)
+  own-calm (TaskBegin prior k) goes = inr (calm-of after t _ goes.touches.world.own refl refl (untaken prior k goes))
   own-calm (TaskEnd k) goes =
-      let quiet = goes.comes.within.quiet in inr (calm-of after t _ goes.touches.own quiet.free.invited quiet.free.undeferred quiet.taken)
-  own-calm (Dispatch share) goes = inr (calm-of after t _ goes.touches.own goes.comes.free.invited goes.comes.free.undeferred refl)
+      let quiet = goes.comes.within.quiet in inr (calm-of after t _ goes.touches.world.own quiet.free.invited quiet.free.undeferred quiet.taken)
+  own-calm (Dispatch share) goes = inr (calm-of after t _ goes.touches.world.own goes.comes.free.invited goes.comes.free.undeferred refl)
   own-calm e goes = inr (quiet-calm e goes refl goes.comes.0.within.quiet)
 
   -- no event invites a thread
@@ -130,7 +130,7 @@ module _ (run : Run) (W after : World) (I J : Inside) (past : List EventRecord) 
   -- ---- inside the event
 
   still-current : (e : Event) → Goes run W after I J past t e → thread_after e (thread_at W t) ≡ thread_at W t → current after t ≡ current W t
-  still-current e goes same = ap (λ (x : Thread). slice_index_or x.stack 0 0) (goes.touches.own ∙ same)
+  still-current e goes same = ap (λ (x : Thread). slice_index_or x.stack 0 0) (goes.touches.world.own ∙ same)
 
   errand-now : (e : Event) → Goes run W after I J past t e → thread_after e (thread_at W t) ≡ thread_at W t → IsQuiet W t → 1 ≤ current W t →
       HasNoErrand after t
@@ -146,7 +146,7 @@ module _ (run : Run) (W after : World) (I J : Inside) (past : List EventRecord) 
       omega (arith, below, invited, is)
 
   own-busy : (e : Event) → Goes run W after I J past t e → IsBusy after t (Some e)
-  own-busy ThreadEnd goes = ap (λ (x : Thread). x.stack) goes.touches.own ∙ no-stack W t goes.knows.sound.made goes.comes.none
+  own-busy ThreadEnd goes = ap (λ (x : Thread). x.stack) goes.touches.world.own ∙ no-stack W t goes.knows.sound.made goes.comes.none
   own-busy (ParallelBegin r requested codeptr) goes =
       let sound = goes.knows.sound in
       let e : Event = ParallelBegin r requested codeptr in
@@ -168,7 +168,7 @@ module _ (run : Run) (W after : World) (I J : Inside) (past : List EventRecord) 
       let e : Event = TaskCreate task undeferred codeptr in
       let same = still-current e goes refl in
       let grown = grown-go W after t e goes.comes goes.touches in
-      let now = goes.touches.pooled task ∙ pool-new (task == task) (fresh_task (current W t) (current_region W t) (kind_of_task undeferred))
+      let now = goes.touches.world.pooled task ∙ pool-new (task == task) (fresh_task (current W t) (current_region W t) (kind_of_task undeferred))
       (pooled_at W task) (eq-eqb task task refl) in
       record {
         errand = errand-now e goes refl goes.comes.0.within.quiet goes.comes.0.within.some;
@@ -289,9 +289,9 @@ module _ (run : Run) (W after : World) (I J : Inside) (past : List EventRecord) 
       elim (cases_eq u t) [
         | inl same ↦
             let runs : is_running (thread_at after u).stage ≡ true = ap (λ v. is_running (thread_at after v).stage) same
-            ∙ ap (λ (x : Thread). is_running x.stage) goes.touches.own ∙ ap is_running (begun-stage e goes) in
+            ∙ ap (λ (x : Thread). is_running x.stage) goes.touches.world.own ∙ ap is_running (begun-stage e goes) in
             absurd (true≢false (sym runs ∙ out))
         | inr other ↦
-            let is = goes.touches.others u other in
+            let is = goes.touches.world.others u other in
             ap (λ (x : Thread). x.stack) is ∙ goes.knows.seats.idle u (ap (λ (x : Thread). is_running x.stage) (sym is) ∙ out)
       ]

@@ -13,8 +13,8 @@ use Rattle.omp_model.specs.State.{Thread, World, pooled_at, region_at, task_at, 
 use Rattle.omp_model.specs.Members.{current}
 use Rattle.omp_model.specs.Conditions.{AreOrderly, IsUnderWay}
 use Rattle.omp_model.specs.Made.{IsMadeWorld, IsTaskOf}
+use Rattle.omp_model.specs.Touching.{come_to, head_after, is_of_code, owner_after, pooled_after, regions_after, tasks_after, thread_after}
 use Rattle.nested_runs.specs.Coming.{Comes, ComesToTask}
-use Rattle.nested_runs.specs.Effects.{come_to, head_after, is_of_code, owner_after, pooled_after, regions_after, tasks_after, thread_after}
 use Rattle.nested_runs.specs.Shown.{opens_at}
 use Rattle.nested_runs.specs.Standing.{stand_at}
 use Rattle.nested_runs.specs.Standing.Stand.{AtFork}
@@ -77,11 +77,11 @@ head-task W t other q comes below = refl
 pub grown-go : (W after : World) (t : ℕ) (e : Event) → Comes W t e → Touches W after t e → Grown W after
 grown-go W after t e comes touches =
     record {
-      tasks = omega (arith, tasks-more e (length W.tasks), touches.tasks);
-      regions = omega (arith, regions-more e (length W.regions), touches.regions);
-      kind = λ k below. ap (λ (x : PoolTask). x.kind) (touches.pooled k) ∙ (kind-after W t e k comes below).kind;
-      region = λ k below. ap (λ (x : PoolTask). x.region) (touches.pooled k) ∙ (kind-after W t e k comes below).region;
-      task = λ q below. ap (λ (x : RegionHead). x.task) (touches.head q) ∙ head-task W t e q comes below;
+      tasks = omega (arith, tasks-more e (length W.tasks), touches.world.tasks);
+      regions = omega (arith, regions-more e (length W.regions), touches.world.regions);
+      kind = λ k below. ap (λ (x : PoolTask). x.kind) (touches.world.pooled k) ∙ (kind-after W t e k comes below).kind;
+      region = λ k below. ap (λ (x : PoolTask). x.region) (touches.world.pooled k) ∙ (kind-after W t e k comes below).region;
+      task = λ q below. ap (λ (x : RegionHead). x.task) (touches.world.head q) ∙ head-task W t e q comes below;
     }
 
 -- ---- other threads
@@ -105,7 +105,7 @@ module _ (W after : World) (t : ℕ) (e : Event) (orderly : AreOrderly W) (comes
 
   pub like-other : (u : ℕ) → (u ≡ t → ⊥) → LikeThread W after u
   like-other u other =
-      let same = touches.others u other in
+      let same = touches.world.others u other in
       let stands = touches.stands (current W u) (other-code u other) in
       record {
         stack = ap (λ (x : Thread). x.stack) same;
@@ -117,7 +117,7 @@ module _ (W after : World) (t : ℕ) (e : Event) (orderly : AreOrderly W) (comes
       }
 
   pub taken-other : (u : ℕ) → (u ≡ t → ⊥) → (thread_at after u).taken ≡ (thread_at W u).taken
-  taken-other u other = ap (λ (x : Thread). x.taken) (touches.others u other)
+  taken-other u other = ap (λ (x : Thread). x.taken) (touches.world.others u other)
 
   -- where codes stand, but for that of the current task at an event of it
   pub stands-apart : (k : ℕ) → ((is_of_code e ≡ true) × (k ≡ current W t)) ⊎ (stand_at after k ≡ stand_at W k)
@@ -185,9 +185,9 @@ pub stacked-go : (W after : World) (t : ℕ) (e : Event) (k : ℕ) → IsMadeWor
 stacked-go W after t e k made orderly codes comes touches at on =
     subst (λ u. stands_on k (thread_at after u).stack ≡ true) (sym same) (elim (cases_eq owner t) [
       | inl own ↦ subst (λ u. stands_on k (thread_at after u).stack ≡ true) (sym own)
-          (subst (λ (x : Thread). stands_on k x.stack ≡ true) (sym touches.own)
+          (subst (λ (x : Thread). stands_on k x.stack ≡ true) (sym touches.world.own)
           (stack-keeps W t e k codes comes at (subst (λ u. stands_on k (thread_at W u).stack ≡ true) own on)))
-      | inr other ↦ subst (λ (x : Thread). stands_on k x.stack ≡ true) (sym (touches.others owner other)) on
+      | inr other ↦ subst (λ (x : Thread). stands_on k x.stack ≡ true) (sym (touches.world.others owner other)) on
     ])
   where
     owner : ℕ
@@ -195,6 +195,6 @@ stacked-go W after t e k made orderly codes comes touches at on =
 
     same : (task_at after k).thread ≡ owner
     same =
-        touches.owner k
+        touches.world.owner k
         ∙ owner-keeps W t e k owner orderly comes (all-on (IsTaskOf W owner) k (thread_at W owner).stack (made.threads owner).stacked on).made.below
         (all-on (IsUnderWay W owner) k (thread_at W owner).stack (orderly.stacked owner) on).started

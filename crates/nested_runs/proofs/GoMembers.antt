@@ -20,8 +20,8 @@ use Rattle.omp_model.specs.Conditions.{has_started}
 use Rattle.omp_model.specs.Gates.{all_left}
 use Rattle.omp_model.specs.Made.{IsTask}
 use Rattle.omp_model.specs.Members.{member_index}
+use Rattle.omp_model.specs.Touching.{come_to, head_after, owner_after, regions_after, tasks_after}
 use Rattle.trace_check.specs.Before.{Join, has_begun_region, has_ended_region, is_just, joins_of}
-use Rattle.nested_runs.specs.Effects.{come_to, head_after, owner_after, regions_after, tasks_after}
 use Rattle.nested_runs.specs.Known.{HasGone, IsJoin, IsMemberTask, TellsRegion, has_left_region, is_some_task, task_of_member}
 use Rattle.nested_runs.specs.Knows.{Goes}
 use Rattle.nested_runs.specs.Readings.{begun_by, ended_by}
@@ -76,16 +76,16 @@ module _ (run : Run) (W after : World) (I J : Inside) (past : List EventRecord) 
       record {
         kind = kind-stays run W after I J past t e goes k other;
         region = region-stays run W after I J past t e goes k other;
-        thread = goes.touches.owner k ∙ owner-stays e goes k made started;
-        started = ap (λ (x : PoolTask). has_started x.condition) (goes.touches.pooled k) ∙ started-stays W t e goes.comes k other started;
+        thread = goes.touches.world.owner k ∙ owner-stays e goes k made started;
+        started = ap (λ (x : PoolTask). has_started x.condition) (goes.touches.world.pooled k) ∙ started-stays W t e goes.comes k other started;
         finished = λ finished.
-            ap (λ (x : PoolTask). x.condition) (goes.touches.pooled k) ∙ finished-stays W t e goes.comes (starting e goes) k other finished;
+            ap (λ (x : PoolTask). x.condition) (goes.touches.world.pooled k) ∙ finished-stays W t e goes.comes (starting e goes) k other finished;
       }
 
   pub carries-go : (e : Event) → Goes run W after I J past t e → Carries W after
   carries-go e goes =
       record {
-        tasks = omega (arith, goes.touches.tasks, tasks-grow e (length W.tasks));
+        tasks = omega (arith, goes.touches.world.tasks, tasks-grow e (length W.tasks));
         started = started-go e goes;
         index = index-stays run W after I J past t e goes;
         size = λ q below. (head-same run W after I J past t e goes q (λ is. omega (arith, is, below))).size;
@@ -123,7 +123,7 @@ module _ (run : Run) (W after : World) (I J : Inside) (past : List EventRecord) 
   ended-left e goes q below known ended =
       let same = head-same run W after I J past t e goes q (λ is. omega (arith, is, below)) in
       ap₂ (λ n flags. list_all (λ (flag : Bool). flag) (take n flags)) same.size same.left
-      ∙ head-ended e goes q known (subst (λ (head : RegionHead). head.ended ≡ true) (goes.touches.head q) ended)
+      ∙ head-ended e goes q known (subst (λ (head : RegionHead). head.ended ≡ true) (goes.touches.world.head q) ended)
 
 module _ (run : Run) (W after : World) (I J : Inside) (past : List EventRecord) (t position : ℕ) where
   -- who had left has left still
@@ -144,7 +144,7 @@ module _ (run : Run) (W after : World) (I J : Inside) (past : List EventRecord) 
       let known = goes.knows.members.region r forked below in
       let same = head-same run W after I J past t e goes r other in
       region-carried W after past _ (carries-go run W after I J past t e goes) r (omega (arith, forked)) below known
-      (ap (λ (head : RegionHead). head.members) (goes.touches.head r) ∙ members-beside run W after I J past t e goes r forked other beside)
+      (ap (λ (head : RegionHead). head.members) (goes.touches.world.head r) ∙ members-beside run W after I J past t e goes r forked other beside)
       (joins-same position t after e past r beside) (ap (λ flags. length flags) same.left)
       (λ i left. gone-go e goes r i forked below left) (ended-left run W after I J past t e goes r below known.ended)
 
@@ -161,20 +161,20 @@ module _ (run : Run) (W after : World) (I J : Inside) (past : List EventRecord) 
       let same = head-same run W after I J past t e goes r other in
       let new = new-member run W after I J past t e goes r here (refl, refl) in
       let members : (region_at after r).head.members ≡ slice_set (region_at W r).head.members here k =
-      ap (λ (head : RegionHead). head.members) (goes.touches.head r) ∙ rw (eq-eqb r r refl) refl in
+      ap (λ (head : RegionHead). head.members) (goes.touches.world.head r) ∙ rw (eq-eqb r r refl) refl in
       let fresh : pooled_at after k ≡ come_to (fresh_task (region_at W r).head.task r kind.Implicit) condition.Started =
-      goes.touches.pooled k ∙ rw (eq-eqb k k refl) refl in
+      goes.touches.world.pooled k ∙ rw (eq-eqb k k refl) refl in
       let some : 1 ≤ k = omega (arith, goes.comes.task, goes.knows.sound.made.initial.below) in
       let place : member_index after t r ≡ here = carries.index t r (omega (arith, forked)) below in
       let task : task_of_member after r here ≡ k = new.task ∙ sym goes.comes.task in
       let own : IsMemberTask after r here k =
       record {
-        made = record { some = some; below = omega (arith, goes.comes.task, goes.touches.tasks) };
+        made = record { some = some; below = omega (arith, goes.comes.task, goes.touches.world.tasks) };
         kind = ap (λ (x : PoolTask). x.kind) fresh;
         region = ap (λ (x : PoolTask). x.region) fresh;
         index =
             carries.index (task_at after k).thread r (omega (arith, forked)) below
-            ∙ ap (λ u. member_index W u r) (goes.touches.owner k ∙ rw (eq-eqb k k refl) refl);
+            ∙ ap (λ u. member_index W u r) (goes.touches.world.owner k ∙ rw (eq-eqb k k refl) refl);
         started = ap (λ (x : PoolTask). has_started x.condition) fresh;
       } in
       let old : (i : ℕ) → i ≢ here → task_of_member after r i ≡ task_of_member W r i =
@@ -313,7 +313,7 @@ module _ (run : Run) (W after : World) (I J : Inside) (past : List EventRecord) 
   begun-go e goes r =
       begun-more position t after e past r
       ∙ (ap (λ b. is_just r (begun_by e) || b) (goes.knows.members.begun r)
-      ∙ (begun-after e goes r ∙ ap (λ n. nat_le 2 r && nat_lt r n) (sym goes.touches.regions)))
+      ∙ (begun-after e goes r ∙ ap (λ n. nat_le 2 r && nat_lt r n) (sym goes.touches.world.regions)))
 
   ended-after : (e : Event) → Goes run W after I J past t e → (r : ℕ) → (is_just r (ended_by e) || (region_at W r).head.ended) ≡ (head_after W t e r).ended
   ended-after (ParallelBegin q requested codeptr) goes r =
@@ -334,4 +334,4 @@ module _ (run : Run) (W after : World) (I J : Inside) (past : List EventRecord) 
   ended-go e goes r =
       ended-more position t after e past r
       ∙ (ap (λ b. is_just r (ended_by e) || b) (goes.knows.members.ended r)
-      ∙ (ended-after e goes r ∙ ap (λ (head : RegionHead). head.ended) (sym (goes.touches.head r))))
+      ∙ (ended-after e goes r ∙ ap (λ (head : RegionHead). head.ended) (sym (goes.touches.world.head r))))

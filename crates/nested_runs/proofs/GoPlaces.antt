@@ -12,7 +12,7 @@ use Rattle.omp_model.specs.State.{Run, Thread, World, pooled_at, task_at, thread
 use Rattle.omp_model.specs.Going.{kind_of_task}
 use Rattle.omp_model.specs.Made.{IsTask}
 use Rattle.omp_model.specs.Members.{current, current_region, is_outermost, member_index, region_of}
-use Rattle.nested_runs.specs.Effects.{tasks_after, thread_after}
+use Rattle.omp_model.specs.Touching.{tasks_after, thread_after}
 use Rattle.nested_runs.specs.Known.{HasGone, IsBusy, IsInvited, IsLeaving, IsSeated, task_of_member}
 use Rattle.nested_runs.specs.Knows.{Goes, Knows}
 use Rattle.nested_runs.specs.Recorded.{Inside, recorded}
@@ -70,8 +70,8 @@ module _ (run : Run) (W after : World) (I J : Inside) (past : List EventRecord) 
   new-seated (MemberBegin q task) goes k is made implicit =
       let new = new-member run W after I J past t (MemberBegin q task) goes q (member_index W t q) (refl, refl) in
       let here : (k == task) ≡ true = eq-eqb k task (is ∙ sym goes.comes.task) in
-      let region : region_of after k ≡ q = ap (λ (x : PoolTask). x.region) (goes.touches.pooled k) ∙ rw here refl in
-      let thread : (task_at after k).thread ≡ t = goes.touches.owner k ∙ rw here refl in
+      let region : region_of after k ≡ q = ap (λ (x : PoolTask). x.region) (goes.touches.world.pooled k) ∙ rw here refl in
+      let thread : (task_at after k).thread ≡ t = goes.touches.world.owner k ∙ rw here refl in
       record {
         region = subst (λ p. 2 ≤ p) (sym region) new.forked;
         member =
@@ -81,9 +81,9 @@ module _ (run : Run) (W after : World) (I J : Inside) (past : List EventRecord) 
       }
   new-seated (TaskCreate task undeferred codeptr) goes k is made implicit =
       let kind : (pooled_at after k).kind ≡ kind_of_task undeferred =
-      ap (λ (x : PoolTask). x.kind) (goes.touches.pooled k) ∙ rw (eq-eqb k task (is ∙ sym goes.comes.1)) refl in
+      ap (λ (x : PoolTask). x.kind) (goes.touches.world.pooled k) ∙ rw (eq-eqb k task (is ∙ sym goes.comes.1)) refl in
       absurd (true≢false (sym (explicit-kind undeferred) ∙ (ap is_explicit (sym kind) ∙ ap is_explicit implicit)))
-  new-seated e goes k is made implicit = absurd (omega (arith, is, made.below, goes.touches.tasks))
+  new-seated e goes k is made implicit = absurd (omega (arith, is, made.below, goes.touches.world.tasks))
 
   pub seated-go : (e : Event) → Goes run W after I J past t e → (k : ℕ) → IsTask after k → (pooled_at after k).kind ≡ kind.Implicit → IsSeated after k
   seated-go e goes k made implicit =
@@ -91,7 +91,7 @@ module _ (run : Run) (W after : World) (I J : Inside) (past : List EventRecord) 
         | inl is ↦ new-seated e goes k is made implicit
         | inr other ↦
             let before : IsTask W k =
-            record { some = made.some; below = omega (arith, other, made.below, goes.touches.tasks, one-more-task e (length W.tasks)) } in
+            record { some = made.some; below = omega (arith, other, made.below, goes.touches.world.tasks, one-more-task e (length W.tasks)) } in
             let seated = goes.knows.members.seated k before (sym (kind-stays run W after I J past t e goes k other) ∙ implicit) in
             let below : region_of W k < length W.regions = (goes.knows.sound.made.placed k before).below in
             let started = seated-started run W I past goes.knows k before seated in
@@ -111,9 +111,9 @@ module _ (run : Run) (W after : World) (I J : Inside) (past : List EventRecord) 
       elim (cases_eq u t) [
         | inl is ↦
             let own : thread_at after u ≡ thread_after e (thread_at W u) =
-            subst (λ v. thread_at after v ≡ thread_after e (thread_at W v)) (sym is) goes.touches.own in
+            subst (λ v. thread_at after v ≡ thread_after e (thread_at W v)) (sym is) goes.touches.world.own in
             ap (λ (x : Thread). x.invited) own ∙ own-invited e (thread_at W u) (subst (λ (x : Thread). 1 ≤ x.invited) own some)
-        | inr other ↦ ap (λ (x : Thread). x.invited) (goes.touches.others u other)
+        | inr other ↦ ap (λ (x : Thread). x.invited) (goes.touches.world.others u other)
       ]
 
   -- who joins was to join it
@@ -130,7 +130,7 @@ module _ (run : Run) (W after : World) (I J : Inside) (past : List EventRecord) 
       let asked : (thread_at W t).invited ≡ r = joins-invited e goes r joins.0 in
       let first : IsInvited W t r = subst (IsInvited W t) asked (goes.knows.seats.invited t (subst (λ n. 1 ≤ n) (sym asked) here)) in
       let is : u ≡ t = one-invited run W I past goes.knows t u r first (goes.knows.seats.invited u here) joins.1 in
-      let own : thread_at after u ≡ thread_after e (thread_at W t) = ap (thread_at after) is ∙ goes.touches.own in
+      let own : thread_at after u ≡ thread_after e (thread_at W t) = ap (thread_at after) is ∙ goes.touches.world.own in
       joins-none e (thread_at W t) r joins.0 (subst (λ (x : Thread). 1 ≤ x.invited) own some)
 
   pub room-go : (e : Event) → Goes run W after I J past t e → (u : ℕ) → 1 ≤ (thread_at after u).invited →
@@ -166,7 +166,7 @@ module _ (run : Run) (W after : World) (I J : Inside) (past : List EventRecord) 
       record {
         some = subst (λ j. 1 ≤ j) (sym is) some;
         left = left-more position t after e past k ∙ or_left (k == k) _ (eq-eqb k k refl);
-        finished = ap (λ (x : PoolTask). x.condition) (goes.touches.pooled k) ∙ rw (eq-eqb k k refl) refl;
+        finished = ap (λ (x : PoolTask). x.condition) (goes.touches.world.pooled k) ∙ rw (eq-eqb k k refl) refl;
       } in (
         gone,
         (
@@ -177,7 +177,7 @@ module _ (run : Run) (W after : World) (I J : Inside) (past : List EventRecord) 
       )
   leaving-own (ParallelBegin r requested codeptr) goes =
       (fresh-region run W after I J past t (ParallelBegin r requested codeptr) goes r goes.comes.1.region
-      (omega (arith, goes.comes.1.region, goes.touches.regions))).member
+      (omega (arith, goes.comes.1.region, goes.touches.world.regions))).member
   leaving-own e goes = tt
 
   leaving-other : (e : Event) → Goes run W after I J past t e → (u : ℕ) (within : Option Event) → I u ≡ within → IsLeaving W past u within →

@@ -13,9 +13,10 @@ use Rattle.omp_model.specs.Members.{current, current_region, is_outermost, regio
 use Rattle.omp_model.specs.Conditions.{AreOrderly, IsUnderWay}
 use Rattle.omp_model.specs.Going.{team_size}
 use Rattle.omp_model.specs.Made.{IsMadeWorld}
+use Rattle.omp_model.specs.Touching.{forked_after, head_after, is_of_code, regions_after}
 use Rattle.omp_model.proofs.MadeEvents.{current-below, first-of}
 use Rattle.nested_runs.specs.Coming.{Comes}
-use Rattle.nested_runs.specs.Effects.{forked_after, head_after, is_of_code, regions_after, stand_after, stand_before, stand_behind}
+use Rattle.nested_runs.specs.Effects.{stand_after, stand_before, stand_behind}
 use Rattle.nested_runs.specs.Standing.{Stand, stand_at, stand_within}
 use Rattle.nested_runs.specs.Standing.Stand.{AtFork}
 use Rattle.nested_runs.specs.Touching.{AreCodes, Touches}
@@ -98,10 +99,10 @@ module _ (W after : World) (t : ℕ) (e : Event) (made : IsMadeWorld W) (orderly
   pub same-forks-go : turns_region e ≡ false → SameForks W after
   same-forks-go other =
       record {
-        regions = touches.regions ∙ regions-same e (length W.regions) other;
-        ended = λ q. ap (λ (x : RegionHead). x.ended) (touches.head q) ∙ (head-same W t e q other).ended;
-        task = λ q. ap (λ (x : RegionHead). x.task) (touches.head q) ∙ (head-same W t e q other).task;
-        forked = λ k at. touches.forked k ∙ forked-same W t e k (task_at W k).forked other;
+        regions = touches.world.regions ∙ regions-same e (length W.regions) other;
+        ended = λ q. ap (λ (x : RegionHead). x.ended) (touches.world.head q) ∙ (head-same W t e q other).ended;
+        task = λ q. ap (λ (x : RegionHead). x.task) (touches.world.head q) ∙ (head-same W t e q other).task;
+        forked = λ k at. touches.world.forked k ∙ forked-same W t e k (task_at W k).forked other;
         at = λ k at. elim (stands-apart W after t e orderly comes touches k) [
           | inl own ↦ absurd (before-apart e other (sym (comes-stand W t e comes own.0) ∙ ap (stand_at W) (sym own.1) ∙ at))
           | inr same ↦ same ∙ at
@@ -134,16 +135,16 @@ number-old false new old is = refl
 module _ (W after : World) (t r requested codeptr : ℕ) (made : IsMadeWorld W) (orderly : AreOrderly W) (codes : AreCodes W)
     (comes : Comes W t (ParallelBegin r requested codeptr)) (touches : Touches W after t (ParallelBegin r requested codeptr)) where
   begun-head : (region_at after r).head ≡ fresh_head (current W t) (team_size W t requested)
-  begun-head = touches.head r ∙ head-new (r == r) _ (region_at W r).head (eq-eqb r r refl)
+  begun-head = touches.world.head r ∙ head-new (r == r) _ (region_at W r).head (eq-eqb r r refl)
 
   other-head : (q : ℕ) → (q ≡ r → ⊥) → (region_at after q).head ≡ (region_at W q).head
-  other-head q other = touches.head q ∙ head-old (q == r) _ (region_at W q).head (ne_eqb q r other)
+  other-head q other = touches.world.head q ∙ head-old (q == r) _ (region_at W q).head (ne_eqb q r other)
 
   begun-forked : (task_at after (current W t)).forked ≡ r
-  begun-forked = touches.forked (current W t) ∙ number-new (current W t == current W t) r _ (eq-eqb (current W t) (current W t) refl)
+  begun-forked = touches.world.forked (current W t) ∙ number-new (current W t == current W t) r _ (eq-eqb (current W t) (current W t) refl)
 
   other-forked : (k : ℕ) → (k ≡ current W t → ⊥) → (task_at after k).forked ≡ (task_at W k).forked
-  other-forked k other = touches.forked k ∙ number-old (k == current W t) r _ (ne_eqb k (current W t) other)
+  other-forked k other = touches.world.forked k ∙ number-old (k == current W t) r _ (ne_eqb k (current W t) other)
 
   other-stand : (k : ℕ) → (k ≡ current W t → ⊥) → stand_at after k ≡ stand_at W k
   other-stand k other = touches.stands k (λ code is. other is)
@@ -158,7 +159,7 @@ module _ (W after : World) (t r requested codeptr : ℕ) (made : IsMadeWorld W) 
   open-begun =
       record {
         forked = omega (arith, made.implicit.below, comes.1.region);
-        made = omega (arith, touches.regions, comes.1.region);
+        made = omega (arith, touches.world.regions, comes.1.region);
         open_still = ap (λ (x : RegionHead). x.ended) begun-head;
       }
 
@@ -166,7 +167,7 @@ module _ (W after : World) (t r requested codeptr : ℕ) (made : IsMadeWorld W) 
   open-other q other one =
       record {
         forked = one.forked;
-        made = omega (arith, one.made, touches.regions, comes.1.region, other);
+        made = omega (arith, one.made, touches.world.regions, comes.1.region, other);
         open_still = ap (λ (x : RegionHead). x.ended) (sym (other-head q other)) ∙ one.open_still;
       }
 
@@ -176,9 +177,9 @@ module _ (W after : World) (t r requested codeptr : ℕ) (made : IsMadeWorld W) 
   holds-new : HoldsRegion after r
   holds-new =
       let mine = first-of (IsUnderWay W t) (thread_at W t).stack (orderly.stacked t) comes.0.within.some in
-      let owner : (task_at after (current W t)).thread ≡ t = touches.owner (current W t) ∙ mine.thread in
+      let owner : (task_at after (current W t)).thread ≡ t = touches.world.owner (current W t) ∙ mine.thread in
       let on : stands_on (current W t) (thread_at after t).stack ≡ true =
-      subst (λ (x : Thread). stands_on (current W t) x.stack ≡ true) (sym touches.own) (on-current (thread_at W t).stack comes.0.within.some) in
+      subst (λ (x : Thread). stands_on (current W t) x.stack ≡ true) (sym touches.world.own) (on-current (thread_at W t).stack comes.0.within.some) in
       holds-of after r (current W t) begun-task begun-forked (touches.stand_own refl)
       (subst (λ u. stands_on (current W t) (thread_at after u).stack ≡ true) (sym owner) on)
 
@@ -212,7 +213,7 @@ module _ (W after : World) (t r requested codeptr : ℕ) (made : IsMadeWorld W) 
             record {
               region = subst (IsOpenRegion after) (sym is) (record {
                 forked = before.region.forked;
-                made = omega (arith, before.region.made, touches.regions);
+                made = omega (arith, before.region.made, touches.world.regions);
                 open_still = ap (λ (x : RegionHead). x.ended) head ∙ before.region.open_still;
               });
               task = ap (λ p. (region_at after p).head.task) is ∙ ap (λ (x : RegionHead). x.task) head ∙ before.task;
@@ -266,17 +267,17 @@ module _ (W after : World) (t r requested codeptr : ℕ) (made : IsMadeWorld W) 
 module _ (W after : World) (t r codeptr : ℕ) (made : IsMadeWorld W) (orderly : AreOrderly W) (codes : AreCodes W) (comes : Comes W t (ParallelEnd r codeptr))
     (touches : Touches W after t (ParallelEnd r codeptr)) where
   end-task : (q : ℕ) → (region_at after q).head.task ≡ (region_at W q).head.task
-  end-task q = ap (λ (x : RegionHead). x.task) (touches.head q) ∙ task-either (q == r) (region_at W q).head
+  end-task q = ap (λ (x : RegionHead). x.task) (touches.world.head q) ∙ task-either (q == r) (region_at W q).head
     where
       task-either : (is : Bool) (head : RegionHead) → (if is then record head { ended = true } else head).task ≡ head.task
       task-either true head = refl
       task-either false head = refl
 
   ended-now : (region_at after r).head.ended ≡ true
-  ended-now = ap (λ (x : RegionHead). x.ended) (touches.head r ∙ head-new (r == r) _ (region_at W r).head (eq-eqb r r refl))
+  ended-now = ap (λ (x : RegionHead). x.ended) (touches.world.head r ∙ head-new (r == r) _ (region_at W r).head (eq-eqb r r refl))
 
   kept-head : (q : ℕ) → (q ≡ r → ⊥) → (region_at after q).head ≡ (region_at W q).head
-  kept-head q other = touches.head q ∙ head-old (q == r) _ (region_at W q).head (ne_eqb q r other)
+  kept-head q other = touches.world.head q ∙ head-old (q == r) _ (region_at W q).head (ne_eqb q r other)
 
   not-ended : (q : ℕ) → IsOpenRegion after q → q ≡ r → ⊥
   not-ended q one is =
@@ -287,13 +288,13 @@ module _ (W after : World) (t r codeptr : ℕ) (made : IsMadeWorld W) (orderly :
   open-yet q one =
       record {
         forked = one.forked;
-        made = rw (← touches.regions) one.made;
+        made = rw (← touches.world.regions) one.made;
         open_still = ap (λ (x : RegionHead). x.ended) (sym (kept-head q (not-ended q one))) ∙ one.open_still;
       }
 
   pub open-kept : (q : ℕ) → (q ≡ r → ⊥) → IsOpenRegion W q → IsOpenRegion after q
   open-kept q other one =
-      record { forked = one.forked; made = rw touches.regions one.made; open_still = ap (λ (x : RegionHead). x.ended) (kept-head q other) ∙ one.open_still }
+      record { forked = one.forked; made = rw touches.world.regions one.made; open_still = ap (λ (x : RegionHead). x.ended) (kept-head q other) ∙ one.open_still }
 
   other-stands : (k : ℕ) → (k ≡ current W t → ⊥) → stand_at after k ≡ stand_at W k
   other-stands k other = touches.stands k (λ code is. other is)
@@ -303,7 +304,7 @@ module _ (W after : World) (t r codeptr : ℕ) (made : IsMadeWorld W) (orderly :
       let before = holds q (open-yet q one) in
       let k = (region_at W q).head.task in
       let apart : k ≡ current W t → ⊥ = λ is. not-ended q one (sym before.forked ∙ ap (λ j. (task_at W j).forked) is ∙ sym comes.1.region) in
-      holds-of after q k (end-task q) (touches.forked k ∙ before.forked) (other-stands k apart ∙ before.stand)
+      holds-of after q k (end-task q) (touches.world.forked k ∙ before.forked) (other-stands k apart ∙ before.stand)
       (stacked-go W after t (ParallelEnd r codeptr) k made orderly codes comes touches before.stand before.stacked)
 
   -- the region is the one that the current task has forked
@@ -316,7 +317,7 @@ module _ (W after : World) (t r codeptr : ℕ) (made : IsMadeWorld W) (orderly :
       let before = forks k (sym (other-stands k apart) ∙ at) in
       let q = (task_at W k).forked in
       let other : q ≡ r → ⊥ = λ is. apart (sym before.task ∙ ap (λ p. (region_at W p).head.task) is ∙ ends-own forks) in
-      let forked = touches.forked k in
+      let forked = touches.world.forked k in
       record {
         region = subst (IsOpenRegion after) (sym forked) (open-kept q other before.region);
         task = ap (λ p. (region_at after p).head.task) forked ∙ end-task q ∙ before.task;
@@ -363,8 +364,8 @@ pub open-go : (W after : World) (t : ℕ) (e : Event) → IsMadeWorld W → AreO
 open-go W after t (ParallelBegin r requested codeptr) made orderly codes comes touches q other one =
     record {
       forked = one.forked;
-      made = omega (arith, one.made, touches.regions);
-      open_still = ap (λ (x : RegionHead). x.ended) (touches.head q ∙ head-old (q == r) _ (region_at W q).head
+      made = omega (arith, one.made, touches.world.regions);
+      open_still = ap (λ (x : RegionHead). x.ended) (touches.world.head q ∙ head-old (q == r) _ (region_at W q).head
           (ne_eqb q r (λ is. omega (arith, one.made, comes.1.region)))) ∙ one.open_still;
     }
 open-go W after t (ParallelEnd r codeptr) made orderly codes comes touches q other one =

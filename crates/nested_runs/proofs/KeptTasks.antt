@@ -15,9 +15,9 @@ use Rattle.omp_model.specs.State.{Run, World, no_task, pooled_at, task_at, threa
 use Rattle.omp_model.specs.Members.{current}
 use Rattle.omp_model.specs.Conditions.{AreOrderly, IsUnderWay, has_started}
 use Rattle.omp_model.specs.Made.{IsMadeWorld}
+use Rattle.omp_model.specs.Touching.{come_to, is_of_code, pooled_after}
 use Rattle.omp_model.proofs.MadeEvents.{current-made, first-of}
 use Rattle.nested_runs.specs.Coming.{Comes}
-use Rattle.nested_runs.specs.Effects.{come_to, is_of_code, pooled_after}
 use Rattle.nested_runs.specs.Knows.{Knows}
 use Rattle.nested_runs.specs.Recorded.{Inside}
 use Rattle.nested_runs.specs.Shown.{opens_at}
@@ -86,16 +86,16 @@ kept-forked : (W after : World) (t : ℕ) (e : Event) (k : ℕ) → AreCodes W �
 kept-forked W after t (ParallelBegin r requested codeptr) k codes comes touches =
     elim (cases_eq k (current W t)) [
       | inl is ↦ inr (subst (λ j. HasNoFork (opens_at W j)) (sym is) (no-fork W (current W t) codes (free-apart _ comes.0.stand)))
-      | inr other ↦ inl (touches.forked k ∙ rw (ne_eqb k (current W t) other) refl)
+      | inr other ↦ inl (touches.world.forked k ∙ rw (ne_eqb k (current W t) other) refl)
     ]
-kept-forked W after t e k codes comes touches = inl (touches.forked k)
+kept-forked W after t e k codes comes touches = inl (touches.world.forked k)
 
 pub kept-numbered : (run : Run) (W after : World) (I : Inside) (past : List EventRecord) (t : ℕ) (e : Event) (k : ℕ) → Knows run W I past →
     Comes W t e → Touches W after t e →
     k < length W.tasks → NumberedAlike W after k
 kept-numbered run W after I past t e k knows comes touches below =
     let kept = kept-task W t e k comes below in
-    let pooled = touches.pooled k in
+    let pooled = touches.world.pooled k in
     record {
       brackets = brackets-alike W after k (ap (λ (x : PoolTask). x.region) pooled ∙ kept.region) (kept-forked W after t e k knows.codes comes touches);
       explicit = ap (λ (x : PoolTask). is_explicit x.kind) pooled ∙ ap is_explicit kept.kind;

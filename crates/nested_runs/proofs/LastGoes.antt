@@ -14,11 +14,13 @@ use Rattle.omp_model.specs.declared.event.Event.{Event}
 use Rattle.omp_model.specs.declared.event.Event.TheVariants.{InitialTaskBegin, MemberBegin, ParallelBegin, ParallelEnd, Sync, TaskCreate}
 use Rattle.omp_model.specs.State.{Run, World, pooled_at, region_at, task_at, thread_at}
 use Rattle.omp_model.specs.Members.{current, current_index, current_region, current_team, is_explicit_task, member_index}
+use Rattle.omp_model.specs.Touching.{head_after, is_of_code, joined_by}
+use Rattle.omp_model.specs.Alike.{what_met}
 use Rattle.nested_runs.specs.Coming.{Comes}
-use Rattle.nested_runs.specs.Effects.{behind_after, head_after, is_at_region_barrier, is_in_region_barrier, is_of_code, joined_by, stand_after, stand_before}
+use Rattle.nested_runs.specs.Effects.{behind_after, is_at_region_barrier, is_in_region_barrier, stand_after, stand_before}
 use Rattle.nested_runs.specs.Recorded.{Inside}
 use Rattle.nested_runs.specs.Standing.{is_behind, stand_at}
-use Rattle.nested_runs.specs.Touching.{Touches, what_met}
+use Rattle.nested_runs.specs.Touching.{Touches}
 use Rattle.nested_runs.specs.Known.{HasPassed, IsMemberTask, IsOpenRegion, TellsLast, has_met_last, is_last, is_past_wait, task_of_member}
 use Rattle.nested_runs.specs.Knows.{Goes}
 use Rattle.nested_runs.proofs.LastSteps.{KeepsMembers, ThroughLast, has-passed, kept-last}
@@ -145,7 +147,7 @@ module _ (run : Run) (W after : World) (I J : Inside) (past : List EventRecord) 
     team = goes-team run W after I J past t e goes q forked below
 
     head : KeepsHead W after t e q
-    head = keeps-head W after t q e goes.comes forked below (goes.touches.head q)
+    head = keeps-head W after t q e goes.comes forked below (goes.touches.world.head q)
 
     -- the member that begins is ahead of the barrier
     record Begins (i : ℕ) : Type 0 where
@@ -165,7 +167,7 @@ module _ (run : Run) (W after : World) (I J : Inside) (past : List EventRecord) 
         let unmet = goes.knows.barriers.unmet q (member_index W t q) forked below room in
         record {
           behind = ap (λ j. is_behind (task_at after j).code) joins.there ∙ touches.begins_ahead (goes.knows.seats.holds q is_open).stand;
-          unmet = ap (λ (x : TeamView). has_last_in x i) (touches.team q) ∙ ap (λ n. has_last_in (region_at W q).team n) joins.index
+          unmet = ap (λ (x : TeamView). has_last_in x i) (touches.world.team q) ∙ ap (λ n. has_last_in (region_at W q).team n) joins.index
               ∙ ap (λ n. list_any is_last (take n (what_met (region_at W q).team))) unmet.met;
         }
 
@@ -199,7 +201,7 @@ module _ (run : Run) (W after : World) (I J : Inside) (past : List EventRecord) 
             let here = here-plain run W I past goes.knows t incode.within.some explicit (subst (λ r. 2 ≤ r) (sym own.region) forked) in
             let touches = subst (Touches W after t) same goes.touches in
             let now : (region_at after (current_region W t)).team ≡ with_passed (current_team W t) (current_index W t) =
-            touches.team (current_region W t) ∙ cond-true (current_region W t == current_region W t) _ _ (eq-eqb _ _ refl) in
+            touches.world.team (current_region W t) ∙ cond-true (current_region W t == current_region W t) _ _ (eq-eqb _ _ refl) in
             let has : has_last_in (current_team W t) (current_index W t) ≡ true =
             ap (λ r. has_last_in (region_at W r).team (current_index W t)) own.region ∙ ap (has_met_last W q) (sym own.index) ∙ met
             ∙ ap is_in_region_barrier same in

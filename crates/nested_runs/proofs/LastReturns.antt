@@ -23,10 +23,12 @@ use Rattle.omp_model.specs.declared.event.Event.TheVariants.{MemberEnd, Sync}
 use Rattle.omp_model.specs.State.{Run, World, pooled_at, region_at, task_at}
 use Rattle.omp_model.specs.Members.{current_index, current_region, member_index}
 use Rattle.omp_model.specs.Gates.{is_barrier}
+use Rattle.omp_model.specs.Touching.{head_back}
+use Rattle.omp_model.specs.Alike.{what_met}
 use Rattle.nested_runs.specs.Recorded.{Inside}
 use Rattle.nested_runs.specs.Standing.{Stand, ends_behind, is_behind, stand_among, stand_at, stand_within}
 use Rattle.nested_runs.specs.Standing.Stand.{Free, AtSync}
-use Rattle.nested_runs.specs.Touching.{ComesFree, head_back, what_met}
+use Rattle.nested_runs.specs.Touching.{ComesFree}
 use Rattle.nested_runs.specs.Known.{HasNoTasks, HasPassed, IsGoing, IsWaiting, TellsLast, has_left_region, has_met_last, is_last, is_past_wait, task_of_member}
 use Rattle.nested_runs.specs.Knows.{ComesBack, Stays}
 use Rattle.nested_runs.proofs.LastSteps.{KeepsMembers, KeepsTeam, counted-of, has-passed, kept-last, passed-in}
@@ -231,10 +233,10 @@ freed before after (Within at within) comes = absurd (comes.synced sync.Parallel
 -- worlds that are alike
 module _ (run : Run) (W after : World) (I J : Inside) (past : List EventRecord) (stays : Stays run W after I J past) where
   stays-team : (q : ℕ) → PassedAlike (region_at W q).team (region_at after q).team
-  stays-team q = alike-members (region_at W q).team (region_at after q).team (stays.alike.team q).members (stays.alike.team q).met
+  stays-team q = alike-members (region_at W q).team (region_at after q).team (stays.alike.world.team q).members (stays.alike.world.team q).met
 
   pub pooled-stays : (k : ℕ) → pooled_at after k ≡ pooled_at W k
-  pooled-stays k = ap (λ (pool : PoolView). pool_task_at pool.tasks k) stays.alike.pool
+  pooled-stays k = ap (λ (pool : PoolView). pool_task_at pool.tasks k) stays.alike.world.pool
 
   pub no-tasks-stays : (q : ℕ) → HasNoTasks W q → HasNoTasks after q
   no-tasks-stays q none k region = ap (λ (task : PoolTask). is_open task) (pooled-stays k) ∙ none k
@@ -253,7 +255,7 @@ module _ (run : Run) (W after : World) (I J : Inside) (past : List EventRecord) 
       team = keeps-alike W after q (stays-team q) last
 
       task : (i : ℕ) → task_of_member after q i ≡ task_of_member W q i
-      task i = ap (λ (xs : List ℕ). slice_index_or xs i 0) (stays.alike.head q).members
+      task i = ap (λ (xs : List ℕ). slice_index_or xs i 0) (stays.alike.world.head q).members
 
       behind : (i : ℕ) → 1 ≤ task_of_member W q i → is_behind (task_at after (task_of_member after q i)).code ≡ is_behind
           (task_at W (task_of_member W q i)).code
@@ -273,11 +275,11 @@ module _ (run : Run) (W after : World) (I J : Inside) (past : List EventRecord) 
       members : KeepsMembers W after q
       members =
           record {
-            size = (stays.alike.head q).size;
+            size = (stays.alike.world.head q).size;
             tasks = λ through. no-tasks-stays q through.tasks;
             behind = λ i some. let one = subst (λ k. 1 ≤ k) (task i) some in behind i one ∙ last.behind i one ∙ sym (has-same W after q (stays-team q) i);
             over = λ i some is waited.
                 let one = subst (λ k. 1 ≤ k) (task i) some in
                 team.kept i (over i one (sym (behind i one) ∙ is) (ap (λ k. is_past_wait (stand_at after k)) (sym (task i)) ∙ waited));
-            gone = λ i left. team.kept i (last.gone i (ap (λ (xs : List Bool). slice_index_or xs i false) (sym (stays.alike.head q).left) ∙ left));
+            gone = λ i left. team.kept i (last.gone i (ap (λ (xs : List Bool). slice_index_or xs i false) (sym (stays.alike.world.head q).left) ∙ left));
           }

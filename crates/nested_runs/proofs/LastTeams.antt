@@ -26,11 +26,11 @@ use Rattle.omp_model.specs.State.{Run, World, pooled_at, region_at, task_at}
 use Rattle.omp_model.specs.Members.{current, current_index, current_region, current_team, is_explicit_task, is_member}
 use Rattle.omp_model.specs.Gates.{is_barrier, may_end}
 use Rattle.omp_model.specs.Going.{barrier_met, meeting_at}
+use Rattle.omp_model.specs.Touching.{AtBarrierElse, Meets, MeetsWork, SameTeam, is_of_code}
 use Rattle.nested_runs.specs.Coming.{Comes, ComesInCode}
-use Rattle.nested_runs.specs.Effects.{AtBarrierElse, Meets, MeetsWork, SameTeam, behind_after, is_at_region_barrier, is_in_region_barrier, is_of_code}
+use Rattle.nested_runs.specs.Effects.{behind_after, is_at_region_barrier, is_in_region_barrier}
 use Rattle.nested_runs.specs.Recorded.{Inside}
-use Rattle.nested_runs.specs.Standing.{has_begun}
-use Rattle.nested_runs.specs.Standing.{is_behind}
+use Rattle.nested_runs.specs.Standing.{has_begun, is_behind}
 use Rattle.nested_runs.specs.Known.{AtBarrier, HasNoTasks, HasPassed, IsMemberTask, has_met_last, is_last, task_of_member}
 use Rattle.nested_runs.specs.Knows.{Goes}
 use Rattle.nested_runs.proofs.LastSteps.{KeepsTeam, ThroughLast, counted-of, has-passed, passed-in}
@@ -137,7 +137,7 @@ module _ (run : Run) (W after : World) (I J : Inside) (past : List EventRecord) 
         | inl barrier ↦ elim (cases_eq (current_region W t) q) [
           | inl same ↦
               let meets : Meets W after t (current_region W t) (barrier_met codeptr which) =
-              at-barrier-else (is_barrier which) _ (SameTeam W after (current_region W t)) barrier (goes.touches.team (current_region W t)) in
+              at-barrier-else (is_barrier which) _ (SameTeam W after (current_region W t)) barrier (goes.touches.world.team (current_region W t)) in
               Met same (record {
                 code = refl;
                 plain = goes.comes.1 barrier;
@@ -150,14 +150,14 @@ module _ (run : Run) (W after : World) (I J : Inside) (past : List EventRecord) 
               })
           | inr other ↦
               let meets : Meets W after t q (barrier_met codeptr which) =
-              at-barrier-else (is_barrier which) _ (SameTeam W after q) barrier (goes.touches.team q) in
+              at-barrier-else (is_barrier which) _ (SameTeam W after q) barrier (goes.touches.world.team q) in
               Left (record {
                 team = meets.team ∙ cond-false (q == current_region W t) _ _ (ne_eqb q (current_region W t) (λ is. other (sym is)));
                 within = λ is here. absurd (other here);
               })
         ]
         | inr not ↦ Left (record {
-          team = at-else (is_barrier which) (Meets W after t q (barrier_met codeptr which)) (SameTeam W after q) not (goes.touches.team q);
+          team = at-else (is_barrier which) (Meets W after t q (barrier_met codeptr which)) (SameTeam W after q) not (goes.touches.world.team q);
           within = λ is here. absurd (false≢true (sym (taskwait-apart which stage.RegionBegin codeptr not) ∙ is));
         })
       ]
@@ -176,17 +176,17 @@ module _ (run : Run) (W after : World) (I J : Inside) (past : List EventRecord) 
                 barrier = barrier;
                 may = goes.comes.1;
                 within = begun-within which stage.WaitEnd codeptr refl;
-                team = goes.touches.team (current_region W t) ∙ cond-true (is_barrier which) _ _ barrier
+                team = goes.touches.world.team (current_region W t) ∙ cond-true (is_barrier which) _ _ barrier
                     ∙ cond-true (current_region W t == current_region W t) _ _ (eq-eqb _ _ refl);
               })
           | inr other ↦ Left (record {
-            team = goes.touches.team q ∙ cond-true (is_barrier which) _ _ barrier
+            team = goes.touches.world.team q ∙ cond-true (is_barrier which) _ _ barrier
                 ∙ cond-false (q == current_region W t) _ _ (ne_eqb q (current_region W t) (λ is. other (sym is)));
             within = λ is here. absurd (other here);
           })
         ]
         | inr not ↦ Left (record {
-          team = goes.touches.team q ∙ cond-false (is_barrier which) _ _ not;
+          team = goes.touches.world.team q ∙ cond-false (is_barrier which) _ _ not;
           within = λ is here. begun-within which stage.WaitEnd codeptr refl is;
         })
       ]
@@ -196,7 +196,7 @@ module _ (run : Run) (W after : World) (I J : Inside) (past : List EventRecord) 
   team-goes-work which count codeptr q goes =
       elim (cases_eq (current_region W t) q) [
         | inl same ↦
-            let work : MeetsWork W after t (current_region W t) = goes.touches.team (current_region W t) in
+            let work : MeetsWork W after t (current_region W t) = goes.touches.world.team (current_region W t) in
             Met same (record {
               code = refl;
               plain = goes.comes.1;
@@ -208,7 +208,7 @@ module _ (run : Run) (W after : World) (I J : Inside) (past : List EventRecord) 
               team = work.meets.team ∙ cond-true (current_region W t == current_region W t) _ _ (eq-eqb _ _ refl);
             })
         | inr other ↦
-            let work : MeetsWork W after t q = goes.touches.team q in
+            let work : MeetsWork W after t q = goes.touches.world.team q in
             Left (record {
               team = work.meets.team ∙ cond-false (q == current_region W t) _ _ (ne_eqb q (current_region W t) (λ is. other (sym is)));
               within = λ is here. absurd (other here);
@@ -218,16 +218,16 @@ module _ (run : Run) (W after : World) (I J : Inside) (past : List EventRecord) 
   pub team-goes : (e : Event) (q : ℕ) → Goes run W after I J past t e → q < length W.regions → TeamGoes W after t e q
   team-goes (ParallelBegin r requested codeptr) q goes below =
       let new : q ≡ r → ⊥ = λ is. omega (arith, is, below, goes.comes.1.region) in
-      Left (record { team = goes.touches.team q ∙ cond-false (q == r) _ _ (ne_eqb q r new); within = λ is here. cc })
+      Left (record { team = goes.touches.world.team q ∙ cond-false (q == r) _ _ (ne_eqb q r new); within = λ is here. cc })
   team-goes (Work Begin which count codeptr) q goes below = team-goes-work which count codeptr q goes
-  team-goes (Work End which count codeptr) q goes below = Left (record { team = goes.touches.team q; within = λ is here. cc })
+  team-goes (Work End which count codeptr) q goes below = Left (record { team = goes.touches.world.team q; within = λ is here. cc })
   team-goes (Sync which stage.RegionBegin codeptr) q goes below = team-goes-begin which codeptr q goes
   team-goes (Sync which stage.WaitBegin codeptr) q goes below =
-      Left (record { team = goes.touches.team q; within = λ is here. begun-within which stage.WaitBegin codeptr refl is })
+      Left (record { team = goes.touches.world.team q; within = λ is here. begun-within which stage.WaitBegin codeptr refl is })
   team-goes (Sync which stage.WaitEnd codeptr) q goes below = team-goes-end which codeptr q goes
   team-goes (Sync which stage.RegionEnd codeptr) q goes below =
-      Left (record { team = goes.touches.team q; within = λ is here. begun-within which stage.RegionEnd codeptr refl is })
-  team-goes other q goes below = Left (record { team = goes.touches.team q; within = λ is here. cc })
+      Left (record { team = goes.touches.world.team q; within = λ is here. begun-within which stage.RegionEnd codeptr refl is })
+  team-goes other q goes below = Left (record { team = goes.touches.world.team q; within = λ is here. cc })
 
 -- ---- what that does to the last barrier
 

@@ -15,7 +15,6 @@ pub mod Courses
 pub mod AlikeSteps
 pub mod Comings
 pub mod Gos
-pub mod Backs
 pub mod Accepting
 pub mod BackCodes
 pub mod Keeping
@@ -42,11 +41,9 @@ pub mod BackSeats
 pub mod StaySeats
 pub mod FirstSeats
 pub mod Dispatches
-pub mod Rewrites
 pub mod GoCodes
 pub mod GosInCode
 pub mod GosBeside
-pub mod Beside
 pub mod PooledTasks
 pub mod ToldTasks
 pub mod RegionHeads

@@ -10,9 +10,9 @@ use Rattle.omp_model.specs.declared.event.Event.TheVariants.{InitialTaskBegin, I
 use Rattle.omp_model.specs.State.{World, pooled_at}
 use Rattle.omp_model.specs.Members.{current_region}
 use Rattle.omp_model.specs.Conditions.{AreOrderly, EventOrderly}
+use Rattle.omp_model.specs.Touching.{Returns, come_to, pooled_after, pooled_back}
 use Rattle.nested_runs.specs.Coming.{Comes, ComesToTask}
-use Rattle.nested_runs.specs.Effects.{come_to, pooled_after}
-use Rattle.nested_runs.specs.Touching.{Returns, Touches, pooled_back}
+use Rattle.nested_runs.specs.Touching.{Touches}
 use Rattle.nested_runs.specs.Known.{HasNoTasks}
 
 -- a task that starts, or becomes ready, is as unfinished as it was
@@ -68,8 +68,8 @@ module _ (W : World) (t q : ℕ) (orderly : AreOrderly W) (none : HasNoTasks W q
 
   pub no-tasks-go : (after : World) (e : Event) → Comes W t e → CreatesNone W t e q → Touches W after t e → HasNoTasks after q
   no-tasks-go after e comes creates touches k region =
-      ap (λ (task : PoolTask). is_open task) (touches.pooled k)
-      ∙ pooled-shut e k comes creates (ap (λ (task : PoolTask). task.region) (sym (touches.pooled k)) ∙ region)
+      ap (λ (task : PoolTask). is_open task) (touches.world.pooled k)
+      ∙ pooled-shut e k comes creates (ap (λ (task : PoolTask). task.region) (sym (touches.world.pooled k)) ∙ region)
 
   back-shut : (e : Event) (k : ℕ) → EventOrderly W t e → (pooled_back W e k).region ≡ q → is_open (pooled_back W e k) ≡ false
   back-shut (TaskCreate task false codeptr) k named =

@@ -17,9 +17,8 @@ use Rattle.omp_model.specs.State.{Run, World, fresh_head, fresh_team, pooled_at,
 use Rattle.omp_model.specs.Made.{IsRegion}
 use Rattle.omp_model.specs.Members.{current, current_index, current_region, is_explicit_task, is_outermost, member_index, region_of}
 use Rattle.omp_model.specs.Going.{team_size}
+use Rattle.omp_model.specs.Touching.{head_after, head_back, regions_after}
 use Rattle.nested_runs.specs.Coming.{Comes}
-use Rattle.nested_runs.specs.Effects.{head_after, regions_after}
-use Rattle.nested_runs.specs.Touching.{head_back}
 use Rattle.nested_runs.specs.Known.{task_of_member}
 use Rattle.nested_runs.specs.Knows.{Goes, Knows}
 use Rattle.nested_runs.specs.Recorded.{Inside}
@@ -69,14 +68,14 @@ module _ (run : Run) (W after : World) (I J : Inside) (past : List EventRecord) 
   module _ (e : Event) (goes : Goes run W after I J past t e) where
     -- the region and the kind of a task
     pub region-stays : (k : ℕ) → k ≢ length W.tasks → region_of after k ≡ region_of W k
-    region-stays k other = ap (λ (x : PoolTask). x.region) (goes.touches.pooled k) ∙ (same-pooled W t e goes.comes k other).region
+    region-stays k other = ap (λ (x : PoolTask). x.region) (goes.touches.world.pooled k) ∙ (same-pooled W t e goes.comes k other).region
 
     pub kind-stays : (k : ℕ) → k ≢ length W.tasks → (pooled_at after k).kind ≡ (pooled_at W k).kind
-    kind-stays k other = ap (λ (x : PoolTask). x.kind) (goes.touches.pooled k) ∙ (same-pooled W t e goes.comes k other).kind
+    kind-stays k other = ap (λ (x : PoolTask). x.kind) (goes.touches.world.pooled k) ∙ (same-pooled W t e goes.comes k other).kind
 
     -- the head of a region
     pub head-same : (q : ℕ) → q ≢ length W.regions → SameHead (region_at W q).head (region_at after q).head
-    head-same q other = subst (SameHead (region_at W q).head) (sym (goes.touches.head q)) (head-stays W t e goes.comes q other)
+    head-same q other = subst (SameHead (region_at W q).head) (sym (goes.touches.world.head q)) (head-stays W t e goes.comes q other)
 
     -- whether it is outermost, and the numbers of its members
     outermost-stays : (q : ℕ) → 1 ≤ q → q < length W.regions → is_outermost after q ≡ is_outermost W q
@@ -106,7 +105,7 @@ module _ (run : Run) (W after : World) (I J : Inside) (past : List EventRecord) 
   pub old-member : (e : Event) → Goes run W after I J past t e → (q i : ℕ) → 2 ≤ q → q ≢ length W.regions → (JoinsAt W t e q i → ⊥) →
       task_of_member after q i ≡ task_of_member W q i
   old-member e goes q i forked other apart =
-      ap (λ (head : RegionHead). slice_index_or head.members i 0) (goes.touches.head q) ∙ head-member e goes q i forked other apart
+      ap (λ (head : RegionHead). slice_index_or head.members i 0) (goes.touches.world.head q) ∙ head-member e goes q i forked other apart
 
   -- one that joins is new, and had no forerunner
   pub record IsNewMember (q i : ℕ) : Type 0 where
@@ -144,7 +143,7 @@ module _ (run : Run) (W after : World) (I J : Inside) (past : List EventRecord) 
             (λ p. length (region_at W p).head.members) is,
       ) in
       let joined-head : (region_at after q).head.members ≡ slice_set (region_at W q).head.members (member_index W t r) k =
-      ap (λ (head : RegionHead). head.members) (goes.touches.head q) ∙ rw (eq-eqb q r joins.0) refl in
+      ap (λ (head : RegionHead). head.members) (goes.touches.world.head q) ∙ rw (eq-eqb q r joins.0) refl in
       record {
         none =
             subst (λ p. task_of_member W p i ≡ 0) (sym is)
@@ -245,8 +244,8 @@ pub fresh-region : (run : Run) (W after : World) (I J : Inside) (past : List Eve
     r < length after.regions → IsFreshRegion W after t r
 fresh-region run W after I J past t (ParallelBegin q requested codeptr) goes r is within =
     let same : r ≡ q = is ∙ sym goes.comes.1.region in
-    fresh-of W after t r (team_size W t requested) (goes.touches.head r ∙ rw (eq-eqb r q same) refl) (goes.touches.team r ∙ rw (eq-eqb r q same) refl)
-fresh-region run W after I J past t e goes r is within = absurd (omega (arith, is, within, goes.touches.regions))
+    fresh-of W after t r (team_size W t requested) (goes.touches.world.head r ∙ rw (eq-eqb r q same) refl) (goes.touches.world.team r ∙ rw (eq-eqb r q same) refl)
+fresh-region run W after I J past t e goes r is within = absurd (omega (arith, is, within, goes.touches.world.regions))
 
 -- how many regions there are
 regions-grow : (e : Event) (count : ℕ) → regions_after e count ≤ count + 1
@@ -259,7 +258,7 @@ pub old-region : (run : Run) (W after : World) (I J : Inside) (past : List Event
 old-region run W after I J past t e goes r made other =
     elim (cases_order r (length W.regions)) [
       | inl is ↦ absurd (other is)
-      | inr apart ↦ elim apart [ inl below ↦ below | inr above ↦ absurd (omega (arith, made, above, goes.touches.regions, regions-grow e (length W.regions))) ]
+      | inr apart ↦ elim apart [ inl below ↦ below | inr above ↦ absurd (omega (arith, made, above, goes.touches.world.regions, regions-grow e (length W.regions))) ]
     ]
 
 -- ---- a region through a Back

@@ -22,11 +22,11 @@ module _ (run : Run) (W after : World) (I J : Inside) (past : List EventRecord) 
   pub grown-stays : Grown W after
   grown-stays =
       record {
-        tasks = omega (arith, stays.alike.tasks);
-        regions = omega (arith, stays.alike.regions);
-        kind = λ k below. ap (λ (pool : PoolView). (pool_task_at pool.tasks k).kind) stays.alike.pool;
-        region = λ k below. ap (λ (pool : PoolView). (pool_task_at pool.tasks k).region) stays.alike.pool;
-        task = λ q below. (stays.alike.head q).task;
+        tasks = omega (arith, stays.alike.world.tasks);
+        regions = omega (arith, stays.alike.world.regions);
+        kind = λ k below. ap (λ (pool : PoolView). (pool_task_at pool.tasks k).kind) stays.alike.world.pool;
+        region = λ k below. ap (λ (pool : PoolView). (pool_task_at pool.tasks k).region) stays.alike.world.pool;
+        task = λ q below. (stays.alike.world.head q).task;
       }
 
   -- ---- where codes stand
@@ -46,23 +46,23 @@ module _ (run : Run) (W after : World) (I J : Inside) (past : List EventRecord) 
   pub same-forks-stays : SameForks W after
   same-forks-stays =
       record {
-        regions = stays.alike.regions;
-        ended = λ q. (stays.alike.head q).ended;
-        task = λ q. (stays.alike.head q).task;
-        forked = λ k at. stays.alike.forked k;
+        regions = stays.alike.world.regions;
+        ended = λ q. (stays.alike.world.head q).ended;
+        task = λ q. (stays.alike.world.head q).task;
+        forked = λ k at. stays.alike.world.forked k;
         at = keeps-fork;
         was = was-fork;
-        stacked = λ k at on. subst (λ u. stands_on k (thread_at after u).stack ≡ true) (sym (stays.alike.owner k))
-            (ap (stands_on k) (stays.alike.thread (task_at W k).thread).stack ∙ on);
+        stacked = λ k at on. subst (λ u. stands_on k (thread_at after u).stack ≡ true) (sym (stays.alike.world.owner k))
+            (ap (stands_on k) (stays.alike.world.thread (task_at W k).thread).stack ∙ on);
       }
 
   pub chain-stays : (u : ℕ) → IsChain after u (thread_at after u).stack
   chain-stays u =
       let sound = stays.knows.sound in
-      subst (IsChain after u) (sym (stays.alike.thread u).stack)
+      subst (IsChain after u) (sym (stays.alike.world.thread u).stack)
       (chain-grown W after sound.made grown-stays u (thread_at W u).stack (sound.made.threads u).stacked
       (λ i d within. let k = slice_index_or (drop 1 (thread_at W u).stack) i d in record {
-        forked = stays.alike.forked k;
+        forked = stays.alike.world.forked k;
         at = keeps-fork k;
         apart = keeps-apart k;
       })
@@ -72,7 +72,7 @@ module _ (run : Run) (W after : World) (I J : Inside) (past : List EventRecord) 
 
   like : (u : ℕ) → LikeThread W after u
   like u =
-      let thread = stays.alike.thread u in
+      let thread = stays.alike.world.thread u in
       let k = slice_index_or (thread_at W u).stack 0 0 in
       record {
         stack = thread.stack;
@@ -140,5 +140,5 @@ module _ (run : Run) (W after : World) (I J : Inside) (past : List EventRecord) 
 
   pub idle-stays : (u : ℕ) → is_running (thread_at after u).stage ≡ false → (thread_at after u).stack ≡ []
   idle-stays u out =
-      let thread = stays.alike.thread u in
+      let thread = stays.alike.world.thread u in
       thread.stack ∙ stays.knows.seats.idle u (ap is_running (sym thread.stage) ∙ out)

@@ -17,9 +17,10 @@ use Rattle.omp_model.specs.State.{Run, Thread, World, region_at}
 use Rattle.omp_model.specs.Members.{current, current_index, current_region}
 use Rattle.omp_model.specs.Gates.{is_barrier}
 use Rattle.omp_model.specs.Going.{barrier_met}
+use Rattle.omp_model.specs.Touching.{AtBarrierElse, Meets, SameTeam, is_of_code}
 use Rattle.trace_check.specs.Before.{is_just, waiter, waits_of}
 use Rattle.nested_runs.specs.Coming.{Comes}
-use Rattle.nested_runs.specs.Effects.{AtBarrierElse, Meets, SameTeam, is_of_code, stand_before}
+use Rattle.nested_runs.specs.Effects.{stand_before}
 use Rattle.nested_runs.specs.Knows.{Goes}
 use Rattle.nested_runs.specs.Readings.{waiting_by}
 use Rattle.nested_runs.specs.Recorded.{Inside, recorded}
@@ -123,22 +124,22 @@ module _ (run : Run) (W after : World) (I J : Inside) (past : List EventRecord) 
   pub same-member : (e : Event) → Goes run W after I J past t e → (q i : ℕ) → q ≢ length W.regions →
       (moves e ≡ true → q ≡ current_region W t → i ≡ current_index W t → ⊥) → SameMember W after q i
   same-member (ParallelBegin r requested codeptr) goes q i other apart =
-      ap (λ (team : TeamView). member_at team i) (goes.touches.team q)
+      ap (λ (team : TeamView). member_at team i) (goes.touches.world.team q)
       ∙ by-case (λ (team : TeamView). member_at team i ≡ member_at (region_at W q).team i) q r _ _ (λ is. absurd (other (is ∙ goes.comes.1.region))) refl
   same-member (Work Begin which count codeptr) goes q i other apart =
-      let meets = goes.touches.team q in apart-met q i meets.what (apart refl) meets.meets
+      let meets = goes.touches.world.team q in apart-met q i meets.what (apart refl) meets.meets
   same-member (Sync which stage.RegionBegin codeptr) goes q i other apart =
-      at-barrier (is_barrier which) (Meets W after t q (barrier_met codeptr which)) (SameTeam W after q) (SameMember W after q i) (goes.touches.team q)
+      at-barrier (is_barrier which) (Meets W after t q (barrier_met codeptr which)) (SameTeam W after q) (SameMember W after q i) (goes.touches.world.team q)
       (λ barrier meets. apart-met q i (barrier_met codeptr which) (apart barrier) meets) (λ barrier same. ap (λ (team : TeamView). member_at team i) same)
   same-member (Sync which stage.WaitEnd codeptr) goes q i other apart =
-      ap (λ (team : TeamView). member_at team i) (goes.touches.team q)
+      ap (λ (team : TeamView). member_at team i) (goes.touches.world.team q)
       ∙ cond_both (is_barrier which) _ _ (λ (team : TeamView). member_at team i ≡ member_at (region_at W q).team i)
       (λ barrier. by-case (λ (team : TeamView). member_at team i ≡ member_at (region_at W q).team i) q (current_region W t) _ _
       (λ is. get_or-set_other (region_at W q).team.members (current_index W t) i _ new_member (λ here. apart barrier is here)) refl)
       (λ barrier. refl)
-  same-member (Sync which stage.WaitBegin codeptr) goes q i other apart = ap (λ (team : TeamView). member_at team i) (goes.touches.team q)
-  same-member (Sync which stage.RegionEnd codeptr) goes q i other apart = ap (λ (team : TeamView). member_at team i) (goes.touches.team q)
-  same-member e goes q i other apart = ap (λ (team : TeamView). member_at team i) (goes.touches.team q)
+  same-member (Sync which stage.WaitBegin codeptr) goes q i other apart = ap (λ (team : TeamView). member_at team i) (goes.touches.world.team q)
+  same-member (Sync which stage.RegionEnd codeptr) goes q i other apart = ap (λ (team : TeamView). member_at team i) (goes.touches.world.team q)
+  same-member e goes q i other apart = ap (λ (team : TeamView). member_at team i) (goes.touches.world.team q)
 
   -- where the current task's member meets something
   own-meeting : (q i : ℕ) (what : Meeting) → q ≡ current_region W t → i ≡ current_index W t → i < length (region_at W q).team.members → Meets W after t q what →
@@ -164,7 +165,7 @@ module _ (run : Run) (W after : World) (I J : Inside) (past : List EventRecord) 
   pub own-member : (e : Event) → Goes run W after I J past t e → (q i : ℕ) → q ≢ length W.regions → q ≡ current_region W t → i ≡ current_index W t →
       i < length (region_at W q).team.members → OwnMember e (member_at (region_at W q).team i) (member_at (region_at after q).team i)
   own-member (Work Begin which count codeptr) goes q i other is here within =
-      let meets = goes.touches.team q in
+      let meets = goes.touches.world.team q in
       let met = own-meeting q i meets.what is here within meets.meets in
       record {
         barriers = ap (λ (m : Member). m.barriers) met ∙ rw meets.work (omega arith);
@@ -173,7 +174,7 @@ module _ (run : Run) (W after : World) (I J : Inside) (past : List EventRecord) 
       }
   own-member (Sync which stage.RegionBegin codeptr) goes q i other is here within =
       at-barrier (is_barrier which) (Meets W after t q (barrier_met codeptr which)) (SameTeam W after q)
-      (OwnMember (Sync which stage.RegionBegin codeptr) (member_at (region_at W q).team i) (member_at (region_at after q).team i)) (goes.touches.team q)
+      (OwnMember (Sync which stage.RegionBegin codeptr) (member_at (region_at W q).team i) (member_at (region_at after q).team i)) (goes.touches.world.team q)
       (λ barrier meets.
       let met = own-meeting q i (barrier_met codeptr which) is here within meets in
       record {
@@ -187,7 +188,7 @@ module _ (run : Run) (W after : World) (I J : Inside) (past : List EventRecord) 
         | inl barrier ↦
             let passed : member_at (region_at after q).team i ≡ record
             (member_at (region_at W q).team i) { passed = (member_at (region_at W q).team i).barriers } =
-            ap (λ (team : TeamView). member_at team i) (goes.touches.team q)
+            ap (λ (team : TeamView). member_at team i) (goes.touches.world.team q)
             ∙ rw (barrier, eq-eqb q (current_region W t) is)
             (subst (λ j. member_at (with_passed (region_at W q).team j) i ≡ record
             (member_at (region_at W q).team i) { passed = (member_at (region_at W q).team i).barriers }) here
@@ -242,7 +243,7 @@ module _ (run : Run) (W after : World) (I J : Inside) (past : List EventRecord) 
   -- what is counted for the current task, and for another one
   own-wait : (e : Event) → Goes run W after I J past t e → one_if (is_just (current W t) (waiting_by after t e)) ≡ waits_by e
   own-wait (Sync which stage.WaitBegin codeptr) goes =
-      counted (is_barrier which) (current W t) (current after t) (current-same W after t (ap (λ (x : Thread). x.stack) goes.touches.own))
+      counted (is_barrier which) (current W t) (current after t) (current-same W after t (ap (λ (x : Thread). x.stack) goes.touches.world.own))
   own-wait (Sync which stage.RegionBegin codeptr) goes = refl
   own-wait (Sync which stage.WaitEnd codeptr) goes = refl
   own-wait (Sync which stage.RegionEnd codeptr) goes = refl
@@ -251,7 +252,7 @@ module _ (run : Run) (W after : World) (I J : Inside) (past : List EventRecord) 
   other-wait : (e : Event) → Goes run W after I J past t e → (k : ℕ) → (is_of_code e ≡ true → k ≡ current W t → ⊥) →
       one_if (is_just k (waiting_by after t e)) ≡ 0
   other-wait (Sync which stage.WaitBegin codeptr) goes k apart =
-      uncounted (is_barrier which) k (current after t) (λ is. apart refl (sym is ∙ current-same W after t (ap (λ (x : Thread). x.stack) goes.touches.own)))
+      uncounted (is_barrier which) k (current after t) (λ is. apart refl (sym is ∙ current-same W after t (ap (λ (x : Thread). x.stack) goes.touches.world.own)))
   other-wait (Sync which stage.RegionBegin codeptr) goes k apart = refl
   other-wait (Sync which stage.WaitEnd codeptr) goes k apart = refl
   other-wait (Sync which stage.RegionEnd codeptr) goes k apart = refl

@@ -94,12 +94,12 @@ pub barriers-stays : (run : Run) (W after : World) (I J : Inside) (past : List E
 barriers-stays run W after I J past stays =
     let known = stays.knows.barriers in
     let task : (r i : ℕ) → task_of_member after r i ≡ task_of_member W r i =
-    λ r i. ap (λ (members : List ℕ). slice_index_or members i 0) (stays.alike.head r).members in
-    let member : (r i : ℕ) → SameMember W after r i = λ r i. ap (λ (members : List Member). slice_index_or members i new_member) (stays.alike.team r).members in
-    let kind : (k : ℕ) → (pooled_at after k).kind ≡ (pooled_at W k).kind = λ k. ap (λ (pool : PoolView). (pool_task_at pool.tasks k).kind) stays.alike.pool in
+    λ r i. ap (λ (members : List ℕ). slice_index_or members i 0) (stays.alike.world.head r).members in
+    let member : (r i : ℕ) → SameMember W after r i = λ r i. ap (λ (members : List Member). slice_index_or members i new_member) (stays.alike.world.team r).members in
+    let kind : (k : ℕ) → (pooled_at after k).kind ≡ (pooled_at W k).kind = λ k. ap (λ (pool : PoolView). (pool_task_at pool.tasks k).kind) stays.alike.world.pool in
     record {
       member = λ r i forked made some.
-          let told = known.member r i forked (omega (arith, made, stays.alike.regions)) (subst (λ k. 1 ≤ k) (task r i) some) in
+          let told = known.member r i forked (omega (arith, made, stays.alike.world.regions)) (subst (λ k. 1 ≤ k) (task r i) some) in
           let stand = owed-alike _ _ (stays.alike.stands (task_of_member W r i)) in
           let told-after : TellsMember after past r i (task_of_member W r i) = record {
             waits = omega (arith, told.waits, stand, ap (λ (m : Member). m.barriers) (member r i));
@@ -108,23 +108,23 @@ barriers-stays run W after I J past stays =
           subst (TellsMember after past r i) (sym (task r i)) told-after;
       unmet =
           λ r i forked made none. unmet-kept W after r i (member r i)
-          (known.unmet r i forked (omega (arith, made, stays.alike.regions)) (sym (task r i) ∙ none));
+          (known.unmet r i forked (omega (arith, made, stays.alike.world.regions)) (sym (task r i) ∙ none));
       passed = λ r forked made i j first second.
-          let size = (stays.alike.head r).size in
+          let size = (stays.alike.world.head r).size in
           omega (
             arith,
             ap (λ (m : Member). m.passed) (member r i),
             ap (λ (m : Member). m.begun) (member r j),
-            known.passed r forked (omega (arith, made, stays.alike.regions)) i j (omega (arith, first, size)) (omega (arith, second, size)),
+            known.passed r forked (omega (arith, made, stays.alike.world.regions)) i j (omega (arith, first, size)) (omega (arith, second, size)),
           );
       at = λ k. elim (stays.alike.stands k) [
         | inl same ↦ subst (λ stand. AtBarrier after past k stand) (sym same) (at-kept W after past past k (stand_at W k) (kind k) (omega arith) (known.at k))
         | inr free ↦ subst (λ stand. AtBarrier after past k stand) (sym free.free) tt
       ];
-      fresh = λ k new. known.fresh k (omega (arith, new, stays.alike.tasks));
+      fresh = λ k new. known.fresh k (omega (arith, new, stays.alike.world.tasks));
       waiting = λ u.
           subst (λ within. IsWaiting after u within) (sym (stays.same u))
-          (waiting-kept W after u (I u) (current-same W after u (stays.alike.thread u).stack)
+          (waiting-kept W after u (I u) (current-same W after u (stays.alike.world.thread u).stack)
           (λ some which at. elim (stays.alike.stands (current W u)) [ inl same ↦ same ∙ at | inr free ↦ absurd (free.synced which stage.WaitEnd at) ])
           (known.waiting u));
     }
@@ -154,12 +154,12 @@ module _ (run : Run) (W after : World) (I J : Inside) (past : List EventRecord) 
   wait-passes : (which : SyncKind) (codeptr : ℕ) → is_barrier which ≡ true → Goes run W after I J past t (Sync which stage.WaitEnd codeptr) →
       passes_wait past (current after t) ≡ true
   wait-passes which codeptr barrier goes =
-      subst (λ k. passes_wait past k ≡ true) (sym (current-same W after t (ap (λ (x : Thread). x.stack) goes.touches.own)))
+      subst (λ k. passes_wait past k ≡ true) (sym (current-same W after t (ap (λ (x : Thread). x.stack) goes.touches.world.own)))
       (barrier-passes run W I past t goes.knows which barrier goes.comes.0.within.some goes.comes.0.stand goes.comes.1)
 
   no-child-left : (codeptr : ℕ) → Goes run W after I J past t (Sync sync.Taskwait stage.WaitEnd codeptr) → has_no_child past (current after t) ≡ true
   no-child-left codeptr goes =
-      subst (λ k. has_no_child past k ≡ true) (sym (current-same W after t (ap (λ (x : Thread). x.stack) goes.touches.own)))
+      subst (λ k. has_no_child past k ≡ true) (sym (current-same W after t (ap (λ (x : Thread). x.stack) goes.touches.world.own)))
       (no-child run W I past (current W t) goes.knows goes.comes.0.within.some (eqb-true _ _ goes.comes.1))
 
 pub keeps-waits : (run : Run) (W after : World) (I J : Inside) (past : List EventRecord) (t position : ℕ) (e : Event) → Goes run W after I J past t e →

@@ -25,23 +25,24 @@ use Rattle.omp_model.specs.Calls.{work_number}
 use Rattle.omp_model.specs.Changes.{summoned}
 use Rattle.omp_model.specs.Conditions.{Distinct, EventOrderly, has_started}
 use Rattle.omp_model.specs.Made.{IsTaskOf}
+use Rattle.omp_model.specs.Touching.{come_to, forked_back, is_of_code, is_summoned, pooled_back, thread_after, thread_back}
 use Rattle.omp_model.proofs.MadeEvents.{current-made}
+use Rattle.omp_model.proofs.Gos.{current-kept}
 use Rattle.nested_runs.specs.Coming.{Comes, PicksTask, PicksUndeferred}
-use Rattle.nested_runs.specs.Effects.{EndsNewest, come_to, effect_of_event, is_of_code, opens_after, thread_after}
+use Rattle.nested_runs.specs.Effects.{EndsNewest, effect_of_event, opens_after}
 use Rattle.nested_runs.specs.Readings.{change_by}
 use Rattle.nested_runs.specs.Recorded.{Inside, inside, recorded}
-use Rattle.nested_runs.specs.Knows.{ComesBack, Goes, IsWholeRun, Stays}
+use Rattle.nested_runs.specs.Knows.{ComesBack, Goes, IsWholeRun, Knows, Stays}
 use Rattle.trace_check.specs.declared.bracket.Bracket.{Bracket}
 use Rattle.trace_check.specs.declared.bracket.Bracket.TheVariants.{Parallel, Implicit, Explicit, Masking, Syncing, Waiting}
 use Rattle.trace_check.specs.declared.change.Change.TheVariants as change
 use Rattle.trace_check.specs.Rules.{keeps_brackets, may_change}
 use Rattle.trace_check.specs.Before.{current as current_task, is_just, opened}
 use Rattle.trace_check.specs.Brackets.{changed, current_in, is_innermost, is_match}
-use Rattle.nested_runs.specs.Knows.{Knows}
 use Rattle.nested_runs.specs.Shown.{begun_as, bracket_of, opens_at, shown}
 use Rattle.nested_runs.specs.Standing.{Stand, stand_among}
 use Rattle.nested_runs.specs.Standing.Stand.{Free}
-use Rattle.nested_runs.specs.Touching.{Alike, AreCodes, ComesFree, Touches, forked_back, is_summoned, pooled_back, thread_back}
+use Rattle.nested_runs.specs.Touching.{Alike, AreCodes, ComesFree, Touches}
 use Rattle.nested_runs.specs.Known.{IsBusy, TellsBrackets, is_ending}
 use Rattle.nested_runs.proofs.CallReadings.{change-is, opened-other, opened-own}
 use Rattle.nested_runs.proofs.Codes.{main-open, no-fork}
@@ -79,8 +80,8 @@ alike-stays : (W after : World) (k : ℕ) → Alike W after → ShownAlike W aft
 alike-stays W after k alike =
     record {
       numbered = record {
-        brackets = brackets-alike W after k (ap (λ pool. (pool_task_at pool.tasks k).region) alike.pool) (inl (alike.forked k));
-        explicit = ap (λ pool. is_explicit (pool_task_at pool.tasks k).kind) alike.pool;
+        brackets = brackets-alike W after k (ap (λ pool. (pool_task_at pool.tasks k).region) alike.world.pool) (inl (alike.world.forked k));
+        explicit = ap (λ pool. is_explicit (pool_task_at pool.tasks k).kind) alike.world.pool;
       };
       opens = alike.opens k;
     }
@@ -94,11 +95,11 @@ brackets-stays run W after I J past stays =
     let alike = stays.alike in
     let known = stays.knows.brackets in
     let unstarted_before : (k : ℕ) → has_started (pooled_at after k).condition ≡ false → has_started (pooled_at W k).condition ≡ false =
-    λ k not. ap (λ pool. has_started (pool_task_at pool.tasks k).condition) (sym alike.pool) ∙ not in
+    λ k not. ap (λ pool. has_started (pool_task_at pool.tasks k).condition) (sym alike.world.pool) ∙ not in
     record {
       open_on = λ t.
           known.open_on t ∙ sym (stack-alike W after (thread_at W t).stack (λ i d below. alike-stays W after _ alike))
-          ∙ ap (shown after) (sym (alike.thread t).stack);
+          ∙ ap (shown after) (sym (alike.world.thread t).stack);
       fresh = λ k not. alike.opens k ∙ known.fresh k (unstarted_before k not);
       unmoved = λ k not. still-free _ _ (alike.stands k) (known.unmoved k (unstarted_before k not));
     }
@@ -135,19 +136,6 @@ module _ (run : Run) (W after : World) (I : Inside) (past : List EventRecord) (t
       alike-go knows comes touches _ (made i d within).made.below (λ of_code same. distinct.0 i d within (same ∙ ap (λ stack. slice_index_or stack 0 0) is))
 
 -- an event of the code changes what its effect changes
-pub current-code : (e : Event) (thread : Thread) → is_of_code e ≡ true → (thread_after e thread).stack ≡ thread.stack
-current-code InitialTaskBegin thread of_code = absurd (true≢false (sym of_code))
-current-code InitialTaskEnd thread of_code = absurd (true≢false (sym of_code))
-current-code (MemberBegin r k) thread of_code = absurd (true≢false (sym of_code))
-current-code (MemberEnd r k) thread of_code = absurd (true≢false (sym of_code))
-current-code (TaskBegin prior task) thread of_code = absurd (true≢false (sym of_code))
-current-code (TaskEnd task) thread of_code = absurd (true≢false (sym of_code))
-current-code e thread of_code = refl
-
-pub current-kept : (W after : World) (t : ℕ) (e : Event) → is_of_code e ≡ true → Touches W after t e → current after t ≡ current W t
-current-kept W after t e of_code touches =
-    ap (λ (x : Thread). slice_index_or x.stack 0 0) touches.own ∙ ap (λ stack. slice_index_or stack 0 0) (current-code e (thread_at W t) of_code)
-
 change-code : (W after : World) (t : ℕ) (e : Event) → is_of_code e ≡ true → Comes W t e → Touches W after t e →
     change_by after t e ≡ change_shown (bracket_of after (current after t)) (effect_of_event e)
 change-code W after t InitialTaskBegin of_code comes touches = absurd (true≢false (sym of_code))
@@ -157,12 +145,12 @@ change-code W after t (MemberEnd r k) of_code comes touches = absurd (true≢fal
 change-code W after t (TaskBegin prior task) of_code comes touches = absurd (true≢false (sym of_code))
 change-code W after t (TaskEnd task) of_code comes touches = absurd (true≢false (sym of_code))
 change-code W after t (ParallelBegin r requested codeptr) of_code comes touches =
-    let now = current-kept W after t (ParallelBegin r requested codeptr) of_code touches in
-    let forked : (task_at after (current W t)).forked ≡ r = touches.forked (current W t) ∙ rw (eq-eqb (current W t) (current W t) refl) refl in
+    let now = current-kept W after t (ParallelBegin r requested codeptr) of_code touches.world in
+    let forked : (task_at after (current W t)).forked ≡ r = touches.world.forked (current W t) ∙ rw (eq-eqb (current W t) (current W t) refl) refl in
     ap (λ q. change.Opens (Parallel q)) (sym (ap (λ k. (task_at after k).forked) now ∙ forked))
 change-code W after t (ParallelEnd r codeptr) of_code comes touches =
-    let now = current-kept W after t (ParallelEnd r codeptr) of_code touches in
-    let forked : (task_at after (current W t)).forked ≡ r = touches.forked (current W t) ∙ sym comes.1.region in
+    let now = current-kept W after t (ParallelEnd r codeptr) of_code touches.world in
+    let forked : (task_at after (current W t)).forked ≡ r = touches.world.forked (current W t) ∙ sym comes.1.region in
     ap (λ q. change.Closes (Parallel q)) (sym (ap (λ k. (task_at after k).forked) now ∙ forked))
 change-code W after t (Work Begin which count codeptr) of_code comes touches = refl
 change-code W after t (Work End which count codeptr) of_code comes touches = refl
@@ -204,7 +192,7 @@ code-shown run W after I past t e knows of_code comes touches (k ∷ below) is s
     subst (λ j. opens_at after j ≡ opens_after (effect_of_event e) (opens_at W j)) now (touches.opens_own of_code) in
     let changes : change_by after t e ≡ change_shown (bracket_of after k) (effect_of_event e) =
     change-code W after t e of_code comes touches
-    ∙ ap (λ j. change_shown (bracket_of after j) (effect_of_event e)) (current-kept W after t e of_code touches ∙ now) in
+    ∙ ap (λ j. change_shown (bracket_of after j) (effect_of_event e)) (current-kept W after t e of_code touches.world ∙ now) in
     let ends : EndsNewest (effect_of_event e) (opens_at W k) =
     subst (λ j. EndsNewest (effect_of_event e) (opens_at W j)) now (ends-newest W t e of_code comes) in
     ap₂ changed changes (sym before) ∙ effect-shown (bracket_of after k) (effect_of_event e) (opens_at W k) rest ends
@@ -259,13 +247,13 @@ own-shown run W after I past t InitialTaskBegin knows comes touches =
     sym (begins-shown W after INITIAL_TASK (thread_at W t).stack false opens (explicit ∙ ap is_explicit knows.sound.orderly.initial) alike)
 own-shown run W after I past t (MemberBegin r k) knows comes touches =
     let alike = stack-alike W after (thread_at W t).stack (alike-own run W after I past t (MemberBegin r k) knows refl comes touches) in
-    let explicit : is_explicit_task after k ≡ false = ap (λ (x : PoolTask). is_explicit x.kind) (touches.pooled k) ∙ rw (eq-eqb k k refl) refl in
+    let explicit : is_explicit_task after k ≡ false = ap (λ (x : PoolTask). is_explicit x.kind) (touches.world.pooled k) ∙ rw (eq-eqb k k refl) refl in
     let opens = touches.opens k (λ of_code is. true≢false (sym of_code)) ∙ none-opens W k comes.task in
     sym (begins-shown W after k (thread_at W t).stack false opens explicit alike)
 own-shown run W after I past t (TaskBegin prior task) knows comes touches =
     let alike = stack-alike W after (thread_at W t).stack (alike-own run W after I past t (TaskBegin prior task) knows refl comes touches) in
     let same : is_explicit_task after task ≡ is_explicit_task W task =
-    ap (λ (x : PoolTask). is_explicit x.kind) (touches.pooled task) ∙ rw (eq-eqb task task refl) refl in
+    ap (λ (x : PoolTask). is_explicit x.kind) (touches.world.pooled task) ∙ rw (eq-eqb task task refl) refl in
     let explicit = same ∙ task-explicit run W I past t task knows comes.some comes.picks in
     let opens =
     touches.opens task (λ of_code is. true≢false (sym of_code))
@@ -294,13 +282,13 @@ brackets-go run W after I J past t position e goes =
     let touches = goes.touches in
     let own : opened t (recorded position t after e ∷ past) ≡ shown after (thread_at after t).stack =
     opened-own position t after e past ∙ ap (changed (change_by after t e)) (known.open_on t) ∙ own-shown run W after I past t e knows goes.comes touches
-    ∙ ap (λ (x : Thread). shown after x.stack) (sym touches.own) in
+    ∙ ap (λ (x : Thread). shown after x.stack) (sym touches.world.own) in
     let others : (u : ℕ) → (u ≡ t → ⊥) → opened u (recorded position t after e ∷ past) ≡ shown after (thread_at after u).stack = λ u other.
     opened-other position t after e past u other ∙ known.open_on u
     ∙ sym (stack-alike W after (thread_at W u).stack (alike-others run W after I past t e knows goes.comes touches u other))
-    ∙ ap (λ (x : Thread). shown after x.stack) (sym (touches.others u other)) in
+    ∙ ap (λ (x : Thread). shown after x.stack) (sym (touches.world.others u other)) in
     let before : (k : ℕ) → has_started (pooled_at after k).condition ≡ false → (has_started (pooled_at W k).condition ≡ false) ⊎ (k ≡ length W.tasks) = λ k not.
-    unstarted W t e k goes.comes (sym (ap (λ (x : PoolTask). has_started x.condition) (touches.pooled k)) ∙ not) in
+    unstarted W t e k goes.comes (sym (ap (λ (x : PoolTask). has_started x.condition) (touches.world.pooled k)) ∙ not) in
     let apart : (k : ℕ) → (has_started (pooled_at W k).condition ≡ false) ⊎ (k ≡ length W.tasks) → is_of_code e ≡ true → k ≡ current W t → ⊥ =
     λ k not of_code is.
     unstarted-apart W t k knows.sound.made knows.sound.orderly (code-some W t e of_code goes.comes) not is in
@@ -426,35 +414,35 @@ may-change run W after I past t (MemberEnd r k) knows comes touches =
     (rw implicit (eq-eqb (current W t) k (sym comes.task)))
 may-change run W after I past t (TaskEnd task) knows comes touches =
     let explicit : is_explicit_task W (current W t) ≡ true = ap (is_explicit_task W) (sym comes.task) ∙ comes.explicit in
-    let now : current after t ≡ slice_index_or (drop 1 (thread_at W t).stack) 0 0 = ap (λ (x : Thread). slice_index_or x.stack 0 0) touches.own in
+    let now : current after t ≡ slice_index_or (drop 1 (thread_at W t).stack) 0 0 = ap (λ (x : Thread). slice_index_or x.stack 0 0) touches.world.own in
     begun-innermost W past t (Explicit (current after t) task) (knows.brackets.open_on t) comes.within.some (ap (opens_at W) (sym comes.task) ∙ comes.closed)
     (rw explicit (both-true _ _ (eq-eqb _ _ (sym now)) (eq-eqb (current W t) task (sym comes.task))))
 may-change run W after I past t (ParallelEnd r codeptr) knows comes touches =
     newest-innermost W past t Forks (Parallel r) (knows.brackets.open_on t) comes.0.within.some comes.0.ends (eq-eqb _ r (sym comes.1.region))
 may-change run W after I past t (Work Begin which count codeptr) knows comes touches =
     ap (is_just (current after t)) (current-known run W I past t knows comes.0.within.some)
-    ∙ eq-eqb _ _ (sym (current-kept W after t (Work Begin which count codeptr) refl touches))
+    ∙ eq-eqb _ _ (sym (current-kept W after t (Work Begin which count codeptr) refl touches.world))
 may-change run W after I past t (Work End which count codeptr) knows comes touches =
     newest-innermost W past t (Works which count) _ (knows.brackets.open_on t) comes.0.within.some comes.0.ends
-    (both-true _ _ (eq-eqb _ _ (sym (current-kept W after t (Work End which count codeptr) refl touches))) (eq-eqb (work_number which) _ refl))
+    (both-true _ _ (eq-eqb _ _ (sym (current-kept W after t (Work End which count codeptr) refl touches.world))) (eq-eqb (work_number which) _ refl))
 may-change run W after I past t (Masked Begin codeptr) knows comes touches =
     ap (is_just (current after t)) (current-known run W I past t knows comes.0.within.some)
-    ∙ eq-eqb _ _ (sym (current-kept W after t (Masked Begin codeptr) refl touches))
+    ∙ eq-eqb _ _ (sym (current-kept W after t (Masked Begin codeptr) refl touches.world))
 may-change run W after I past t (Masked End codeptr) knows comes touches =
     newest-innermost W past t Masks (Masking (current after t)) (knows.brackets.open_on t) comes.0.within.some comes.0.ends
-    (eq-eqb _ _ (sym (current-kept W after t (Masked End codeptr) refl touches)))
+    (eq-eqb _ _ (sym (current-kept W after t (Masked End codeptr) refl touches.world)))
 may-change run W after I past t (Sync which stage.RegionBegin codeptr) knows comes touches =
     ap (is_just (current after t)) (current-known run W I past t knows comes.0.within.some)
-    ∙ eq-eqb _ _ (sym (current-kept W after t (Sync which stage.RegionBegin codeptr) refl touches))
+    ∙ eq-eqb _ _ (sym (current-kept W after t (Sync which stage.RegionBegin codeptr) refl touches.world))
 may-change run W after I past t (Sync which stage.WaitBegin codeptr) knows comes touches =
     ap (is_just (current after t)) (current-known run W I past t knows comes.0.within.some)
-    ∙ eq-eqb _ _ (sym (current-kept W after t (Sync which stage.WaitBegin codeptr) refl touches))
+    ∙ eq-eqb _ _ (sym (current-kept W after t (Sync which stage.WaitBegin codeptr) refl touches.world))
 may-change run W after I past t (Sync which stage.WaitEnd codeptr) knows comes touches =
     newest-innermost W past t (Awaits which) (Waiting (current after t) (sync_number which)) (knows.brackets.open_on t) comes.0.within.some comes.0.ends
-    (both-true _ _ (eq-eqb _ _ (sym (current-kept W after t (Sync which stage.WaitEnd codeptr) refl touches))) (eq-eqb (sync_number which) _ refl))
+    (both-true _ _ (eq-eqb _ _ (sym (current-kept W after t (Sync which stage.WaitEnd codeptr) refl touches.world))) (eq-eqb (sync_number which) _ refl))
 may-change run W after I past t (Sync which stage.RegionEnd codeptr) knows comes touches =
     newest-innermost W past t (Syncs which) (Syncing (current after t) (sync_number which)) (knows.brackets.open_on t) comes.0.within.some comes.0.ends
-    (both-true _ _ (eq-eqb _ _ (sym (current-kept W after t (Sync which stage.RegionEnd codeptr) refl touches))) (eq-eqb (sync_number which) _ refl))
+    (both-true _ _ (eq-eqb _ _ (sym (current-kept W after t (Sync which stage.RegionEnd codeptr) refl touches.world))) (eq-eqb (sync_number which) _ refl))
 may-change run W after I past t e knows comes touches = refl
 
 -- a thread ends with no task

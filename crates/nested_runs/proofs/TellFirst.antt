@@ -20,11 +20,11 @@ use Rattle.omp_model.specs.Members.{current}
 use Rattle.omp_model.specs.Changes.{made, summoned}
 use Rattle.omp_model.specs.Calls.{call_of}
 use Rattle.omp_model.specs.Conditions.{EventOrderly, has_started}
+use Rattle.omp_model.specs.Touching.{come_to, is_summoned, pooled_after, pooled_back, thread_back}
 use Rattle.nested_runs.specs.Coming.{Comes}
-use Rattle.nested_runs.specs.Effects.{come_to, pooled_after}
 use Rattle.nested_runs.specs.Recorded.{Enters, Inside, inside, recorded}
 use Rattle.nested_runs.specs.Knows.{ComesBack, Goes, IsWholeRun, Knows, Stays}
-use Rattle.nested_runs.specs.Touching.{MayTake, Touches, is_summoned, pooled_back, thread_back}
+use Rattle.nested_runs.specs.Touching.{MayTake, Touches}
 use Rattle.trace_check.specs.Rules.{begins_initial, is_initial}
 use Rattle.trace_check.specs.Before.{events_of}
 use Rattle.nested_runs.specs.Known.{IsEarly, IsFirstEvent, TellsFirst, TellsThread, is_begun, is_ending, is_over}
@@ -222,24 +222,24 @@ first-events-stays run W after I J past stays =
     let known = stays.knows.first in
     let alike = stays.alike in
     let same : (pooled_at after INITIAL_TASK).condition ≡ (pooled_at W INITIAL_TASK).condition =
-    ap (λ pool. (pool_task_at pool.tasks INITIAL_TASK).condition) alike.pool in
+    ap (λ pool. (pool_task_at pool.tasks INITIAL_TASK).condition) alike.world.pool in
     record {
-      made = λ unmade. known.made (sym (alike.thread 0).stage ∙ unmade);
+      made = λ unmade. known.made (sym (alike.world.thread 0).stage ∙ unmade);
       unready = λ ready. known.unready (sym same ∙ ready);
       early = λ made t.
           let early = known.early (sym same ∙ made) t in
-          let stack = (alike.thread t).stack ∙ early.stack in
+          let stack = (alike.world.thread t).stack ∙ early.stack in
           record {
             stack = stack;
-            invited = (alike.thread t).invited ∙ early.invited;
-            undeferred = (alike.thread t).undeferred ∙ early.undeferred;
+            invited = (alike.world.thread t).invited ∙ early.invited;
+            undeferred = (alike.world.thread t).undeferred ∙ early.undeferred;
             taken = ⊎_elim (λ kept. kept ∙ early.taken) (untaken after t (thread_at after t).taken stack) (alike.taken t);
             first = subst IsFirstEvent (sym (stays.same t)) early.first;
-            alone = λ other. (alike.thread t).stage ∙ early.alone other;
+            alone = λ other. (alike.world.thread t).stage ∙ early.alone other;
           };
       one = λ made. known.one (sym same ∙ made);
       more = λ started. known.more (ap has_started (sym same) ∙ started);
-      over = λ ended. same ∙ known.over (ap₂ (λ s i. is_over s || is_ending i) (sym (alike.thread 0).stage) (sym (stays.same 0)) ∙ ended);
+      over = λ ended. same ∙ known.over (ap₂ (λ s i. is_over s || is_ending i) (sym (alike.world.thread 0).stage) (sym (stays.same 0)) ∙ ended);
     }
 
 -- ---- after the Go of an event
@@ -263,14 +263,14 @@ early-after : (W after : World) (I J : Inside) (t : ℕ) (e : Event) → Touches
 early-after W after I J t ThreadBegin touches enters opens zeroth made early u =
     elim (cases_eq u t) [
       | inl is ↦ subst (λ v. IsEarly after v (J v)) (sym is) (record {
-        stack = ap (λ (x : Thread). x.stack) touches.own ∙ (early t).stack;
-        invited = ap (λ (x : Thread). x.invited) touches.own ∙ (early t).invited;
-        undeferred = ap (λ (x : Thread). x.undeferred) touches.own ∙ (early t).undeferred;
-        taken = ap (λ (x : Thread). x.taken) touches.own ∙ (early t).taken;
+        stack = ap (λ (x : Thread). x.stack) touches.world.own ∙ (early t).stack;
+        invited = ap (λ (x : Thread). x.invited) touches.world.own ∙ (early t).invited;
+        undeferred = ap (λ (x : Thread). x.undeferred) touches.world.own ∙ (early t).undeferred;
+        taken = ap (λ (x : Thread). x.taken) touches.world.own ∙ (early t).taken;
         first = subst IsFirstEvent (sym enters.own) tt;
         alone = λ other. absurd (other zeroth);
       })
-      | inr other ↦ early-same W after u (I u) (J u) (touches.others u other) (enters.others u other) (early u)
+      | inr other ↦ early-same W after u (I u) (J u) (touches.world.others u other) (enters.others u other) (early u)
     ]
 early-after W after I J t InitialTaskBegin touches enters opens zeroth made early u = cc
 early-after W after I J t e touches enters opens zeroth made early u = absurd opens
@@ -307,7 +307,7 @@ ending-after W t e comes zeroth ends = absurd (true≢false (sym ends))
 -- all of it: where the initial task was only made before the event, this is one of the two first ones
 module _ (run : Run) (W after : World) (I J : Inside) (past : List EventRecord) (t position : ℕ) (e : Event) (goes : Goes run W after I J past t e) where
   condition-after : (pooled_at after INITIAL_TASK).condition ≡ (pooled_after W t e INITIAL_TASK).condition
-  condition-after = ap (λ (x : PoolTask). x.condition) (goes.touches.pooled INITIAL_TASK)
+  condition-after = ap (λ (x : PoolTask). x.condition) (goes.touches.world.pooled INITIAL_TASK)
 
   made-before : (pooled_after W t e INITIAL_TASK).condition ≡ condition.Made → (pooled_at W INITIAL_TASK).condition ≡ condition.Made
   made-before made =
@@ -323,13 +323,13 @@ module _ (run : Run) (W after : World) (I J : Inside) (past : List EventRecord) 
   zeroth-then made = opening-zeroth W t e (I t) goes.comes (goes.knows.first.early made t)
 
   begun-after : (thread_at after t).stage ≡ thread_stage.Begun
-  begun-after = ap (λ (x : Thread). x.stage) goes.touches.own ∙ goes-stage W t e goes.comes
+  begun-after = ap (λ (x : Thread). x.stage) goes.touches.world.own ∙ goes-stage W t e goes.comes
 
   made-after : (thread_at after 0).stage ≢ thread_stage.Unmade
   made-after unmade =
       elim (cases_eq 0 t) [
         | inl is ↦ let both = sym begun-after ∙ ap (λ u. (thread_at after u).stage) (sym is) ∙ unmade in cc
-        | inr other ↦ goes.knows.first.made (ap (λ (x : Thread). x.stage) (sym (goes.touches.others 0 other)) ∙ unmade)
+        | inr other ↦ goes.knows.first.made (ap (λ (x : Thread). x.stage) (sym (goes.touches.world.others 0 other)) ∙ unmade)
       ]
 
   events-grow : events_of 0 past ≤ events_of 0 (recorded position t after e ∷ past)
@@ -355,7 +355,7 @@ module _ (run : Run) (W after : World) (I J : Inside) (past : List EventRecord) 
             subst (λ u. (is_over (thread_at after u).stage || is_ending (J u)) ≡ true) is ended in
             ending-after W t e goes.comes (sym is) (sym (ap₂ (λ s i. is_over s || is_ending i) begun-after goes.enters.own) ∙ own)
         | inr other ↦
-            let same = ap₂ (λ (x : Thread) i. is_over x.stage || is_ending i) (sym (goes.touches.others 0 other)) (sym (goes.enters.others 0 other)) in
+            let same = ap₂ (λ (x : Thread) i. is_over x.stage || is_ending i) (sym (goes.touches.world.others 0 other)) (sym (goes.enters.others 0 other)) in
             go-finished run W I past t e goes.knows goes.comes (goes.knows.first.over (same ∙ ended))
       ]
 

@@ -22,12 +22,13 @@ use Rattle.omp_model.specs.declared.event.Event.TheVariants.{InitialTaskBegin, I
 use Rattle.omp_model.specs.State.{Run, World, first, first_world, fresh_head, fresh_team, pooled_at, region_at, task_at}
 use Rattle.omp_model.specs.Members.{current, current_index, current_region, is_explicit_task, member_index, region_of}
 use Rattle.omp_model.specs.Conditions.{AreOrderly}
+use Rattle.omp_model.specs.Touching.{come_to, pooled_after, pooled_back, regions_after}
+use Rattle.omp_model.specs.Alike.{what_met}
 use Rattle.nested_runs.specs.Coming.{Comes}
-use Rattle.nested_runs.specs.Effects.{come_to, pooled_after, regions_after}
 use Rattle.nested_runs.specs.Recorded.{Inside, inside}
 use Rattle.nested_runs.specs.Standing.{is_behind, stand_at}
 use Rattle.nested_runs.specs.Knows.{ComesBack, Goes, IsWholeRun, Knows, Stays}
-use Rattle.nested_runs.specs.Touching.{Touches, pooled_back, what_met}
+use Rattle.nested_runs.specs.Touching.{Touches}
 use Rattle.nested_runs.specs.Known.{HasNoTasks, HasPassed, IsGoing, IsLeaving, TellsLast, TellsLasts, has_left_region, has_met_last, is_last, is_past_wait, task_of_member}
 use Rattle.nested_runs.proofs.Chains.{Grown, outermost-grown}
 use Rattle.nested_runs.proofs.FirstWorlds.{first-inside, replicated}
@@ -181,7 +182,7 @@ lasts-first run whole =
 pub lasts-stays : (run : Run) (W after : World) (I J : Inside) (past : List EventRecord) → Stays run W after I J past → TellsLasts after J
 lasts-stays run W after I J past stays =
     record {
-      region = λ r forked below. last-stays run W after I J past stays r forked (subst (λ n. r < n) stays.alike.regions below);
+      region = λ r forked below. last-stays run W after I J past stays r forked (subst (λ n. r < n) stays.alike.world.regions below);
       going = λ u. subst (IsGoing after u) (sym (stays.same u)) (going-kept run W after I past stays.knows grown (kept-stays run W after I J past stays) u);
       initial = λ is. no-tasks-stays run W after I J past stays IMPLICIT_REGION
           (stays.knows.lasts.initial (ap (λ (task : PoolTask). task.condition) (sym (pooled-stays run W after I J past stays INITIAL_TASK)) ∙ is));
@@ -190,11 +191,11 @@ lasts-stays run W after I J past stays =
     grown : Grown W after
     grown =
         record {
-          tasks = omega (arith, stays.alike.tasks);
-          regions = omega (arith, stays.alike.regions);
+          tasks = omega (arith, stays.alike.world.tasks);
+          regions = omega (arith, stays.alike.world.regions);
           kind = λ k below. ap (λ (task : PoolTask). task.kind) (pooled-stays run W after I J past stays k);
           region = λ k below. ap (λ (task : PoolTask). task.region) (pooled-stays run W after I J past stays k);
-          task = λ q below. (stays.alike.head q).task;
+          task = λ q below. (stays.alike.world.head q).task;
         }
 
 -- the region that is new behind an event is the one that it begins
@@ -212,9 +213,9 @@ lasts-go run W after I J past t position e goes =
       region = λ q forked below. elim (cases_lt q (length W.regions)) [
         | inl old ↦ last-go run W after I J past t e goes q forked old
         | inr new ↦
-            let is = new-region W t e q goes.comes (subst (λ n. q < n) goes.touches.regions below) new in
+            let is = new-region W t e q goes.comes (subst (λ n. q < n) goes.touches.world.regions below) new in
             let touches = subst (Touches W after t) is.2 goes.touches in
-            fresh-last after q _ _ _ (touches.head q ∙ cond-true (q == q) _ _ (eq-eqb q q refl)) (touches.team q ∙ cond-true (q == q) _ _ (eq-eqb q q refl))
+            fresh-last after q _ _ _ (touches.world.head q ∙ cond-true (q == q) _ _ (eq-eqb q q refl)) (touches.world.team q ∙ cond-true (q == q) _ _ (eq-eqb q q refl))
       ];
       going = λ u. elim (cases_eq u t) [
         | inl same ↦ subst (IsGoing after u) (sym (ap J same ∙ goes.enters.own)) (subst (λ v. IsGoing after v (Some e)) (sym same) (own e goes))
@@ -222,7 +223,7 @@ lasts-go run W after I J past t position e goes =
             (going-kept run W after I past goes.knows grown (λ q i forked below. kept-go run W after I J past t e goes q forked below i) u)
       ];
       initial = λ is.
-          elim (initial-go W t e goes.knows.sound.orderly goes.comes (ap (λ (task : PoolTask). task.condition) (sym (goes.touches.pooled INITIAL_TASK)) ∙ is)) [
+          elim (initial-go W t e goes.knows.sound.orderly goes.comes (ap (λ (task : PoolTask). task.condition) (sym (goes.touches.world.pooled INITIAL_TASK)) ∙ is)) [
             | inl ends ↦
                 let comes = subst (Comes W t) ends goes.comes in
                 let region : current_region W t ≡ IMPLICIT_REGION = ap (region_of W) comes.task ∙ goes.knows.seats.initial in

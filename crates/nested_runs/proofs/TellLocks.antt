@@ -21,15 +21,17 @@ use Rattle.omp_model.specs.State.{Run, Thread, World, first, first_world, pooled
 use Rattle.omp_model.specs.Members.{current}
 use Rattle.omp_model.specs.Calls.{call_of, mutex_number}
 use Rattle.omp_model.specs.Conditions.{Distinct, EventOrderly, has_started}
+use Rattle.omp_model.specs.Touching.{come_to, is_of_code, locks_after, owner_after, pooled_after, pooled_back, tasks_after, thread_after}
 use Rattle.omp_model.proofs.MadeEvents.{current-made}
+use Rattle.omp_model.proofs.Gos.{current-kept}
 use Rattle.nested_runs.specs.Coming.{Comes, PicksTask, PicksUndeferred}
-use Rattle.nested_runs.specs.Effects.{come_to, is_of_code, locks_after, owner_after, pooled_after, stand_after, tasks_after, thread_after}
+use Rattle.nested_runs.specs.Effects.{stand_after}
 use Rattle.nested_runs.specs.Readings.{held_by}
 use Rattle.nested_runs.specs.Recorded.{Inside, recorded}
 use Rattle.nested_runs.specs.Knows.{ComesBack, Goes, IsWholeRun, Knows, Stays}
 use Rattle.nested_runs.specs.Standing.{Stand, stand_among, stand_at}
 use Rattle.nested_runs.specs.Standing.Stand.{Free, AtMutex}
-use Rattle.nested_runs.specs.Touching.{AreCodes, ComesFree, MayTake, Touches, pooled_back}
+use Rattle.nested_runs.specs.Touching.{AreCodes, ComesFree, MayTake, Touches}
 use Rattle.trace_check.specs.Before.{holder, is_just, latest}
 use Rattle.trace_check.specs.Rules.{is_free, keeps_asking, keeps_holders}
 use Rattle.nested_runs.specs.Known.{AreOwners, AreRising, HasAsked, HasNotAsked, IsInvited, IsOwner, IsStarted, TellsLocks, holder_of, is_running, thread_of_owner}
@@ -37,7 +39,7 @@ use Rattle.nested_runs.proofs.CallReadings.{held-is, latest-other, latest-own}
 use Rattle.nested_runs.proofs.FirstWorlds.{first-threads}
 use Rattle.nested_runs.proofs.KeptTasks.{code-some, current-under_way, none-stand}
 use Rattle.nested_runs.proofs.LockLists.{IsHeld, criticals-look, criticals-owners, criticals-rising, look-fresh, look-fresh_other, look-owned, look-owned_other, look-without, look-without_other, owned_by, owners-fresh, owners-look, owners-owned, owners-without, rising-fresh, rising-owned, rising-without}
-use Rattle.nested_runs.proofs.TellBrackets.{back-stack, current-kept, task-unstarted}
+use Rattle.nested_runs.proofs.TellBrackets.{back-stack, task-unstarted}
 
 -- ---- what a thread has asked for, and what it hasn't
 
@@ -125,22 +127,22 @@ locks-stays run W after I J past stays =
     let alike = stays.alike in
     let keeps : KeepsOwners W after = record {
       started = λ k is. record {
-        below = omega (arith, alike.tasks, is.below);
-        started = ap (λ pool. has_started (pool_task_at pool.tasks k).condition) alike.pool ∙ is.started;
+        below = omega (arith, alike.world.tasks, is.below);
+        started = ap (λ pool. has_started (pool_task_at pool.tasks k).condition) alike.world.pool ∙ is.started;
       };
-      thread = λ k started. alike.owner k;
+      thread = λ k started. alike.world.owner k;
     } in
     record {
       holder = λ id.
           known.holder id ∙ sym (same-holder W after keeps (look_up W.locks.locks id) (owners-look W W.locks.locks id known.owners))
-          ∙ ap (λ locks. holder_of after (look_up locks.locks id)) (sym alike.locks);
-      owners = subst (λ locks. AreOwners after locks.locks) (sym alike.locks) (kept-owners W after keeps W.locks.locks known.owners);
-      rising = subst (λ locks. AreRising locks.locks) (sym alike.locks) known.rising;
+          ∙ ap (λ locks. holder_of after (look_up locks.locks id)) (sym alike.world.locks);
+      owners = subst (λ locks. AreOwners after locks.locks) (sym alike.world.locks) (kept-owners W after keeps W.locks.locks known.owners);
+      rising = subst (λ locks. AreRising locks.locks) (sym alike.world.locks) known.rising;
       asked = λ t.
-          subst (λ stack. HasAsked (stand_at after (slice_index_or stack 0 0)) (latest t past)) (sym (alike.thread t).stack)
+          subst (λ stack. HasAsked (stand_at after (slice_index_or stack 0 0)) (latest t past)) (sym (alike.world.thread t).stack)
           (still-asked _ _ (latest t past) (alike.stands (current W t)) (known.asked t));
       below = λ t.
-          subst (λ stack. All (λ (k : ℕ). HasNotAsked (stand_at after k)) (drop 1 stack)) (sym (alike.thread t).stack)
+          subst (λ stack. All (λ (k : ℕ). HasNotAsked (stand_at after k)) (drop 1 stack)) (sym (alike.world.thread t).stack)
           (λ i d within. still-unasked _ _ (alike.stands (slice_index_or (drop 1 (thread_at W t).stack) i d)) (known.below t i d within));
     }
 
@@ -189,10 +191,10 @@ module _ (run : Run) (W after : World) (I : Inside) (past : List EventRecord) (t
   go-keeps e comes touches =
       record {
         started = λ k is. record {
-          below = omega (arith, touches.tasks, tasks-more e (length W.tasks), is.below);
-          started = ap (λ (x : PoolTask). has_started x.condition) (touches.pooled k) ∙ go-started e k comes is;
+          below = omega (arith, touches.world.tasks, tasks-more e (length W.tasks), is.below);
+          started = ap (λ (x : PoolTask). has_started x.condition) (touches.world.pooled k) ∙ go-started e k comes is;
         };
-        thread = λ k started. touches.owner k ∙ go-owner e k (task_at W k).thread comes started;
+        thread = λ k started. touches.world.owner k ∙ go-owner e k (task_at W k).thread comes started;
       }
 
   -- the current task has started
@@ -303,7 +305,7 @@ module _ (run : Run) (W after : World) (I : Inside) (past : List EventRecord) (t
   own-beside : (e : Event) → is_of_code e ≡ false → Touches W after t e →
       stand_at after (current after t) ≡ stand_at W (slice_index_or (thread_after e (thread_at W t)).stack 0 0)
   own-beside e apart touches =
-      beside e (current after t) apart touches ∙ ap (λ (x : Thread). stand_at W (slice_index_or x.stack 0 0)) touches.own
+      beside e (current after t) apart touches ∙ ap (λ (x : Thread). stand_at W (slice_index_or x.stack 0 0)) touches.world.own
 
   lower-asked : (e : Event) (call : Option Call) → is_of_code e ≡ false → Touches W after t e →
       (thread_after e (thread_at W t)).stack ≡ drop 1 (thread_at W t).stack →
@@ -340,7 +342,7 @@ module _ (run : Run) (W after : World) (I : Inside) (past : List EventRecord) (t
       let takes = subst (MayTake W t) comes.taken (knows.seats.shares t) in
       free-asked _ _ (own-beside (Dispatch share) refl touches ∙ takes.stand)
   own-asked e comes touches =
-      subst (λ s. HasAsked s (Some (call_of after t e))) (sym (ap (stand_at after) (current-kept W after t e refl touches) ∙ touches.stand_own refl))
+      subst (λ s. HasAsked s (Some (call_of after t e))) (sym (ap (stand_at after) (current-kept W after t e refl touches.world) ∙ touches.stand_own refl))
       (code-asked e)
 
   -- a task of another thread isn't the current one of this
@@ -355,7 +357,7 @@ module _ (run : Run) (W after : World) (I : Inside) (past : List EventRecord) (t
       let some = code-some W t e of_code comes in
       other-apart e u (current W u) comes other (current-under_way W u knows.sound.orderly (subst (λ k. 1 ≤ k) (sym is) some)).thread of_code is in
       subst (λ s. HasAsked s call)
-      (sym (ap (λ (x : Thread). stand_at after (slice_index_or x.stack 0 0)) (touches.others u other) ∙ touches.stands (current W u) apart)) asked
+      (sym (ap (λ (x : Thread). stand_at after (slice_index_or x.stack 0 0)) (touches.world.others u other) ∙ touches.stands (current W u) apart)) asked
 
   -- ---- the tasks below
 
@@ -419,17 +421,17 @@ locks-go run W after I J past t position e goes =
     subst (HasAsked (stand_at after (current after t))) (sym (latest-own position t after e past))
     (own-asked run W after I past t knows e goes.comes touches) in
     let own_below : All (λ (k : ℕ). HasNotAsked (stand_at after k)) (drop 1 (thread_at after t).stack) =
-    subst (λ (x : Thread). All (λ (k : ℕ). HasNotAsked (stand_at after k)) (drop 1 x.stack)) (sym touches.own)
+    subst (λ (x : Thread). All (λ (k : ℕ). HasNotAsked (stand_at after k)) (drop 1 x.stack)) (sym touches.world.own)
     (own-below run W after I past t knows e goes.comes touches) in
     let others_below : (u : ℕ) → u ≢ t → All (λ (k : ℕ). HasNotAsked (stand_at after k)) (drop 1 (thread_at after u).stack) = λ u other.
-    subst (λ (x : Thread). All (λ (k : ℕ). HasNotAsked (stand_at after k)) (drop 1 x.stack)) (sym (touches.others u other))
+    subst (λ (x : Thread). All (λ (k : ℕ). HasNotAsked (stand_at after k)) (drop 1 x.stack)) (sym (touches.world.others u other))
     (other-below run W after I past t knows e u goes.comes touches other) in
     record {
       holder = λ id.
           held-is after t id e (holder id past) ∙ ap (held_by id t e) (before id) ∙ go-holder run W after I past t knows e id goes.comes touches
-          ∙ ap (λ locks. holder_of after (look_up locks id)) (sym touches.locks);
-      owners = subst (AreOwners after) (sym touches.locks) (go-owners run W after I past t knows e goes.comes touches);
-      rising = subst AreRising (sym touches.locks) (go-rising run W after I past t knows e goes.comes);
+          ∙ ap (λ locks. holder_of after (look_up locks id)) (sym touches.world.locks);
+      owners = subst (AreOwners after) (sym touches.world.locks) (go-owners run W after I past t knows e goes.comes touches);
+      rising = subst AreRising (sym touches.world.locks) (go-rising run W after I past t knows e goes.comes);
       asked = λ u. elim (cases_eq u t) [
         | inl is ↦ subst (λ v. HasAsked (stand_at after (current after v)) (latest v (recorded position t after e ∷ past))) (sym is) own
         | inr other ↦ asked u other

@@ -43,7 +43,7 @@ members-go run W after I J past t position e goes =
       ended = ended-go run W after I J past t position e goes;
       region = region-go run W after I J past t position e goes;
       unjoined =
-          λ r past-end. unjoined-go run W after I J past t position e goes r (omega (arith, past-end, goes.touches.regions, regions-grow e (length W.regions)));
+          λ r past-end. unjoined-go run W after I J past t position e goes r (omega (arith, past-end, goes.touches.world.regions, regions-grow e (length W.regions)));
       seated = seated-go run W after I J past t position e goes;
       room = room-go run W after I J past t position e goes;
       leaving = leaving-go run W after I J past t position e goes;

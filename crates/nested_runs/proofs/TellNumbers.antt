@@ -10,8 +10,8 @@ use Rattle.omp_model.specs.declared.event.Share.TheVariants.{Chunk, Section}
 use Rattle.omp_model.specs.State.{Run, Thread, World, first_world, thread_at}
 use Rattle.omp_model.specs.Members.{current}
 use Rattle.omp_model.specs.Calls.{call_of}
+use Rattle.omp_model.specs.Touching.{regions_after, tasks_after, thread_after}
 use Rattle.nested_runs.specs.Coming.{Comes}
-use Rattle.nested_runs.specs.Effects.{regions_after, tasks_after, thread_after}
 use Rattle.nested_runs.specs.Readings.{region_by, task_by}
 use Rattle.nested_runs.specs.Recorded.{Inside, recorded}
 use Rattle.nested_runs.specs.Knows.{ComesBack, Goes, IsWholeRun, Stays}
@@ -28,7 +28,7 @@ numbers-first run whole = record { regions = refl; tasks = refl }
 -- after what is no event
 pub numbers-stays : (run : Run) (W after : World) (I J : Inside) (past : List EventRecord) → Stays run W after I J past → TellsNumbers after past
 numbers-stays run W after I J past stays =
-    record { regions = stays.knows.numbers.regions ∙ sym stays.alike.regions; tasks = stays.knows.numbers.tasks ∙ sym stays.alike.tasks }
+    record { regions = stays.knows.numbers.regions ∙ sym stays.alike.world.regions; tasks = stays.knows.numbers.tasks ∙ sym stays.alike.world.tasks }
 
 -- after the Go of an event
 region-next : (W : World) (t : ℕ) (e : Event) (greatest : ℕ) → Comes W t e → greatest + 1 ≡ length W.regions →
@@ -48,10 +48,10 @@ numbers-go run W after I J past t position e goes =
     record {
       regions =
           ap (λ made. max made (greatest_region past) + 1) (region-is after t e)
-          ∙ region-next W t e (greatest_region past) goes.comes goes.knows.numbers.regions ∙ sym goes.touches.regions;
+          ∙ region-next W t e (greatest_region past) goes.comes goes.knows.numbers.regions ∙ sym goes.touches.world.regions;
       tasks =
           ap (λ made. max made (greatest_task past) + 1) (task-is after t e)
-          ∙ task-next W t e (greatest_task past) goes.comes goes.knows.numbers.tasks ∙ sym goes.touches.tasks;
+          ∙ task-next W t e (greatest_task past) goes.comes goes.knows.numbers.tasks ∙ sym goes.touches.world.tasks;
     }
 
 -- after its Back
@@ -84,7 +84,7 @@ keeps-region W after t e past comes own known told = refl
 pub keeps-regions : (run : Run) (W after : World) (I J : Inside) (past : List EventRecord) (t position : ℕ) (e : Event) → Goes run W after I J past t e →
     keeps_regions past t (recorded position t after e).call ≡ true
 keeps-regions run W after I J past t position e goes =
-    keeps-region W after t e past goes.comes goes.touches.own goes.knows.numbers.regions (current-known run W I past t goes.knows)
+    keeps-region W after t e past goes.comes goes.touches.world.own goes.knows.numbers.regions (current-known run W I past t goes.knows)
 
 -- rule 10
 keeps-creation : (W after : World) (t : ℕ) (e : Event) (past : List EventRecord) → Comes W t e → thread_at after t ≡ thread_after e (thread_at W t) →
@@ -103,4 +103,4 @@ keeps-creation W after t e past comes own known told = refl
 pub keeps-creations : (run : Run) (W after : World) (I J : Inside) (past : List EventRecord) (t position : ℕ) (e : Event) → Goes run W after I J past t e →
     keeps_creations past t (recorded position t after e).call ≡ true
 keeps-creations run W after I J past t position e goes =
-    keeps-creation W after t e past goes.comes goes.touches.own goes.knows.numbers.tasks (current-known run W I past t goes.knows)
+    keeps-creation W after t e past goes.comes goes.touches.world.own goes.knows.numbers.tasks (current-known run W I past t goes.knows)

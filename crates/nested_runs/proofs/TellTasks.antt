@@ -23,12 +23,11 @@ use Rattle.omp_model.specs.Conditions.{has_started}
 use Rattle.omp_model.specs.Going.{kind_of_task}
 use Rattle.omp_model.specs.Made.{IsMadeWorld}
 use Rattle.omp_model.specs.Members.{current, is_explicit_task}
+use Rattle.omp_model.specs.Touching.{come_to, pooled_after, pooled_back}
 use Rattle.omp_model.proofs.MadeWords.{pool-at}
 use Rattle.nested_runs.specs.Coming.{ComesToTask, PicksTask, PicksUndeferred}
-use Rattle.nested_runs.specs.Effects.{come_to, pooled_after}
 use Rattle.nested_runs.specs.Recorded.{Inside, inside, recorded}
 use Rattle.nested_runs.specs.Readings.{completed_by, created_by, started_by}
-use Rattle.nested_runs.specs.Touching.{pooled_back}
 use Rattle.nested_runs.specs.Knows.{ComesBack, Goes, IsWholeRun, Knows, Stays}
 use Rattle.nested_runs.specs.Known.{IsOver, TellsTasks}
 use Rattle.trace_check.specs.Before.{Creation, and_one, creations, has_started as was_started, is_complete, is_created, is_just}
@@ -140,7 +139,7 @@ module _ (run : Run) (W after : World) (I J : Inside) (past : List EventRecord) 
   made-by-current : (e : Event) → Goes run W after I J past t e → IsMaker after (created_by after t e)
   made-by-current (TaskCreate task undeferred codeptr) goes =
       let own : (pooled_after W t (TaskCreate task undeferred codeptr) task).parent ≡ current W t = rw (eq-eqb task task refl) refl in
-      ap (λ (x : PoolTask). x.parent) (goes.touches.pooled task) ∙ (own ∙ sym (current-same W after t (ap (λ (x : Thread). x.stack) goes.touches.own)))
+      ap (λ (x : PoolTask). x.parent) (goes.touches.world.pooled task) ∙ (own ∙ sym (current-same W after t (ap (λ (x : Thread). x.stack) goes.touches.world.own)))
   made-by-current e goes = tt
 
   -- a task that ends is complete
@@ -176,7 +175,7 @@ module _ (run : Run) (W after : World) (I J : Inside) (past : List EventRecord) 
       goes.knows.tasks.created (length W.tasks) ∙ ap (λ (task : PoolTask). is_explicit task.kind)
       (unmade-pooled W goes.knows.sound.made (length W.tasks) (omega arith)) in
       let old = creators-kept W after (length W.tasks) (creations past)
-      (λ k other. ap (λ (task : PoolTask). task.parent) (goes.touches.pooled k) ∙
+      (λ k other. ap (λ (task : PoolTask). task.parent) (goes.touches.world.pooled k) ∙
       (same-pooled W t e goes.comes k other).parent) unmade goes.knows.tasks.creators in
       All-same (HasMaker after) _ _ (ap (λ one. and_one one (creations past)) (creation-is after t e))
       (creators-more after (created_by after t e) (creations past) (made-by-current run W after I J past t position e goes) old)
@@ -185,7 +184,7 @@ module _ (run : Run) (W after : World) (I J : Inside) (past : List EventRecord) 
   pub tasks-go : Goes run W after I J past t e → TellsTasks after J (recorded position t after e ∷ past)
   tasks-go goes =
       tells-each after J _
-      (λ k. subst (TellsTask (recorded position t after e ∷ past) k) (sym (goes.touches.pooled k)) (told-after run W after I J past t position e goes k))
+      (λ k. subst (TellsTask (recorded position t after e ∷ past) k) (sym (goes.touches.world.pooled k)) (told-after run W after I J past t position e goes k))
       (creators-after goes)
       (λ u. elim (cases_eq u t) [
         | inl is ↦
@@ -252,7 +251,7 @@ tasks-back run W after I J past t e back =
 -- nothing changes
 pub tasks-stays : (run : Run) (W after : World) (I J : Inside) (past : List EventRecord) → Stays run W after I J past → TellsTasks after J past
 tasks-stays run W after I J past stays =
-    let pooled : (k : ℕ) → pooled_at after k ≡ pooled_at W k = λ k. ap (λ (pool : PoolView). pool_task_at pool.tasks k) stays.alike.pool in
+    let pooled : (k : ℕ) → pooled_at after k ≡ pooled_at W k = λ k. ap (λ (pool : PoolView). pool_task_at pool.tasks k) stays.alike.world.pool in
     tells-each after J past
     (λ k. subst (TellsTask past k) (sym (pooled k)) (told-of W I past stays.knows.tasks k))
     (All-weaker (HasMaker W) (HasMaker after) (λ creation is. ap (λ (task : PoolTask). task.parent) (pooled creation.task) ∙ is)

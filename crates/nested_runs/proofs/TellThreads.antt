@@ -14,10 +14,9 @@ use Rattle.omp_model.specs.declared.event.Share.TheVariants.{Chunk, Section}
 use Rattle.omp_model.specs.State.{Run, Thread, World, first, first_world, thread_at}
 use Rattle.omp_model.specs.Changes.{made, summoned}
 use Rattle.omp_model.specs.Calls.{call_of, thread_kind}
+use Rattle.omp_model.specs.Touching.{is_summoned, thread_after, thread_back}
 use Rattle.nested_runs.specs.Coming.{Comes}
-use Rattle.nested_runs.specs.Effects.{thread_after}
 use Rattle.nested_runs.specs.Recorded.{Inside, inside, recorded}
-use Rattle.nested_runs.specs.Touching.{is_summoned, thread_back}
 use Rattle.nested_runs.specs.Knows.{ComesBack, Goes, IsWholeRun, Stays}
 use Rattle.trace_check.specs.Before.{events_of, has_ended, is_end, is_of}
 use Rattle.trace_check.specs.Rules.{keeps_kind, keeps_threads}
@@ -132,7 +131,7 @@ threads-first run whole t =
 
 -- after what is no event
 pub threads-stays : (run : Run) (W after : World) (I J : Inside) (past : List EventRecord) → Stays run W after I J past → TellsThreads after J past
-threads-stays run W after I J past stays t = told-same _ _ _ _ t past (same-stage _ _ (stays.alike.thread t).stage) (stays.same t) (stays.knows.threads t)
+threads-stays run W after I J past stays t = told-same _ _ _ _ t past (same-stage _ _ (stays.alike.world.thread t).stage) (stays.same t) (stays.knows.threads t)
 
 -- after the Go of an event
 module _ (run : Run) (W after : World) (I J : Inside) (past : List EventRecord) (t position : ℕ) (e : Event) where
@@ -143,7 +142,7 @@ module _ (run : Run) (W after : World) (I J : Inside) (past : List EventRecord) 
 
   own-after : Goes run W after I J past t e → TellsThread (thread_at after t).stage (J t) t (recorded position t after e ∷ past)
   own-after goes =
-      let begun : (thread_at after t).stage ≡ thread_stage.Begun = ap (λ (x : Thread). x.stage) goes.touches.own ∙ goes-stage W t e goes.comes in
+      let begun : (thread_at after t).stage ≡ thread_stage.Begun = ap (λ (x : Thread). x.stage) goes.touches.world.own ∙ goes-stage W t e goes.comes in
       let told : TellsThread thread_stage.Begun (Some e) t (recorded position t after e ∷ past) = record {
         none = ap (λ n. n == 0) (events-own position t after e past) ∙ ne_eqb _ 0 (λ is. omega (arith, is));
         ended = ended-own position t after e past ∙ ap₂ ◌||◌ (end-is after t e) (unended-before goes) ∙ or-false _;
@@ -157,7 +156,7 @@ module _ (run : Run) (W after : World) (I J : Inside) (past : List EventRecord) 
         none = ap (λ n. n == 0) (events-other position t after e past u other) ∙ known.none;
         ended = ended-other position t after e past u other ∙ known.ended;
       } in
-      told-same _ _ _ _ u _ (same-stage _ _ (ap (λ (x : Thread). x.stage) (goes.touches.others u other))) (goes.enters.others u other) told
+      told-same _ _ _ _ u _ (same-stage _ _ (ap (λ (x : Thread). x.stage) (goes.touches.world.others u other))) (goes.enters.others u other) told
 
   pub threads-go : Goes run W after I J past t e → TellsThreads after J (recorded position t after e ∷ past)
   threads-go goes u =

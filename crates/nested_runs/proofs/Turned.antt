@@ -1,112 +1,56 @@
 -- What an entry of a history leads to: an event goes, after what is none; its callback comes back; or what is no event stays.
 use Rattle.std.proofs.Common.{ℕ, zero, suc, ◌≡◌, ◌≢◌, ◌<◌, ◌+◌, ◌⊎◌, ◌&&◌, true, List, [], ◌∷◌, slice_set, slice_index_or, length, refl, sym, ap, ◌∙◌, subst, inl, inr, arith}
-use Rattle.std.specs.Prelude.{All, Some, None, Option, is_none, option_map}
+use Rattle.std.specs.Prelude.{Some, None, Option, is_none, option_map}
 use Rattle.std.proofs.lemmas.Bool.{and_parts}
-use Rattle.std.proofs.lemmas.List.Elements.{All-weaker}
 use Rattle.std.proofs.lemmas.List.{get_or-set_other, get_or-set_same, length-set}
 use Rattle.ompt_calls.specs.declared.event.EventRecord.{EventRecord}
 use Rattle.ompt_calls.specs.declared.snapshot.Target.{Target}
-use Rattle.task_pool.specs.Tasks.{task_at as pool_task_at}
-use Rattle.task_pool.specs.View.{PoolView}
 use Rattle.omp_model.specs.declared.event.Arrival.TheVariants.{Steps}
 use Rattle.omp_model.specs.declared.event.Callback.{Callback}
 use Rattle.omp_model.specs.declared.event.Event.{Event}
 use Rattle.omp_model.specs.declared.event.Outcome.{Outcome}
 use Rattle.omp_model.specs.declared.event.Outcome.TheVariants as outcome
 use Rattle.omp_model.specs.State.{Run, State, World, pending_at, thread_at}
+use Rattle.omp_model.specs.Alike.{QuietWorld}
 use Rattle.omp_model.specs.Changes.{gone_past}
 use Rattle.omp_model.specs.Conditions.{IsOrderly}
 use Rattle.omp_model.specs.Gates.{arrival}
 use Rattle.omp_model.specs.Legal.{back, back_from, put, put_from}
-use Rattle.omp_model.specs.Made.{IsMadeState, IsMadeWorld, IsRegion, IsTask, IsThread, MadeThread}
-use Rattle.omp_model.specs.Members.{region_of}
+use Rattle.omp_model.specs.Made.{IsMadeState, IsThread}
 use Rattle.omp_model.specs.Silent.{Silence, Goes as StepsOn, Stops, silent_step}
 use Rattle.omp_model.specs.Turn.{called, enabled, goes_on, turn}
+use Rattle.omp_model.proofs.AlikeWorlds.{later-alike, made-alike, quiet-step, still-alike, taken-stored}
 use Rattle.omp_model.proofs.Arriving.{thread-goes}
-use Rattle.omp_model.proofs.Conditions.{Still, event-still, orderly-still}
-use Rattle.omp_model.proofs.Later.{Later, made-region-later, region-later, task-later, thread-later}
+use Rattle.omp_model.proofs.Conditions.{event-still, orderly-still}
 use Rattle.omp_model.proofs.MadeEvents.{occurred-later}
+use Rattle.omp_model.proofs.Reading.{read-same}
 use Rattle.omp_model.proofs.Turning.{AfterSilence, GoFrom, Turned, of-turn}
 use Rattle.omp_model.proofs.Turns.{Leaves, leaves-turn, turn-goes}
+use Rattle.omp_model.proofs.Backs.{returns}
+use Rattle.omp_model.proofs.Rewrites.{thread-below}
 use Rattle.trace_check.specs.Checking.{Unbroken}
 use Rattle.nested_runs.specs.Recorded.{Enters, Inside, event_in, inside}
 use Rattle.nested_runs.specs.Knows.{ComesBack, Goes, IsSound, Knows, Stays}
 use Rattle.nested_runs.specs.Touching.{Alike}
-use Rattle.nested_runs.proofs.AlikeSteps.{alike-past, alike-same, alike-step, alike-stored, alike-then, taken-step, taken-stored}
+use Rattle.nested_runs.proofs.AlikeSteps.{alike-past, alike-same, alike-step, alike-stored, alike-then}
 use Rattle.nested_runs.proofs.BackCodes.{sound-state}
-use Rattle.nested_runs.proofs.Backs.{returns}
 use Rattle.nested_runs.proofs.Comings.{comes}
 use Rattle.nested_runs.proofs.Gos.{touches}
-use Rattle.nested_runs.proofs.Rewrites.{read-same, thread-below}
 
 -- Worlds that are alike are as sound.
 
-module _ (W after : World) (alike : Alike W after) where
-  later-alike : Later W after
-  later-alike =
-      record {
-        threads = alike.threads;
-        stages = λ t made. rw (alike.thread t).stage made;
-        tasks = omega (arith, alike.tasks);
-        regions = omega (arith, alike.regions);
-        placed = λ k within. ap (λ (pool : PoolView). (pool_task_at pool.tasks k).region) alike.pool;
-        teams = λ r within. record { task = (alike.head r).task; size = (alike.head r).size; members = ap length (alike.team r).members };
-      }
-
-  still-alike : Still W after
-  still-alike =
-      record {
-        pool = alike.pool;
-        tasks = alike.tasks;
-        threads = λ t. record { stack = (alike.thread t).stack; undeferred = (alike.thread t).undeferred };
-        holders = alike.owner;
-      }
-
-  task-alike : (k : ℕ) → IsTask after k → IsTask W k
-  task-alike k one = record { some = one.some; below = omega (arith, one.below, alike.tasks) }
-
-  region-alike : (r : ℕ) → IsRegion after r → IsRegion W r
-  region-alike r one = record { some = one.some; below = omega (arith, one.below, alike.regions) }
-
-  made-alike : IsMadeWorld W → IsMadeWorld after
-  made-alike made =
-      let later = later-alike in
-      record {
-        pooled = alike.tasks ∙ made.pooled ∙ ap (λ (pool : PoolView). length pool.tasks + 1) (sym alike.pool);
-        initial = record { some = made.initial.some; below = omega (arith, made.initial.below, alike.tasks) };
-        implicit = record { some = made.implicit.some; below = omega (arith, made.implicit.below, alike.regions) };
-        threads = λ t.
-            let one : MadeThread after t (thread_at W t) = thread-later W after made later t (thread_at W t) (made.threads t) in
-            record {
-              stacked = rw (alike.thread t).stack one.stacked;
-              joins = rw (alike.thread t).invited one.joins;
-              forks = rw (alike.thread t).invited one.forks;
-              starts = rw (alike.thread t).undeferred one.starts;
-            };
-        forked = λ k. rw (alike.forked k, alike.regions) (made.forked k);
-        placed = λ k one. rw (ap (λ (pool : PoolView). (pool_task_at pool.tasks k).region) alike.pool)
-            (region-later W after made later (region_of W k) (made.placed k (task-alike k one)));
-        regions = λ r one. made-region-later W after made later r (region-alike r one);
-        unencountered = (alike.head 1).task ∙ made.unencountered;
-        encountered = λ r two below. rw (alike.head r).task (made.encountered r two (omega (arith, below, alike.regions)));
-        ready = subst (λ (pool : PoolView). All (IsTask after) pool.ready) (sym alike.pool)
-            (All-weaker (IsTask W) (IsTask after) (task-later W after made later) W.pool.ready made.ready);
-      }
-
 pub sound-alike : (run : Run) (W after : World) (I : Inside) → IsSound run W I → Alike W after → IsSound run after I
 sound-alike run W after I sound alike =
+    let later = later-alike W after alike.world in
+    let still = still-alike W after alike.world in
     record {
       whole = sound.whole;
-      threads = alike.threads ∙ sound.threads;
-      made = made-alike W after alike sound.made;
-      orderly = orderly-still W after (still-alike W after alike) sound.orderly;
+      threads = alike.world.threads ∙ sound.threads;
+      made = (made-alike W after alike.world sound.made).world;
+      orderly = orderly-still W after still sound.orderly;
       events = λ t event is.
           let one = sound.events t event is in
-          record {
-            occurred = occurred-later W after t event sound.made (later-alike W after alike) one.occurred;
-            orderly = event-still W after
-                (still-alike W after alike) t event one.orderly;
-          };
+          record { occurred = occurred-later W after t event sound.made later one.occurred; orderly = event-still W after still t event one.orderly };
     }
 
 -- A turn.
@@ -156,15 +100,15 @@ module _ (run : Run) (S : State) (past : List EventRecord) (knows : Knows run S.
   reaches-past t W so = record { alike = alike-then S.world W (gone_past W t) so.alike (alike-past W t so.alike.codes); taken = so.taken }
 
   reaches-then : (t : ℕ) (W : World) (silence : Silence) → Reaches S.world t W → AfterSilence (Alike W) silence →
-      AfterSilence (λ (after : World). (u : ℕ) → u ≢ t → (thread_at after u).taken ≡ (thread_at W u).taken) silence → AfterSilence (Reaches S.world t) silence
-  reaches-then t W (StepsOn after) so alike taken =
-      record { alike = alike-then S.world W after so.alike alike; taken = λ u other. taken u other ∙ so.taken u other }
-  reaches-then t W (Stops halt) so alike taken = tt
+      AfterSilence (QuietWorld t W) silence → AfterSilence (Reaches S.world t) silence
+  reaches-then t W (StepsOn after) so alike quiet =
+      record { alike = alike-then S.world W after so.alike alike; taken = λ u other. quiet.others u other ∙ so.taken u other }
+  reaches-then t W (Stops halt) so alike quiet = tt
 
   reaches-step : (t : ℕ) (W : World) → arrival W t ≡ Steps → Reaches S.world t W → AfterSilence (Reaches S.world t) (silent_step run W t)
   reaches-step t W steps so =
       let sound = sound-alike run S.world W (inside S) knows.sound so.alike in
-      reaches-then t W (silent_step run W t) so (alike-step run W t sound.whole.returns so.alike.codes sound.made sound.orderly steps) (taken-step run W t)
+      reaches-then t W (silent_step run W t) so (alike-step run W t sound.whole.returns so.alike.codes sound.made sound.orderly steps) (quiet-step run t W)
 
   -- a thread outside all callbacks has made silent steps
   stays-reached : (t : ℕ) (W : World) → inside S t ≡ None → Reaches S.world t W → Stays run S.world W (inside S) (inside S) past

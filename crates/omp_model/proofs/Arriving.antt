@@ -60,22 +60,28 @@ pub record AtSwitch (W : World) (t prior k : ℕ) : Type 0 where
   pub before : prior ≡ current W t
   pub task : Begins W t k
 
+-- a silent step of the current task's code, where the thread is to join no region and to start no undeferred task
+pub record AtStep (W : World) (t : ℕ) : Type 0 where
+  pub some : 1 ≤ current W t
+  pub invited : (thread_at W t).invited ≡ 0
+  pub undeferred : (thread_at W t).undeferred ≡ 0
+
 -- what is so of an event beside all code, to which a thread has come
 abbrev pub Reached : World → ℕ → Event → Type 0
+Reached W t event.ThreadBegin = Unit {0}
+Reached W t event.ThreadEnd = Unit {0}
 Reached W t event.InitialTaskBegin = AtInitial W t
 Reached W t event.InitialTaskEnd = AtInitialEnd W t
 Reached W t (event.MemberBegin r k) = AtMember W t r k
 Reached W t (event.MemberEnd r k) = AtMemberEnd W t r k
 Reached W t (event.TaskBegin prior task) = AtSwitch W t prior task
 Reached W t (event.TaskEnd task) = AtEnd W t task
-Reached W t (event.ParallelBegin r requested codeptr) = ⊥
-Reached W t (event.ParallelEnd r codeptr) = ⊥
-Reached W t (event.TaskCreate task undeferred codeptr) = ⊥
-Reached W t other = Unit {0}
+Reached W t (event.Dispatch share) = (thread_at W t).taken ≡ Some share
+Reached W t other = ⊥
 
 abbrev pub Arrives : World → ℕ → Arrival → Type 0
 Arrives W t Waits = Unit {0}
-Arrives W t Steps = Unit {0}
+Arrives W t Steps = AtStep W t
 Arrives W t Comes = 1 ≤ current W t
 Arrives W t (Meets event) = Reached W t event
 
@@ -91,8 +97,8 @@ unfolding arrival
 thread-goes W t goes = stage-goes W t (thread_at W t).stage goes
 
 -- a number is 0 or not
-by-zero : (P : Bool → Type 0) (n : ℕ) → P true → (1 ≤ n → P false) → P (n == 0)
-by-zero P zero none some = none
+by-zero : (P : Bool → Type 0) (n : ℕ) → (n ≡ 0 → P true) → (1 ≤ n → P false) → P (n == 0)
+by-zero P zero none some = none refl
 by-zero P (suc n) none some = subst P (sym (ne_eqb (suc n) 0 (λ is. omega arith))) (some (omega arith))
 
 module _ (W : World) (t : ℕ) where
@@ -115,14 +121,14 @@ module _ (W : World) (t : ℕ) where
   at-sync some which stage.WaitEnd = either Comes (starts_if W t (next_task W t)) (may_end W t which) some (next-starts some (next_task W t) refl)
   at-sync some which other = some
 
-  in-task : 1 ≤ current W t → (next : Upcoming) → Arrives W t (arrival_in W t (current W t) next)
-  in-task some upcoming.Step = tt
-  in-task some upcoming.Event = some
-  in-task some upcoming.End = at-end some (pooled_at W (current W t)).kind refl
-  in-task some upcoming.RegionEnd = either Comes Waits (all_left W (task_at W (current W t)).forked) some tt
-  in-task some (upcoming.Sync which at) = at-sync some which at
-  in-task some (upcoming.Acquire id) = either Comes Waits (not (is_owned W id)) some tt
-  in-task some (upcoming.Test id) = either Steps Comes (is_owned W id) tt some
+  in-task : AtStep W t → (next : Upcoming) → Arrives W t (arrival_in W t (current W t) next)
+  in-task at upcoming.Step = at
+  in-task at upcoming.Event = at.some
+  in-task at upcoming.End = at-end at.some (pooled_at W (current W t)).kind refl
+  in-task at upcoming.RegionEnd = either Comes Waits (all_left W (task_at W (current W t)).forked) at.some tt
+  in-task at (upcoming.Sync which stage) = at-sync at.some which stage
+  in-task at (upcoming.Acquire id) = either Comes Waits (not (is_owned W id)) at.some tt
+  in-task at (upcoming.Test id) = either Steps Comes (is_owned W id) at at.some
 
   around : t ≡ 0 → (now : Condition) → (pooled_at W INITIAL_TASK).condition ≡ now → Arrives W t (arrival_around now)
   around zeroth condition.Made is = record { thread = zeroth; condition = is }
@@ -134,20 +140,22 @@ module _ (W : World) (t : ℕ) where
   without-task true is = around (eqb-true t 0 is) (pooled_at W INITIAL_TASK).condition refl
   without-task false is = either (Meets event.ThreadEnd) Waits (main_returned W && has_no_tasks W IMPLICIT_REGION) tt tt
 
-  of-task : Arrives W t (arrival_of_task W t (current W t))
-  of-task =
+  of-task : (thread_at W t).invited ≡ 0 → (thread_at W t).undeferred ≡ 0 → Arrives W t (arrival_of_task W t (current W t))
+  of-task uninvited none =
       let inside = arrival_in W t (current W t) (upcoming_of (view_of W t) (code_of W t)) in
-      by-zero (λ b. Arrives W t (if b then arrival_without_task W t else inside)) (current W t) (without-task (t == 0) refl) (λ some. in-task some _)
+      by-zero (λ b. Arrives W t (if b then arrival_without_task W t else inside)) (current W t) (λ is. without-task (t == 0) refl)
+      (λ some. in-task (record { some = some; invited = uninvited; undeferred = none }) _)
 
-  with-share : (share : Option Share) → Arrives W t (arrival_with_share W t share)
-  with-share (Some share) = tt
-  with-share None = of-task
+  with-share : (thread_at W t).invited ≡ 0 → (thread_at W t).undeferred ≡ 0 → (share : Option Share) → (thread_at W t).taken ≡ share →
+      Arrives W t (arrival_with_share W t share)
+  with-share uninvited none (Some share) is = is
+  with-share uninvited none None is = of-task uninvited none
 
-  with-undeferred : Arrives W t (arrival_with_undeferred W t (thread_at W t).undeferred)
-  with-undeferred =
+  with-undeferred : (thread_at W t).invited ≡ 0 → Arrives W t (arrival_with_undeferred W t (thread_at W t).undeferred)
+  with-undeferred uninvited =
       let task = (thread_at W t).undeferred in
       by-zero (λ b. Arrives W t (if b then arrival_with_share W t (thread_at W t).taken else Meets (event.TaskBegin (current W t) task))) task
-      (with-share (thread_at W t).taken) (λ some. record { before = refl; task = Undeferred refl some })
+      (λ none. with-share uninvited none (thread_at W t).taken refl) (λ some. record { before = refl; task = Undeferred refl some })
 
   invited-to : Arrives W t (arrival_invited W t (thread_at W t).invited)
   invited-to =

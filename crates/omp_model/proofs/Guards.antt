@@ -2,16 +2,14 @@
 use Rattle.std.proofs.Common.{◌≡◌, ℕ, ◌≤◌, true, List, length, lt-ltb, arith}
 use Rattle.omp_model.specs.declared.history.Entry.{Entry}
 use Rattle.team_parts.specs.declared.meeting.TheConstants.{TEAM_LIMIT}
-use Rattle.omp_model.specs.Silent.{silent_step}
 use Rattle.omp_model.specs.State.{Run, State, World, region_at}
 use Rattle.omp_model.specs.Members.{current, current_index, current_team, is_member}
 use Rattle.omp_model.specs.Turn.{walk}
 use Rattle.omp_model.specs.Legal.{after}
 use Rattle.omp_model.specs.Made.{IsMadeWorld, IsRegion, IsTeam}
-use Rattle.omp_model.proofs.MadeWords.{MadeAfter, after-same}
-use Rattle.omp_model.proofs.MadeEvents.{current-made, step-made}
-use Rattle.omp_model.proofs.MadeRuns.{made-after, past-then, silence-then}
-use Rattle.omp_model.proofs.Turning.{of-walk}
+use Rattle.omp_model.proofs.AlikeWorlds.{made-alike, quiet-walk}
+use Rattle.omp_model.proofs.MadeEvents.{current-made}
+use Rattle.omp_model.proofs.MadeRuns.{made-after}
 
 -- a thread with a task
 pub member-made : (W : World) (t : ℕ) → IsMadeWorld W → 1 ≤ current W t → is_member W t ≡ true
@@ -19,8 +17,7 @@ member-made W t made some = lt-ltb (current_index W t) (length (current_team W t
 
 -- after silent steps
 pub made-walk : (run : Run) (S : State) (t left made : ℕ) → IsMadeWorld S.world → IsMadeWorld (walk run left made S t).state.world
-made-walk run S t left made all =
-    (of-walk run t (MadeAfter S.world) (λ W so. past-then S.world W t all so) (λ W steps so. silence-then S.world W (silent_step run W t) all so (step-made run W t so.world)) left made S (after-same S.world all)).world
+made-walk run S t left made all = (made-alike S.world (walk run left made S t).state.world (quiet-walk run t left made S).alike all).world
 
 module _ (run : Run) (history : List Entry) (there : 1 ≤ run.threads) where
   pub member-after : (t : ℕ) → 1 ≤ current (after run history).world t → is_member (after run history).world t ≡ true

@@ -1,10 +1,9 @@
--- Silent steps, Gos, Backs and stores keep what is named made.
+-- Gos, Backs and stores keep what is named made.
 use Rattle.std.proofs.Common.{◌≡◌, ℕ, ℤ, pos, negsuc, int_lt, nat_abs, zero, suc, ◌+◌, ◌<◌, ◌≤◌, ◌==◌, min, Bool, true, false, if◌then◌else◌, List, [], ◌∷◌, slice_index_or, length, refl, sym, ◌∙◌, subst, arith}
-use Rattle.std.specs.Prelude.{All, Option, Some, None, is_some}
+use Rattle.std.specs.Prelude.{All, Option, Some, None}
 use Rattle.std.proofs.lemmas.List.{length-set, length-replicate, length_push}
 use Rattle.std.proofs.lemmas.List.Elements.{All-head, All-tail}
 use Rattle.std.proofs.lemmas.Bool.{and_parts, eqb-true, true≢false}
-use Rattle.c_syntax.specs.language.Tree.{Tree}
 use Rattle.c_model.specs.declared.point.Point.{Point}
 use Rattle.c_model.specs.declared.point.Point.TheVariants as point
 use Rattle.c_model.specs.declared.point.SyncKind.{SyncKind}
@@ -12,34 +11,31 @@ use Rattle.c_model.specs.declared.point.SyncStage.{SyncStage}
 use Rattle.c_model.specs.declared.point.SyncStage.TheVariants as stage
 use Rattle.c_model.specs.declared.point.Work.{Work}
 use Rattle.c_model.specs.declared.point.Work.TheVariants as work
-use Rattle.c_model.specs.declared.question.Ask.{Ask}
-use Rattle.c_model.specs.declared.question.Ask.TheVariants as ask
 use Rattle.c_model.specs.Begin.{blank_task, explicit_task}
-use Rattle.c_model.specs.Going.{after_answer, after_event}
+use Rattle.c_model.specs.Going.{after_event}
 use Rattle.c_model.specs.Step.{silent}
 use Rattle.c_model.specs.Task.{Moment, Outcome, Task as Code}
-use Rattle.c_model.specs.Task.Outcome.{Asks, Ends, Limits, Occurs, StepsTo, Traps}
+use Rattle.c_model.specs.Task.Outcome.{Occurs}
 use Rattle.task_pool.specs.Allowed.{is_allowed, last_where, later_of}
 use Rattle.task_pool.specs.declared.task.TaskKind.{TaskKind}
 use Rattle.task_pool.specs.declared.task.TaskKind.TheVariants as kind
 use Rattle.team_parts.specs.declared.meeting.Meeting.{Meeting}
 use Rattle.team_parts.specs.Meetings.{TeamMeeting}
-use Rattle.team_parts.specs.Team.{TeamView, after_meeting, after_taking, new_member, next_chunk, next_section, with_place}
+use Rattle.team_parts.specs.Team.{TeamView, after_meeting, new_member, with_place}
 use Rattle.ompt_calls.specs.declared.snapshot.Target.{Target}
-use Rattle.ompt_calls.specs.declared.snapshot.Target.TheVariants as target
 use Rattle.omp_model.specs.declared.limits.TheConstants.{IMPLICIT_REGION, INITIAL_TASK, TEAM_SIZE}
 use Rattle.omp_model.specs.declared.event.Event.{Event}
 use Rattle.omp_model.specs.declared.event.Event.TheVariants as event
 use Rattle.omp_model.specs.declared.event.Halt.{Halt}
 use Rattle.omp_model.specs.State.{Run, Thread, World, fresh_region, region_at, task_at, task_with, thread_at, unmade}
-use Rattle.omp_model.specs.Members.{current, current_index, current_region, current_team, is_member, is_outermost, member_index, moment_of, region_of, view_of}
+use Rattle.omp_model.specs.Members.{current, current_index, current_region, current_team, is_member, is_outermost, member_index, region_of, view_of}
 use Rattle.omp_model.specs.Gates.{held_tasks, is_barrier, next_task}
-use Rattle.omp_model.specs.Changes.{begun, emptied, finished, gone_to, member_begun, met, passed, popped, region_made, sharing, started, taken_up, task_made, with_code}
-use Rattle.omp_model.specs.Silent.{Silence, Goes, Stops, answer_to, answered, share_taken, silence_of, silent_step, team_after, team_asked}
+use Rattle.omp_model.specs.Changes.{begun, emptied, finished, member_begun, met, passed, popped, region_made, started, taken_up, task_made, with_code}
 use Rattle.omp_model.specs.Going.{Going, Nothing, Happens, Halts, after_creation, after_fork, after_meeting_at, after_member, after_sync, barrier_met, effect_of, effect_of_point, event_of_point, executes_point, fault_of, fault_of_point, going_beside, going_by, going_in_code, kind_of_task, member_code, past_point, team_size, told, trap_if, unless, work_begin, work_met}
 use Rattle.omp_model.specs.Returning.{after_created, at_back}
 use Rattle.omp_model.specs.Words.{is_made_thread, stored}
 use Rattle.omp_model.specs.Made.{HasOccurred, IsMadeWorld, IsRegion, IsRegionOf, IsTask, IsTaskOf, IsThread, MadeEvent, MadeMember, MadeRegion}
+use Rattle.omp_model.proofs.AlikeWorlds.{alike-stored, made-alike}
 use Rattle.omp_model.proofs.Arriving.{AtEnd, Begins, Ready, Reached, Undeferred}
 use Rattle.omp_model.proofs.Later.{Later, region-later, region-of-later, task-later, task-of-later}
 use Rattle.omp_model.proofs.MadeWords.{MadeAfter, after-code, after-detained, after-either, after-finished, after-head, after-opened, after-own, after-popped, after-readied, after-region_made, after-same, after-started, after-store, after-taken_up, after-task, after-task_made, after-team, after-then, last-region}
@@ -131,50 +127,6 @@ module _ (W : World) (t : ℕ) (made : IsMadeWorld W) where
   coming (event.ParallelEnd r codeptr) at = absurd at
   coming (event.TaskCreate task undeferred codeptr) at = absurd at
   coming other at = tt
-
--- Silent steps.
-
-abbrev pub MadeSilence : World → Silence → Type 0
-MadeSilence W (Goes after) = MadeAfter W after
-MadeSilence W (Stops halt) = Unit {0}
-
-after-gone : (W : World) (k : ℕ) (now : Moment) → IsMadeWorld W → MadeAfter W (gone_to W k now)
-after-gone W k now made =
-    let coded = after-code W k now.task made in
-    after-then W (with_code W k now.task) (gone_to W k now) made coded (after-store (with_code W k now.task) now.store W.locks coded.world)
-
--- a team whose members have taken a share has as many
-chosen : (one other : TeamView) (b : Bool) → length one.members ≡ length other.members → length (if b then one else other).members ≡ length other.members
-chosen one other true same = same
-chosen one other false same = refl
-
-asked-members : (team : TeamView) (i : ℕ) (what : Ask) → length (team_asked team i what).members ≡ length team.members
-asked-members team i ask.Chunk = chosen (after_taking team i) team (is_some (next_chunk team i)) refl
-asked-members team i ask.Section = chosen (after_taking team i) team (is_some (next_section team i)) refl
-asked-members team i (ask.LockFree id) = refl
-
-after-answered : (W : World) (t : ℕ) (what : Ask) (tree : Tree) → IsMadeWorld W → MadeAfter W (answered W t what tree)
-after-answered W t what tree made =
-    let given = answer_to W t what in
-    let now = after_answer (view_of W t) given (moment_of W t) in
-    let W1 = gone_to W (current W t) now in
-    let W2 = sharing W1 t (share_taken tree given) in
-    let gone = after-gone W (current W t) now made in
-    let shared = after-then W W1 W2 made gone (after-own W1 t _ gone.world refl refl refl (λ there. there)) in
-    after-then W W2 (answered W t what tree) made shared
-    (after-team W2 (current_region W t) (team_after W t what) shared.world (chosen (team_asked (current_team W t) (current_index W t) what) (current_team W t) (is_member W t) (asked-members (current_team W t) (current_index W t) what)))
-
-silence-made : (W : World) (t : ℕ) (outcome : Outcome) → IsMadeWorld W → MadeSilence W (silence_of W t outcome)
-silence-made W t (StepsTo now) made = after-gone W (current W t) now made
-silence-made W t (Asks what tree) made = after-answered W t what tree made
-silence-made W t (Occurs what tree) made = after-same W made
-silence-made W t (Ends number) made = after-same W made
-silence-made W t (Traps trap) made = tt
-silence-made W t (Limits limit) made = tt
-
-pub step-made : (run : Run) (W : World) (t : ℕ) → IsMadeWorld W → MadeSilence W (silent_step run W t)
-unfolding silent_step
-step-made run W t made = silence-made W t (silent run.program (view_of W t) (moment_of W t)) made
 
 -- What events name.
 
@@ -427,6 +379,4 @@ back-made W t other made named = after-same W made
 
 -- What a tool stores.
 pub stored-made : (W : World) (place : Target) (word : ℕ) → IsMadeWorld W → MadeAfter W (stored W place word)
-stored-made W (target.Thread t) word made = after-own W t _ made refl refl refl (λ there. there)
-stored-made W (target.Parallel r) word made = after-head W r _ made refl refl
-stored-made W (target.Task k) word made = after-task W k _ made (made.forked k)
+stored-made W place word made = made-alike W (stored W place word) (alike-stored W place word) made

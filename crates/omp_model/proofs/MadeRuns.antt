@@ -3,7 +3,6 @@ use Rattle.std.proofs.Common.{◌≡◌, ℕ, zero, suc, ◌+◌, ◌-◌, ◌<�
 use Rattle.std.specs.Prelude.{Option, Some, None}
 use Rattle.std.proofs.lemmas.List.{length-replicate, length-set}
 use Rattle.std.proofs.lemmas.List.Elements.{All-nil}
-use Rattle.c_model.specs.Step.{settled_task}
 use Rattle.ompt_calls.specs.declared.snapshot.Target.{Target}
 use Rattle.omp_model.specs.declared.history.What.{What}
 use Rattle.omp_model.specs.declared.history.What.TheVariants.{Go, Put, Back}
@@ -13,34 +12,23 @@ use Rattle.omp_model.specs.declared.event.Event.{Event}
 use Rattle.omp_model.specs.declared.event.Outcome.{Outcome}
 use Rattle.omp_model.specs.declared.event.Outcome.TheVariants as outcome
 use Rattle.omp_model.specs.State.{Run, State, World, first, first_world, pending_at, region_at, task_at, thread_at, unmade}
-use Rattle.omp_model.specs.Members.{code_of, current, region_of, view_of}
+use Rattle.omp_model.specs.Members.{region_of}
+use Rattle.omp_model.specs.Alike.{QuietWorld}
 use Rattle.omp_model.specs.Changes.{gone_past}
-use Rattle.omp_model.specs.Silent.{Silence, Goes, Stops, silent_step}
 use Rattle.omp_model.specs.Returning.{at_back}
 use Rattle.omp_model.specs.Words.{stored}
 use Rattle.omp_model.specs.Turn.{called, goes_on, turn}
 use Rattle.omp_model.specs.Legal.{after, back_from, does, put_from}
 use Rattle.omp_model.specs.Made.{IsIdentity, IsMadeState, IsMadeWorld, MadePending, MadeRegion, MadeThread}
 use Rattle.omp_model.proofs.Later.{Later, at-set}
-use Rattle.omp_model.proofs.MadeWords.{MadeAfter, after-code, after-same, after-then}
-use Rattle.omp_model.proofs.MadeEvents.{MadeGo, MadeGoing, MadeSilence, back-made, beside-made, coming, current-made, in_code-made, occurred-later, step-made, stored-made}
+use Rattle.omp_model.proofs.AlikeWorlds.{alike-past, quiet-turn, made-alike}
+use Rattle.omp_model.proofs.MadeWords.{MadeAfter, after-then}
+use Rattle.omp_model.proofs.MadeEvents.{MadeGo, MadeGoing, back-made, beside-made, coming, current-made, in_code-made, occurred-later, stored-made}
 use Rattle.omp_model.proofs.Arriving.{Arrives, arrives, thread-goes}
-use Rattle.omp_model.proofs.Turning.{AfterSilence, GoFrom, GoOf, OfCode, Beside, Turned, of-entries, of-turn}
+use Rattle.omp_model.proofs.Turning.{GoFrom, GoOf, OfCode, Beside, Turned, of-entries}
 use Rattle.omp_model.proofs.Turns.{Leaves, leaves-turn}
 
 -- A turn.
-
-pub silence-then : (W between : World) (silence : Silence) → IsMadeWorld W → MadeAfter W between → MadeSilence between silence → AfterSilence (MadeAfter W) silence
-silence-then W between (Goes after) made first next = after-then W between after made first next
-silence-then W between (Stops halt) made first next = tt
-
--- a task leaves out what it goes past
-pub past-then : (W between : World) (t : ℕ) → IsMadeWorld W → MadeAfter W between → MadeAfter W (gone_past between t)
-past-then W between t made first =
-    after-then W between (gone_past between t) made first (after-code between (current between t) (settled_task (view_of between t) (code_of between t)) first.world)
-
-pub past-made : (W : World) (t : ℕ) → IsMadeWorld W → IsMadeWorld (gone_past W t)
-past-made W t made = (past-then W W t made (after-same W made)).world
 
 -- the Go of an event
 go-made : (run : Run) (W after : World) (t : ℕ) (e : Event) → IsMadeWorld W → GoOf run W t e after → MadeGo W after t e
@@ -49,26 +37,30 @@ go-made run W after t e made (OfCode comes happens) =
 go-made run W after t e made (Beside meets happens) =
     subst (MadeGoing W t) happens (beside-made W t e made (thread-goes W t (ap goes_on meets)) (coming W t made e (subst (Arrives W t) meets (arrives W t))))
 
-go-from : (run : Run) (W after : World) (t : ℕ) (e : Event) → IsMadeWorld W → GoFrom run (MadeAfter W) t e after → MadeGo W after t e
+-- .. from the world after silent steps
+go-from : (run : Run) (W after : World) (t : ℕ) (e : Event) → IsMadeWorld W → GoFrom run (QuietWorld t W) t e after → MadeGo W after t e
 go-from run W after t e made from =
-    let go = go-made run from.before after t e from.holds.world from.go in
-    record { whole = after-then W from.before after made from.holds go.whole; occurred = go.occurred }
+    let before = made-alike W from.before from.holds.alike made in
+    let go = go-made run from.before after t e before.world from.go in
+    record { whole = after-then W from.before after made before go.whole; occurred = go.occurred }
 
 -- what is so after a turn with this outcome
 abbrev pub MadeTurn : World → ℕ → World → Outcome → Type 0
 MadeTurn W t after (outcome.Happens e) = MadeGo W after t e
 MadeTurn W t after other = MadeAfter W after
 
-turned : (run : Run) (W after : World) (t : ℕ) (came : Outcome) → IsMadeWorld W → Turned run (MadeAfter W) t after came → MadeTurn W t after came
+turned : (run : Run) (W after : World) (t : ℕ) (came : Outcome) → IsMadeWorld W → Turned run (QuietWorld t W) t after came → MadeTurn W t after came
 turned run W after t (outcome.Happens e) made so = go-from run W after t e made so
-turned run W after t outcome.Idle made so = so
-turned run W after t outcome.Quiet made so = so
-turned run W after t (outcome.Halts halt) made so = so
+turned run W after t outcome.Idle made so = made-alike W after so.alike made
+turned run W after t outcome.Quiet made so = made-alike W after so.alike made
+turned run W after t (outcome.Halts halt) made so = made-alike W after so.alike made
 
 pub turn-made : (run : Run) (S : State) (t : ℕ) → IsMadeWorld S.world → MadeTurn S.world t (turn run S t).state.world (turn run S t).outcome
-turn-made run S t made =
-    turned run S.world (turn run S t).state.world t (turn run S t).outcome made
-    (of-turn run t (MadeAfter S.world) (λ W so. past-then S.world W t made so) (λ W steps so. silence-then S.world W (silent_step run W t) made so (step-made run W t so.world)) S (after-same S.world made))
+turn-made run S t made = turned run S.world (turn run S t).state.world t (turn run S t).outcome made (quiet-turn run t S)
+
+-- what a task goes past
+pub past-made : (W : World) (t : ℕ) → IsMadeWorld W → IsMadeWorld (gone_past W t)
+past-made W t made = (made-alike W (gone_past W t) (alike-past W t) made).world
 
 -- States.
 

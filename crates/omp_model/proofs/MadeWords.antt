@@ -78,12 +78,12 @@ after-grown W after made later pooled threads forks placed regions ready =
     }
 
 -- as many tasks and regions
-record SameCounts (W after : World) : Type 0 where
-  tasks : length after.tasks ≡ length W.tasks
-  pool : length after.pool.tasks ≡ length W.pool.tasks
-  regions : length after.regions ≡ length W.regions
+pub record SameCounts (W after : World) : Type 0 where
+  pub tasks : length after.tasks ≡ length W.tasks
+  pub pool : length after.pool.tasks ≡ length W.pool.tasks
+  pub regions : length after.regions ≡ length W.regions
 
-after-kept : (W after : World) → IsMadeWorld W → Later W after → SameCounts W after → ((t : ℕ) → MadeThread W t (thread_at after t)) → ((k : ℕ) → (task_at after k).forked < length W.regions) → All (IsTask W) after.pool.ready → MadeAfter W after
+pub after-kept : (W after : World) → IsMadeWorld W → Later W after → SameCounts W after → ((t : ℕ) → MadeThread W t (thread_at after t)) → ((k : ℕ) → (task_at after k).forked < length W.regions) → All (IsTask W) after.pool.ready → MadeAfter W after
 after-kept W after made later same threads forks ready =
     after-grown W after made later (omega (arith, same.tasks, same.pool, made.pooled)) threads (λ k. omega (arith, forks k, same.regions))
     (λ k one. inl (record { some = one.some; below = omega (arith, one.below, same.tasks) })) (λ r one. inl (omega (arith, one.below, same.regions))) ready
@@ -260,7 +260,7 @@ at-summoned P r (suc size) [] u old new = old
 at-summoned P r (suc size) (thread ∷ threads) zero old new = new (omega arith)
 at-summoned P r (suc size) (thread ∷ threads) (suc u) old new = at-summoned P r size threads u old (λ within. new (omega arith))
 
-length-summoned : (r size : ℕ) (threads : List Thread) → length (all_summoned r size threads) ≡ length threads
+pub length-summoned : (r size : ℕ) (threads : List Thread) → length (all_summoned r size threads) ≡ length threads
 unfolding all_summoned
 length-summoned r zero threads = refl
 length-summoned r (suc size) [] = refl

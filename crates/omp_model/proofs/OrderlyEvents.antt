@@ -1,8 +1,7 @@
--- Silent steps, Gos, Backs and stores keep the tasks orderly.
+-- Gos and Backs keep the tasks orderly.
 use Rattle.std.proofs.Common.{◌≡◌, ℕ, ◌≤◌, Bool, true, false, List, length, refl, sym, ap, subst, arith}
 use Rattle.std.specs.Prelude.{Option, Some, None, nat_abs}
 use Rattle.std.proofs.lemmas.List.{length_push}
-use Rattle.c_syntax.specs.language.Tree.{Tree}
 use Rattle.c_model.specs.declared.point.Point.{Point}
 use Rattle.c_model.specs.declared.point.Point.TheVariants as point
 use Rattle.c_model.specs.declared.point.SyncKind.{SyncKind}
@@ -10,12 +9,10 @@ use Rattle.c_model.specs.declared.point.SyncStage.{SyncStage}
 use Rattle.c_model.specs.declared.point.SyncStage.TheVariants as stage
 use Rattle.c_model.specs.declared.point.Work.{Work}
 use Rattle.c_model.specs.declared.point.Work.TheVariants as work
-use Rattle.c_model.specs.declared.question.Ask.{Ask}
 use Rattle.c_model.specs.Begin.{explicit_task}
-use Rattle.c_model.specs.Going.{after_answer}
 use Rattle.c_model.specs.Step.{silent}
 use Rattle.c_model.specs.Task.{Moment, Outcome, Store}
-use Rattle.c_model.specs.Task.Outcome.{Asks, Ends, Limits, Occurs, StepsTo, Traps}
+use Rattle.c_model.specs.Task.Outcome.{Occurs}
 use Rattle.task_pool.specs.Allowed.{is_allowed}
 use Rattle.task_pool.specs.declared.task.Condition.{Condition}
 use Rattle.task_pool.specs.declared.task.Condition.TheVariants as condition
@@ -24,26 +21,22 @@ use Rattle.task_pool.specs.declared.task.TaskKind.{TaskKind}
 use Rattle.task_pool.specs.declared.task.TaskKind.TheVariants as kind
 use Rattle.task_pool.specs.Tasks.{is_explicit, is_finished}
 use Rattle.sync_objects.specs.View.{LocksView}
-use Rattle.ompt_calls.specs.declared.snapshot.Target.{Target}
-use Rattle.ompt_calls.specs.declared.snapshot.Target.TheVariants as target
 use Rattle.omp_model.specs.declared.limits.TheConstants.{INITIAL_TASK}
 use Rattle.omp_model.specs.declared.event.Event.{Event}
 use Rattle.omp_model.specs.declared.event.Event.TheVariants as event
 use Rattle.omp_model.specs.declared.event.Halt.{Halt}
 use Rattle.omp_model.specs.State.{Region, Run, Thread, World, pooled_at, region_at, task_at, task_with, thread_at, with_thread}
-use Rattle.omp_model.specs.Members.{current, current_index, current_region, is_member, is_outermost, moment_of, view_of}
+use Rattle.omp_model.specs.Members.{current, current_index, current_region, is_member, is_outermost, view_of}
 use Rattle.omp_model.specs.Gates.{held_tasks, is_barrier, next_task}
-use Rattle.omp_model.specs.Changes.{all_summoned, begun, emptied, finished, gone_to, met, opened, passed, popped, sharing, started, summoned, taken_up, task_made, with_code}
-use Rattle.omp_model.specs.Silent.{Silence, Goes, Stops, answer_to, answered, share_taken, silence_of, silent_step}
+use Rattle.omp_model.specs.Changes.{all_summoned, begun, emptied, finished, met, opened, passed, popped, started, summoned, taken_up, task_made}
 use Rattle.omp_model.specs.Going.{Going, Nothing, Happens, Halts, after_creation, after_meeting_at, after_member, after_sync, barrier_met, effect_of, effect_of_point, event_of_point, fault_of, fault_of_point, going_beside, going_by, going_in_code, kind_of_task, member_code, past_point, told, unless, work_begin, work_met}
 use Rattle.omp_model.specs.Returning.{after_created, at_back}
-use Rattle.omp_model.specs.Words.{stored}
 use Rattle.omp_model.specs.Made.{HasOccurred, IsMadeWorld, IsRegionOf, IsTask, IsThread}
 use Rattle.omp_model.specs.Conditions.{AreOrderly, EventOrderly, IsReady, IsToStart, IsUnderWay, WasCreated, has_started}
 use Rattle.omp_model.proofs.Arriving.{AtEnd, Begins, Ready, Reached, Undeferred}
 use Rattle.omp_model.proofs.MadeWords.{after-popped, after-task_made}
 use Rattle.omp_model.proofs.MadeEvents.{Found, coming, current-made, first-of, found-last}
-use Rattle.omp_model.proofs.Conditions.{Apart, OrderlyAfter, Still, after-still, apart-implicit, apart-ready, apart-to-start, event-still, orderly-then, same-thread, still-either, still-same, still-summoned, still-task, still-then, still-thread}
+use Rattle.omp_model.proofs.Conditions.{Apart, OrderlyAfter, Still, after-still, apart-implicit, apart-ready, apart-to-start, event-still, orderly-then, same-thread, still-either, still-same, still-summoned, still-task, still-thread}
 use Rattle.omp_model.proofs.Moves.{fresh-is, orderly-beginning, orderly-detained, orderly-finished, orderly-made, orderly-popped, orderly-readied, popped-ended, started-is, was-created}
 
 -- What leaves tasks and stacks as they are.
@@ -56,33 +49,6 @@ still-store W store locks = record { pool = refl; tasks = refl; threads = λ t. 
 
 still-own : (W : World) (t : ℕ) (thread : Thread) → thread.stack ≡ (thread_at W t).stack → thread.undeferred ≡ (thread_at W t).undeferred → Still W (with_thread W t thread)
 still-own W t thread stack undeferred = still-thread W t thread (record { stack = stack; undeferred = undeferred })
-
-still-gone : (W : World) (k : ℕ) (now : Moment) → Still W (gone_to W k now)
-still-gone W k now = still-then W (with_code W k now.task) (gone_to W k now) (still-task W k _ refl) (still-store (with_code W k now.task) now.store W.locks)
-
-still-answered : (W : World) (t : ℕ) (what : Ask) (tree : Tree) → Still W (answered W t what tree)
-still-answered W t what tree =
-    let given = answer_to W t what in
-    let now = after_answer (view_of W t) given (moment_of W t) in
-    let W1 = gone_to W (current W t) now in
-    let W2 = sharing W1 t (share_taken tree given) in
-    still-then W W1 (answered W t what tree) (still-gone W (current W t) now) (still-then W1 W2 (answered W t what tree) (still-own W1 t _ refl refl) (still-regions W2 _))
-
-abbrev pub StillSilence : World → Silence → Type 0
-StillSilence W (Goes after) = Still W after
-StillSilence W (Stops halt) = Unit {0}
-
-still-outcome : (W : World) (t : ℕ) (outcome : Outcome) → StillSilence W (silence_of W t outcome)
-still-outcome W t (StepsTo now) = still-gone W (current W t) now
-still-outcome W t (Asks what tree) = still-answered W t what tree
-still-outcome W t (Occurs what tree) = still-same W
-still-outcome W t (Ends number) = still-same W
-still-outcome W t (Traps trap) = tt
-still-outcome W t (Limits limit) = tt
-
-pub still-step : (run : Run) (W : World) (t : ℕ) → StillSilence W (silent_step run W t)
-unfolding silent_step
-still-step run W t = still-outcome W t (silent run.program (view_of W t) (moment_of W t))
 
 still-met : (W : World) (t codeptr : ℕ) (which : SyncKind) (at : SyncStage) → Still W (after_sync W t codeptr which at)
 still-met W t codeptr which stage.RegionBegin =
@@ -286,9 +252,3 @@ back-orderly W t (event.TaskEnd task) all made was so = orderly-finished W t tas
 back-orderly W t (event.Sync which stage.WaitBegin codeptr) all made was so =
     after-still t W _ all (still-either W (begun W (current_region W t) (current_index W t)) W (is_barrier which) (still-regions W _) (still-same W))
 back-orderly W t other all made was so = after-still t W W all (still-same W)
-
--- What a tool stores.
-pub still-stored : (W : World) (place : Target) (word : ℕ) → Still W (stored W place word)
-still-stored W (target.Thread t) word = still-own W t _ refl refl
-still-stored W (target.Parallel r) word = still-regions W _
-still-stored W (target.Task k) word = still-task W k _ refl

@@ -12,48 +12,28 @@ use Rattle.omp_model.specs.declared.history.What.{What}
 use Rattle.omp_model.specs.declared.history.What.TheVariants.{Go, Put, Back}
 use Rattle.omp_model.specs.declared.history.Entry.{Entry}
 use Rattle.omp_model.specs.declared.limits.TheConstants.{INITIAL_TASK}
-use Rattle.omp_model.specs.declared.event.Arrival.TheVariants.{Steps}
 use Rattle.omp_model.specs.declared.event.Callback.{Callback}
 use Rattle.omp_model.specs.declared.event.Event.{Event}
 use Rattle.omp_model.specs.declared.event.Outcome.{Outcome}
 use Rattle.omp_model.specs.declared.event.Outcome.TheVariants as outcome
 use Rattle.omp_model.specs.State.{Run, State, Thread, World, first, first_world, pending_at, pooled_at, thread_at, unmade}
-use Rattle.omp_model.specs.Members.{current}
-use Rattle.omp_model.specs.Gates.{arrival}
-use Rattle.omp_model.specs.Changes.{gone_past}
-use Rattle.omp_model.specs.Silent.{Silence, Goes, Stops, silent_step}
+use Rattle.omp_model.specs.Alike.{QuietWorld}
 use Rattle.omp_model.specs.Words.{stored}
 use Rattle.omp_model.specs.Turn.{called, goes_on, turn, walk}
 use Rattle.omp_model.specs.Legal.{after, back_from, does, put_from}
 use Rattle.omp_model.specs.Made.{IsMadeState, IsMadeWorld, MadePending}
 use Rattle.omp_model.specs.Conditions.{AreOrderly, EventOrderly, IsOrderly, IsUnderWay, PendingOrderly}
 use Rattle.omp_model.proofs.Later.{at-set}
-use Rattle.omp_model.proofs.MadeWords.{after-same, pool-at}
-use Rattle.omp_model.proofs.MadeEvents.{MadeSilence, step-made}
-use Rattle.omp_model.proofs.MadeRuns.{at-replicate, first-made, past-then, state-does}
+use Rattle.omp_model.proofs.AlikeWorlds.{alike-stored, made-alike, quiet-turn, quiet-walk, still-alike}
+use Rattle.omp_model.proofs.MadeWords.{pool-at}
+use Rattle.omp_model.proofs.MadeRuns.{at-replicate, first-made, state-does}
 use Rattle.omp_model.proofs.Arriving.{Arrives, arrives, thread-goes}
-use Rattle.omp_model.proofs.Turning.{AfterSilence, Beside, GoFrom, GoOf, OfCode, Turned, of-entries, of-turn, of-walk}
+use Rattle.omp_model.proofs.Turning.{Beside, GoFrom, GoOf, OfCode, Turned, of-entries}
 use Rattle.omp_model.proofs.Turns.{Leaves, leaves-turn}
-use Rattle.omp_model.proofs.Conditions.{OrderlyAfter, Still, after-still, event-still, orderly-still, orderly-then, still-same, still-task, still-then}
-use Rattle.omp_model.proofs.OrderlyEvents.{OrderlyGo, OrderlyGoing, StillSilence, back-orderly, beside-orderly, in_code-orderly, still-step, still-stored}
+use Rattle.omp_model.proofs.Conditions.{OrderlyAfter, Still, after-still, event-still, orderly-still, orderly-then}
+use Rattle.omp_model.proofs.OrderlyEvents.{OrderlyGo, OrderlyGoing, back-orderly, beside-orderly, in_code-orderly}
 
 -- A turn.
-
--- a world that silent steps lead to
-record Reaches (W after : World) : Type 0 where
-  world : IsMadeWorld after
-  still : Still W after
-
-reaches-then : (W between : World) (silence : Silence) → Reaches W between → MadeSilence between silence → StillSilence between silence → AfterSilence (Reaches W) silence
-reaches-then W between (Goes after) first made still = record { world = made.world; still = still-then W between after first.still still }
-reaches-then W between (Stops halt) first made still = tt
-
-reaches-step : (run : Run) (W : World) (t : ℕ) (X : World) → arrival X t ≡ Steps → Reaches W X → AfterSilence (Reaches W) (silent_step run X t)
-reaches-step run W t X steps so = reaches-then W X (silent_step run X t) so (step-made run X t so.world) (still-step run X t)
-
-reaches-past : (W : World) (t : ℕ) (X : World) → Reaches W X → Reaches W (gone_past X t)
-reaches-past W t X so =
-    record { world = (past-then X X t so.world (after-same X so.world)).world; still = still-then W X (gone_past X t) so.still (still-task X (current X t) _ refl) }
 
 go-orderly : (run : Run) (W after : World) (t : ℕ) (e : Event) → AreOrderly W → IsMadeWorld W → GoOf run W t e after → OrderlyGo W after t e
 go-orderly run W after t e all made (OfCode comes happens) =
@@ -61,26 +41,25 @@ go-orderly run W after t e all made (OfCode comes happens) =
 go-orderly run W after t e all made (Beside meets happens) =
     subst (OrderlyGoing W t) happens (beside-orderly W t e all made (thread-goes W t (ap goes_on meets)) (subst (Arrives W t) meets (arrives W t)))
 
-go-from : (run : Run) (W after : World) (t : ℕ) (e : Event) → AreOrderly W → GoFrom run (Reaches W) t e after → OrderlyGo W after t e
-go-from run W after t e all from =
-    let before = after-still t W from.before all from.holds.still in
-    let go = go-orderly run from.before after t e before.world from.holds.world from.go in
+go-from : (run : Run) (W after : World) (t : ℕ) (e : Event) → AreOrderly W → IsMadeWorld W → GoFrom run (QuietWorld t W) t e after → OrderlyGo W after t e
+go-from run W after t e all made from =
+    let before = after-still t W from.before all (still-alike W from.before from.holds.alike) in
+    let go = go-orderly run from.before after t e before.world (made-alike W from.before from.holds.alike made).world from.go in
     record { whole = orderly-then t W from.before after before go.whole; occurred = go.occurred }
 
 abbrev OrderlyTurn : World → ℕ → World → Outcome → Type 0
 OrderlyTurn W t after (outcome.Happens e) = OrderlyGo W after t e
 OrderlyTurn W t after other = Still W after
 
-turned : (run : Run) (W after : World) (t : ℕ) (came : Outcome) → AreOrderly W → Turned run (Reaches W) t after came → OrderlyTurn W t after came
-turned run W after t (outcome.Happens e) all so = go-from run W after t e all so
-turned run W after t outcome.Idle all so = so.still
-turned run W after t outcome.Quiet all so = so.still
-turned run W after t (outcome.Halts halt) all so = so.still
+turned : (run : Run) (W after : World) (t : ℕ) (came : Outcome) → AreOrderly W → IsMadeWorld W →
+    Turned run (QuietWorld t W) t after came → OrderlyTurn W t after came
+turned run W after t (outcome.Happens e) all made so = go-from run W after t e all made so
+turned run W after t outcome.Idle all made so = still-alike W after so.alike
+turned run W after t outcome.Quiet all made so = still-alike W after so.alike
+turned run W after t (outcome.Halts halt) all made so = still-alike W after so.alike
 
 turn-orderly : (run : Run) (S : State) (t : ℕ) → AreOrderly S.world → IsMadeWorld S.world → OrderlyTurn S.world t (turn run S t).state.world (turn run S t).outcome
-turn-orderly run S t all made =
-    turned run S.world (turn run S t).state.world t (turn run S t).outcome all
-    (of-turn run t (Reaches S.world) (reaches-past S.world t) (reaches-step run S.world t) S (record { world = made; still = still-same S.world }))
+turn-orderly run S t all made = turned run S.world (turn run S t).state.world t (turn run S t).outcome all made (quiet-turn run t S)
 
 -- States.
 
@@ -123,7 +102,7 @@ module _ (S : State) (all : IsOrderly S) where
   state-put t place word None so = all
   state-put t place word (Some callback) so =
       let W = stored S.world place word in
-      let still = still-stored S.world place word in
+      let still = still-alike S.world W (alike-stored S.world place word) in
       let next : Callback = record callback { stores = callback.stores + 1 } in
       record {
         world = orderly-still S.world W still all.world;
@@ -188,5 +167,5 @@ module _ (run : Run) (history : List Entry) (there : 1 ≤ run.threads) where
   pub orderly-walk : (t count : ℕ) → AreOrderly (walk run count 0 (after run history) t).state.world
   orderly-walk t count =
       let S = after run history in
-      let reaches = of-walk run t (Reaches S.world) (reaches-past S.world t) (reaches-step run S.world t) count 0 S (record { world = (sound-after run history there).made.world; still = still-same S.world }) in
-      orderly-still S.world (walk run count 0 S t).state.world reaches.still orderly-after.world
+      let last = (walk run count 0 S t).state.world in
+      orderly-still S.world last (still-alike S.world last (quiet-walk run t count 0 S).alike) orderly-after.world

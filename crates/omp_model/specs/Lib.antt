@@ -20,4 +20,6 @@ pub mod Running
 pub mod Made
 pub mod Named
 pub mod Conditions
+pub mod Alike
+pub mod Touching
 pub mod Empty

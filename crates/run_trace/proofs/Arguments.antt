@@ -19,6 +19,7 @@ use Rattle.omp_model.specs.declared.event.Event.TheVariants.{Dispatch, InitialTa
 use Rattle.omp_model.specs.declared.event.Share.{Share}
 use Rattle.omp_model.specs.declared.event.Share.TheVariants.{Chunk, Section}
 use Rattle.omp_model.specs.State.{World, pooled_at, region_at, task_at}
+use Rattle.omp_model.specs.Alike.{IsSomeShare}
 use Rattle.omp_model.specs.Members.{current, current_region}
 use Rattle.omp_model.specs.Going.{sync_number}
 use Rattle.omp_model.specs.Words.{null_word, region_word, task_word, thread_word}
@@ -26,7 +27,7 @@ use Rattle.omp_model.specs.Calls.{call_of, dispatch_call, endpoint_number, mutex
 use Rattle.omp_model.specs.Snapshots.{task_flags as flags_of}
 use Rattle.trace_format.specs.Fitting.{FitsCall, FitsWord}
 use Rattle.trace_format.specs.Validity.{IsAmong, IsCall, IsWord, endpoints, mutex_kinds, sync_kinds, task_flags, thread_kinds, work_kinds}
-use Rattle.run_trace.specs.Sensible.{HasNulls, IsSensible, IsSome}
+use Rattle.run_trace.specs.Sensible.{HasNulls, IsSensible}
 
 -- Words.
 
@@ -98,7 +99,7 @@ module _ (W : World) (t : ℕ) (nulls : HasNulls W) where
   own-task : FitsWord (own_task_word W t) → IsWord (own_task_word W t)
   own-task fits = task-stands W nulls (current W t) fits
 
-  dispatch-stands : (share : Share) → IsSome share → FitsCall (dispatch_call W t share) → IsCall (dispatch_call W t share)
+  dispatch-stands : (share : Share) → IsSomeShare share → FitsCall (dispatch_call W t share) → IsCall (dispatch_call W t share)
   dispatch-stands (Chunk start count) some fits =
       (own-region fits.0, own-task fits.1, fits.2, (refl, λ is. absurd (omega arith), λ is. some, fits.3))
   dispatch-stands (Section codeptr) some fits = (own-region fits.0, own-task fits.1, fits.2, (refl, λ is. refl, λ is. absurd (omega arith), fits.3))

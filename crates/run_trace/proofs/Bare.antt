@@ -2,18 +2,16 @@
 use Rattle.std.proofs.Common.{ℕ, zero, suc, ◌≡◌, Bool, true, false, if◌then◌else◌, List, slice_index_or, length, refl, sym, ◌∙◌, subst}
 use Rattle.std.specs.Prelude.{Option, Some, None}
 use Rattle.std.proofs.lemmas.Bool.{true≢false}
-use Rattle.c_syntax.specs.language.Tree.{Tree}
 use Rattle.c_model.specs.declared.point.Point.{Point}
 use Rattle.c_model.specs.declared.point.Point.TheVariants as point
 use Rattle.c_model.specs.declared.point.SyncKind.{SyncKind}
 use Rattle.c_model.specs.declared.point.SyncStage.{SyncStage}
 use Rattle.c_model.specs.declared.point.SyncStage.TheVariants as stage
-use Rattle.c_model.specs.declared.question.Ask.{Ask}
 use Rattle.c_model.specs.Begin.{blank_task, explicit_task}
-use Rattle.c_model.specs.Going.{after_answer, after_event}
-use Rattle.c_model.specs.Step.{settled_task, silent}
+use Rattle.c_model.specs.Going.{after_event}
+use Rattle.c_model.specs.Step.{silent}
 use Rattle.c_model.specs.Task.{Moment, Outcome, Task as Code}
-use Rattle.c_model.specs.Task.Outcome.{Asks, Ends, Limits, Occurs, StepsTo, Traps}
+use Rattle.c_model.specs.Task.Outcome.{Occurs}
 use Rattle.task_pool.specs.declared.task.TaskKind.{TaskKind}
 use Rattle.task_pool.specs.declared.task.TaskKind.TheVariants as kind
 use Rattle.task_pool.specs.Tasks.{is_finished}
@@ -28,16 +26,15 @@ use Rattle.omp_model.specs.declared.event.Event.{Event}
 use Rattle.omp_model.specs.declared.event.Event.TheVariants as event
 use Rattle.omp_model.specs.declared.event.Halt.{Halt}
 use Rattle.omp_model.specs.State.{Region, Run, Task, World, is_under_way, no_region, no_task, pooled_at, region_at, task_at, task_with, thread_at, with_region, with_task, with_thread}
-use Rattle.omp_model.specs.Members.{code_of, current, current_index, current_region, is_member, is_outermost, moment_of, view_of}
+use Rattle.omp_model.specs.Alike.{QuietWorld}
+use Rattle.omp_model.specs.Members.{current, current_index, current_region, is_member, is_outermost, view_of}
 use Rattle.omp_model.specs.Gates.{is_barrier}
-use Rattle.omp_model.specs.Changes.{all_summoned, begun, finished, forked, gone_past, gone_to, is_fresh, met, opened, passed, popped, pushed, readied, region_made, sharing, started, summoned, taken_up, task_made, with_code, with_head, with_team}
-use Rattle.omp_model.specs.Silent.{answer_to, answered, share_taken, silence_of, silent_step, team_after}
+use Rattle.omp_model.specs.Changes.{all_summoned, begun, finished, forked, is_fresh, met, opened, passed, popped, pushed, readied, region_made, started, summoned, taken_up, task_made, with_code, with_head, with_team}
 use Rattle.omp_model.specs.Going.{Going, Nothing, Halts, Happens as Occurred, after_meeting_at, after_member, after_sync, barrier_met, effect_of, effect_of_point, event_of_point, executes_point, fault_of_point, going_by, going_in_code, kind_of_task, member_code, past_point, told, unless, work_met}
 use Rattle.omp_model.specs.Returning.{after_created, at_back}
 use Rattle.omp_model.specs.Words.{stored, is_made}
 use Rattle.omp_model.proofs.Later.{at-set}
 use Rattle.omp_model.proofs.MadeWords.{at-push}
-use Rattle.omp_model.proofs.Turning.{AfterSilence}
 
 -- nothing is stored at place 0 of tasks and of regions, where none stands
 pub record Bare (tasks : List Task) (regions : List Region) : Type 0 where
@@ -100,31 +97,9 @@ bare-opened W t r bare =
 bare-taken_up : (W : World) (t k : ℕ) → IsBare W → IsBare (taken_up W t k)
 bare-taken_up W t k bare = bare-task (pushed W t k) k _ bare refl
 
--- Silent steps.
-
-bare-gone : (W : World) (k : ℕ) (now : Moment) → IsBare W → IsBare (gone_to W k now)
-bare-gone W k now bare = bare-code W k now.task bare
-
-pub bare-past : (W : World) (t : ℕ) → IsBare W → IsBare (gone_past W t)
-bare-past W t bare = bare-code W (current W t) (settled_task (view_of W t) (code_of W t)) bare
-
-bare-answered : (W : World) (t : ℕ) (what : Ask) (tree : Tree) → IsBare W → IsBare (answered W t what tree)
-bare-answered W t what tree bare =
-    let given = answer_to W t what in
-    let now = after_answer (view_of W t) given (moment_of W t) in
-    bare-team (sharing (gone_to W (current W t) now) t (share_taken tree given)) (current_region W t) (team_after W t what) (bare-gone W (current W t) now bare)
-
-bare-outcome : (W : World) (t : ℕ) (next : Outcome) → IsBare W → AfterSilence IsBare (silence_of W t next)
-bare-outcome W t (StepsTo now) bare = bare-gone W (current W t) now bare
-bare-outcome W t (Asks what tree) bare = bare-answered W t what tree bare
-bare-outcome W t (Occurs what tree) bare = bare
-bare-outcome W t (Ends number) bare = bare
-bare-outcome W t (Traps trap) bare = tt
-bare-outcome W t (Limits limit) bare = tt
-
-pub bare-step : (run : Run) (W : World) (t : ℕ) → IsBare W → AfterSilence IsBare (silent_step run W t)
-unfolding silent_step
-bare-step run W t bare = bare-outcome W t (silent run.program (view_of W t) (moment_of W t)) bare
+-- silent steps
+pub bare-quiet : (t : ℕ) (W after : World) → QuietWorld t W after → IsBare W → IsBare after
+bare-quiet t W after quiet bare = record { task = quiet.task_words 0 ∙ bare.task; region = quiet.region_words 0 ∙ bare.region }
 
 -- Events of the code.
 

@@ -12,13 +12,15 @@ use Rattle.omp_model.specs.declared.history.What.{What}
 use Rattle.omp_model.specs.declared.history.What.TheVariants.{Go, Put, Back}
 use Rattle.omp_model.specs.declared.history.Entry.{Entry}
 use Rattle.omp_model.specs.State.{Run, State, World, first, pending_at}
+use Rattle.omp_model.specs.Alike.{QuietWorld}
 use Rattle.omp_model.specs.Going.{effect_of, fault_of}
 use Rattle.omp_model.specs.Words.{null_word, is_made}
 use Rattle.omp_model.specs.Turn.{turn}
 use Rattle.omp_model.specs.Legal.{AllowsFrom, Legal, after, after_from, back_from, does, entered, may, may_put, put_from}
-use Rattle.omp_model.proofs.Turning.{Beside, GoOf, OfCode, Turned, of-turn}
+use Rattle.omp_model.proofs.AlikeWorlds.{quiet-turn}
+use Rattle.omp_model.proofs.Turning.{Beside, GoOf, OfCode, Turned}
 use Rattle.run_trace.specs.Sensible.{HasNulls}
-use Rattle.run_trace.proofs.Bare.{BareGoing, IsBare, bare-at_back, bare-beside, bare-in_code, bare-past, bare-step, bare-stored, bare-unless}
+use Rattle.run_trace.proofs.Bare.{BareGoing, IsBare, bare-at_back, bare-beside, bare-in_code, bare-quiet, bare-stored, bare-unless}
 
 -- A turn.
 
@@ -27,16 +29,14 @@ bare-go run W after t e bare (OfCode comes happens) = subst BareGoing happens (b
 bare-go run W after t e bare (Beside meets happens) =
     subst BareGoing happens (bare-unless (fault_of W t e) e (effect_of W t e) (bare-beside W t e bare))
 
-turned-bare : (run : Run) (after : World) (t : ℕ) (came : TurnOutcome) → Turned run IsBare t after came → IsBare after
-turned-bare run after t (outcome.Happens e) from = bare-go run from.before after t e from.holds from.go
-turned-bare run after t outcome.Idle bare = bare
-turned-bare run after t outcome.Quiet bare = bare
-turned-bare run after t (outcome.Halts halt) bare = bare
+turned-bare : (run : Run) (W after : World) (t : ℕ) (came : TurnOutcome) → IsBare W → Turned run (QuietWorld t W) t after came → IsBare after
+turned-bare run W after t (outcome.Happens e) bare from = bare-go run from.before after t e (bare-quiet t W from.before from.holds bare) from.go
+turned-bare run W after t outcome.Idle bare quiet = bare-quiet t W after quiet bare
+turned-bare run W after t outcome.Quiet bare quiet = bare-quiet t W after quiet bare
+turned-bare run W after t (outcome.Halts halt) bare quiet = bare-quiet t W after quiet bare
 
 bare-turn : (run : Run) (S : State) (t : ℕ) → IsBare S.world → IsBare (turn run S t).state.world
-bare-turn run S t bare =
-    turned-bare run (turn run S t).state.world t (turn run S t).outcome
-    (of-turn run t IsBare (λ W so. bare-past W t so) (λ W steps so. bare-step run W t so) S bare)
+bare-turn run S t bare = turned-bare run S.world (turn run S t).state.world t (turn run S t).outcome bare (quiet-turn run t S)
 
 -- The return of a callback, and a store.
 

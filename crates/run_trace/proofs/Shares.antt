@@ -1,19 +1,15 @@
 -- Each chunk that a thread has taken has an iteration, after each history.
-use Rattle.std.proofs.Common.{ℕ, zero, suc, ◌≡◌, ◌+◌, ◌-◌, Bool, true, false, nat_le, nat_lt, if◌then◌else◌, List, slice_index_or, refl, subst}
-use Rattle.std.specs.Prelude.{Option, Some, None, option_map}
-use Rattle.std.proofs.lemmas.Bool.{and_parts, ltb-true}
-use Rattle.c_syntax.specs.language.Tree.{Tree}
+use Rattle.std.proofs.Common.{ℕ, zero, suc, ◌-◌, Bool, true, false, if◌then◌else◌, List, slice_index_or, sym, subst, inl, inr}
+use Rattle.std.specs.Prelude.{Option, Some, None}
+use Rattle.std.proofs.lemmas.Bool.{cases_eq}
 use Rattle.c_model.specs.declared.point.Point.{Point}
 use Rattle.c_model.specs.declared.point.Point.TheVariants as point
 use Rattle.c_model.specs.declared.point.SyncKind.{SyncKind}
 use Rattle.c_model.specs.declared.point.SyncStage.{SyncStage}
 use Rattle.c_model.specs.declared.point.SyncStage.TheVariants as stage
-use Rattle.c_model.specs.declared.question.Ask.{Ask}
-use Rattle.c_model.specs.declared.question.Ask.TheVariants as ask
-use Rattle.c_model.specs.Asked.{count_asked, sections_asked}
 use Rattle.c_model.specs.Step.{silent}
 use Rattle.c_model.specs.Task.{Moment, Outcome}
-use Rattle.c_model.specs.Task.Outcome.{Asks, Ends, Limits, Occurs, StepsTo, Traps}
+use Rattle.c_model.specs.Task.Outcome.{Occurs}
 use Rattle.ompt_calls.specs.declared.snapshot.Target.{Target}
 use Rattle.ompt_calls.specs.declared.snapshot.Target.TheVariants as target
 use Rattle.task_pool.specs.declared.task.TaskKind.TheVariants as kind
@@ -27,34 +23,28 @@ use Rattle.omp_model.specs.declared.event.Event.TheVariants as event
 use Rattle.omp_model.specs.declared.event.Halt.{Halt}
 use Rattle.omp_model.specs.declared.event.Outcome.{Outcome as Came}
 use Rattle.omp_model.specs.declared.event.Outcome.TheVariants as came
-use Rattle.omp_model.specs.declared.event.Share.{Share}
 use Rattle.omp_model.specs.declared.history.Entry.{Entry}
 use Rattle.omp_model.specs.declared.history.What.{What}
 use Rattle.omp_model.specs.declared.history.What.TheVariants.{Go, Put, Back}
 use Rattle.omp_model.specs.State.{Run, State, Thread, World, first, first_world, is_under_way, pending_at, pooled_at, region_at, task_at, thread_at, unmade, with_thread}
-use Rattle.omp_model.specs.Members.{current_index, current_region, is_member, is_outermost, moment_of, view_of}
+use Rattle.omp_model.specs.Alike.{HasSomeShare, QuietWorld}
+use Rattle.omp_model.specs.Members.{current_index, current_region, is_member, is_outermost, view_of}
 use Rattle.omp_model.specs.Gates.{is_barrier}
 use Rattle.omp_model.specs.Changes.{all_summoned, begun, finished, is_fresh, met, passed, popped, readied, started, summoned, taken_up, task_made}
-use Rattle.omp_model.specs.Silent.{answer_to, chunk_dealt, fits_loop, fitting_chunk, fitting_section, items_asking, section_dealt, share_of_chunk, share_of_section, share_taken, silence_of, silent_step}
-use Rattle.omp_model.specs.Going.{Going, Happens, Halts, after_meeting_at, after_sync, barrier_met, effect_of, effect_of_point, event_of_point, fault_of, fault_of_point, going_by, going_in_code, member_code, past_point, told, unless, work_met}
+use Rattle.omp_model.specs.Going.{Going, Happens, after_meeting_at, after_sync, barrier_met, effect_of, effect_of_point, event_of_point, fault_of, fault_of_point, going_by, going_in_code, member_code, past_point, told, unless, work_met}
 use Rattle.omp_model.specs.Legal.{after, back_from, does, put_from}
 use Rattle.omp_model.specs.Returning.{after_created, at_back}
 use Rattle.omp_model.specs.Turn.{turn}
 use Rattle.omp_model.specs.Words.{stored}
+use Rattle.omp_model.proofs.AlikeWorlds.{quiet-turn}
 use Rattle.omp_model.proofs.Later.{at-set}
 use Rattle.omp_model.proofs.MadeRuns.{at-replicate}
 use Rattle.omp_model.proofs.MadeWords.{at-summoned}
-use Rattle.omp_model.proofs.Turning.{AfterSilence, Beside, GoOf, OfCode, Turned, of-entries, of-turn}
-use Rattle.run_trace.specs.Sensible.{IsSome}
+use Rattle.omp_model.proofs.Turning.{Beside, GoOf, OfCode, Turned, of-entries}
 
--- a share that was taken, if one was
-abbrev pub HasSome : Option Share → Type 0
-HasSome None = Unit {0}
-HasSome (Some share) = IsSome share
-
--- .. by each of these threads
+-- each share that one of these threads has taken, if one was
 abbrev pub AreSome : List Thread → Type 0
-AreSome threads = (u : ℕ) → HasSome (slice_index_or threads u unmade).taken
+AreSome threads = (u : ℕ) → HasSomeShare (slice_index_or threads u unmade).taken
 
 -- What changes a thread.
 
@@ -62,8 +52,8 @@ some-either : (one other : World) (b : Bool) → AreSome one.threads → AreSome
 some-either one other true first second = first
 some-either one other false first second = second
 
-some-thread : (W : World) (t : ℕ) (thread : Thread) → AreSome W.threads → HasSome thread.taken → AreSome (with_thread W t thread).threads
-some-thread W t thread all one = λ u. at-set (λ (x : Thread). HasSome x.taken) unmade W.threads t u thread (all u) (λ is. one)
+some-thread : (W : World) (t : ℕ) (thread : Thread) → AreSome W.threads → HasSomeShare thread.taken → AreSome (with_thread W t thread).threads
+some-thread W t thread all one = λ u. at-set (λ (x : Thread). HasSomeShare x.taken) unmade W.threads t u thread (all u) (λ is. one)
 
 some-started : (W : World) (k : ℕ) → AreSome W.threads → AreSome (started W k).threads
 some-started W k all = some-either W (record W { pool = with_started W.pool k }) (is_finished (pooled_at W k).condition) all all
@@ -77,36 +67,12 @@ some-readied W k all = some-either (record W { pool = with_ready W.pool k }) W (
 some-taken_up : (W : World) (t k : ℕ) → AreSome W.threads → AreSome (taken_up W t k).threads
 some-taken_up W t k all = some-thread W t _ all (all t)
 
--- Silent steps.
-
-chunk-some : (count : ℕ) (chunk : ℕ × ℕ) (fits : Bool) → fits_loop count chunk ≡ fits → HasSome (option_map share_of_chunk (if fits then Some chunk else None))
-chunk-some count chunk true is = ltb-true 0 chunk.1 (and_parts (nat_lt 0 chunk.1) (nat_le (chunk.0 + chunk.1) count) is).0
-chunk-some count chunk false is = tt
-
-chunk-taken : (count : ℕ) (dealt : Option (ℕ × ℕ)) → HasSome (option_map share_of_chunk (fitting_chunk count dealt))
-chunk-taken count None = tt
-chunk-taken count (Some chunk) = chunk-some count chunk (fits_loop count chunk) refl
-
-section-some : (tree : Tree) (section : Option ℕ) → HasSome (option_map (share_of_section tree) section)
-section-some tree None = tt
-section-some tree (Some section) = tt
-
-some-taken : (W : World) (t : ℕ) (what : Ask) (tree : Tree) → HasSome (share_taken tree (answer_to W t what))
-some-taken W t ask.Chunk tree = chunk-taken (count_asked (items_asking W t)) (chunk_dealt W t)
-some-taken W t ask.Section tree = section-some tree (fitting_section (sections_asked (items_asking W t)) (section_dealt W t))
-some-taken W t (ask.LockFree id) tree = tt
-
-some-silence : (W : World) (t : ℕ) (outcome : Outcome) → AreSome W.threads → AfterSilence (λ V. AreSome V.threads) (silence_of W t outcome)
-some-silence W t (StepsTo now) all = all
-some-silence W t (Asks what tree) all = some-thread W t _ all (some-taken W t what tree)
-some-silence W t (Occurs what tree) all = all
-some-silence W t (Ends number) all = all
-some-silence W t (Traps trap) all = tt
-some-silence W t (Limits limit) all = tt
-
-pub some-step : (run : Run) (W : World) (t : ℕ) → AreSome W.threads → AfterSilence (λ V. AreSome V.threads) (silent_step run W t)
-unfolding silent_step
-some-step run W t all = some-silence W t (silent run.program (view_of W t) (moment_of W t)) all
+-- silent steps of a thread
+pub some-quiet : (t : ℕ) (W after : World) → QuietWorld t W after → AreSome W.threads → AreSome after.threads
+some-quiet t W after quiet all = λ u. elim (cases_eq u t) [
+  | inl is ↦ subst (λ v. HasSomeShare (thread_at after v).taken) (sym is) (elim quiet.own [ inl same ↦ rw same (all t) | inr some ↦ some ])
+  | inr other ↦ rw (quiet.others u other) (all u)
+]
 
 -- Gos.
 
@@ -163,16 +129,16 @@ some-go run W after t e all (OfCode comes happens) = subst SomeGoing happens (so
 some-go run W after t e all (Beside meets happens) =
     subst SomeGoing happens (some-unless (fault_of W t e) e (effect_of W t e) (some-effect W t e all))
 
-some-turned : (run : Run) (t : ℕ) (after : World) (how : Came) → Turned run (λ W. AreSome W.threads) t after how → AreSome after.threads
-some-turned run t after (came.Happens e) from = some-go run from.before after t e from.holds from.go
-some-turned run t after came.Idle all = all
-some-turned run t after came.Quiet all = all
-some-turned run t after (came.Halts halt) all = all
+some-turned : (run : Run) (t : ℕ) (W after : World) (how : Came) → AreSome W.threads → Turned run (QuietWorld t W) t after how → AreSome after.threads
+some-turned run t W after (came.Happens e) all from = some-go run from.before after t e (some-quiet t W from.before from.holds all) from.go
+some-turned run t W after came.Idle all quiet = some-quiet t W after quiet all
+some-turned run t W after came.Quiet all quiet = some-quiet t W after quiet all
+some-turned run t W after (came.Halts halt) all quiet = some-quiet t W after quiet all
 
 -- Backs and stores.
 
 some-summoned : (W : World) (r size : ℕ) → AreSome W.threads → AreSome (all_summoned r size W.threads)
-some-summoned W r size all = λ u. at-summoned (λ (x : Thread). HasSome x.taken) r size W.threads u (all u) (λ within. all u)
+some-summoned W r size all = λ u. at-summoned (λ (x : Thread). HasSomeShare x.taken) r size W.threads u (all u) (λ within. all u)
 
 some-created : (W : World) (t task : ℕ) (undeferred : Bool) → AreSome W.threads → AreSome (after_created W t task undeferred).threads
 some-created W t task true all = some-thread W t _ all (all t)
@@ -207,15 +173,13 @@ put-some S t place word (Some callback) all = some-stored S.world place word all
 -- Histories.
 
 some-does : (run : Run) (S : State) (t : ℕ) (what : What) → AreSome S.world.threads → AreSome (does run S t what).world.threads
-some-does run S t Go all =
-    some-turned run t (turn run S t).state.world (turn run S t).outcome
-    (of-turn run t (λ W. AreSome W.threads) (λ W so. so) (λ W steps so. some-step run W t so) S all)
+some-does run S t Go all = some-turned run t S.world (turn run S t).state.world (turn run S t).outcome all (quiet-turn run t S)
 some-does run S t (Put place word) all = put-some S t place word (pending_at S t) all
 some-does run S t Back all = back-some S t (pending_at S t) all
 
 first-some : (run : Run) → AreSome (first_world run).threads
 first-some run zero = tt
-first-some run (suc u) = at-replicate (λ (x : Thread). HasSome x.taken) (run.threads - 1) u unmade tt
+first-some run (suc u) = at-replicate (λ (x : Thread). HasSomeShare x.taken) (run.threads - 1) u unmade tt
 
 pub some-after : (run : Run) (history : List Entry) → AreSome (after run history).world.threads
 some-after run history =

@@ -1,138 +1,45 @@
 -- What is told at events: a chunk that is told has an iteration, and what is released is no test of a lock.
-use Rattle.std.proofs.Common.{ℕ, ◌≡◌, ◌≤◌, ◌==◌, ◌&&◌, ◌⊎◌, inl, inr, not, Bool, true, false, if◌then◌else◌, List, length, ap, subst}
+use Rattle.std.proofs.Common.{ℕ, ◌≡◌, ◌≤◌, ◌⊎◌, inl, inr, Bool, true, false, List, length, ap, subst}
 use Rattle.std.specs.Prelude.{Option, Some, None}
 use Rattle.c_model.specs.declared.point.Point.{Point}
 use Rattle.c_model.specs.declared.point.Point.TheVariants as point
-use Rattle.c_model.specs.declared.point.SyncKind.{SyncKind}
-use Rattle.c_model.specs.declared.point.SyncStage.{SyncStage}
-use Rattle.c_model.specs.declared.point.SyncStage.TheVariants as stage
 use Rattle.c_model.specs.declared.point.Work.{Work}
 use Rattle.c_model.specs.declared.point.Work.TheVariants as work
-use Rattle.c_model.specs.declared.upcoming.Upcoming.{Upcoming}
-use Rattle.c_model.specs.declared.upcoming.Upcoming.TheVariants as upcoming
 use Rattle.c_model.specs.Step.{silent}
 use Rattle.c_model.specs.Task.{Moment, Outcome}
 use Rattle.c_model.specs.Task.Outcome.{Occurs}
-use Rattle.c_model.specs.Upcoming.{upcoming_of}
-use Rattle.task_pool.specs.declared.task.Condition.{Condition}
-use Rattle.task_pool.specs.declared.task.Condition.TheVariants as condition
 use Rattle.task_pool.specs.declared.task.Task.{Task as PoolTask}
 use Rattle.task_pool.specs.declared.task.TaskKind.{TaskKind}
 use Rattle.task_pool.specs.declared.task.TaskKind.TheVariants as kind
 use Rattle.task_pool.specs.Tasks.{task_at as pool_task_at}
 use Rattle.task_pool.specs.View.{fresh_task, with_added}
-use Rattle.omp_model.specs.declared.limits.TheConstants.{IMPLICIT_REGION, INITIAL_TASK}
-use Rattle.omp_model.specs.declared.parts.ThreadStage.{ThreadStage}
-use Rattle.omp_model.specs.declared.parts.ThreadStage.TheVariants as thread_stage
-use Rattle.omp_model.specs.declared.event.Arrival.{Arrival}
-use Rattle.omp_model.specs.declared.event.Arrival.TheVariants.{Comes, Meets, Steps, Waits}
 use Rattle.omp_model.specs.declared.event.Event.{Event}
 use Rattle.omp_model.specs.declared.event.Event.TheVariants as event
 use Rattle.omp_model.specs.declared.event.Halt.{Halt}
 use Rattle.omp_model.specs.declared.event.Outcome.TheVariants as came
-use Rattle.omp_model.specs.declared.event.Share.{Share}
 use Rattle.omp_model.specs.declared.history.Entry.{Entry}
-use Rattle.omp_model.specs.State.{Run, World, pooled_at, task_at, thread_at}
-use Rattle.omp_model.specs.Members.{code_of, current, current_region, view_of}
-use Rattle.omp_model.specs.Gates.{all_left, arrival, arrival_around, arrival_at, arrival_at_end, arrival_at_sync, arrival_in, arrival_invited, arrival_of_task, arrival_of_worker, arrival_with_share, arrival_with_undeferred, arrival_without_task, has_no_tasks, is_owned, main_returned, may_end, next_task, starts_if, workers_over}
-use Rattle.omp_model.specs.Changes.{gone_past}
+use Rattle.omp_model.specs.State.{Run, World}
+use Rattle.omp_model.specs.Alike.{HasSomeShare, QuietWorld}
+use Rattle.omp_model.specs.Members.{current, current_region, view_of}
 use Rattle.omp_model.specs.Going.{Going, Happens, event_of_point, fault_of_point, going_by, going_in_code, effect_of_point, kind_of_task, past_point, told, unless, work_begin}
 use Rattle.omp_model.specs.Legal.{after}
 use Rattle.omp_model.specs.Made.{IsMadeWorld}
-use Rattle.omp_model.specs.Silent.{Silence, Goes, Stops, silent_step}
 use Rattle.omp_model.specs.Turn.{turn}
 use Rattle.omp_model.proofs.MadeWords.{added-last}
-use Rattle.omp_model.proofs.MadeEvents.{MadeSilence, step-made}
-use Rattle.omp_model.proofs.MadeRuns.{made-after, past-made}
-use Rattle.omp_model.proofs.Turning.{AfterSilence, Beside, GoOf, OfCode, Turned, of-turn}
-use Rattle.run_trace.specs.Sensible.{IsSensible, IsSome}
+use Rattle.omp_model.proofs.AlikeWorlds.{made-alike, quiet-turn}
+use Rattle.omp_model.proofs.Arriving.{Arrives, Reached, arrives}
+use Rattle.omp_model.proofs.MadeRuns.{made-after}
+use Rattle.omp_model.proofs.Turning.{Beside, GoOf, OfCode, Turned}
+use Rattle.run_trace.specs.Sensible.{IsSensible}
 use Rattle.run_trace.proofs.Released.{IsNoTest, ReleasesNoTest, releases-no-test}
-use Rattle.run_trace.proofs.Shares.{AreSome, HasSome, some-after, some-step}
+use Rattle.run_trace.proofs.Shares.{AreSome, some-after, some-quiet}
 
--- what is so of an event beside all code, whatever the world
-abbrev IsTold : Event → Type 0
-IsTold (event.Dispatch share) = IsSome share
-IsTold (event.MutexReleased which wait_id codeptr) = ⊥
-IsTold (event.TaskCreate task undeferred codeptr) = ⊥
-IsTold other = Unit {0}
-
--- .. of the one to which a thread has come
-abbrev IsMet : Arrival → Type 0
-IsMet (Meets event) = IsTold event
-IsMet other = Unit {0}
-
-module _ (W : World) (t : ℕ) (all : AreSome W.threads) where
-  either : (one other : Arrival) (b : Bool) → IsMet one → IsMet other → IsMet (if b then one else other)
-  either one other true first second = first
-  either one other false first second = second
-
-  next-starts : (next : Option ℕ) → IsMet (starts_if W t next)
-  next-starts None = tt
-  next-starts (Some task) = tt
-
-  at-end : (which : TaskKind) → IsMet (arrival_at_end W t (current W t) which)
-  at-end kind.Initial =
-      either (if workers_over W then Meets event.InitialTaskEnd else Waits) (starts_if W t (next_task W t)) (has_no_tasks W (current_region W t))
-      (either (Meets event.InitialTaskEnd) Waits (workers_over W) tt tt) (next-starts (next_task W t))
-  at-end kind.Implicit = tt
-  at-end other = tt
-
-  at-sync : (which : SyncKind) (at : SyncStage) → IsMet (arrival_at_sync W t which at)
-  at-sync which stage.WaitEnd = either Comes (starts_if W t (next_task W t)) (may_end W t which) tt (next-starts (next_task W t))
-  at-sync which other = tt
-
-  in-task : (next : Upcoming) → IsMet (arrival_in W t (current W t) next)
-  in-task upcoming.Step = tt
-  in-task upcoming.Event = tt
-  in-task upcoming.End = at-end (pooled_at W (current W t)).kind
-  in-task upcoming.RegionEnd = either Comes Waits (all_left W (task_at W (current W t)).forked) tt tt
-  in-task (upcoming.Sync which at) = at-sync which at
-  in-task (upcoming.Acquire id) = either Comes Waits (not (is_owned W id)) tt tt
-  in-task (upcoming.Test id) = either Steps Comes (is_owned W id) tt tt
-
-  around : (now : Condition) → IsMet (arrival_around now)
-  around condition.Made = tt
-  around condition.Ready = tt
-  around condition.Started = tt
-  around condition.Finished = tt
-
-  without-task : IsMet (arrival_without_task W t)
-  without-task =
-      either (arrival_around (pooled_at W INITIAL_TASK).condition) (arrival_of_worker W) (t == 0) (around (pooled_at W INITIAL_TASK).condition)
-      (either (Meets event.ThreadEnd) Waits (main_returned W && has_no_tasks W IMPLICIT_REGION) tt tt)
-
-  of-task : IsMet (arrival_of_task W t (current W t))
-  of-task =
-      let next = upcoming_of (view_of W t) (code_of W t) in
-      either (arrival_without_task W t) (arrival_in W t (current W t) next) (current W t == 0) without-task (in-task next)
-
-  with-share : (share : Option Share) → HasSome share → IsMet (arrival_with_share W t share)
-  with-share (Some share) some = some
-  with-share None some = of-task
-
-  with-undeferred : (task : ℕ) → IsMet (arrival_with_undeferred W t task)
-  with-undeferred task =
-      let share = (thread_at W t).taken in
-      either (arrival_with_share W t share) (Meets (event.TaskBegin (current W t) task)) (task == 0) (with-share share (all t)) tt
-
-  invited-to : (r : ℕ) → IsMet (arrival_invited W t r)
-  invited-to r =
-      let task = (thread_at W t).undeferred in
-      either (arrival_with_undeferred W t task) (Meets (event.MemberBegin r (length W.tasks))) (r == 0) (with-undeferred task) tt
-
-  at-stage : (now : ThreadStage) → IsMet (arrival_at W t now)
-  at-stage thread_stage.Begun = invited-to (thread_at W t).invited
-  at-stage other = tt
-
-  is-met : IsMet (arrival W t)
-  unfolding arrival
-  is-met = at-stage (thread_at W t).stage
-
-beside-sensible : (after : World) (e : Event) → IsTold e → IsSensible after e
-beside-sensible after (event.Dispatch share) one = one
-beside-sensible after (event.MutexReleased which wait_id codeptr) one = absurd one
-beside-sensible after (event.TaskCreate task undeferred codeptr) one = absurd one
-beside-sensible after other one = tt
+-- an event beside all code, to which a thread has come
+beside-sensible : (W after : World) (t : ℕ) (e : Event) → AreSome W.threads → Reached W t e → IsSensible after e
+beside-sensible W after t (event.Dispatch share) all at = subst HasSomeShare at (all t)
+beside-sensible W after t (event.MutexReleased which wait_id codeptr) all at = absurd at
+beside-sensible W after t (event.TaskCreate task undeferred codeptr) all at = absurd at
+beside-sensible W after t other all at = tt
 
 -- Events of the code.
 
@@ -180,29 +87,13 @@ in_code-sensible run W t made =
 
 -- A turn.
 
--- a world to which silent steps lead: what is named was made, and chunks have iterations
-record IsSound (W : World) : Type 0 where
-  made : IsMadeWorld W
-  shares : AreSome W.threads
-
-sound-past : (W : World) (t : ℕ) → IsSound W → IsSound (gone_past W t)
-sound-past W t so = record { made = past-made W t so.made; shares = so.shares }
-
-sound-silence : (W : World) (silence : Silence) → MadeSilence W silence → AfterSilence (λ V. AreSome V.threads) silence → AfterSilence IsSound silence
-sound-silence W (Goes after) made shares = record { made = made.world; shares = shares }
-sound-silence W (Stops halt) made shares = tt
-
-sound-step : (run : Run) (W : World) (t : ℕ) → IsSound W → AfterSilence IsSound (silent_step run W t)
-sound-step run W t so = sound-silence W (silent_step run W t) (step-made run W t so.made) (some-step run W t so.shares)
-
-go-sensible : (run : Run) (W after : World) (t : ℕ) (e : Event) → IsSound W → GoOf run W t e after → IsSensible after e
-go-sensible run W after t e so (OfCode comes happens) = subst SensibleGoing happens (in_code-sensible run W t so.made)
-go-sensible run W after t e so (Beside meets happens) = beside-sensible after e (subst IsMet meets (is-met W t so.shares))
+go-sensible : (run : Run) (W after : World) (t : ℕ) (e : Event) → IsMadeWorld W → AreSome W.threads → GoOf run W t e after → IsSensible after e
+go-sensible run W after t e made shares (OfCode comes happens) = subst SensibleGoing happens (in_code-sensible run W t made)
+go-sensible run W after t e made shares (Beside meets happens) = beside-sensible W after t e shares (subst (Arrives W t) meets (arrives W t))
 
 pub sensible : (run : Run) (history : List Entry) (t : ℕ) (e : Event) → 1 ≤ run.threads → (turn run (after run history) t).outcome ≡ came.Happens e → IsSensible (turn run (after run history) t).state.world e
 sensible run history t e there happens =
     let S = after run history in
-    let so : IsSound S.world = record { made = (made-after run history there).world; shares = some-after run history } in
-    let turned = of-turn run t IsSound (λ W one. sound-past W t one) (λ W steps one. sound-step run W t one) S so in
-    let from = subst (Turned run IsSound t (turn run S t).state.world) happens turned in
-    go-sensible run from.before (turn run S t).state.world t e from.holds from.go
+    let from = subst (Turned run (QuietWorld t S.world) t (turn run S t).state.world) happens (quiet-turn run t S) in
+    let made = (made-alike S.world from.before from.holds.alike (made-after run history there).world).world in
+    go-sensible run from.before (turn run S t).state.world t e made (some-quiet t S.world from.before from.holds (some-after run history)) from.go

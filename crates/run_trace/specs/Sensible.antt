@@ -1,15 +1,12 @@
 -- What the laws need of the events of runs beside their words.
-use Rattle.std.specs.Prelude.{ℕ, ◌≡◌, ◌≢◌, ◌<◌, ◌≤◌, ◌⊎◌, ⊤}
-use Rattle.c_model.specs.declared.point.MutexKind.{MutexKind}
+use Rattle.std.specs.Prelude.{◌≡◌, ◌≢◌, ◌≤◌, ◌⊎◌, ⊤}
 use Rattle.c_model.specs.declared.point.MutexKind.TheVariants as mutex
-use Rattle.task_pool.specs.declared.task.TaskKind.{TaskKind}
 use Rattle.task_pool.specs.declared.task.TaskKind.TheVariants as kind
 use Rattle.omp_model.specs.declared.event.Event.{Event}
 use Rattle.omp_model.specs.declared.event.Event.TheVariants.{Dispatch, MutexReleased, TaskCreate}
 use Rattle.omp_model.specs.declared.event.Halt.{Halt}
 use Rattle.omp_model.specs.declared.event.Halt.TheVariants.{Limit, Trap}
-use Rattle.omp_model.specs.declared.event.Share.{Share}
-use Rattle.omp_model.specs.declared.event.Share.TheVariants.{Chunk, Section}
+use Rattle.omp_model.specs.Alike.{IsSomeShare}
 use Rattle.omp_model.specs.State.{World, pooled_at}
 use Rattle.omp_model.specs.Words.{null_word, region_word, task_word}
 
@@ -18,14 +15,9 @@ pub record HasNulls (W : World) : Type 0 where
   pub region : region_word W 0 ≡ null_word
   pub task : task_word W 0 ≡ null_word
 
--- a chunk has an iteration
-abbrev pub IsSome : Share → Type 0
-IsSome (Chunk start count) = 0 < count
-IsSome (Section codeptr) = ⊤
-
 -- a chunk that is told has an iteration, what is released is no test of a lock, and what is created is an explicit task
 abbrev pub IsSensible : World → Event → Type 0
-IsSensible W (Dispatch share) = IsSome share
+IsSensible W (Dispatch share) = IsSomeShare share
 IsSensible W (MutexReleased which wait_id codeptr) = which ≢ mutex.TestLock
 IsSensible W (TaskCreate task undeferred codeptr) = ((pooled_at W task).kind ≡ kind.Explicit) ⊎ ((pooled_at W task).kind ≡ kind.Undeferred)
 IsSensible W other = ⊤

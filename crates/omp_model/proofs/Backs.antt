@@ -15,10 +15,12 @@ use Rattle.omp_model.specs.Changes.{all_summoned, begun, finished, forked, membe
 use Rattle.omp_model.specs.Conditions.{AreOrderly, EventOrderly, HasEnded, WasCreated}
 use Rattle.omp_model.specs.Made.{HasOccurred, IsForkedRegion, IsMadeWorld, IsTask, IsThread}
 use Rattle.omp_model.specs.Returning.{after_created, after_wait_begun, at_back}
+use Rattle.omp_model.specs.Touching.{Returns}
 use Rattle.omp_model.proofs.MadeEvents.{current-below}
+use Rattle.omp_model.proofs.MadeWords.{length-summoned}
 use Rattle.omp_model.proofs.Moves.{finished-is, readied-is}
-use Rattle.nested_runs.specs.Touching.{Returns}
-use Rattle.nested_runs.proofs.Rewrites.{either-head, either-team, read-changed, length-summoned, read-pool, read-same, read-set, read-summoned, region-below, thread-below}
+use Rattle.omp_model.proofs.Reading.{read-changed, read-same, read-set}
+use Rattle.omp_model.proofs.Rewrites.{either-head, either-team, read-pool, read-summoned, region-below, thread-below}
 
 -- Each kind of change.
 
