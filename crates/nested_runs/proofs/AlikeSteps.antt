@@ -28,6 +28,7 @@ use Rattle.omp_model.specs.declared.event.Share.{Share}
 use Rattle.omp_model.specs.declared.event.Share.TheVariants.{Chunk, Section}
 use Rattle.omp_model.specs.State.{Run, Task, Thread, World, no_task, pooled_at, region_at, task_at, thread_at, unmade}
 use Rattle.omp_model.specs.Members.{code_of, current, current_region, moment_of, view_of}
+use Rattle.omp_model.specs.Arrivals.{IsInTask}
 use Rattle.omp_model.specs.Alike.{AlikeWorld}
 use Rattle.omp_model.specs.Changes.{gone_past, gone_to, sharing}
 use Rattle.omp_model.specs.Conditions.{AreOrderly}
@@ -39,7 +40,7 @@ use Rattle.omp_model.proofs.AlikeWorlds.{alike-gone as world-gone, alike-region 
 use Rattle.omp_model.proofs.Later.{at-set}
 use Rattle.omp_model.proofs.Reading.{read-same}
 use Rattle.omp_model.proofs.Turning.{AfterSilence}
-use Rattle.omp_model.proofs.Arriving.{Arrives, AtStep, arrives}
+use Rattle.omp_model.proofs.Arriving.{Arrives, arrives}
 use Rattle.nested_runs.specs.Shown.{opens_at}
 use Rattle.nested_runs.specs.Standing.{HasCourse, Stand, is_behind, stand_among, stand_at}
 use Rattle.nested_runs.specs.Standing.Stand.{Free}
@@ -229,7 +230,7 @@ asks-free program view now what tree orderly free is =
 
 -- Silent steps.
 
-module _ (run : Run) (W : World) (t : ℕ) (returns : HasReturnsOutside run.program) (codes : AreCodes W) (made : IsMadeWorld W) (at : AtStep W t) where
+module _ (run : Run) (W : World) (t : ℕ) (returns : HasReturnsOutside run.program) (codes : AreCodes W) (made : IsMadeWorld W) (at : IsInTask W t) where
   abbrev k : ℕ
   k = current W t
 
@@ -289,8 +290,8 @@ module _ (run : Run) (W : World) (t : ℕ) (returns : HasReturnsOutside run.prog
                     (codes.orderly k) free is
                 | inr gone ↦ gone.free
               ];
-          invited = read-same (λ (x : Thread). x.invited) unmade W.threads t t thread refl ∙ at.invited;
-          undeferred = read-same (λ (x : Thread). x.undeferred) unmade W.threads t t thread refl ∙ at.undeferred;
+          invited = read-same (λ (x : Thread). x.invited) unmade W.threads t t thread refl ∙ at.quiet.free.invited;
+          undeferred = read-same (λ (x : Thread). x.undeferred) unmade W.threads t t thread refl ∙ at.quiet.free.undeferred;
         }
 
   may-take : (what : Ask) (tree : Tree) (is : silent run.program (view_of W t) (moment_of W t) ≡ Asks what tree) →

@@ -23,13 +23,14 @@ use Rattle.omp_model.specs.Members.{current, moment_of, view_of}
 use Rattle.omp_model.specs.Conditions.{AreOrderly}
 use Rattle.omp_model.specs.Going.{Happens, effect_of_point, event_of_point, executes_point, fault_of_point, going_by, going_in_code, past_point, told, unless}
 use Rattle.omp_model.specs.Made.{IsMadeWorld}
+use Rattle.omp_model.proofs.Arriving.{Arrives, IsAtCode, arrives}
 use Rattle.omp_model.proofs.MadeEvents.{current-below}
 use Rattle.omp_model.proofs.Turning.{Beside, GoOf, OfCode}
 use Rattle.nested_runs.specs.Coming.{Comes, ComesInCode, Tells}
 use Rattle.nested_runs.specs.Effects.{EndsNewest, effect_of_event}
 use Rattle.nested_runs.specs.Touching.{AreCodes}
 use Rattle.nested_runs.proofs.Codes.{answer-open, answer-orderly, event-open}
-use Rattle.nested_runs.proofs.ComingArrivals.{IsAtCode, Reaches, met-comes, reaches}
+use Rattle.nested_runs.proofs.ComingArrivals.{comes-beside}
 use Rattle.nested_runs.proofs.ComingTells.{gate, tells}
 use Rattle.nested_runs.proofs.Courses.{course-occurs, course-told}
 use Rattle.nested_runs.proofs.Stands.{effect-is, stand-occurs, stand-told}
@@ -102,5 +103,6 @@ module _ (run : Run) (W : World) (t : ℕ) (returns : HasReturnsOutside run.prog
 pub comes : (run : Run) (W after : World) (t : ℕ) (e : Event) → HasReturnsOutside run.program → AreCodes W → IsMadeWorld W → AreOrderly W → GoOf run W t e after
     → Comes W t e
 comes run W after t e returns codes made orderly (OfCode is happens) =
-    comes-in-code run W t returns codes made (subst (Reaches W t) is (reaches run W t returns codes made orderly)) e after happens
-comes run W after t e returns codes made orderly (Beside is happens) = met-comes W t e (subst (Reaches W t) is (reaches run W t returns codes made orderly))
+    comes-in-code run W t returns codes made (subst (Arrives W t) is (arrives W t)) e after happens
+comes run W after t e returns codes made orderly (Beside is happens) =
+    comes-beside run W t returns codes made orderly e (subst (Arrives W t) is (arrives W t))

@@ -14,10 +14,10 @@ use Rattle.omp_model.specs.Gates.{all_left}
 use Rattle.omp_model.specs.Members.{current, current_region, member_index, region_of}
 use Rattle.omp_model.specs.Going.{kind_of_task}
 use Rattle.omp_model.specs.Made.{IsMadeWorld}
+use Rattle.omp_model.specs.Arrivals.{IsQuiet}
 use Rattle.omp_model.specs.Touching.{thread_after}
 use Rattle.omp_model.proofs.MadeEvents.{current-below}
 use Rattle.nested_runs.specs.Recorded.{Inside}
-use Rattle.nested_runs.specs.Coming.{IsQuiet}
 use Rattle.nested_runs.specs.Standing.{Stand, stand_at}
 use Rattle.nested_runs.specs.Standing.Stand.{AtFork}
 use Rattle.nested_runs.specs.Touching.{MayTake}

@@ -38,7 +38,7 @@ module _ (run : Run) (W after : World) (t : ℕ) (e : Event) (returns : HasRetur
   in-code some is = by-outcome some (silent run.program (view_of W t) (told W t)) refl is
 
   of-go : AreOrderly W → GoOf run W t e after → Comes W t e → TouchesWorld W after t e → Touches W after t e
-  of-go orderly (OfCode comes-to happens) comes = in-code (subst (Arrives W t) comes-to (arrives W t)) happens
+  of-go orderly (OfCode comes-to happens) comes = in-code ((subst (Arrives W t) comes-to (arrives W t)).within.some) happens
   of-go orderly (Beside meets happens) comes =
       unless-goes (λ which next. Comes W t which → TouchesWorld W next t which → Touches W next t which) (fault_of W t e) e e (effect_of W t e) after
       (λ fine so world. touches-beside W (effect_of W t e) t e world

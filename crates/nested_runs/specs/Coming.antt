@@ -8,35 +8,19 @@ use Rattle.task_pool.specs.declared.task.Condition.TheVariants as condition
 use Rattle.task_pool.specs.declared.task.TaskKind.TheVariants as kind
 use Rattle.sync_objects.specs.declared.lock.Lock.{Lock}
 use Rattle.sync_objects.specs.Owners.{look_up}
-use Rattle.omp_model.specs.declared.limits.TheConstants.{IMPLICIT_REGION, INITIAL_TASK}
+use Rattle.omp_model.specs.declared.limits.TheConstants.{INITIAL_TASK}
 use Rattle.omp_model.specs.declared.parts.ThreadStage.TheVariants as thread_stage
 use Rattle.omp_model.specs.declared.event.Endpoint.TheVariants.{Begin}
 use Rattle.omp_model.specs.declared.event.Event.{Event}
 use Rattle.omp_model.specs.declared.event.Event.TheVariants.{Dispatch, InitialTaskBegin, InitialTaskEnd, LockDestroy, LockInit, MemberBegin, MemberEnd, MutexAcquired, MutexReleased, ParallelBegin, ParallelEnd, Sync, TaskBegin, TaskCreate, TaskEnd, ThreadBegin, ThreadEnd, Work}
-use Rattle.omp_model.specs.declared.event.Share.{Share}
 use Rattle.omp_model.specs.State.{World, pooled_at, task_at, thread_at}
 use Rattle.omp_model.specs.Members.{current, current_region, is_explicit_task, region_of}
-use Rattle.omp_model.specs.Gates.{all_left, has_no_tasks, is_barrier, main_returned, may_end, workers_over}
+use Rattle.omp_model.specs.Gates.{all_left, has_no_tasks, is_barrier, may_end, workers_over}
+use Rattle.omp_model.specs.Arrivals.{ComesToDispatch, ComesToThreadEnd, IsInTask, IsQuiet}
 use Rattle.nested_runs.specs.Shown.{opens_at}
 use Rattle.nested_runs.specs.Standing.{is_behind, stand_at}
 use Rattle.nested_runs.specs.Standing.Stand.{Free, AtFork, AtMutex}
 use Rattle.nested_runs.specs.Effects.{EndsNewest, effect_of_event, is_in_region_barrier, stand_before}
-
--- the thread has begun, and is to join no region and to start no undeferred task
-pub record IsFree (W : World) (t : ℕ) : Type 0 where
-  pub stage : (thread_at W t).stage ≡ thread_stage.Begun
-  pub invited : (thread_at W t).invited ≡ 0
-  pub undeferred : (thread_at W t).undeferred ≡ 0
-
--- .. and has no share of work to tell
-pub record IsQuiet (W : World) (t : ℕ) : Type 0 where
-  pub free : IsFree W t
-  pub taken : (thread_at W t).taken ≡ None
-
--- .. and its current task has come to an event, or the end, of its code
-pub record IsInTask (W : World) (t : ℕ) : Type 0 where
-  pub quiet : IsQuiet W t
-  pub some : 1 ≤ current W t
 
 -- ---- beside all code
 
@@ -52,17 +36,6 @@ pub record ComesToInitialEnd (W : World) (t : ℕ) : Type 0 where
   pub closed : opens_at W INITIAL_TASK ≡ []
   pub tasks : has_no_tasks W (current_region W t) ≡ true
   pub workers : workers_over W ≡ true
-
--- a worker ends where main has returned, and thread 0 behind the initial task
-pub record MainIsOver (W : World) : Type 0 where
-  pub returned : main_returned W ≡ true
-  pub tasks : has_no_tasks W IMPLICIT_REGION ≡ true
-
-pub record ComesToThreadEnd (W : World) (t : ℕ) : Type 0 where
-  pub quiet : IsQuiet W t
-  pub none : current W t ≡ 0
-  pub first : t ≡ 0 → (pooled_at W INITIAL_TASK).condition ≡ condition.Finished
-  pub worker : t ≢ 0 → MainIsOver W
 
 pub record ComesToMember (W : World) (t r k : ℕ) : Type 0 where
   pub stage : (thread_at W t).stage ≡ thread_stage.Begun
@@ -103,10 +76,6 @@ pub record ComesToTaskEnd (W : World) (t k : ℕ) : Type 0 where
   pub explicit : is_explicit_task W k ≡ true
   pub closed : opens_at W k ≡ []
   pub stand : stand_at W k ≡ Free
-
-pub record ComesToDispatch (W : World) (t : ℕ) (share : Share) : Type 0 where
-  pub free : IsFree W t
-  pub taken : (thread_at W t).taken ≡ Some share
 
 -- ---- events of the code
 

@@ -119,7 +119,7 @@ module _ (board now : BoardView) (t : ℕ) (what : Point) (node : ℕ) (still : 
       (subst (λ (now : BoardView). IsGoingTo now.program now.world t (moment_of now.world t) what result after) still going)
 
 some-of : (W : World) (t : ℕ) (came : Arrival) → came ≡ Comes → Arrives W t came → 1 ≤ current W t
-some-of W t came is at = subst (Arrives W t) is at
+some-of W t came is at = (subst (Arrives W t) is at).within.some
 
 -- a thread that comes to an event of its code has a task
 pub some_comes : (W : World) (t : ℕ) → arrival W t ≡ Comes → 1 ≤ current W t

@@ -47,7 +47,7 @@ unfolding going_in_code
 in-code run W after t e made some is = by-outcome run W after t e made some (silent run.program (view_of W t) (told W t)) is
 
 pub touches-world : (run : Run) (W after : World) (t : ℕ) (e : Event) → IsMadeWorld W → AreOrderly W → GoOf run W t e after → TouchesWorld W after t e
-touches-world run W after t e made orderly (OfCode comes happens) = in-code run W after t e made (subst (Arrives W t) comes (arrives W t)) happens
+touches-world run W after t e made orderly (OfCode comes happens) = in-code run W after t e made ((subst (Arrives W t) comes (arrives W t)).within.some) happens
 touches-world run W after t e made orderly (Beside meets happens) =
     unless-goes (λ which next. TouchesWorld W next t which) (fault_of W t e) e e (effect_of W t e) after
     (λ fine. touches-effect W t e (thread-goes W t (ap goes_on meets)) made orderly (subst (Arrives W t) meets (arrives W t))) happens

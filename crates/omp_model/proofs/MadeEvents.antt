@@ -36,7 +36,7 @@ use Rattle.omp_model.specs.Returning.{after_created, at_back}
 use Rattle.omp_model.specs.Words.{is_made_thread, stored}
 use Rattle.omp_model.specs.Made.{HasOccurred, IsMadeWorld, IsRegion, IsRegionOf, IsTask, IsTaskOf, IsThread, MadeEvent, MadeMember, MadeRegion}
 use Rattle.omp_model.proofs.AlikeWorlds.{alike-stored, made-alike}
-use Rattle.omp_model.proofs.Arriving.{AtEnd, Begins, Ready, Reached, Undeferred}
+use Rattle.omp_model.proofs.Arriving.{AtEnd, Begins, Ready, Reached, Undeferred, ready-within}
 use Rattle.omp_model.proofs.Later.{Later, region-later, region-of-later, task-later, task-of-later}
 use Rattle.omp_model.proofs.MadeWords.{MadeAfter, after-code, after-detained, after-either, after-finished, after-head, after-opened, after-own, after-popped, after-readied, after-region_made, after-same, after-started, after-store, after-taken_up, after-task, after-task_made, after-team, after-then, last-region}
 
@@ -111,8 +111,8 @@ module _ (W : World) (t : ℕ) (made : IsMadeWorld W) where
       (found-last (IsTask W) (IsTaskOf W t) (is_allowed W.pool.tasks (current_region W t) (held_tasks W t)) W.pool.ready made.ready (allowed one))
 
   begins : (k : ℕ) → Begins W t k → IsTaskOf W t k
-  begins k (Undeferred is some) = subst (IsTaskOf W t) (sym is) ((made.threads t).starts (rw (← is) some))
-  begins k (Ready some is) = next-task (current-made some) k is
+  begins k (Undeferred uninvited is some) = subst (IsTaskOf W t) (sym is) ((made.threads t).starts (rw (← is) some))
+  begins k (Ready may is) = next-task (current-made (ready-within W t may).some) k is
 
   ending : (k : ℕ) → AtEnd W t k → IsTaskOf W t k
   ending k at = subst (IsTaskOf W t) (sym at.task) (current-made (rw (← at.task) at.some))
@@ -122,7 +122,7 @@ module _ (W : World) (t : ℕ) (made : IsMadeWorld W) where
   coming (event.MemberBegin r k) at = record { region = subst (IsRegionOf W t) (sym at.region) ((made.threads t).joins (rw (← at.region) at.some)); task = at.task }
   coming (event.MemberEnd r k) at = let one = ending k at.end in record { region = subst (IsRegion W) (sym at.region) one.within.made; task = one.made }
   coming (event.TaskBegin prior task) at = record { before = rw at.before current-below; task = begins task at.task }
-  coming (event.TaskEnd task) at = (ending task at).made
+  coming (event.TaskEnd task) at = (ending task at.end).made
   coming (event.ParallelBegin r requested codeptr) at = absurd at
   coming (event.ParallelEnd r codeptr) at = absurd at
   coming (event.TaskCreate task undeferred codeptr) at = absurd at

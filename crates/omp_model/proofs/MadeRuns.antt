@@ -33,7 +33,7 @@ use Rattle.omp_model.proofs.Turns.{Leaves, leaves-turn}
 -- the Go of an event
 go-made : (run : Run) (W after : World) (t : ℕ) (e : Event) → IsMadeWorld W → GoOf run W t e after → MadeGo W after t e
 go-made run W after t e made (OfCode comes happens) =
-    subst (MadeGoing W t) happens (in_code-made run W t made (thread-goes W t (ap goes_on comes)) (current-made W t made (subst (Arrives W t) comes (arrives W t))))
+    subst (MadeGoing W t) happens (in_code-made run W t made (thread-goes W t (ap goes_on comes)) (current-made W t made ((subst (Arrives W t) comes (arrives W t)).within.some)))
 go-made run W after t e made (Beside meets happens) =
     subst (MadeGoing W t) happens (beside-made W t e made (thread-goes W t (ap goes_on meets)) (coming W t made e (subst (Arrives W t) meets (arrives W t))))
 

@@ -161,12 +161,12 @@ ready-is : (W : World) (t k : ℕ) → AreOrderly W → next_task W t ≡ Some k
 ready-is W t k all is = subst (Found (IsReady W)) is (found-last (IsReady W) (IsReady W) (is_allowed W.pool.tasks (current_region W t) (held_tasks W t)) W.pool.ready all.ready (λ j so allows. so))
 
 pub begins-unstarted : (W : World) (t k : ℕ) → AreOrderly W → Begins W t k → has_started (pooled_at W k).condition ≡ false
-begins-unstarted W t k all (Undeferred is some) = ap has_started (detained-is W t k all is some).made
-begins-unstarted W t k all (Ready some is) = ap has_started (ready-is W t k all is)
+begins-unstarted W t k all (Undeferred uninvited is some) = ap has_started (detained-is W t k all is some).made
+begins-unstarted W t k all (Ready may is) = ap has_started (ready-is W t k all is)
 
 begins-apart : (W : World) (t k : ℕ) → AreOrderly W → Begins W t k → Apart W t k
-begins-apart W t k all (Undeferred is some) = apart-to-start W t k (detained-is W t k all is some)
-begins-apart W t k all (Ready some is) = apart-ready W t k (ready-is W t k all is)
+begins-apart W t k all (Undeferred uninvited is some) = apart-to-start W t k (detained-is W t k all is some)
+begins-apart W t k all (Ready may is) = apart-ready W t k (ready-is W t k all is)
 
 -- a member's task is made, and begins
 begins-member : (W : World) (t r : ℕ) → AreOrderly W → IsMadeWorld W → IsThread W t → IsRegionOf W t r → OrderlyAfter t W (after_member W t r (length W.tasks))
@@ -220,9 +220,9 @@ go-beside W t (event.MemberEnd r k) all made there at =
 go-beside W t (event.TaskBegin prior task) all made there at =
     record { whole = begins-on W t task all made there (coming W t made (event.TaskBegin prior task) at).task.made (begins-unstarted W t task all at.task) (begins-apart W t task all at.task); occurred = tt }
 go-beside W t (event.TaskEnd task) all made there at =
-    let one = ending W t task all at in
+    let one = ending W t task all at.end in
     go-then W (popped W t) (emptied (popped W t) task) t (event.TaskEnd task)
-    (record { whole = orderly-popped W t task all there at.task at.some one; occurred = popped-ended W t task all there at.task at.some one })
+    (record { whole = orderly-popped W t task all there at.end.task at.end.some one; occurred = popped-ended W t task all there at.end.task at.end.some one })
     (still-task (popped W t) task _ refl)
 go-beside W t (event.Dispatch share) all made there at = go-still W _ t (event.Dispatch share) all (still-own W t _ refl refl) tt
 go-beside W t (event.ParallelBegin r requested codeptr) all made there at = absurd at

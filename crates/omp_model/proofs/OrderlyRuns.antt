@@ -37,7 +37,7 @@ use Rattle.omp_model.proofs.OrderlyEvents.{OrderlyGo, OrderlyGoing, back-orderly
 
 go-orderly : (run : Run) (W after : World) (t : ℕ) (e : Event) → AreOrderly W → IsMadeWorld W → GoOf run W t e after → OrderlyGo W after t e
 go-orderly run W after t e all made (OfCode comes happens) =
-    subst (OrderlyGoing W t) happens (in_code-orderly run W t all made (subst (Arrives W t) comes (arrives W t)))
+    subst (OrderlyGoing W t) happens (in_code-orderly run W t all made ((subst (Arrives W t) comes (arrives W t)).within.some))
 go-orderly run W after t e all made (Beside meets happens) =
     subst (OrderlyGoing W t) happens (beside-orderly W t e all made (thread-goes W t (ap goes_on meets)) (subst (Arrives W t) meets (arrives W t)))
 

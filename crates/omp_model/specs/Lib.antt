@@ -20,6 +20,7 @@ pub mod Running
 pub mod Made
 pub mod Named
 pub mod Conditions
+pub mod Arrivals
 pub mod Alike
 pub mod Touching
 pub mod Empty

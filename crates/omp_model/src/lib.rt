@@ -14,8 +14,8 @@
 //! - `Serial`, `Storing`, `Running`: the serial order;
 //! - `Empty`: the smallest program with its run;
 //! - `Made`, `Named`, `Conditions`: what a state names, and what a tool hears and inquires, was made, and how far its tasks have come;
-//! - `Alike`, `Touching`: worlds that are alike but for code, cells and words, as those before and after silent steps, and what of a world, beside
-//!   code, the Go of an event and its Back change. They serve proofs.
+//! - `Arrivals`, `Alike`, `Touching`: how far a thread has come that comes to an event; worlds that are alike but for code, cells and words, as those
+//!   before and after silent steps; and what of a world, beside code, the Go of an event and its Back change. They serve proofs.
 //!
 //! What one task's code does between events is `c_model`'s, what a team meets `team_parts`', tasks with their ready order `task_pool`'s, and locks
 //! `sync_objects`'.
@@ -46,7 +46,8 @@
 //! and `Facts` single lines, a run with stores, states and a snapshot. That the definitions are OpenMP's is for their reader to judge. For the code
 //! that runs on them, `GonePast` has what is left as it was where a task leaves out what it goes past, and `Coming` what a task's code comes to
 //! where its thread comes to a step or an event of it. `AlikeWorlds` has that a turn leads to a world that is alike, or to the Go of an event from
-//! one, and what is so of such a world; `Gos` and `Backs` have what each event's Go and Back change.
+//! one, and what is so of such a world; `Arriving` what is so where a thread has come to an event; `Gos` and `Backs` what each event's Go and Back
+//! change.
 #![tactic(auto)]
 
 mod cause;

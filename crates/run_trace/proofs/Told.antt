@@ -36,7 +36,7 @@ use Rattle.run_trace.proofs.Shares.{AreSome, some-after, some-quiet}
 
 -- an event beside all code, to which a thread has come
 beside-sensible : (W after : World) (t : ℕ) (e : Event) → AreSome W.threads → Reached W t e → IsSensible after e
-beside-sensible W after t (event.Dispatch share) all at = subst HasSomeShare at (all t)
+beside-sensible W after t (event.Dispatch share) all at = subst HasSomeShare at.taken (all t)
 beside-sensible W after t (event.MutexReleased which wait_id codeptr) all at = absurd at
 beside-sensible W after t (event.TaskCreate task undeferred codeptr) all at = absurd at
 beside-sensible W after t other all at = tt
