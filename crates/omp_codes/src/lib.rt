@@ -7,7 +7,7 @@
 //! - [`PROFILE_MASK`] is the mask with the callbacks of [`PROFILE`], by [`profile_has_its_mask`];
 //! - [`next_state`] is `next_of`: the one that follows in the list of the states.
 //!
-//! Tests in `ompt_tests` compare a few answers with values written out by hand. Nothing here takes memory.
+//! Tests in `call_tests` compare a few answers with values written out by hand. Nothing here takes memory.
 #![tactic(auto)]
 
 mod answers;

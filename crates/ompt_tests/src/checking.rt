@@ -33,7 +33,7 @@ const ROOM: usize = 2_000_000;
 #[test]
 fn little_is_kept_of_a_long_trace(rt: HostRuntime) -> Result<(), Fail> {
     let text = generated_text(rt.alloc(), 400)?;
-    let mut source = source_of(&rt, &text)?;
+    let mut source = source_of(rt.alloc(), &text)?;
     let out = MemSink::new(rt.alloc(), ROOM, Vec::new(rt.alloc()))?;
     let told = hand(
         &rt,

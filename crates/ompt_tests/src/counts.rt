@@ -93,7 +93,7 @@ fn told_to_four<R: AllocGlobal + Threads + Wait + Sync>(
 ) -> Result<Told, Memory> {
     let mut guests = Vec::new(rt.alloc());
     for _guest in 0..4 {
-        guests.push(Listening::new(rt, PROFILE_MASK, 1))?;
+        guests.push(Listening::new(rt.alloc(), PROFILE_MASK, 1)?)?;
     }
     tell_guests(rt, words, text, guests, &[])
 }

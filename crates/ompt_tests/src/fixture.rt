@@ -1,14 +1,11 @@
 //! What the tests hand to the command, and what is reported of it.
 
 use crate::listening::{Answers, Listening, answers_of};
-use c_check::{Program, check};
-use c_syntax::read_program;
-use c_tokens::tokens;
 use omp_model::{Cause, Entry, History, What};
 use ompt_calls::Call;
 use ompt_cli::{Command, End, Report, Top, TraceCommand, top};
 use run_edges::{MemSink, MemSource, Memory, Script, Source};
-use std::alloc::{AllocError, Global};
+use std::alloc::Global;
 use std::process::Abort;
 use std::sync::Wait;
 use std::thread::Threads;
@@ -58,7 +55,7 @@ pub(crate) fn tell<R: AllocGlobal + Threads + Wait + Sync, S: Source>(
     words: &[&str],
     source: &mut S,
 ) -> Result<Told, Memory> {
-    let out = ample(rt)?;
+    let out = ample(rt.alloc())?;
     hand(rt, words, source, out, Vec::new(rt.alloc()), &[])
 }
 
@@ -70,8 +67,8 @@ pub(crate) fn tell_guests<R: AllocGlobal + Threads + Wait + Sync>(
     guests: Vec<Listening>,
     asked: &[(u32, Call)],
 ) -> Result<Told, Memory> {
-    let mut source = source_of(rt, text)?;
-    hand(rt, words, &mut source, ample(rt)?, guests, asked)
+    let mut source = source_of(rt.alloc(), text)?;
+    hand(rt, words, &mut source, ample(rt.alloc())?, guests, asked)
 }
 
 /// Hands the command all that it takes, with ample room for its line. The guests are boxed here, and the boxes that come back are
@@ -84,13 +81,24 @@ pub(crate) fn hand<R: AllocGlobal + Threads + Wait + Sync, S: Source>(
     guests: Vec<Listening>,
     asked: &[(u32, Call)],
 ) -> Result<Told, Memory> {
-    let words = owned(rt, words)?;
-    let mut err = ample(rt)?;
+    let words = owned(rt.alloc(), words)?;
+    let mut err = ample(rt.alloc())?;
     let mut boxes: Vec<Box<dyn GuestTool>> = Vec::new(rt.alloc());
     for guest in guests {
         boxes.push(Box::new(rt.alloc(), guest)?)?;
     }
     let top = top(rt, rt.alloc(), &words, source, &mut out, &mut err, boxes);
+    told_of(rt.alloc(), top, out, err, asked)
+}
+
+/// What the command came to, with what its guests answer.
+fn told_of(
+    alloc: Global,
+    top: Top,
+    out: MemSink,
+    err: MemSink,
+    asked: &[(u32, Call)],
+) -> Result<Told, Memory> {
     let Top {
         status,
         end,
@@ -99,7 +107,7 @@ pub(crate) fn hand<R: AllocGlobal + Threads + Wait + Sync, S: Source>(
         read,
     } = top;
     let ran = match ran {
-        Some(report) => Some(ran_of(rt, report, asked)?),
+        Some(report) => Some(ran_of(alloc, report, asked)?),
         None => None,
     };
     Ok(Told {
@@ -114,20 +122,20 @@ pub(crate) fn hand<R: AllocGlobal + Threads + Wait + Sync, S: Source>(
 }
 
 /// The same words, owned.
-pub(crate) fn owned<R: AllocGlobal>(rt: &R, words: &[&str]) -> Result<Vec<String>, Memory> {
-    let mut owned = Vec::new(rt.alloc());
+pub(crate) fn owned(alloc: Global, words: &[&str]) -> Result<Vec<String>, Memory> {
+    let mut owned = Vec::new(alloc);
     for word in words {
-        owned.push(String::from_str(rt.alloc(), word)?)?;
+        owned.push(String::from_str(alloc, word)?)?;
     }
     Ok(owned)
 }
 
 /// The report, with what its guests answer.
-fn ran_of<R: AllocGlobal>(rt: &R, report: Report, asked: &[(u32, Call)]) -> Result<Ran, Memory> {
+fn ran_of(alloc: Global, report: Report, asked: &[(u32, Call)]) -> Result<Ran, Memory> {
     let mut report = report;
-    let mut guests = Vec::new(rt.alloc());
+    let mut guests = Vec::new(alloc);
     for guest in &mut report.guests {
-        guests.push(answers_of(rt, guest, asked)?)?;
+        guests.push(answers_of(alloc, guest, asked)?)?;
     }
     Ok(Ran {
         command: report.command,
@@ -157,38 +165,16 @@ pub(crate) fn has_entries(rt: &impl Abort, history: &History, expected: &[(usize
 }
 
 /// A source of this text that never fails.
-pub(crate) fn source_of<R: AllocGlobal>(rt: &R, text: &[u8]) -> Result<MemSource, Memory> {
-    Ok(MemSource::new(text.to_vec(rt.alloc())?, Vec::new(rt.alloc())))
+pub(crate) fn source_of(alloc: Global, text: &[u8]) -> Result<MemSource, Memory> {
+    Ok(MemSource::new(text.to_vec(alloc)?, Vec::new(alloc)))
 }
 
 /// A sink that never fails, with room for all that is written here.
-pub(crate) fn ample<R: AllocGlobal>(rt: &R) -> Result<MemSink, Memory> {
-    MemSink::new(rt.alloc(), 4000, Vec::new(rt.alloc()))
+pub(crate) fn ample(alloc: Global) -> Result<MemSink, Memory> {
+    MemSink::new(alloc, 4000, Vec::new(alloc))
 }
 
 /// A script whose first call fails.
-pub(crate) fn failing<R: AllocGlobal>(rt: &R) -> Result<Vec<Script>, Memory> {
-    Ok(Vec::from_array(rt.alloc(), [Script::Fail])?)
-}
-
-/// The most bytes of a text.
-const TEXT_LIMIT: usize = 65_536;
-
-/// The program of a text that has no fault. A fault is told as want of memory.
-pub(crate) fn program_of(alloc: Global, text: &[u8]) -> Result<Program, Memory> {
-    if text.len() > TEXT_LIMIT {
-        return Err(AllocError);
-    }
-    let found = match tokens(alloc, text) {
-        Ok(found) => found,
-        Err(_) => return Err(AllocError),
-    };
-    let tree = match read_program(alloc, text, &found) {
-        Ok(tree) => tree,
-        Err(_) => return Err(AllocError),
-    };
-    match check(alloc, tree) {
-        Ok(program) => Ok(program),
-        Err(_) => Err(AllocError),
-    }
+pub(crate) fn failing(alloc: Global) -> Result<Vec<Script>, Memory> {
+    Ok(Vec::from_array(alloc, [Script::Fail])?)
 }

@@ -7,6 +7,7 @@ use omp_codes::callbacks;
 use ompt_calls::{Call, Reply, Snapshot};
 use ompt_cli::top;
 use run_edges::Memory;
+use std::alloc::Global;
 use std::process::Abort;
 use std::sync::atomic::{AtomicBool, AtomicU32, Ordering};
 use std::sync::{Arc, Wait};
@@ -141,7 +142,7 @@ return 0;
 /// Two guests that share two flags get through.
 #[test]
 fn two_guests_meet_at_the_gate(rt: HostRuntime) -> Result<(), Fail> {
-    let gate = gate_for(&rt, 2)?;
+    let gate = gate_for(rt.alloc(), 2)?;
     let status = status_at(&rt, &["run", "--threads", "2"], CRITICAL_OF_TWO, &gate)?;
     assert!(rt; status == 0);
     have_met(&rt, &gate);
@@ -151,7 +152,7 @@ fn two_guests_meet_at_the_gate(rt: HostRuntime) -> Result<(), Fail> {
 /// Four guests that share four flags get through.
 #[test]
 fn four_guests_meet_at_the_gate(rt: HostRuntime) -> Result<(), Fail> {
-    let gate = gate_for(&rt, 4)?;
+    let gate = gate_for(rt.alloc(), 4)?;
     let status = status_at(&rt, &["run", "--threads", "4"], CRITICAL_OF_FOUR, &gate)?;
     assert!(rt; status == 0);
     have_met(&rt, &gate);
@@ -159,12 +160,12 @@ fn four_guests_meet_at_the_gate(rt: HostRuntime) -> Result<(), Fail> {
 }
 
 /// A gate for so many guests.
-fn gate_for<R: AllocGlobal>(rt: &R, guests: usize) -> Result<Arc<Vec<Notes>>, Memory> {
-    let mut gate = Vec::new(rt.alloc());
+fn gate_for(alloc: Global, guests: usize) -> Result<Arc<Vec<Notes>>, Memory> {
+    let mut gate = Vec::new(alloc);
     for _guest in 0..guests {
         gate.push(Notes::new())?;
     }
-    Ok(Arc::new(rt.alloc(), gate)?)
+    Ok(Arc::new(alloc, gate)?)
 }
 
 /// The status of the command with these words and this text, and a guest for each place at the gate.
@@ -179,10 +180,10 @@ fn status_at<R: AllocGlobal + Threads + Wait + Sync>(
         let gate = Arc::try_clone(gate)?;
         guests.push(Box::new(rt.alloc(), Waiting { gate })?)?;
     }
-    let words = owned(rt, words)?;
-    let mut source = source_of(rt, text)?;
-    let mut out = ample(rt)?;
-    let mut err = ample(rt)?;
+    let words = owned(rt.alloc(), words)?;
+    let mut source = source_of(rt.alloc(), text)?;
+    let mut out = ample(rt.alloc())?;
+    let mut err = ample(rt.alloc())?;
     let top = top(
         rt,
         rt.alloc(),

@@ -1,37 +1,21 @@
-//! The tests of the crates below, and those that cross crates: guests, and what is reported of a run, through `ompt_cli::top`. They show
-//! what no clause says. What a command writes is tested by the rows of `run_tables`.
+//! Tests of the command, through `ompt_cli::top`: what guests hear and store, and what is reported of a run. They show what no clause says.
+//! What a command writes is tested by the rows of `run_tables`.
 #![tactic(auto)]
 
 #[cfg(test)]
-mod calls;
-#[cfg(test)]
 mod checking;
 #[cfg(test)]
-mod codes;
-#[cfg(test)]
 mod counts;
-#[cfg(test)]
-mod edges;
 #[cfg(test)]
 mod fixture;
 #[cfg(test)]
 mod gate;
 #[cfg(test)]
-mod generated;
-#[cfg(test)]
 mod listening;
 #[cfg(test)]
-mod parts;
-#[cfg(test)]
-mod reports;
+mod report_commands;
 #[cfg(test)]
 mod runs;
-#[cfg(test)]
-mod runs_of_programs;
-#[cfg(test)]
-mod snapshots;
-#[cfg(test)]
-mod states;
 #[cfg(test)]
 mod stored_words;
 #[cfg(test)]
@@ -40,5 +24,3 @@ mod tests;
 mod threads;
 #[cfg(test)]
 mod traces;
-#[cfg(test)]
-mod words;

@@ -8,7 +8,7 @@ use ompt_calls::{
     Call, Frame, RegionLevel, RegionLevels, Reply, Snapshot, Store, TaskLevel, TaskLevels, Word,
     WordAt, is_registered,
 };
-use std::alloc::AllocError;
+use std::alloc::{AllocError, Global};
 use tool_api::{GuestTool, Memory, Registrar};
 
 /// From this position on a call is a question, whether it was heard at the position that is so much less.
@@ -31,52 +31,46 @@ pub(crate) struct Listening {
     pub stores_at_work: u64,
     /// The call that finds no memory, counted from 1; 0 for none.
     pub fails: usize,
-    pub heard: Vec<Heard>,
-    pub initialized: u32,
-    pub finalized: u32,
+    /// What it looks for at each call.
+    inside: Snapshot,
+    heard: Vec<Heard>,
+    initialized: u32,
+    finalized: u32,
 }
 
-/// What a guest heard at a call, and what it could inquire there.
-#[derive(Clone, Copy, PartialEq, Eq)]
-pub(crate) struct Heard {
-    pub seq: u32,
-    pub thread: u8,
-    pub call: Call,
-    pub inquired: Inquired,
-}
-
-/// What can be inquired.
-#[derive(Clone, Copy, PartialEq, Eq)]
-pub(crate) struct Inquired {
-    pub word: Word,
-    pub state: (u16, u32),
-    pub tasks: [Option<TaskLevel>; 3],
-    pub regions: [Option<RegionLevel>; 3],
+/// What a guest heard at a call, and whether it could inquire there what it can inside.
+#[derive(Clone, Copy)]
+struct Heard {
+    seq: u32,
+    thread: u8,
+    call: Call,
+    is_inside: bool,
 }
 
 impl Listening {
     /// A guest that has heard nothing, with these callbacks and this answer. It stores nothing and finds memory.
-    pub fn new(rt: &impl AllocGlobal, mask: u64, answer: u32) -> Listening {
-        Listening {
+    pub fn new(alloc: Global, mask: u64, answer: u32) -> Result<Listening, Memory> {
+        Ok(Listening {
             mask,
             answer,
             stores: 0,
             stores_at_work: 0,
             fails: 0,
-            heard: Vec::new(rt.alloc()),
+            inside: inside(alloc)?,
+            heard: Vec::new(alloc),
             initialized: 0,
             finalized: 0,
-        }
+        })
     }
 
-    /// At which of its calls, counted from 1, it heard this; 0 where it did at none. Then 1 where it could inquire this
-    /// there, and else 0.
-    fn told(&self, seq: u32, thread: u8, call: &Call, inquired: Inquired) -> [u64; 2] {
+    /// At which of its calls, counted from 1, it heard this; 0 where it did at none. Then 1 where it could inquire there
+    /// what it can inside, and else 0.
+    fn told(&self, seq: u32, thread: u8, call: &Call) -> [u64; 2] {
         let mut number = 0_u64;
         for heard in &self.heard {
             number = number.saturating_add(1);
             if heard.seq == seq && heard.thread == thread && heard.call == *call {
-                return [number, u64::from(heard.inquired == inquired)];
+                return [number, u64::from(heard.is_inside)];
             }
         }
         [0, 0]
@@ -91,6 +85,46 @@ impl Listening {
             }
         }
         count
+    }
+
+    /// Keeps a call, or answers a question.
+    fn hear(
+        &mut self,
+        seq: u32,
+        thread: u8,
+        call: &Call,
+        snapshot: &Snapshot,
+    ) -> Result<Reply, Memory> {
+        if seq >= QUESTIONS {
+            return Ok(reply_of(self.answer_to(seq, thread, call)));
+        }
+        if self.heard.len().saturating_add(1) == self.fails {
+            return Err(AllocError);
+        }
+        self.heard.push(Heard {
+            seq,
+            thread,
+            call: *call,
+            is_inside: is_same(snapshot, &self.inside),
+        })?;
+        Ok(self.reply_to(call))
+    }
+
+    /// What it answers to a question.
+    fn answer_to(&self, seq: u32, thread: u8, call: &Call) -> [u64; 3] {
+        if seq == COUNTS {
+            let heard = self.heard.len() as u64;
+            return [
+                heard,
+                u64::from(self.initialized),
+                u64::from(self.finalized),
+            ];
+        }
+        if seq >= CALLBACKS {
+            return [self.count_of(seq - CALLBACKS), 0, 0];
+        }
+        let [number, same] = self.told(seq.saturating_sub(QUESTIONS), thread, call);
+        [number, same, 0]
     }
 
     /// What it answers to this call.
@@ -143,26 +177,7 @@ impl GuestTool for Listening {
         call: &Call,
         snapshot: &Snapshot,
     ) -> Result<Reply, Memory> {
-        let inquired = inquired_of(snapshot);
-        if seq == COUNTS {
-            return Ok(reply_of([
-                self.heard.len() as u64,
-                self.initialized as u64,
-                self.finalized as u64,
-            ]));
-        }
-        if seq >= CALLBACKS {
-            return Ok(reply_of([self.count_of(seq - CALLBACKS), 0, 0]));
-        }
-        if seq >= QUESTIONS {
-            let [number, same] = self.told(seq - QUESTIONS, thread, call, inquired);
-            return Ok(reply_of([number, same, 0]));
-        }
-        if self.heard.len().saturating_add(1) == self.fails {
-            return Err(AllocError);
-        }
-        self.heard.push(heard_of(seq, thread, call, snapshot))?;
-        Ok(self.reply_to(call))
+        self.hear(seq, thread, call, snapshot)
     }
 
     fn finalize(&mut self) {
@@ -178,25 +193,25 @@ pub(crate) struct Answers {
     /// How many calls it got of each callback of the profile, in their order.
     pub by_callback: Vec<u64>,
     /// For each call that it is asked for, at which of its calls, counted from 1, it heard this; 0 where it did at none. And
-    /// whether it could inquire there what it can of the snapshot `inside`.
+    /// whether it could inquire there what it can inside.
     pub heard: Vec<(u64, bool)>,
 }
 
 /// Asks a guest for its counts, for those of each callback, and for these calls of thread 0.
-pub(crate) fn answers_of<R: AllocGlobal>(
-    rt: &R,
+pub(crate) fn answers_of(
+    alloc: Global,
     guest: &mut Box<dyn GuestTool>,
     asked: &[(u32, Call)],
 ) -> Result<Answers, Memory> {
-    let snapshot = inside(rt)?;
+    let snapshot = inside(alloc)?;
     let counts = words_of(guest.callback(COUNTS, 0, &QUESTION, &snapshot)?);
-    let mut by_callback = Vec::new(rt.alloc());
+    let mut by_callback = Vec::new(alloc);
     for number in PROFILE {
         let asked = CALLBACKS.saturating_add(number);
         let [count, _, _] = words_of(guest.callback(asked, 0, &QUESTION, &snapshot)?);
         by_callback.push(count)?;
     }
-    let mut heard = Vec::new(rt.alloc());
+    let mut heard = Vec::new(alloc);
     for (seq, call) in asked {
         let reply = guest.callback(QUESTIONS.saturating_add(*seq), 0, call, &snapshot)?;
         let [number, same, _] = words_of(reply);
@@ -261,59 +276,28 @@ const INITIAL: TaskLevel = TaskLevel {
 
 /// What can be inquired on one thread at the begin of the member's task in a region of two. What the event makes is left out:
 /// no inquiry tells it.
-pub(crate) fn inside(rt: &impl AllocGlobal) -> Result<Snapshot, Memory> {
-    let tasks = Vec::from_array(rt.alloc(), [MEMBER, INITIAL])?;
-    Ok(inside_of(TaskLevels(tasks), regions_inside(rt)?))
-}
-
-/// The regions around the member's task.
-fn regions_inside(rt: &impl AllocGlobal) -> Result<RegionLevels, Memory> {
-    let region = RegionLevel {
-        word: STORED,
-        team: 1,
-    };
-    let outer = RegionLevel { word: ONE, team: 1 };
-    Ok(RegionLevels(Vec::from_array(rt.alloc(), [region, outer])?))
-}
-
-/// What can be inquired where the member's task begins, with these levels.
-fn inside_of(tasks: TaskLevels, regions: RegionLevels) -> Snapshot {
-    Snapshot {
+fn inside(alloc: Global) -> Result<Snapshot, Memory> {
+    Ok(Snapshot {
         thread: ONE,
         state: 0x001,
         wait_id: 0,
-        tasks,
-        regions,
+        tasks: TaskLevels(Vec::from_array(alloc, [MEMBER, INITIAL])?),
+        regions: RegionLevels(Vec::from_array(alloc, [region_of(STORED), region_of(ONE)])?),
         fresh: None,
-    }
+    })
 }
 
-/// What is kept of a call.
-pub(crate) fn heard_of(seq: u32, thread: u8, call: &Call, snapshot: &Snapshot) -> Heard {
-    Heard {
-        seq,
-        thread,
-        call: *call,
-        inquired: inquired_of(snapshot),
-    }
+/// The level of a region of one with this word.
+fn region_of(word: Word) -> RegionLevel {
+    RegionLevel { word, team: 1 }
 }
 
-/// What can be inquired of a snapshot.
-fn inquired_of(snapshot: &Snapshot) -> Inquired {
-    Inquired {
-        word: snapshot.get_thread_data(),
-        state: snapshot.get_state(),
-        tasks: [
-            snapshot.get_task_info(0),
-            snapshot.get_task_info(1),
-            snapshot.get_task_info(2),
-        ],
-        regions: [
-            snapshot.get_parallel_info(0),
-            snapshot.get_parallel_info(1),
-            snapshot.get_parallel_info(2),
-        ],
-    }
+/// Whether the same can be inquired of both.
+fn is_same(snapshot: &Snapshot, other: &Snapshot) -> bool {
+    snapshot.get_thread_data() == other.get_thread_data()
+        && snapshot.get_state() == other.get_state()
+        && snapshot.tasks.0.as_slice() == other.tasks.0.as_slice()
+        && snapshot.regions.0.as_slice() == other.regions.0.as_slice()
 }
 
 /// An answer of three words.

@@ -1,7 +1,7 @@
 //! What guests hear of runs, through the command.
 
 use crate::fixture::*;
-use crate::listening::{Listening, NULL, ONE, STORED, TWO, answers_of};
+use crate::listening::{Listening, NULL, ONE, STORED, TWO};
 use omp_codes::PROFILE_MASK;
 use omp_model::{Cause, What};
 use ompt_calls::{Call, Frame, Target, Word};
@@ -11,8 +11,6 @@ use std::process::Abort;
 use std::sync::Wait;
 use std::test::Fail;
 use std::thread::Threads;
-use team_run::run_serial;
-use tool_api::Guest;
 
 /// Words of a run with one thread.
 pub(crate) const RUN_ON_ONE: &[&str] = &["run", "--serial", "--threads", "1"];
@@ -138,7 +136,7 @@ fn guests_hear_of_runs(rt: HostRuntime) -> Result<(), Fail> {
 fn told_in<R: AllocGlobal + Threads + Wait + Sync>(rt: &R, case: &Case) -> Result<Told, Memory> {
     let mut guests = Vec::new(rt.alloc());
     for _guest in 0..case.guests {
-        let mut guest = Listening::new(rt, case.registers, case.answer);
+        let mut guest = Listening::new(rt.alloc(), case.registers, case.answer)?;
         guest.fails = case.fails;
         guests.push(guest)?;
     }
@@ -212,7 +210,7 @@ fn heard_of_a_region() -> [(u32, Call); 5] {
 /// call.
 #[test]
 fn a_guest_stores(rt: HostRuntime) -> Result<(), Fail> {
-    let mut guest = Listening::new(&rt, REGIONS_AND_TASKS, 1);
+    let mut guest = Listening::new(rt.alloc(), REGIONS_AND_TASKS, 1)?;
     guest.stores = 77;
     let guests = Vec::from_array(rt.alloc(), [guest])?;
     let asked = heard_of_a_region();
@@ -234,17 +232,17 @@ fn a_guest_stores(rt: HostRuntime) -> Result<(), Fail> {
     Ok(())
 }
 
+/// Words of a run with one thread that may take one silent step.
+const RUN_ONE_STEP: &[&str] = &["run", "--serial", "--threads", "1", "--steps", "1"];
+
 /// A run of the empty program that may take one silent step ends at that limit, in its third turn.
 #[test]
 fn a_run_meets_its_limit(rt: HostRuntime) -> Result<(), Fail> {
-    let guest = Guest(Box::new(rt.alloc(), Listening::new(&rt, PROFILE_MASK, 1))?);
-    let parts = Vec::from_array(rt.alloc(), [guest])?;
-    let program = program_of(rt.alloc(), PROGRAM)?;
-    let mut ran = run_serial(rt.alloc(), program, 1, 1, parts)?;
+    let guests = Vec::from_array(rt.alloc(), [Listening::new(rt.alloc(), PROFILE_MASK, 1)?])?;
+    let told = tell_guests(&rt, RUN_ONE_STEP, PROGRAM, guests, &[])?;
+    let ran = ran_in(&rt, &told);
     assert!(rt; ran.cause == Cause::Limit(1));
     assert!(rt; ran.history.entries().len() == 5);
-    for guest in &mut ran.parts {
-        assert!(rt; answers_of(&rt, &mut guest.0, &[])?.counts == [2, 1, 1]);
-    }
+    heard(&rt, ran, &[[2, 1, 1]]);
     Ok(())
 }

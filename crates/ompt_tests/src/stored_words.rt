@@ -70,7 +70,7 @@ const ENTRIES: &[(usize, u8, What)] = &[
 
 #[test]
 fn a_guest_stores_into_a_region_and_a_task(rt: HostRuntime) -> Result<(), Fail> {
-    let mut guest = Listening::new(&rt, REGIONS_AND_WORK, 1);
+    let mut guest = Listening::new(rt.alloc(), REGIONS_AND_WORK, 1)?;
     guest.stores = 77;
     guest.stores_at_work = 100;
     let guests = Vec::from_array(rt.alloc(), [guest])?;

@@ -46,8 +46,8 @@ fn has_eight_entries(rt: &impl Abort, told: &Told, threads: u8) {
 /// A source and an output that fail at their first call make no difference, and still fail at their first call afterwards.
 #[test]
 fn wrong_words_touch_neither_source_nor_output(rt: HostRuntime) -> Result<(), Fail> {
-    let mut source = MemSource::new(PROGRAM.to_vec(rt.alloc())?, failing(&rt)?);
-    let out = MemSink::new(rt.alloc(), 10, failing(&rt)?)?;
+    let mut source = MemSource::new(PROGRAM.to_vec(rt.alloc())?, failing(rt.alloc())?);
+    let out = MemSink::new(rt.alloc(), 10, failing(rt.alloc())?)?;
     let words = ["run", "--threads", "0"];
     let mut told = hand(&rt, &words, &mut source, out, Vec::new(rt.alloc()), &[])?;
     assert!(rt; told.end == End::Usage);
@@ -62,7 +62,7 @@ fn wrong_words_touch_neither_source_nor_output(rt: HostRuntime) -> Result<(), Fa
 /// that is reported.
 #[test]
 fn help_touches_no_source(rt: HostRuntime) -> Result<(), Fail> {
-    let mut source = MemSource::new(PROGRAM.to_vec(rt.alloc())?, failing(&rt)?);
+    let mut source = MemSource::new(PROGRAM.to_vec(rt.alloc())?, failing(rt.alloc())?);
     let told = tell(&rt, &["run", "--help"], &mut source)?;
     assert!(rt; told.end == End::Shown);
     assert!(rt; told.status == 0);
@@ -77,7 +77,7 @@ fn help_touches_no_source(rt: HostRuntime) -> Result<(), Fail> {
 /// What is reported of a run has the command, the threads and the steps of its words.
 #[test]
 fn a_report_has_the_settings_of_its_words(rt: HostRuntime) -> Result<(), Fail> {
-    let mut source = source_of(&rt, PROGRAM)?;
+    let mut source = source_of(rt.alloc(), PROGRAM)?;
     let words = ["run", "--steps", "9", "--serial", "--threads", "3"];
     let told = tell(&rt, &words, &mut source)?;
     let ran = ran_in(&rt, &told);
@@ -97,7 +97,7 @@ return 0;
 /// The second region has the worker of the first one.
 #[test]
 fn two_regions_of_two_keep_their_worker(rt: HostRuntime) -> Result<(), Fail> {
-    let mut source = source_of(&rt, TWO_REGIONS_OF_TWO)?;
+    let mut source = source_of(rt.alloc(), TWO_REGIONS_OF_TWO)?;
     let told = tell(&rt, LIST_ON_TWO, &mut source)?;
     let ran = ran_in(&rt, &told);
     assert!(rt; ran.history.entries().len() == 69);

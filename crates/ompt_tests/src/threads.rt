@@ -26,7 +26,7 @@ return 0;
 fn guests_that_decline_hear_nothing_of_threads(rt: HostRuntime) -> Result<(), Fail> {
     let mut guests = Vec::new(rt.alloc());
     for _thread in 0..3 {
-        guests.push(Listening::new(&rt, PROFILE_MASK, 0))?;
+        guests.push(Listening::new(rt.alloc(), PROFILE_MASK, 0)?)?;
     }
     let told = tell_guests(&rt, &["run", "--threads", "3"], STATIC_LOOP, guests, &[])?;
     assert!(rt; told.end == End::Done);
@@ -41,7 +41,7 @@ fn guests_that_decline_hear_nothing_of_threads(rt: HostRuntime) -> Result<(), Fa
 /// A listing by threads has a line for each event, in the order of their positions.
 #[test]
 fn a_listing_by_threads_is_in_order(rt: HostRuntime) -> Result<(), Fail> {
-    let mut source = source_of(&rt, REGION_OF_TWO)?;
+    let mut source = source_of(rt.alloc(), REGION_OF_TWO)?;
     let told = tell(&rt, &["list", "--threads", "2"], &mut source)?;
     assert!(rt; told.end == End::Done);
     let Ok(text) = str::from_utf8(told.out.bytes()) else {

@@ -12,7 +12,7 @@ const RECORD: &[&str] = &["record", "--serial", "--threads", "1"];
 /// read there is none.
 #[test]
 fn a_recorded_trace_is_read(rt: HostRuntime) -> Result<(), Fail> {
-    let mut source = source_of(&rt, PROGRAM)?;
+    let mut source = source_of(rt.alloc(), PROGRAM)?;
     let recorded = tell(&rt, RECORD, &mut source)?;
     assert!(rt; recorded.end == End::Done);
     assert!(rt; recorded.read.is_none());
@@ -22,7 +22,7 @@ fn a_recorded_trace_is_read(rt: HostRuntime) -> Result<(), Fail> {
         ("migrate", TraceCommand::Migrate),
         ("check", TraceCommand::Check),
     ] {
-        let mut source = source_of(&rt, recorded.out.bytes())?;
+        let mut source = source_of(rt.alloc(), recorded.out.bytes())?;
         let told = tell(&rt, &[word], &mut source)?;
         assert!(rt; told.end == End::Read, "{word}");
         assert!(rt; told.status == 0, "{word}");
@@ -35,12 +35,12 @@ fn a_recorded_trace_is_read(rt: HostRuntime) -> Result<(), Fail> {
 /// What threads record is a trace that is nested, with a line for each event of a region of two.
 #[test]
 fn what_threads_record_is_shown(rt: HostRuntime) -> Result<(), Fail> {
-    let mut source = source_of(&rt, REGION_OF_TWO)?;
+    let mut source = source_of(rt.alloc(), REGION_OF_TWO)?;
     let told = tell(&rt, &["record", "--threads", "2"], &mut source)?;
     assert!(rt; told.status == 0);
-    let mut recorded = source_of(&rt, told.out.bytes())?;
+    let mut recorded = source_of(rt.alloc(), told.out.bytes())?;
     assert!(rt; tell(&rt, &["check"], &mut recorded)?.end == End::Read);
-    let mut recorded = source_of(&rt, told.out.bytes())?;
+    let mut recorded = source_of(rt.alloc(), told.out.bytes())?;
     let told = tell(&rt, &["show"], &mut recorded)?;
     assert!(rt; told.status == 0);
     let Ok(text) = str::from_utf8(told.out.bytes()) else {

@@ -15,7 +15,7 @@
 //!   command of `CommandLine`);
 //! - words of the form up to a `--help` or a `--version` give a text to show.
 //!
-//! What the shown text says isn't proved: clap's clauses don't speak of it. Tests of `ompt_tests` compare it. Want of memory is
+//! What the shown text says isn't proved: clap's clauses don't speak of it. Tests of `call_tests` compare it. Want of memory is
 //! free: no clause says when it comes.
 #![tactic(auto)]
 

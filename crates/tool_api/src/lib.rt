@@ -32,7 +32,7 @@
 //! - [`Registrar::set_profile`] registers the callbacks of the profile, where nothing is registered yet;
 //! - [`Registrar::get`] answers 1 exactly where the callback is registered, and else 0.
 //!
-//! Tests in `ompt_tests` register callbacks, and run tools in boxes. The must-fail edits try wrong bodies.
+//! Tests in `call_tests` register callbacks, and those of `ompt_tests` run tools in boxes. The must-fail edits try wrong bodies.
 #![tactic(auto)]
 
 mod guest;

@@ -1,13 +1,11 @@
 //! Runs of programs whose parts hear all events, and one without a tool. They show what no clause says: that a run finds memory, and comes
 //! to its end.
 
-use crate::fixture::program_of;
-use crate::parts::{run_on_one, run_on_two};
+use crate::fixture::run_with;
+use crate::parts::{Keeping, run_on_one, run_on_two};
 use omp_model::Cause;
 use std::process::Abort;
-use std::sync::Wait;
-use std::thread::Threads;
-use team_run::{Memory, run_serial};
+use team_run::Memory;
 use tool_api::Quiet;
 
 /// A program, on how many threads it runs, one or two, and what it is to come to: the cause, what it prints, and how many events are told.
@@ -70,33 +68,33 @@ fn runs_come_to_their_ends(rt: HostRuntime) -> Result<(), Memory> {
     Ok(())
 }
 
-fn comes_to_its_end<R: Abort + AllocGlobal + Threads + Wait + Sync>(
-    rt: &R,
-    run: &Run,
-) -> Result<(), Memory> {
+fn comes_to_its_end<R: Abort + AllocGlobal>(rt: &R, run: &Run) -> Result<(), Memory> {
     let ran = if run.threads == 2 {
-        run_on_two(rt, run.text)?
+        run_on_two(rt.alloc(), run.text)?
     } else {
-        run_on_one(rt, run.text)?
+        run_on_one(rt.alloc(), run.text)?
     };
-    let mut told = 0;
-    for part in &ran.parts {
-        told = part.heard.len().saturating_add(told);
-    }
     assert!(rt; ran.cause == run.cause);
     assert!(rt; ran.text.as_slice() == run.printed);
-    assert_eq!(rt; told, run.told);
+    assert_eq!(rt; count_told(&ran.parts), run.told);
     Ok(())
+}
+
+/// How many events the parts were told.
+fn count_told(parts: &[Keeping]) -> usize {
+    let mut told = 0_usize;
+    for part in parts {
+        told = told.saturating_add(part.heard.len());
+    }
+    told
 }
 
 /// A run without a tool, of a program that prints: why it ends, what it printed, and its entries, a Go and a Back for each event.
 #[test]
 fn a_run_without_a_tool_prints(rt: HostRuntime) -> Result<(), Memory> {
     let text = b"#include <stdio.h>\nint main(void) { printf(\"%d\\n\", 6 * 7); return 3; }\n";
-    let program = program_of(rt.alloc(), text)?;
-    let mut parts = Vec::new(rt.alloc());
-    parts.push(Quiet)?;
-    let ran = run_serial(rt.alloc(), program, 1, 1_000, parts)?;
+    let parts = Vec::from_array(rt.alloc(), [Quiet])?;
+    let ran = run_with(rt.alloc(), text, parts)?;
     assert!(rt; ran.cause == Cause::Returned(3));
     assert!(rt; ran.text.as_slice() == b"42\n".as_slice());
     assert_eq!(rt; ran.history.entries().len(), 8);

@@ -1,8 +1,7 @@
 //! What can be inquired at an event of a program, against values written out by hand.
 
-use crate::fixture::REGION_OF_TWO;
-use crate::listening::{Inquired, ONE, TWO};
-use crate::parts::{Keeping, run_on_one, run_on_two};
+use crate::fixture::{ONE, REGION_OF_TWO, TWO};
+use crate::parts::{Inquired, Keeping, run_on_one, run_on_two};
 use omp_model::Cause;
 use ompt_calls::{Frame, RegionLevel, TaskLevel, Word};
 use std::process::Abort;
@@ -69,7 +68,7 @@ const NESTED_REGIONS: [RegionLevel; 3] = [
 /// In a region in a region there are three levels of tasks and of regions.
 #[test]
 fn nested_regions_have_levels(rt: HostRuntime) -> Result<(), Memory> {
-    let ran = run_on_one(&rt, NESTED)?;
+    let ran = run_on_one(rt.alloc(), NESTED)?;
     let begun = inquired_at(&rt, &ran, 0, 10);
     assert!(rt; begun.state == (0x001, 0));
     assert!(rt; begun.word == ONE);
@@ -93,7 +92,7 @@ int main(void) {
 /// where it has come to own the lock, it is at work.
 #[test]
 fn a_wait_for_a_lock_is_told(rt: HostRuntime) -> Result<(), Memory> {
-    let ran = run_on_one(&rt, SET_TWICE)?;
+    let ran = run_on_one(rt.alloc(), SET_TWICE)?;
     assert!(rt; ran.cause == Cause::Deadlock);
     for (place, state) in [
         (4, (0x000, 0)),
@@ -124,7 +123,7 @@ const WORKER: TaskLevel = TaskLevel {
 /// The worker of a region of two: what it can inquire where its implicit task begins, and where that task ends.
 #[test]
 fn a_worker_has_levels(rt: HostRuntime) -> Result<(), Memory> {
-    let ran = run_on_two(&rt, REGION_OF_TWO)?;
+    let ran = run_on_two(rt.alloc(), REGION_OF_TWO)?;
     let begun = inquired_at(&rt, &ran, 1, 10);
     assert!(rt; begun.state == (0x001, 0) && begun.word == TWO);
     assert!(rt; begun.tasks == [Some(WORKER), Some(INITIAL), None]);

@@ -1,11 +1,11 @@
 //! Serial runs with parts of a tool that no guest is: what each part hears, and replies with several stores.
 
-use crate::fixture::{REGION_OF_TWO, has_entries, program_of};
-use crate::listening::{Heard, NOTHING, ONE, TWO, heard_of};
-use omp_model::{Cause, What};
-use ompt_calls::{Call, Reply, Snapshot, Store, Target, Word, WordAt};
+use crate::fixture::{NOTHING, ONE, REGION_OF_TWO, TWO, run_with};
+use omp_model::{Cause, Entry, What};
+use ompt_calls::{Call, RegionLevel, Reply, Snapshot, Store, Target, TaskLevel, Word, WordAt};
+use std::alloc::Global;
 use std::process::Abort;
-use team_run::{Memory, Ran, run_serial};
+use team_run::{Memory, Ran};
 use tool_api::{Registrar, ToolPart};
 
 /// A part that registers the callbacks of the profile, keeps what it hears, and stores at its positions.
@@ -13,6 +13,36 @@ use tool_api::{Registrar, ToolPart};
 pub(crate) struct Keeping {
     replies: Vec<(u32, Reply)>,
     pub heard: Vec<Heard>,
+}
+
+/// What a part hears at a call: the position, the thread, the number of the callback, and what it could inquire there.
+#[derive(Clone, Copy)]
+pub(crate) struct Heard {
+    pub seq: u32,
+    pub thread: u8,
+    pub number: u32,
+    pub inquired: Inquired,
+}
+
+/// What can be inquired.
+#[derive(Clone, Copy)]
+pub(crate) struct Inquired {
+    pub word: Word,
+    pub state: (u16, u32),
+    pub tasks: [Option<TaskLevel>; 3],
+    pub regions: [Option<RegionLevel>; 3],
+}
+
+impl Keeping {
+    /// What it replies at this position.
+    fn reply_at(&self, seq: u32) -> Reply {
+        for &(at, reply) in &self.replies {
+            if at == seq {
+                return reply;
+            }
+        }
+        NOTHING
+    }
 }
 
 impl ToolPart for Keeping {
@@ -34,22 +64,40 @@ impl ToolPart for Keeping {
         call: &Call,
         snapshot: &Snapshot,
     ) -> Result<Reply, tool_api::Memory> {
-        self.heard.push(heard_of(seq, thread, call, snapshot))?;
-        for &(at, reply) in &self.replies {
-            if at == seq {
-                return Ok(reply);
-            }
-        }
-        Ok(NOTHING)
+        self.heard.push(Heard {
+            seq,
+            thread,
+            number: call.number(),
+            inquired: inquired_of(snapshot),
+        })?;
+        Ok(self.reply_at(seq))
     }
 
     fn finalize(&mut self) {}
 }
 
+/// What can be inquired of a snapshot.
+fn inquired_of(snapshot: &Snapshot) -> Inquired {
+    Inquired {
+        word: snapshot.get_thread_data(),
+        state: snapshot.get_state(),
+        tasks: [
+            snapshot.get_task_info(0),
+            snapshot.get_task_info(1),
+            snapshot.get_task_info(2),
+        ],
+        regions: [
+            snapshot.get_parallel_info(0),
+            snapshot.get_parallel_info(1),
+            snapshot.get_parallel_info(2),
+        ],
+    }
+}
+
 /// Each of two parts hears what its own thread comes to.
 #[test]
 fn two_parts_hear_their_own(rt: HostRuntime) -> Result<(), Memory> {
-    let ran = run_on_two(&rt, REGION_OF_TWO)?;
+    let ran = run_on_two(rt.alloc(), REGION_OF_TWO)?;
     assert!(rt; ran.cause == Cause::Done);
     let [first, second] = ran.parts.as_slice() else {
         panic!(rt; "there are two parts");
@@ -59,16 +107,16 @@ fn two_parts_hear_their_own(rt: HostRuntime) -> Result<(), Memory> {
     Ok(())
 }
 
-/// Entries of a run with stores, and their positions.
-const STORED_ENTRIES: &[(usize, u8, What)] = &[
-    (6, 0, What::Go),
-    (7, 0, What::Put(Target::Thread(0), 11)),
-    (8, 0, What::Put(Target::Task(2), 22)),
-    (9, 0, What::Put(Target::Parallel(2), 33)),
-    (10, 0, What::Back),
-    (11, 0, What::Go),
-    (12, 0, What::Put(Target::Thread(0), 66)),
-    (13, 0, What::Back),
+/// What the entries of thread 0 are from position 6 on, in a run with stores.
+const STORED: [What; 8] = [
+    What::Go,
+    What::Put(Target::Thread(0), 11),
+    What::Put(Target::Task(2), 22),
+    What::Put(Target::Parallel(2), 33),
+    What::Back,
+    What::Go,
+    What::Put(Target::Thread(0), 66),
+    What::Back,
 ];
 
 /// The word of region 2, into which 33 was stored.
@@ -109,9 +157,10 @@ const MEMBER_WORDS: [(u32, Word, Word, Word); 3] = [
 /// Three stores of one reply take effect in their order, and of three others the one whose place is there.
 #[test]
 fn a_reply_stores_thrice(rt: HostRuntime) -> Result<(), Memory> {
-    let ran = run_with_stores(&rt)?;
+    let ran = run_with_stores(rt.alloc())?;
     assert!(rt; ran.cause == Cause::Done);
-    has_entries(&rt, &ran.history, STORED_ENTRIES);
+    let stored = STORED.map(|what| Entry { thread: 0, what });
+    assert!(rt; ran.history.entries().get(6..14) == Some(stored.as_slice()));
     assert!(rt; ran.parts.len() == 1);
     for part in &ran.parts {
         assert!(rt; part.heard.len() == 12);
@@ -136,8 +185,8 @@ fn has_words(
 
 /// A run on one thread, with three stores where the member's task begins. Where its barrier begins there are three more: that
 /// event makes nothing, and there are two levels of tasks.
-fn run_with_stores(rt: &impl AllocGlobal) -> Result<Ran<Keeping>, Memory> {
-    let mut part = new_part(rt);
+fn run_with_stores(alloc: Global) -> Result<Ran<Keeping>, Memory> {
+    let mut part = new_part(alloc);
     let thrice = Reply {
         first: store(WordAt::Thread, 11),
         second: store(WordAt::Task(0), 22),
@@ -150,41 +199,28 @@ fn run_with_stores(rt: &impl AllocGlobal) -> Result<Ran<Keeping>, Memory> {
     };
     part.replies.push((6, thrice))?;
     part.replies.push((11, once))?;
-    let parts = Vec::from_array(rt.alloc(), [part])?;
-    let program = program_of(rt.alloc(), REGION_OF_TWO)?;
-    run_serial(rt.alloc(), program, 1, 1_000_000, parts)
+    let parts = Vec::from_array(alloc, [part])?;
+    run_with(alloc, REGION_OF_TWO, parts)
 }
 
 /// A part that has heard nothing, and stores nothing.
-fn new_part(rt: &impl AllocGlobal) -> Keeping {
+fn new_part(alloc: Global) -> Keeping {
     Keeping {
-        replies: Vec::new(rt.alloc()),
-        heard: Vec::new(rt.alloc()),
+        replies: Vec::new(alloc),
+        heard: Vec::new(alloc),
     }
 }
 
 /// A run of the text's program on one thread, whose part stores nothing.
-pub(crate) fn run_on_one(rt: &impl AllocGlobal, text: &[u8]) -> Result<Ran<Keeping>, Memory> {
-    let parts = Vec::from_array(rt.alloc(), [new_part(rt)])?;
-    run_serial(
-        rt.alloc(),
-        program_of(rt.alloc(), text)?,
-        1,
-        1_000_000,
-        parts,
-    )
+pub(crate) fn run_on_one(alloc: Global, text: &[u8]) -> Result<Ran<Keeping>, Memory> {
+    let parts = Vec::from_array(alloc, [new_part(alloc)])?;
+    run_with(alloc, text, parts)
 }
 
 /// The same on two threads, each with its part.
-pub(crate) fn run_on_two(rt: &impl AllocGlobal, text: &[u8]) -> Result<Ran<Keeping>, Memory> {
-    let parts = Vec::from_array(rt.alloc(), [new_part(rt), new_part(rt)])?;
-    run_serial(
-        rt.alloc(),
-        program_of(rt.alloc(), text)?,
-        2,
-        1_000_000,
-        parts,
-    )
+pub(crate) fn run_on_two(alloc: Global, text: &[u8]) -> Result<Ran<Keeping>, Memory> {
+    let parts = Vec::from_array(alloc, [new_part(alloc), new_part(alloc)])?;
+    run_with(alloc, text, parts)
 }
 
 /// The part heard of this thread alone, at these positions.

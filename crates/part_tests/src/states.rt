@@ -1,7 +1,6 @@
 //! The state of a thread at each of its events, and what it waits for, against values written out by hand.
 
-use crate::listening::Heard;
-use crate::parts::run_on_two;
+use crate::parts::{Heard, run_on_two};
 use omp_model::Cause;
 use std::alloc::Global;
 use std::process::Abort;
@@ -205,7 +204,7 @@ impl Seen {
     /// Adds what was inquired at this call.
     fn add(&mut self, heard: &Heard) -> Result<(), Memory> {
         let (state, wait_id) = heard.inquired.state;
-        self.states.push((heard.call.number(), state))?;
+        self.states.push((heard.number, state))?;
         if wait_id != 0 {
             self.waits.push((state, wait_id))?;
         }
@@ -215,7 +214,7 @@ impl Seen {
 
 /// What the part of the thread has seen in a run on two threads.
 fn seen_in<R: Abort + AllocGlobal>(rt: &R, watch: &Watch) -> Result<Seen, Memory> {
-    let ran = run_on_two(rt, watch.text)?;
+    let ran = run_on_two(rt.alloc(), watch.text)?;
     assert!(rt; ran.cause == Cause::Done);
     let mut seen = Seen {
         states: Vec::new(rt.alloc()),

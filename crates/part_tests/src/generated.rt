@@ -1,14 +1,9 @@
-//! Programs that are generated, against one that is written out by hand, and what is reported of the commands that write reports.
+//! Programs that are generated, against one that is written out by hand, and the summary of a run.
 
-use crate::fixture::*;
-use crate::listening::{Listening, ONE};
-use omp_codes::PROFILE_MASK;
-use omp_model::Cause;
+use crate::fixture::{ONE, program_of};
 use ompt_calls::{Call, EventRecord, Frame};
-use ompt_cli::{Command, End};
-use run_edges::Memory;
 use std::test::Fail;
-use tool_report::{generated_text, summary_text};
+use tool_report::{Memory, generated_text, summary_text};
 
 /// The program with four blocks.
 const FOUR_BLOCKS: &[u8] = b"#include <stdio.h>
@@ -73,22 +68,6 @@ fn generated_texts_are_programs(rt: HostRuntime) -> Result<(), Memory> {
     Ok(())
 }
 
-/// Each generated program runs to its end, with the callbacks of the profile. Its report has the settings of the words.
-#[test]
-fn generated_programs_run(rt: HostRuntime) -> Result<(), Fail> {
-    for (number, blocks) in [("1", 1), ("4", 4), ("40", 40)] {
-        let mut source = source_of(&rt, b"")?;
-        let told = tell(&rt, &["gen", number, "--threads", "3"], &mut source)?;
-        assert!(rt; told.end == End::Done, "of {blocks}");
-        let ran = ran_in(&rt, &told);
-        assert!(rt; ran.command == Command::Generate(blocks));
-        assert!(rt; ran.cause == Cause::Done);
-        assert!(rt; ran.mask == PROFILE_MASK);
-        assert!(rt; (ran.threads, ran.steps) == (3, 1_000_000));
-    }
-    Ok(())
-}
-
 /// A record of this call.
 fn record_of(seq: u32, call: Call) -> EventRecord {
     EventRecord {
@@ -124,36 +103,5 @@ fn a_summary_has_five_lines(rt: HostRuntime) -> Result<(), Memory> {
     ];
     let text = summary_text(rt.alloc(), b"int main(){", &events, b"7\n")?;
     assert!(rt; text.as_slice() == b"bytes 11\nrecords 3\nregions 1\ntasks 0\n7\n".as_slice());
-    Ok(())
-}
-
-/// Words of commands that write reports, and the commands.
-const REPORTS: [(&[&str], Command); 3] = [
-    (&["profile", "--serial", "--threads", "2"], Command::Profile),
-    (
-        &["timeline", "--columns", "20", "--threads", "2"],
-        Command::Timeline(20),
-    ),
-    (
-        &["timeline", "--serial", "--threads", "2"],
-        Command::Timeline(72),
-    ),
-];
-
-/// The guests are neither started nor called where a report is written.
-#[test]
-fn reports_leave_guests_alone(rt: HostRuntime) -> Result<(), Fail> {
-    for (words, command) in REPORTS {
-        let guests = Vec::from_array(rt.alloc(), [Listening::new(&rt, PROFILE_MASK, 1)])?;
-        let told = tell_guests(&rt, words, REGION_OF_TWO, guests, &[])?;
-        assert!(rt; told.end == End::Done);
-        let ran = ran_in(&rt, &told);
-        assert!(rt; ran.command == command);
-        assert!(rt; ran.mask == PROFILE_MASK);
-        assert!(rt; ran.guests.len() == 1);
-        for guest in &ran.guests {
-            assert!(rt; guest.counts == [0, 0, 0]);
-        }
-    }
     Ok(())
 }

@@ -1,8 +1,9 @@
 //! What parts that keep their calls answer, keep and have written, against records, counts and texts written out by hand. The listing of a
 //! region of two has the lines.
 
-use crate::listening::{NOTHING, ONE, TWO, inside};
-use ompt_calls::{Call, EventRecord, Frame};
+use crate::fixture::{NOTHING, ONE, TWO};
+use ompt_calls::{Call, EventRecord, Frame, RegionLevels, Snapshot, TaskLevels};
+use std::alloc::Global;
 use std::process::Abort;
 use tool_api::{Registrar, ToolPart};
 use tool_report::{
@@ -33,15 +34,24 @@ fn hear<R: Abort + AllocGlobal, P: ToolPart>(
     thread: u8,
     events: &[Heard],
 ) -> Result<(), Memory> {
-    let mut snapshot = inside(rt)?;
-    snapshot.wait_id = 3;
     for (seq, state, call) in events {
-        snapshot.state = *state;
-        let reply = part.callback(*seq, thread, call, &snapshot)?;
+        let reply = part.callback(*seq, thread, call, &snapshot_in(rt.alloc(), *state))?;
         assert!(rt; reply == NOTHING, "at {seq}");
     }
     part.finalize();
     Ok(())
+}
+
+/// What can be inquired by a thread in this state, which has no task.
+fn snapshot_in(alloc: Global, state: u16) -> Snapshot {
+    Snapshot {
+        thread: ONE,
+        state,
+        wait_id: 3,
+        tasks: TaskLevels(Vec::new(alloc)),
+        regions: RegionLevels(Vec::new(alloc)),
+        fresh: None,
+    }
 }
 
 const BEGIN: Call = Call::ThreadBegin {
@@ -352,7 +362,7 @@ fn a_timeline_of_the_last_thread(rt: HostRuntime) -> Result<(), Memory> {
 /// Ten thousand calls find memory, and so do their texts.
 #[test]
 fn many_calls_find_memory(rt: HostRuntime) -> Result<(), Memory> {
-    let snapshot = inside(&rt)?;
+    let snapshot = snapshot_in(rt.alloc(), 0x001);
     let mut profile = Profile::new();
     let mut timeline = Timeline::new(rt.alloc());
     for seq in 0..10_000 {

@@ -1,8 +1,7 @@
 //! What words ask for.
 
-use crate::fixture::*;
 use ompt_words::{Command, Request, Settings, TraceCommand, WordsFault, request_of};
-use run_edges::Memory;
+use std::alloc::{AllocError, Global};
 use std::test::Fail;
 
 /// What is asked for where only the command and `--serial` are said.
@@ -197,7 +196,7 @@ const SHOWN: &[(&str, &str)] = &[
 #[test]
 fn words_give_requests(rt: HostRuntime) -> Result<(), Fail> {
     for (words, request) in REQUESTS {
-        let given = asked(&rt, words)?.expect(&rt, "a request");
+        let given = asked(rt.alloc(), words)?.expect(&rt, "a request");
         assert!(rt; given == *request, "{words}");
     }
     Ok(())
@@ -207,7 +206,7 @@ fn words_give_requests(rt: HostRuntime) -> Result<(), Fail> {
 fn other_words_are_refused(rt: HostRuntime) -> Result<(), Fail> {
     for words in WRONG {
         assert!(rt;
-            matches!(asked(&rt, words)?, Err(WordsFault::Usage)),
+            matches!(asked(rt.alloc(), words)?, Err(WordsFault::Usage)),
             "{words}"
         );
     }
@@ -217,7 +216,7 @@ fn other_words_are_refused(rt: HostRuntime) -> Result<(), Fail> {
 #[test]
 fn a_text_is_shown(rt: HostRuntime) -> Result<(), Fail> {
     for (words, line) in SHOWN {
-        match asked(&rt, words)? {
+        match asked(rt.alloc(), words)? {
             Err(WordsFault::Shown(text)) => {
                 assert!(rt; text.as_str().lines().next() == Some(*line), "{words}");
             }
@@ -228,10 +227,10 @@ fn a_text_is_shown(rt: HostRuntime) -> Result<(), Fail> {
 }
 
 /// What the words of this text ask for.
-fn asked<R: AllocGlobal>(rt: &R, text: &str) -> Result<Result<Request, WordsFault>, Memory> {
-    let mut words: Vec<&str> = Vec::new(rt.alloc());
+fn asked(alloc: Global, text: &str) -> Result<Result<Request, WordsFault>, AllocError> {
+    let mut words = Vec::new(alloc);
     for word in text.split_ascii_whitespace() {
-        words.push(word)?;
+        words.push(String::from_str(alloc, word)?)?;
     }
-    Ok(request_of(rt.alloc(), &owned(rt, &words)?))
+    Ok(request_of(alloc, &words))
 }

@@ -1,7 +1,10 @@
 //! A line and the inquiries, against values written out by hand. The listing of a region of two has the other lines.
 
-use crate::listening::{ONE, STORED, TWO, inside};
-use ompt_calls::{Call, Memory, Snapshot, Target, Word, WordAt, line_of};
+use ompt_calls::{
+    Call, Frame, Memory, RegionLevel, RegionLevels, Snapshot, Target, TaskLevel, TaskLevels, Word,
+    WordAt, line_of,
+};
+use std::alloc::Global;
 
 #[test]
 fn the_longest_numbers_are_written(rt: HostRuntime) -> Result<(), Memory> {
@@ -14,6 +17,22 @@ fn the_longest_numbers_are_written(rt: HostRuntime) -> Result<(), Memory> {
     assert!(rt; line.as_slice() == want.as_slice());
     Ok(())
 }
+
+const ONE: Word = Word {
+    identity: 1,
+    value: 0,
+};
+
+const TWO: Word = Word {
+    identity: 2,
+    value: 0,
+};
+
+/// The word of region 2, into which 77 was stored.
+const STORED: Word = Word {
+    identity: 2,
+    value: 77,
+};
 
 /// What the inquiries at a level of tasks and at one of regions give as words.
 const WORDS: &[(u32, Option<Word>, Option<Word>)] = &[
@@ -35,7 +54,7 @@ const TARGETS: &[(WordAt, Option<Target>)] = &[
 
 #[test]
 fn inquiries_read_the_snapshot(rt: HostRuntime) -> Result<(), Memory> {
-    let snapshot = inside(&rt)?;
+    let snapshot = snapshot_of_two(rt.alloc())?;
     assert!(rt; snapshot.get_state() == (0x001, 0));
     assert!(rt; snapshot.get_thread_data() == ONE);
     for (level, task, region) in WORDS {
@@ -46,6 +65,36 @@ fn inquiries_read_the_snapshot(rt: HostRuntime) -> Result<(), Memory> {
         assert!(rt; snapshot.target(*place) == *target);
     }
     Ok(())
+}
+
+/// Two levels of tasks and two of regions, where the event makes nothing.
+fn snapshot_of_two(alloc: Global) -> Result<Snapshot, Memory> {
+    let tasks = Vec::from_array(alloc, [task_of(TWO, STORED), task_of(ONE, ONE)])?;
+    let regions = Vec::from_array(alloc, [region_of(STORED), region_of(ONE)])?;
+    Ok(Snapshot {
+        thread: ONE,
+        state: 0x001,
+        wait_id: 0,
+        tasks: TaskLevels(tasks),
+        regions: RegionLevels(regions),
+        fresh: None,
+    })
+}
+
+/// The level of a task with this word in a region with that one.
+fn task_of(word: Word, region: Word) -> TaskLevel {
+    TaskLevel {
+        flags: 2,
+        word,
+        frame: Frame { exit: 2, enter: 0 },
+        region,
+        index: 0,
+    }
+}
+
+/// The level of a region with this word.
+fn region_of(word: Word) -> RegionLevel {
+    RegionLevel { word, team: 1 }
 }
 
 /// The words of the task and of the region at a level.
