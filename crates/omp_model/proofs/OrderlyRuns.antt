@@ -111,9 +111,9 @@ module _ (S : State) (all : IsOrderly S) where
       }
 
 -- a state in which all that is named was made, and the tasks are orderly
-record IsSound (run : Run) (S : State) : Type 0 where
-  made : IsMadeState run S
-  orderly : IsOrderly S
+pub record IsSound (run : Run) (S : State) : Type 0 where
+  pub made : IsMadeState run S
+  pub orderly : IsOrderly S
 
 orderly-does : (run : Run) (S : State) → IsSound run S → (t : ℕ) (what : What) → IsOrderly (does run S t what)
 orderly-does run S so t Go = state-turned S so.orderly t (turn run S t).state (turn run S t).outcome (turn-orderly run S t so.orderly.world so.made.world) (leaves-turn run S t)
@@ -154,10 +154,14 @@ first-orderly run =
 
 -- Histories.
 
+pub sound-does : (run : Run) (S : State) → IsSound run S → (t : ℕ) (what : What) → IsSound run (does run S t what)
+sound-does run S so t what = record { made = state-does run S so.made t what; orderly = orderly-does run S so t what }
+
+pub first-sound : (run : Run) → 1 ≤ run.threads → IsSound run (first run)
+first-sound run there = record { made = first-made run there; orderly = first-orderly run }
+
 sound-after : (run : Run) (history : List Entry) → 1 ≤ run.threads → IsSound run (after run history)
-sound-after run history there =
-    of-entries run (IsSound run) (λ S entry so. record { made = state-does run S so.made entry.thread entry.what; orderly = orderly-does run S so entry.thread entry.what })
-    (first run) history (record { made = first-made run there; orderly = first-orderly run })
+sound-after run history there = of-entries run (IsSound run) (λ S entry so. sound-does run S so entry.thread entry.what) (first run) history (first-sound run there)
 
 module _ (run : Run) (history : List Entry) (there : 1 ≤ run.threads) where
   pub orderly-after : IsOrderly (after run history)

@@ -96,4 +96,4 @@ sensible run history t e there happens =
     let S = after run history in
     let from = subst (Turned run (QuietWorld t S.world) t (turn run S t).state.world) happens (quiet-turn run t S) in
     let made = (made-alike S.world from.before from.holds.alike (made-after run history there).world).world in
-    go-sensible run from.before (turn run S t).state.world t e made (some-quiet t S.world from.before from.holds (some-after run history)) from.go
+    go-sensible run from.before (turn run S t).state.world t e made (some-quiet t S.world from.before from.holds (some-after run history there)) from.go
