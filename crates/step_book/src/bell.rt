@@ -5,20 +5,21 @@ use std::sync::atomic::{AtomicBool, Ordering};
 use std::thread;
 use std::thread::Parker;
 
-/// How often a thread lets others have its processor before it looks for itself, and again before it parks. Most waits are over by then, and to
-/// park a thread and to wake it again costs more than most of them.
+/// How often a thread that is near lets others have its processor before it looks for itself. Most waits are over by then, and to park a thread and
+/// to wake it again costs more than most of them.
 const YIELDS: u32 = 200;
 
 /// The bell of a thread. It may be rung before the thread sleeps, which then goes on at once. No clause says that a sleep ends.
 ///
-/// A sleep ends by a ring that it takes from `rung` alone. Who rings sets `rung` before the unpark, and the thread looks at it before each park
-/// and after it. So a ring isn't lost, whether it comes before the sleep, among the yields, or before or during a park.
+/// A sleep ends by a ring, or after the yields where the thread is near. Who rings sets `rung` before the unpark, and the thread looks at it before
+/// each park and after it. So a ring isn't lost, whether it comes before the sleep, among the yields, or before or during a park. Nor is a call,
+/// which sets `is_near` in the same way: the thread takes it back only where it wakes, and then it visits the book.
 #[derive(Drop)]
 pub(crate) struct Bell {
     /// Whether the bell was rung since the last sleep.
     rung: AtomicBool,
-    /// Whether the next sleep is a deep one.
-    is_deep: AtomicBool,
+    /// Whether the thread is near, where it sleeps.
+    is_near: AtomicBool,
     /// Where the thread parks.
     parker: Parker,
 }
@@ -28,7 +29,7 @@ impl Bell {
     pub fn new() -> Bell {
         Bell {
             rung: AtomicBool::new(false),
-            is_deep: AtomicBool::new(false),
+            is_near: AtomicBool::new(false),
             parker: Parker::new(),
         }
     }
@@ -39,27 +40,39 @@ impl Bell {
         self.parker.unpark();
     }
 
-    /// Says whether the next sleep is a deep one. The thread that sleeps says so itself.
-    pub fn set_deep(&self, is_deep: bool) {
-        self.is_deep.store(is_deep, Ordering::Relaxed);
+    /// Calls the thread near: it looks for itself soon.
+    pub fn call(&self) {
+        self.is_near.store(true, Ordering::SeqCst);
+        self.parker.unpark();
     }
 
-    /// Sleeps until the bell is rung, and no longer than the yields where the sleep isn't deep.
+    /// The thread stays near in its next sleep. It says so itself.
+    pub fn stay(&self) {
+        self.is_near.store(true, Ordering::SeqCst);
+    }
+
+    /// Sleeps until the bell is rung, and where the thread is near no longer than the yields.
     pub fn sleep(&self, rt: &impl Wait) {
+        for _ in rt.forever() {
+            if self.is_near.load(Ordering::SeqCst) {
+                self.wait_near();
+                self.is_near.store(false, Ordering::SeqCst);
+                return;
+            }
+            if self.take_ring() {
+                return;
+            }
+            self.parker.park(rt);
+        }
+    }
+
+    /// Waits until the bell is rung, and no longer than the yields.
+    fn wait_near(&self) {
         for _ in 0..YIELDS {
             if self.take_ring() {
                 return;
             }
             thread::yield_now();
-        }
-        if !self.is_deep.load(Ordering::Relaxed) {
-            return;
-        }
-        for _ in rt.forever() {
-            if self.take_ring() {
-                return;
-            }
-            self.parker.park(rt);
         }
     }
 

@@ -144,26 +144,34 @@ impl<K: BookName> SharedBook<K> {
     }
 
     /// Sleeps, where the last call of the pass told it not yet, until the pass's thread may go on or the run is over. The thread may wake
-    /// earlier, and first it does so soon, to look for itself. No clause says that it wakes.
+    /// earlier, to look for itself. No clause says that it wakes.
     pub fn sleep(&self, rt: &impl Wait, pass: &Pass<K>) {
         if let Some(bell) = self.bells.get(pass.thread() as usize) {
             bell.sleep(rt);
         }
     }
 
-    /// The end of a hold, once the lock is given back: its thread is told how deep its next sleep is, and others wake.
+    /// The end of a hold, once the lock is given back: others wake or are called near, and its thread is told whether it stays near.
     fn ring(&self, woken: Woken) {
         let Woken {
             thread,
-            sleeps_deeply,
-            others,
+            stays_near,
+            rung,
+            called,
         } = woken;
-        if let Some(bell) = self.bells.get(thread as usize) {
-            bell.set_deep(sleeps_deeply);
-        }
-        for (bell, wakes) in self.bells.iter().zip(others) {
+        for (bell, wakes) in self.bells.iter().zip(rung) {
             if wakes {
                 bell.ring();
+            }
+        }
+        if stays_near {
+            if let Some(bell) = self.bells.get(thread as usize) {
+                bell.stay();
+            }
+        }
+        for (bell, comes) in self.bells.iter().zip(called) {
+            if comes {
+                bell.call();
             }
         }
     }

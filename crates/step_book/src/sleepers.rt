@@ -5,6 +5,12 @@ use crate::book::Book;
 /// The most threads of a run.
 const THREADS: usize = 16;
 
+/// Of the threads that may go on so many are kept from parking at a time: the one that was woken, and those that are called near.
+const AHEAD: usize = 3;
+
+/// Where no more threads than these sleep, they stay near.
+const FEW: usize = 3;
+
 /// For each thread a flag.
 type Flags = [bool; THREADS];
 
@@ -15,10 +21,12 @@ const NOBODY: Flags = [false; THREADS];
 pub(crate) struct Woken {
     /// The thread of the hold.
     pub thread: u8,
-    /// Whether it is to sleep deeply, if it sleeps.
-    pub sleeps_deeply: bool,
+    /// Whether it stays near, if it sleeps.
+    pub stays_near: bool,
     /// For each thread whether it is to wake.
-    pub others: Flags,
+    pub rung: Flags,
+    /// For each thread whether it is called near.
+    pub called: Flags,
 }
 
 /// What a thread does after a hold.
@@ -34,17 +42,19 @@ pub(crate) enum Then {
 
 /// The threads that sleep, or are about to. Nothing is claimed of them.
 ///
-/// A thread sleeps lightly at first: it looks for itself soon, unless it is woken earlier. Where it then still can't go on it sleeps deeply, until
-/// it is woken. While a thread goes on, it wakes others from a deep sleep alone. So what comes in quick succession on one thread isn't held up
-/// by others that come for the lock, and a callback that takes long still keeps none of them from going on.
+/// A thread that sleeps is near or parked. One that is near looks for itself soon, and to wake it earlier costs little. But it takes turns of a
+/// processor meanwhile, so few are near at a time, and mostly those that are next.
+///
+/// While a thread goes on it wakes no other: it only sees to it that one is near. So what comes in quick succession on one thread isn't held up by
+/// others that come for the lock, and a callback that takes long still keeps none of them from going on.
 #[derive(Drop)]
 pub(crate) struct Sleepers {
     /// For each thread whether it sleeps.
     asleep: Flags,
-    /// For each thread whether it sleeps deeply.
-    deep: Flags,
+    /// For each thread whether it sleeps and is near.
+    near: Flags,
     /// The thread that was woken and has had no hold since, if there is one.
-    called: Option<u8>,
+    woken: Option<u8>,
     /// Whether something has changed since all that sleep were last looked at.
     has_changed: bool,
 }
@@ -54,8 +64,8 @@ impl Sleepers {
     pub fn new() -> Sleepers {
         Sleepers {
             asleep: NOBODY,
-            deep: NOBODY,
-            called: None,
+            near: NOBODY,
+            woken: None,
             has_changed: false,
         }
     }
@@ -65,98 +75,114 @@ impl Sleepers {
         self.has_changed = true;
     }
 
-    /// The end of a hold of the thread. It answers which threads wake: all where the run is over, and else at most one.
+    /// The end of a hold of the thread. It answers which threads wake, all where the run is over and else at most one, and which are called near.
     ///
-    /// Where a thread sleeps that may go on, another one that was woken is on its way to a hold, and wakes the next one at the end of it; or the
-    /// thread of the hold goes on, and the one that sleeps does so lightly.
+    /// Where a thread sleeps that may go on, one that was woken or is near is on its way to a hold, and looks for the next one at the end of it.
     pub fn wake(&mut self, book: &Book, thread: u8, next: Then) -> Woken {
-        let was_called = self.note(thread, next);
-        let others = match next {
-            Then::IsOver => self.wake_all(),
-            Then::GoesOn => self.wake_deep(book, thread),
-            Then::Sleeps if was_called || self.has_changed => self.wake_any(book, thread),
-            // Nothing has changed since the last look.
-            Then::Sleeps => NOBODY,
-        };
-        Woken {
+        let has_looked = is_set(&self.asleep, thread);
+        let was_woken = self.note(thread, next);
+        let mut woken = Woken {
             thread,
-            sleeps_deeply: is_set(&self.deep, thread),
-            others,
+            stays_near: false,
+            rung: NOBODY,
+            called: NOBODY,
+        };
+        match next {
+            Then::IsOver => woken.rung = self.wake_all(),
+            Then::GoesOn => self.call_one(book, &mut woken),
+            Then::Sleeps => {
+                // Else nothing has changed since the last look.
+                if was_woken || self.has_changed {
+                    self.wake_one(book, &mut woken);
+                }
+                // One that has looked for itself parks.
+                woken.stays_near = !has_looked && self.has_room_near();
+                set(&mut self.near, thread, woken.stays_near);
+            }
         }
+        woken
     }
 
-    /// Notes how the thread sleeps after its hold. It answers whether the thread was woken for it.
+    /// Notes what the thread does after its hold. It answers whether the thread was woken for it.
     fn note(&mut self, thread: u8, next: Then) -> bool {
         let sleeps = next == Then::Sleeps;
-        // Where it sleeps already, it has looked for itself.
-        let deeply = sleeps && is_set(&self.asleep, thread);
         set(&mut self.asleep, thread, sleeps);
-        set(&mut self.deep, thread, deeply);
+        set(&mut self.near, thread, false);
         self.has_changed = self.has_changed || !sleeps;
-        let was_called = self.called == Some(thread);
-        if was_called {
-            self.called = None;
+        let was_woken = self.woken == Some(thread);
+        if was_woken {
+            self.woken = None;
         }
-        was_called
+        was_woken
     }
 
     /// All threads wake that sleep.
     fn wake_all(&mut self) -> Flags {
         let woken = self.asleep;
         self.asleep = NOBODY;
-        self.deep = NOBODY;
+        self.near = NOBODY;
         woken
     }
 
-    /// A thread wakes that sleeps deeply and may go on now, if there is one.
-    fn wake_deep(&mut self, book: &Book, thread: u8) -> Flags {
-        let deep = self.deep;
-        if deep == NOBODY {
-            return NOBODY;
+    /// A thread that sleeps and may go on now is called near, if there is one, unless another one is on its way, which looks itself.
+    fn call_one(&mut self, book: &Book, woken: &mut Woken) {
+        if self.woken.is_none() && self.near == NOBODY {
+            self.look(book, woken, false, 1);
         }
-        self.wake_among(&deep, book, thread)
     }
 
-    /// A thread wakes that sleeps and may go on now, if there is one.
-    fn wake_any(&mut self, book: &Book, thread: u8) -> Flags {
-        if self.called.is_none() {
+    /// A thread that sleeps and may go on now wakes, if there is one, unless one that was woken is still on its way. Those that are next after it
+    /// are called near.
+    fn wake_one(&mut self, book: &Book, woken: &mut Woken) {
+        let rings = self.woken.is_none();
+        if rings {
             self.has_changed = false;
         }
-        let asleep = self.asleep;
-        self.wake_among(&asleep, book, thread)
+        self.look(book, woken, rings, AHEAD);
     }
 
-    /// The next one of these threads wakes, downwards from this one and round, that may go on now, unless one that was woken is still on its
-    /// way: it looks itself. The next one mostly may, since threads meet at barriers.
-    fn wake_among(&mut self, threads: &Flags, book: &Book, thread: u8) -> Flags {
-        let mut woken = NOBODY;
-        if self.called.is_some() {
-            return woken;
-        }
-        for other in (0..thread).rev() {
-            if self.wake_if(threads, book, other) {
-                set(&mut woken, other, true);
-                return woken;
+    /// Looks for threads that sleep and may go on now, downwards from the thread of the hold and round, until there are so many, among them the
+    /// one that is on its way. The first one wakes where one is to be rung, and the others are called near. The next one mostly may go on, since
+    /// threads meet at barriers.
+    fn look(&mut self, book: &Book, woken: &mut Woken, rings: bool, wanted: usize) {
+        let mut rings = rings;
+        let mut found = if self.woken.is_some() { 1usize } else { 0 };
+        let thread = woken.thread;
+        for other in (0..thread).rev().chain((thread..THREADS as u8).rev()) {
+            if found >= wanted {
+                return;
+            }
+            if is_set(&self.asleep, other) && book.has_turn(other) {
+                found += 1;
+                if rings {
+                    rings = false;
+                    self.ring(woken, other);
+                } else {
+                    self.call(woken, other);
+                }
             }
         }
-        for other in (thread..THREADS as u8).rev() {
-            if self.wake_if(threads, book, other) {
-                set(&mut woken, other, true);
-                return woken;
-            }
-        }
-        woken
     }
 
-    /// The thread wakes, where it is one of these and may go on now. It answers whether it does.
-    fn wake_if(&mut self, threads: &Flags, book: &Book, thread: u8) -> bool {
-        let wakes = is_set(threads, thread) && book.has_turn(thread);
-        if wakes {
-            set(&mut self.asleep, thread, false);
-            set(&mut self.deep, thread, false);
-            self.called = Some(thread);
+    /// The thread wakes.
+    fn ring(&mut self, woken: &mut Woken, thread: u8) {
+        set(&mut self.asleep, thread, false);
+        set(&mut self.near, thread, false);
+        set(&mut woken.rung, thread, true);
+        self.woken = Some(thread);
+    }
+
+    /// The thread is called near, where it isn't.
+    fn call(&mut self, woken: &mut Woken, thread: u8) {
+        if !is_set(&self.near, thread) {
+            set(&mut self.near, thread, true);
+            set(&mut woken.called, thread, true);
         }
-        wakes
+    }
+
+    /// Whether a thread that sleeps may stay near.
+    fn has_room_near(&self) -> bool {
+        count(&self.near) < AHEAD - 1 || count(&self.asleep) <= FEW
     }
 }
 
@@ -170,4 +196,9 @@ fn set(flags: &mut Flags, thread: u8, is: bool) {
     if let Some(flag) = flags.get_mut(thread as usize) {
         *flag = is;
     }
+}
+
+/// How many flags are set.
+fn count(flags: &Flags) -> usize {
+    flags.iter().filter(|flag| **flag).count()
 }
