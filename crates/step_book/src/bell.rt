@@ -16,10 +16,12 @@ const YIELDS: u32 = 200;
 /// which sets `is_near` in the same way: the thread takes it back only where it wakes, and then it visits the book.
 #[derive(Drop)]
 pub(crate) struct Bell {
-    /// Whether the bell was rung since the last sleep.
+    /// Whether the bell was rung, and the thread hasn't taken the ring yet.
     rung: AtomicBool,
     /// Whether the thread is near, where it sleeps.
     is_near: AtomicBool,
+    /// Whether the thread never sleeps.
+    polls: AtomicBool,
     /// Where the thread parks.
     parker: Parker,
 }
@@ -30,6 +32,7 @@ impl Bell {
         Bell {
             rung: AtomicBool::new(false),
             is_near: AtomicBool::new(false),
+            polls: AtomicBool::new(false),
             parker: Parker::new(),
         }
     }
@@ -49,6 +52,16 @@ impl Bell {
     /// The thread stays near in its next sleep. It says so itself.
     pub fn stay(&self) {
         self.is_near.store(true, Ordering::SeqCst);
+    }
+
+    /// The thread never sleeps from now on. It says so itself.
+    pub fn poll(&self) {
+        self.polls.store(true, Ordering::Relaxed);
+    }
+
+    /// Whether the thread never sleeps. It asks itself.
+    pub fn polls(&self) -> bool {
+        self.polls.load(Ordering::Relaxed)
     }
 
     /// Sleeps until the bell is rung, and where the thread is near no longer than the yields.

@@ -211,7 +211,7 @@ impl Book {
         self.machine.cause()
     }
 
-    /// Whether a visit of the thread would be a turn. No clause says so.
+    /// Whether a visit of the thread would be a turn, where the run isn't over. No clause says so.
     pub(crate) fn has_turn(&self, thread: u8) -> bool {
         self.machine.enabled(thread)
     }

@@ -81,7 +81,7 @@ impl<K: BookName> SharedBook<K> {
         let (result, woken) = {
             let mut desk = self.desk.lock(rt);
             let result = desk.go(&self.words.shared, pass);
-            let woken = desk.wake(pass.thread(), then_of(&result));
+            let woken = desk.wake(pass.thread(), self.then_of(pass, &result));
             (result, woken)
         };
         self.ring(woken);
@@ -122,7 +122,7 @@ impl<K: BookName> SharedBook<K> {
             desk.answer(&self.words.shared, pass, reply, &snapshot);
             desk.reuse(snapshot);
             let result = desk.go(&self.words.shared, pass);
-            let woken = desk.wake(pass.thread(), then_of(&result));
+            let woken = desk.wake(pass.thread(), self.then_of(pass, &result));
             (result, woken)
         };
         self.ring(woken);
@@ -143,11 +143,31 @@ impl<K: BookName> SharedBook<K> {
         self.ring(woken);
     }
 
-    /// Sleeps, where the last call of the pass told it not yet, until the pass's thread may go on or the run is over. The thread may wake
-    /// earlier, to look for itself. No clause says that it wakes.
+    /// Sleeps, where the last call of the pass told it not yet, until the thread is woken. It is where it may go on or the run is over, but not at
+    /// once where others that may go on are woken first. It may wake earlier, to look for itself. No clause says that it wakes.
     pub fn sleep(&self, rt: &impl Wait, pass: &Pass<K>) {
         if let Some(bell) = self.bells.get(pass.thread() as usize) {
             bell.sleep(rt);
+        }
+    }
+
+    /// The pass's thread never sleeps from now on: it visits the book again and again. So no other thread counts on it while it does something
+    /// else.
+    pub fn poll(&self, pass: &Pass<K>) {
+        if let Some(bell) = self.bells.get(pass.thread() as usize) {
+            bell.poll();
+        }
+    }
+
+    /// What the pass's thread does next whose visit came to this.
+    fn then_of(&self, pass: &Pass<K>, came: &Result<Step, Memory>) -> Then {
+        match came {
+            Ok(Step::NotYet) => match self.bells.get(pass.thread() as usize) {
+                Some(bell) if bell.polls() => Then::Polls,
+                _ => Then::Sleeps,
+            },
+            Ok(Step::Ended(_)) => Then::IsOver,
+            Ok(Step::Told(..) | Step::Quiet) | Err(_) => Then::GoesOn,
         }
     }
 
@@ -192,15 +212,6 @@ impl<K: BookName> SharedBook<K> {
         }
         let ended = any_ended(&passes);
         desk.close(ended)
-    }
-}
-
-/// What the thread does next whose visit came to this.
-fn then_of(came: &Result<Step, Memory>) -> Then {
-    match came {
-        Ok(Step::NotYet) => Then::Sleeps,
-        Ok(Step::Ended(_)) => Then::IsOver,
-        Ok(Step::Told(..) | Step::Quiet) | Err(_) => Then::GoesOn,
     }
 }
 

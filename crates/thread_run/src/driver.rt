@@ -74,7 +74,7 @@ fn serve_and_go<R: Wait, K: BookName, P: ToolPart>(
     book.answer_and_go(rt, pass, &reply, snapshot)
 }
 
-/// One visit of the pass's thread, and the call of its part where an event is told, with its answer.
+/// One visit of the pass's thread, which never sleeps, and the call of its part where an event is told, with its answer.
 ///
 /// Where the visit or the part finds no memory, the pass ends the run.
 pub(crate) fn visit<R: Wait, K: BookName, P: ToolPart>(
@@ -88,6 +88,7 @@ pub(crate) fn visit<R: Wait, K: BookName, P: ToolPart>(
     if pass.ended() {
         return Visited::Over;
     }
+    book.poll(pass);
     pass.legal();
     match book.go(rt, pass) {
         Ok(Step::Told(seq, call, snapshot)) => serve(rt, book, pass, part, seq, &call, &snapshot),

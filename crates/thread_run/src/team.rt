@@ -144,7 +144,7 @@ fn drive_slot<R: Wait, K: BookName, P: ToolPart>(
     }
 }
 
-/// Visits the drivers that the caller has in turn, so that each goes on.
+/// Visits the drivers that the caller has in turn. None of them goes on while another one's part is called.
 fn drive_in_turn<R: Wait, K: BookName, P: ToolPart>(
     rt: &R,
     book: &SharedBook<K>,
