@@ -26,9 +26,9 @@
 //! has seen all.
 //!
 //! No tool is called under the lock. That a wait for it ends isn't proved. A thread that is told not yet may sleep
-//! ([`SharedBook::sleep`]): the locked book notes who sleeps. A visit whose thread then sleeps wakes one of those that may go
-//! on after it, and one after which the run is over wakes all. Those that are next look for themselves after a while. Nothing
-//! is proved of that.
+//! ([`SharedBook::sleep`]): the locked book notes who sleeps. A visit that was told not yet wakes one of those that may go on
+//! after it, and one after which the run is over wakes all. Those that are next look for themselves after a while. Nothing is
+//! proved of that.
 //!
 //! # The rule
 //!
@@ -69,6 +69,7 @@ mod seats;
 mod shared;
 mod sleepers;
 mod step;
+mod thread_set;
 mod view;
 
 pub use blank::Blank;

@@ -21,6 +21,7 @@ use crate::pass::Pass;
 use crate::seats::{BookSeat, CountTable, SharedCount, new_pass};
 use crate::sleepers::{Then, Woken};
 use crate::step::Step;
+use crate::thread_set::ThreadSet;
 use omp_machine::Memory;
 use omp_model::Cause;
 use ompt_calls::{Reply, Snapshot};
@@ -30,8 +31,9 @@ use std::sync::{Mutex, Wait};
 
 /// The book of this name, behind a lock. Each thread has a [`Pass`] to it.
 ///
-/// Each call takes the lock once, for one hold or for two ([`SharedBook::answer_and_go`]). What a hold adds and answers is what the book says
-/// after all holds before it: those that the pass had seen, and then other threads' alone. No tool is called under the lock.
+/// A call takes the lock once, for one hold or for two ([`SharedBook::answer_and_go`]). [`SharedBook::sleep`] and [`SharedBook::poll`] don't take
+/// it, nor does `go` of a pass that has ended the run. What a hold adds and answers is what the book says after all holds before it: those that
+/// the pass had seen, and then other threads' alone. No tool is called under the lock.
 #[derive(Drop)]
 pub struct SharedBook<K: BookName> {
     /// The table of the word that counts the entries.
@@ -84,7 +86,7 @@ impl<K: BookName> SharedBook<K> {
             let woken = desk.wake(pass.thread(), self.then_of(pass, &result));
             (result, woken)
         };
-        self.ring(woken);
+        self.ring(pass.thread(), &woken);
         result
     }
 
@@ -125,7 +127,7 @@ impl<K: BookName> SharedBook<K> {
             let woken = desk.wake(pass.thread(), self.then_of(pass, &result));
             (result, woken)
         };
-        self.ring(woken);
+        self.ring(pass.thread(), &woken);
         result
     }
 
@@ -140,7 +142,7 @@ impl<K: BookName> SharedBook<K> {
             desk.end_memory(&self.words.shared, pass);
             desk.wake(pass.thread(), Then::IsOver)
         };
-        self.ring(woken);
+        self.ring(pass.thread(), &woken);
     }
 
     /// Sleeps, where the last call of the pass told it not yet, until the thread is woken. It is where it may go on or the run is over, but not at
@@ -171,27 +173,25 @@ impl<K: BookName> SharedBook<K> {
         }
     }
 
-    /// The end of a hold, once the lock is given back: others wake or are called near, and its thread is told whether it stays near.
-    fn ring(&self, woken: Woken) {
-        let Woken {
-            thread,
-            stays_near,
-            rung,
-            called,
-        } = woken;
-        for (bell, wakes) in self.bells.iter().zip(rung) {
-            if wakes {
-                bell.ring();
-            }
+    /// The end of a hold of the thread, once the lock is given back: others wake, it is told whether it stays near, and others are called near.
+    fn ring(&self, thread: u8, woken: &Woken) {
+        self.each_bell(woken.rung, |bell| bell.ring());
+        if woken.stays_near {
+            self.each_bell(ThreadSet::EMPTY.with(thread), |bell| bell.stay());
         }
-        if stays_near {
-            if let Some(bell) = self.bells.get(thread as usize) {
-                bell.stay();
-            }
+        self.each_bell(woken.called, |bell| bell.call());
+    }
+
+    /// Does this to the bell of each of the threads.
+    fn each_bell<A: Fn(&Bell)>(&self, threads: ThreadSet, act: A)
+        requires { A.IsAlwaysCallable act }
+    {
+        if threads.is_empty() {
+            return;
         }
-        for (bell, comes) in self.bells.iter().zip(called) {
-            if comes {
-                bell.call();
+        for (thread, bell) in (0u8..).zip(self.bells.iter()) {
+            if threads.has(thread) {
+                act(bell);
             }
         }
     }

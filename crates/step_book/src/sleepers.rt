@@ -1,32 +1,44 @@
 //! Which threads sleep that share a book.
 
 use crate::book::Book;
+use crate::thread_set::ThreadSet;
 
 /// The most threads of a run.
-const THREADS: usize = 16;
+const THREADS: u8 = 16;
 
-/// A look ends at so many threads that may go on: the one that was woken, and those that are called near.
-const AHEAD: usize = 3;
+/// So many threads are ahead at most: the one that was woken, and those that are called near.
+const AHEAD: u32 = 3;
 
 /// Where no more threads than these sleep, one that begins to sleep stays near.
-const FEW: usize = 3;
-
-/// For each thread a flag.
-type Flags = [bool; THREADS];
-
-/// No thread.
-const NOBODY: Flags = [false; THREADS];
+const FEW: u32 = 3;
 
 /// What is done at the end of a hold, once the lock is given back.
+#[derive(Drop)]
 pub(crate) struct Woken {
-    /// The thread of the hold.
-    pub thread: u8,
-    /// Whether it stays near, if it sleeps.
+    /// Whether the thread of the hold stays near, if it sleeps.
     pub stays_near: bool,
-    /// For each thread whether it is to wake.
-    pub rung: Flags,
-    /// For each thread whether it is called near.
-    pub called: Flags,
+    /// The threads that wake.
+    pub rung: ThreadSet,
+    /// The threads that are called near.
+    pub called: ThreadSet,
+}
+
+impl Woken {
+    /// No thread wakes or is near.
+    const NOBODY: Woken = Woken {
+        stays_near: false,
+        rung: ThreadSet::EMPTY,
+        called: ThreadSet::EMPTY,
+    };
+}
+
+/// Threads that may go on, as they are next.
+#[derive(Drop)]
+struct Ahead {
+    /// The first of them.
+    first: Option<u8>,
+    /// All of them.
+    all: ThreadSet,
 }
 
 /// What a thread does after a hold.
@@ -53,10 +65,10 @@ pub(crate) enum Then {
 /// none of them from going on.
 #[derive(Drop)]
 pub(crate) struct Sleepers {
-    /// For each thread whether it was told not yet at its last hold and wasn't woken since.
-    asleep: Flags,
-    /// For each thread whether it is asleep and near.
-    near: Flags,
+    /// The threads that were told not yet at their last hold and weren't woken since.
+    asleep: ThreadSet,
+    /// Those of them that are near.
+    near: ThreadSet,
     /// The thread that was woken and has had no hold since, if there is one.
     woken: Option<u8>,
     /// Whether something has changed since one was last looked for that may wake.
@@ -67,8 +79,8 @@ impl Sleepers {
     /// No thread sleeps.
     pub fn new() -> Sleepers {
         Sleepers {
-            asleep: NOBODY,
-            near: NOBODY,
+            asleep: ThreadSet::EMPTY,
+            near: ThreadSet::EMPTY,
             woken: None,
             has_changed: false,
         }
@@ -83,32 +95,34 @@ impl Sleepers {
     ///
     /// Where then a thread is asleep that may go on, one was woken or is near.
     pub fn wake(&mut self, book: &Book, thread: u8, next: Then) -> Woken {
-        let has_looked = is_set(&self.asleep, thread);
+        let has_looked = self.asleep.has(thread);
         self.note(thread, next);
-        let mut woken = Woken {
-            thread,
-            stays_near: false,
-            rung: NOBODY,
-            called: NOBODY,
-        };
         match next {
-            Then::IsOver => woken.rung = self.wake_all(),
-            Then::GoesOn => self.call_one(book, &mut woken),
-            Then::Polls => self.wake_one(book, &mut woken),
+            Then::IsOver => self.wake_all(),
+            Then::GoesOn => self.call_one(book, thread),
+            Then::Polls => self.wake_one(book, thread),
             Then::Sleeps => {
-                self.wake_one(book, &mut woken);
+                let woken = self.wake_one(book, thread);
                 // One that has looked for itself parks.
-                woken.stays_near = !has_looked && self.has_room_near();
-                set(&mut self.near, thread, woken.stays_near);
+                let stays_near = !has_looked && self.has_room_near();
+                if stays_near {
+                    self.near = self.near.with(thread);
+                }
+                Woken {
+                    stays_near,
+                    ..woken
+                }
             }
         }
-        woken
     }
 
     /// Notes what the thread does after its hold.
     fn note(&mut self, thread: u8, next: Then) {
-        set(&mut self.asleep, thread, next == Then::Sleeps);
-        set(&mut self.near, thread, false);
+        self.asleep = match next {
+            Then::Sleeps => self.asleep.with(thread),
+            Then::GoesOn | Then::Polls | Then::IsOver => self.asleep.without(thread),
+        };
+        self.near = self.near.without(thread);
         self.has_changed = self.has_changed || next == Then::GoesOn;
         if self.woken == Some(thread) {
             self.woken = None;
@@ -116,91 +130,87 @@ impl Sleepers {
     }
 
     /// All threads wake that sleep.
-    fn wake_all(&mut self) -> Flags {
-        let woken = self.asleep;
-        self.asleep = NOBODY;
-        self.near = NOBODY;
-        woken
+    fn wake_all(&mut self) -> Woken {
+        let rung = self.asleep;
+        self.asleep = ThreadSet::EMPTY;
+        self.near = ThreadSet::EMPTY;
+        Woken {
+            rung,
+            ..Woken::NOBODY
+        }
     }
 
     /// A thread that is asleep and may go on now is called near, if there is one, unless another one is near or was woken.
-    fn call_one(&mut self, book: &Book, woken: &mut Woken) {
-        if self.woken.is_none() && self.near == NOBODY {
-            self.look(book, woken, false, 1);
+    fn call_one(&mut self, book: &Book, thread: u8) -> Woken {
+        if self.woken.is_some() || !self.near.is_empty() {
+            return Woken::NOBODY;
+        }
+        let ahead = self.look(book, thread, 1);
+        Woken {
+            called: self.call(ahead.all),
+            ..Woken::NOBODY
         }
     }
 
     /// A thread that is asleep and may go on now wakes, if there is one, unless one that was woken is still on its way. Those that are next after it
     /// are called near. Where nothing has changed since the last look there is none.
-    fn wake_one(&mut self, book: &Book, woken: &mut Woken) {
+    fn wake_one(&mut self, book: &Book, thread: u8) -> Woken {
         if !self.has_changed {
-            return;
+            return Woken::NOBODY;
         }
-        let rings = self.woken.is_none();
-        if rings {
-            self.has_changed = false;
+        if self.woken.is_some() {
+            let ahead = self.look(book, thread, AHEAD - 1);
+            return Woken {
+                called: self.call(ahead.all),
+                ..Woken::NOBODY
+            };
         }
-        self.look(book, woken, rings, AHEAD);
+        self.has_changed = false;
+        let ahead = self.look(book, thread, AHEAD);
+        match ahead.first {
+            Some(first) => Woken {
+                stays_near: false,
+                rung: self.ring(first),
+                called: self.call(ahead.all.without(first)),
+            },
+            None => Woken::NOBODY,
+        }
     }
 
-    /// Looks for threads that are asleep and may go on now, downwards from the thread of the hold and round, until there are so many, among them
-    /// the one that is on its way. The first one wakes where one is to be rung, and the others are called near. The next one mostly may go on,
+    /// So many of the threads that are asleep and may go on now, downwards from the thread of the hold and round. The next one mostly may go on,
     /// since threads meet at barriers.
-    fn look(&mut self, book: &Book, woken: &mut Woken, rings: bool, wanted: usize) {
-        let mut rings = rings;
-        let mut found = if self.woken.is_some() { 1usize } else { 0 };
-        let thread = woken.thread;
-        for other in (0..thread).rev().chain((thread..THREADS as u8).rev()) {
-            if found >= wanted {
-                return;
+    fn look(&self, book: &Book, thread: u8, wanted: u32) -> Ahead {
+        let mut first = None;
+        let mut all = ThreadSet::EMPTY;
+        for other in (0..thread).rev().chain((thread..THREADS).rev()) {
+            if all.len() >= wanted {
+                break;
             }
-            if is_set(&self.asleep, other) && book.has_turn(other) {
-                found += 1;
-                if rings {
-                    rings = false;
-                    self.ring(woken, other);
-                } else {
-                    self.call(woken, other);
-                }
+            if self.asleep.has(other) && book.has_turn(other) {
+                first = first.or(Some(other));
+                all = all.with(other);
             }
         }
+        Ahead { first, all }
     }
 
     /// The thread wakes.
-    fn ring(&mut self, woken: &mut Woken, thread: u8) {
-        set(&mut self.asleep, thread, false);
-        set(&mut self.near, thread, false);
-        set(&mut woken.rung, thread, true);
+    fn ring(&mut self, thread: u8) -> ThreadSet {
+        self.asleep = self.asleep.without(thread);
+        self.near = self.near.without(thread);
         self.woken = Some(thread);
+        ThreadSet::EMPTY.with(thread)
     }
 
-    /// The thread is called near, where it isn't.
-    fn call(&mut self, woken: &mut Woken, thread: u8) {
-        if !is_set(&self.near, thread) {
-            set(&mut self.near, thread, true);
-            set(&mut woken.called, thread, true);
-        }
+    /// The threads are called near. It answers those that weren't.
+    fn call(&mut self, threads: ThreadSet) -> ThreadSet {
+        let called = threads.minus(self.near);
+        self.near = self.near.union(called);
+        called
     }
 
     /// Whether a thread that sleeps may stay near.
     fn has_room_near(&self) -> bool {
-        count(&self.near) < AHEAD - 1 || count(&self.asleep) <= FEW
+        self.near.len() < AHEAD - 1 || self.asleep.len() <= FEW
     }
-}
-
-/// Whether the thread's flag is set.
-fn is_set(flags: &Flags, thread: u8) -> bool {
-    flags.get(thread as usize).copied().unwrap_or(false)
-}
-
-/// Sets the thread's flag to this.
-fn set(flags: &mut Flags, thread: u8, is: bool) {
-    if let Some(flag) = flags.get_mut(thread as usize) {
-        *flag = is;
-    }
-}
-
-/// How many flags are set.
-fn count(flags: &Flags) -> usize {
-    flags.iter().filter(|flag| **flag).count()
 }
