@@ -148,7 +148,7 @@ impl<K: BookName> SharedBook<K> {
     /// Sleeps, where the last call of the pass told it not yet, until the thread is woken. It is where it may go on or the run is over, but not at
     /// once where others that may go on are woken first. It may wake earlier, to look for itself. No clause says that it wakes.
     pub fn sleep(&self, rt: &impl Wait, pass: &Pass<K>) {
-        if let Some(bell) = self.bells.get(pass.thread() as usize) {
+        if let Some(bell) = self.bell(pass.thread()) {
             bell.sleep(rt);
         }
     }
@@ -156,7 +156,7 @@ impl<K: BookName> SharedBook<K> {
     /// The pass's thread never sleeps from now on: it visits the book again and again. So no other thread counts on it while it does something
     /// else.
     pub fn poll(&self, pass: &Pass<K>) {
-        if let Some(bell) = self.bells.get(pass.thread() as usize) {
+        if let Some(bell) = self.bell(pass.thread()) {
             bell.poll();
         }
     }
@@ -164,7 +164,7 @@ impl<K: BookName> SharedBook<K> {
     /// What the pass's thread does next whose visit came to this.
     fn then_of(&self, pass: &Pass<K>, came: &Result<Step, Memory>) -> Then {
         match came {
-            Ok(Step::NotYet) => match self.bells.get(pass.thread() as usize) {
+            Ok(Step::NotYet) => match self.bell(pass.thread()) {
                 Some(bell) if bell.polls() => Then::Polls,
                 _ => Then::Sleeps,
             },
@@ -177,9 +177,16 @@ impl<K: BookName> SharedBook<K> {
     fn ring(&self, thread: u8, woken: &Woken) {
         self.each_bell(woken.rung, |bell| bell.ring());
         if woken.stays_near {
-            self.each_bell(ThreadSet::EMPTY.with(thread), |bell| bell.stay());
+            if let Some(bell) = self.bell(thread) {
+                bell.stay();
+            }
         }
         self.each_bell(woken.called, |bell| bell.call());
+    }
+
+    /// The thread's bell, if there is such a thread.
+    fn bell(&self, thread: u8) -> Option<&Bell> {
+        self.bells.get(thread as usize)
     }
 
     /// Does this to the bell of each of the threads.
