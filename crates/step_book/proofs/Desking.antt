@@ -61,11 +61,11 @@ desk-after table at later run before after book next seen thread views entries d
 -- the hold as the pass sees it
 pub hold-made :
     (holds seen : List Hold) (thread threads : ℕ) (me : Me (Unit {0}) View) (views : List View) (entries : List Entry) (made : Round holds seen thread threads me views entries) → AreOwn holds
-    → (ended later : Bool) (before : Sight) → record { thread = thread; seen = seen; ended = ended } ≡ before → IsHold before (record { thread = thread; seen = seen_in (view_in views); ended = later }) made.begins.rest entries
-hold-made holds seen thread threads me views entries made own ended later before view =
+    → (ended over later told : Bool) (before : Sight) → record { thread = thread; seen = seen; ended = ended; told_over = over } ≡ before → IsHold before (record { thread = thread; seen = seen_in (view_in views); ended = later; told_over = told }) made.begins.rest entries
+hold-made holds seen thread threads me views entries made own ended over later told before view =
     let rest = made.begins.rest in
     let sees : seen_in (view_in views) ≡ with_last holds thread entries = ap (λ views. seen_in (view_in views)) made.badge in
-    subst (λ (before : Sight). IsHold before (record { thread = thread; seen = seen_in (view_in views); ended = later }) rest entries) view (record {
+    subst (λ (before : Sight). IsHold before (record { thread = thread; seen = seen_in (view_in views); ended = later; told_over = told }) rest entries) view (record {
       others = made.begins.others;
       not_by = holds-others thread rest (own-back seen rest (subst AreOwn made.begins.whole own)) made.begins.others;
       seen = sees ∙ ap (λ holds. with_last holds thread entries) made.begins.whole;

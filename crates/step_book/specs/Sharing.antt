@@ -16,7 +16,7 @@ use Rattle.step_book.specs.Owing.{NotBy}
 use Rattle.step_book.specs.Pages.{Pages}
 use Rattle.step_book.specs.Rule.{AllBelow, Begins, NoneBy, entries_of}
 use Rattle.step_book.specs.Steps.{hold_by, view_in}
-use Rattle.step_book.specs.Visit.{visit}
+use Rattle.step_book.specs.Visit.{is_end, visit}
 
 -- the holds that the book's seat, and that a pass's, knows
 abbrev pub holds_in : View → List Hold
@@ -29,11 +29,12 @@ seen_in Spent = []
 seen_in (OfPass thread seen) = seen
 seen_in (OfBook holds made held) = []
 
--- a pass: its thread, the holds that it has seen, and whether it has ended the run for want of memory
+-- a pass: its thread, the holds that it has seen, whether it has ended the run for want of memory, and whether its last visit told it that the run is over
 pub record Sight : Type 0 where
   pub thread : ℕ
   pub seen : List Hold
   pub ended : Bool
+  pub told_over : Bool
 
 -- these entries are of the thread
 abbrev pub AllBy : ℕ → List Entry → Type 0
@@ -68,6 +69,10 @@ pub record Goes (run : Run) (before : Sight) (step : Step) (after : Sight) : Typ
   pub ended : Bool
   pub step_is : step ≡ (visit (pages_of run (before.seen ++ between) ended) before.thread).step
   pub is_hold : IsHold before after between (visit (pages_of run (before.seen ++ between) ended) before.thread).added
+
+-- the pass keeps whether this step, its last one, told it that the run is over, where it hasn't ended it itself
+abbrev pub KeepsStep : Sight → Step → Type 0
+KeepsStep pass step = pass.ended ≡ false → pass.told_over ≡ is_end step
 
 -- The answer of the pass's thread was put last, in a hold of its own, and of the pass as it stood then this is so.
 pub record Answers (before : Sight) (entries : List Entry) (Next : Sight → Type 0) : Type 0 where
@@ -110,7 +115,7 @@ pub record IsBlank (table at : TableId) (me : Me (Unit {0}) View) (book : Pages)
 
 -- a pass that has seen nothing
 abbrev pub fresh_pass : ℕ → Sight
-fresh_pass thread = record { thread = thread; seen = []; ended = false }
+fresh_pass thread = record { thread = thread; seen = []; ended = false; told_over = false }
 
 -- a pass has ended the run for want of memory
 abbrev pub any_ended : List Sight → Bool

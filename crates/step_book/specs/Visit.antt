@@ -1,5 +1,5 @@
 -- What a thread's visit to a book comes to: what it is told, and the entries that are put last.
-use Rattle.std.specs.Prelude.{ℕ, Bool, ◌&&◌, not, if◌then◌else◌, List, [], ◌∷◌, length, Option, Some, None, is_none}
+use Rattle.std.specs.Prelude.{ℕ, Bool, true, false, ◌&&◌, not, if◌then◌else◌, List, [], ◌∷◌, length, Option, Some, None, is_none}
 use Rattle.ompt_calls.specs.Number.{is_registered}
 use Rattle.omp_model.specs.declared.cause.Cause.{Cause}
 use Rattle.omp_model.specs.declared.cause.Cause.TheVariants.{Memory}
@@ -20,6 +20,11 @@ use Rattle.step_book.specs.Pages.{Pages, state_of}
 pub record Visit : Type 0 where
   pub step : Step
   pub added : List Entry
+
+-- whether a step tells that the run is over
+abbrev pub is_end : Step → Bool
+is_end (Ended cause) = true
+is_end other = false
 
 -- no entry is added
 abbrev pub without_entry : Step → Visit

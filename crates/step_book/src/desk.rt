@@ -8,7 +8,8 @@ ghost use Rattle.omp_model.specs.Legal.{Legal, after};
 ghost use Rattle.omp_model.specs.Storing.{event_reply};
 ghost use Rattle.step_book.specs.Owing.{OwesAnswer, OwesStep};
 ghost use Rattle.step_book.specs.Rule.{AllBelow, Begins, entries_of};
-ghost use Rattle.step_book.specs.Sharing.{AreOwn, Goes, Grows, IsDesk, holds_in, pages_of};
+ghost use Rattle.step_book.specs.Sharing.{AreOwn, Goes, Grows, IsDesk, KeepsStep, holds_in, pages_of};
+ghost use Rattle.step_book.specs.Visit.{is_end};
 
 use crate::book::Book;
 use crate::closed::Closed;
@@ -66,6 +67,7 @@ impl<K: BookName> Desk<K> {
         requires table { count.now.table_id ≡ K.table }
         requires word { 0 < K.table.words }
         ensures ok { IfOk result (λ step. Goes K.run pass.old step pass.new) }
+        ensures told { IfOk result (λ step. KeepsStep pass.new step) }
         ensures owes { IfOk result (λ step. OwesStep (pages_of K.run pass.new.seen pass.new.ended) pass.new.thread step) }
         ensures memory { OnErr result (Grows pass.old pass.new []) }
         ensures thread { pass.new.thread ≡ pass.old.thread }
@@ -78,6 +80,7 @@ impl<K: BookName> Desk<K> {
         add_hold(count, &mut self.seat, &self.book.entries()[before..]);
         self.book.legal();
         give_pass(count, &mut self.seat, &mut pass.badge);
+        pass.told_over = tells_over(&result);
         result
     }
 
@@ -175,4 +178,11 @@ impl<K: BookName> Desk<K> {
             cause,
         }
     }
+}
+
+/// Whether a visit that came to this told that the run is over.
+fn tells_over(came: &Result<Step, Memory>) -> bool
+    ensures { IfOk came.now (λ step. result ≡ is_end step) }
+{
+    matches!(came, Ok(Step::Ended(_)))
 }

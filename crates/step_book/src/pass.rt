@@ -9,8 +9,8 @@ use crate::view::View;
 use atomic_table::Badge;
 use std::marker::{Model, PhantomData};
 
-/// The pass of a thread to the book of this name. Contracts see the thread, the holds that it has seen, and whether it has ended the run for
-/// want of memory.
+/// The pass of a thread to the book of this name. Contracts see the thread, the holds that it has seen, whether it has ended the run for want of
+/// memory, and whether its last visit told it that the run is over.
 #[derive(Drop)]
 pub struct Pass<K: BookName> {
     /// Its seat at the table, while no call is under way.
@@ -19,6 +19,8 @@ pub struct Pass<K: BookName> {
     pub(crate) thread: u8,
     /// Whether it has ended the run for want of memory.
     pub(crate) ended: bool,
+    /// Whether its last visit told it that the run is over.
+    pub(crate) told_over: bool,
     /// The book that it is of.
     pub(crate) of: PhantomData<K>,
 }
@@ -29,7 +31,7 @@ impl<K: BookName> Model for Pass<K> {
 
     ghost Value = { Sight };
 
-    ghost view = { λ pass. record { thread = pass.thread; seen = seen_in (view_in pass.badge.views); ended = pass.ended } };
+    ghost view = { λ pass. record { thread = pass.thread; seen = seen_in (view_in pass.badge.views); ended = pass.ended; told_over = pass.told_over } };
 
     ghost invariant = { λ pass. IsPassOf K.table pass.badge.table_id K.run pass.badge.views pass.thread };
 }

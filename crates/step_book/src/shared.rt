@@ -10,7 +10,7 @@ ghost use Rattle.omp_model.specs.Storing.{event_reply};
 ghost use Rattle.step_book.specs.declared.step.Step.{Step};
 ghost use Rattle.step_book.specs.declared.view.View.TheVariants.{OfBook};
 ghost use Rattle.step_book.specs.Owing.{OwesAnswer, OwesStep};
-ghost use Rattle.step_book.specs.Sharing.{Answers, Goes, Grows, IsClosed, Sight, any_ended, fresh_pass, pages_of};
+ghost use Rattle.step_book.specs.Sharing.{Answers, Goes, Grows, IsClosed, KeepsStep, Sight, any_ended, fresh_pass, pages_of};
 
 use crate::bell::Bell;
 use crate::blank::Blank;
@@ -72,6 +72,7 @@ impl<K: BookName> SharedBook<K> {
     pub fn go(&self, rt: &impl Wait, pass: &mut Pass<K>) -> Result<Step, Memory>
         ensures over { pass.old.ended ≡ true → (pass.new ≡ pass.old) × IsOk result × IfOk result (λ step. step ≡ Step.Ended Cause.Memory) }
         ensures ok { pass.old.ended ≡ false → IfOk result (λ step. Goes K.run pass.old step pass.new) }
+        ensures told { IfOk result (λ step. KeepsStep pass.new step) }
         ensures owes { IfOk result (λ step. OwesStep (pages_of K.run pass.new.seen pass.new.ended) pass.new.thread step) }
         ensures memory { OnErr result (Grows pass.old pass.new []) }
         ensures thread { pass.new.thread ≡ pass.old.thread }
@@ -114,6 +115,7 @@ impl<K: BookName> SharedBook<K> {
     ) -> Result<Step, Memory>
         requires { OwesAnswer (pages_of K.run pass.old.seen pass.old.ended) pass.old.thread snapshot }
         ensures ok { IfOk result (λ step. Answers pass.old (event_reply pass.old.thread (stores_of reply.now snapshot)) (λ answered. Goes K.run answered step pass.new)) }
+        ensures told { IfOk result (λ step. KeepsStep pass.new step) }
         ensures owes { IfOk result (λ step. OwesStep (pages_of K.run pass.new.seen pass.new.ended) pass.new.thread step) }
         ensures memory { OnErr result (Answers pass.old (event_reply pass.old.thread (stores_of reply.now snapshot)) (λ answered. Grows answered pass.new [])) }
         ensures thread { pass.new.thread ≡ pass.old.thread }
@@ -255,6 +257,7 @@ fn make_passes<K: BookName>(
             badge,
             thread,
             ended: false,
+            told_over: false,
             of: PhantomData,
         })?;
     }

@@ -1,5 +1,5 @@
 -- What the driver of a thread has come to, and what the parts of a run by threads were called for.
-use Rattle.std.specs.Prelude.{ℕ, Bool, true, false, ◌≡◌, ◌≢◌, ◌<◌, if◌then◌else◌, List, [], length, None, Result, Ok, Err}
+use Rattle.std.specs.Prelude.{ℕ, Bool, true, false, ◌||◌, ◌≡◌, ◌≢◌, ◌<◌, if◌then◌else◌, List, [], length, None, Result, Ok, Err}
 use Rattle.ompt_calls.specs.declared.call.Call.{Call}
 use Rattle.ompt_calls.specs.declared.snapshot.Snapshot.{Snapshot}
 use Rattle.ompt_calls.specs.Item.{Item}
@@ -37,6 +37,10 @@ unheard_if unheard h = if unheard then one_unheard h else h
 -- the record of a part that was called for these items, and then once more where that found no memory
 abbrev pub called_for : List Item → Bool → Record → Record
 called_for items unheard h = unheard_if unheard (served h items)
+
+-- the run is over for a pass: it has ended it, or its last visit told it so
+abbrev pub is_over : Sight → Bool
+is_over pass = pass.ended || pass.told_over
 
 -- The driver of a pass: its part, which was this one at first, was called for what the pass's thread hears of what the pass has seen.
 pub record IsDriven {P : Type 0} (stands_for : P → Record → Type 0) (kind : P → ℕ) (run : Run) (first : P) (pass : Sight) (part : P) : Type 0 where

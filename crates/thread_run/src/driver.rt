@@ -1,10 +1,11 @@
 //! The driver of a thread: its pass to the book, and the part that is called for its events.
 
-ghost use Rattle.std.specs.Prelude.{◌≡◌, false, IfOk};
+ghost use Rattle.std.specs.Prelude.{◌≡◌, true, false, IfOk};
 ghost use Rattle.step_book.specs.Owing.{Owes, OwesStep};
 ghost use Rattle.step_book.specs.Rule.{entries_of};
-ghost use Rattle.step_book.specs.Sharing.{pages_of};
-ghost use Rattle.thread_run.specs.Driving.{GoesOn, HasCome, IsDriven, IsInside};
+ghost use Rattle.step_book.specs.Sharing.{KeepsStep, pages_of};
+ghost use Rattle.thread_run.specs.Driving.{GoesOn, HasCome, IsDriven, IsInside, is_over};
+ghost use Rattle.thread_run.specs.declared.driver.Visited.{Visited};
 
 use ompt_calls::{Call, Snapshot};
 use std::sync::Wait;
@@ -29,7 +30,8 @@ pub(crate) fn drive<R: Wait, K: BookName, P: ToolPart>(
     pass: &mut Pass<K>,
     part: &mut P,
 )
-    ensures { GoesOn P.stands_for P.kind K.run pass.old part.old pass.new part.new }
+    ensures goes { GoesOn P.stands_for P.kind K.run pass.old part.old pass.new part.new }
+    ensures over { is_over pass.new ≡ true }
 {
     pass.legal();
     let mut came = book.go(rt, pass);
@@ -66,6 +68,7 @@ fn serve_and_go<R: Wait, K: BookName, P: ToolPart>(
     requires owes { Owes K.run (entries_of pass.old.seen) pass.old.thread seq call.now snapshot }
     ensures thread { pass.new.thread ≡ pass.old.thread }
     ensures owes { IfOk result (λ step. OwesStep (pages_of K.run pass.new.seen pass.new.ended) pass.new.thread step) }
+    ensures told { IfOk result (λ step. KeepsStep pass.new step) }
     ensures comes { (first : P) → pass.old.ended ≡ false → IsInside P.stands_for P.kind K.run first pass.old part.old →
         HasCome P.stands_for P.kind K.run first pass.new part.new result }
 {
@@ -83,7 +86,8 @@ pub(crate) fn visit<R: Wait, K: BookName, P: ToolPart>(
     pass: &mut Pass<K>,
     part: &mut P,
 ) -> Visited
-    ensures { GoesOn P.stands_for P.kind K.run pass.old part.old pass.new part.new }
+    ensures goes { GoesOn P.stands_for P.kind K.run pass.old part.old pass.new part.new }
+    ensures over { result ≡ Visited.Over → is_over pass.new ≡ true }
 {
     if pass.ended() {
         return Visited::Over;
@@ -116,6 +120,7 @@ fn serve<R: Wait, K: BookName, P: ToolPart>(
     ensures thread { pass.new.thread ≡ pass.old.thread }
     ensures driven { (first : P) → IsInside P.stands_for P.kind K.run first pass.old part.old →
         IsDriven P.stands_for P.kind K.run first pass.new part.new }
+    ensures over { result ≡ Visited.Over → is_over pass.new ≡ true }
 {
     pass.legal();
     match part.callback(seq, pass.thread(), call, snapshot) {

@@ -2,40 +2,40 @@ use Rattle.std.proofs.Common.{◌≡◌, false, sym, ◌∙◌}
 use Rattle.thread_run.proofs.Driving.{driven-grown, driven-quiet, inside-told}
 use Rattle.thread_run.proofs.driver.visit.Goals as goal
 
-pub returns-in-Ok-Told : goal.returns-in-Ok-Told
-returns-in-Ok-Told g c =
+pub returns-in-Ok-Told-clause-goes : goal.returns-in-Ok-Told-clause-goes
+returns-in-Ok-Told-clause-goes g c =
     let open_now : c.args.pass.now.ended ≡ false = sym c.ended.ensures ∙ c.if-ended.false in
     record {
       thread = c.serve.ensures.thread ∙ c.go.ensures.thread;
       driven = λ whose driven. c.serve.ensures.driven whose (inside-told g.P.ToolPart.stands_for g.P.ToolPart.kind g.K.BookName.run whose c.args.pass.now c.go.new.pass c.args.part.now c.in-Ok-Told.seq c.in-Ok-Told.call c.in-Ok-Told.snapshot open_now (rw c.in-Ok-Told.field-0-is at (c.in-Ok-Told.ensures.ok open_now)) driven);
     }
 
-pub returns-in-Ok-Quiet : goal.returns-in-Ok-Quiet
-returns-in-Ok-Quiet g c =
+pub returns-in-Ok-Quiet-clause-goes : goal.returns-in-Ok-Quiet-clause-goes
+returns-in-Ok-Quiet-clause-goes g c =
     let open_now : c.args.pass.now.ended ≡ false = sym c.ended.ensures ∙ c.if-ended.false in
     record {
       thread = c.go.ensures.thread;
       driven = λ whose driven. driven-quiet g.P.ToolPart.stands_for g.P.ToolPart.kind g.K.BookName.run whose c.args.pass.now c.go.new.pass c.args.part.now _ c.legal.ensures.below open_now (c.in-Ok-Quiet.ensures.ok open_now) (λ seq call snapshot told. cc) driven;
     }
 
-pub returns-in-Ok-NotYet : goal.returns-in-Ok-NotYet
-returns-in-Ok-NotYet g c =
+pub returns-in-Ok-NotYet-clause-goes : goal.returns-in-Ok-NotYet-clause-goes
+returns-in-Ok-NotYet-clause-goes g c =
     let open_now : c.args.pass.now.ended ≡ false = sym c.ended.ensures ∙ c.if-ended.false in
     record {
       thread = c.go.ensures.thread;
       driven = λ whose driven. driven-quiet g.P.ToolPart.stands_for g.P.ToolPart.kind g.K.BookName.run whose c.args.pass.now c.go.new.pass c.args.part.now _ c.legal.ensures.below open_now (c.in-Ok-NotYet.ensures.ok open_now) (λ seq call snapshot told. cc) driven;
     }
 
-pub returns-in-Ok-Ended : goal.returns-in-Ok-Ended
-returns-in-Ok-Ended g c =
+pub returns-in-Ok-Ended-clause-goes : goal.returns-in-Ok-Ended-clause-goes
+returns-in-Ok-Ended-clause-goes g c =
     let open_now : c.args.pass.now.ended ≡ false = sym c.ended.ensures ∙ c.if-ended.false in
     record {
       thread = c.go.ensures.thread;
       driven = λ whose driven. driven-quiet g.P.ToolPart.stands_for g.P.ToolPart.kind g.K.BookName.run whose c.args.pass.now c.go.new.pass c.args.part.now _ c.legal.ensures.below open_now (c.in-Ok-Ended.ensures.ok open_now) (λ seq call snapshot told. cc) driven;
     }
 
-pub returns-in-Err : goal.returns-in-Err
-returns-in-Err g c = record {
+pub returns-in-Err-clause-goes : goal.returns-in-Err-clause-goes
+returns-in-Err-clause-goes g c = record {
   thread = c.end_memory.ensures.thread ∙ c.go.ensures.thread;
   driven = λ whose driven.
       driven-grown g.P.ToolPart.stands_for g.P.ToolPart.kind g.K.BookName.run whose c.go.new.pass c.end_memory.new.pass c.args.part.now c.end_memory.ensures.seen (λ ended. c.end_memory.ensures.ended)

@@ -26,4 +26,4 @@ returns-clause-seen g c =
     let made = round _ _ _ _ _ _ _ _ _ _ _ c.self.invariant.seat c.pass.invariant.badge c.take_pass.ensures.view c.take_pass.ensures.told c.add_hold.ensures.view c.give_pass.ensures.view c.give_pass.ensures.pass_view in
     let more = beyond c.self.inside.book c.answer.new.self _ _ _ c.entries-before.ensures c.entries.ensures c.answer.ensures in
     let wanted = ap (λ (v : Sight). event_reply v.thread (stores_of c.args.reply.now c.args.snapshot.now)) c.pass.view_is in
-    grown _ _ _ _ _ (hold-made _ _ _ _ _ _ _ made c.self.invariant.own _ _ _ c.pass.view_is) (more ∙ wanted)
+    grown _ _ _ _ _ (hold-made _ _ _ _ _ _ _ made c.self.invariant.own _ _ _ _ _ c.pass.view_is) (more ∙ wanted)

@@ -11,4 +11,4 @@ invariant_of-self g c =
 pub returns-clause-seen : goal.returns-clause-seen
 returns-clause-seen g c =
     let made = round _ _ _ _ _ _ _ _ _ _ _ c.self.invariant.seat c.pass.invariant.badge c.take_pass.ensures.view c.take_pass.ensures.told c.add_hold.ensures.view c.give_pass.ensures.view c.give_pass.ensures.pass_view in
-    grown _ _ _ _ _ (hold-made _ _ _ _ _ _ _ made c.self.invariant.own _ _ _ c.pass.view_is) (beyond-all c.entries-entries.result.now)
+    grown _ _ _ _ _ (hold-made _ _ _ _ _ _ _ made c.self.invariant.own _ _ _ _ _ c.pass.view_is) (beyond-all c.entries-entries.result.now)
