@@ -31,14 +31,14 @@ use Rattle.step_book.specs.declared.step.Step.TheVariants.{Told, Quiet, NotYet, 
 use Rattle.step_book.specs.Owing.{NotBy, Owes}
 use Rattle.step_book.specs.Pages.{Pages, state_of}
 use Rattle.step_book.specs.Rule.{entries_of}
-use Rattle.step_book.specs.Sharing.{Answers, Goes, Grows, IsHold, KeepsStep, Sight, pages_of}
+use Rattle.step_book.specs.Sharing.{Answers, Goes, Grows, IsHold, Sight, pages_of}
 use Rattle.step_book.specs.Steps.{hold_by}
-use Rattle.step_book.specs.Visit.{Visit, idle_by, idle_step, is_end, is_turn, turn_visit, visit}
+use Rattle.step_book.specs.Visit.{Visit, idle_by, idle_step, is_turn, turn_visit, visit}
 use Rattle.step_book.proofs.Histories.{after-append}
 use Rattle.step_book.proofs.Others.{entries-append, entries-others, not_by-append, owes-still}
 use Rattle.step_book.proofs.Telling.{ended-step, not_yet-step, quiet-step, told-step}
 use Rattle.step_book.proofs.Visiting.{visit-idle, visit-turn}
-use Rattle.thread_run.specs.Driving.{HasCome, HasStep, IsDriven, IsInside, LeftAt, is_over}
+use Rattle.thread_run.specs.Driving.{GoesOn, HasCome, HasStep, IsDriven, IsInside, LeftAt}
 use Rattle.team_run.specs.Serving.{served}
 use Rattle.thread_run.proofs.Hearing.{answered, back-others, heard-split, heard_on, more-without}
 use Rattle.team_run.proofs.Visiting.{same-pending}
@@ -146,14 +146,6 @@ heard-others run history more t none = more-without run (first run) 0 t history 
 legal-behind : (run : Run) (S : State) (xs ys : List Entry) → AllowsFrom run S (xs ++ ys) → AllowsFrom run (after_from run S xs) ys
 legal-behind run S [] ys legal = legal
 legal-behind run S (entry ∷ xs) ys legal = legal-behind run (entered run S entry) xs ys legal.1
-
--- the run is over for a pass that its last visit told so
-pub over-told : (pass : Sight) (step : Step) → KeepsStep pass step → is_end step ≡ true → is_over pass ≡ true
-over-told pass step keeps ends = by pass.ended refl
-  where
-    by : (ended : Bool) → pass.ended ≡ ended → is_over pass ≡ true
-    by true is = rw is refl
-    by false is = rw is (keeps is ∙ ends)
 
 module _ {P : Type 0} (stands_for : P → Record → Type 0) (kind : P → ℕ) (run : Run) (whose : P) where
   abbrev Driven : Sight → P → Type 0
@@ -319,3 +311,10 @@ module _ {P : Type 0} (stands_for : P → Record → Type 0) (kind : P → ℕ) 
   come-answered pass later part next seq call snapshot reply (Err e) legal below open_now owes goes memory same tells kept inside =
       let driven = driven-answered pass memory.answered part next seq call snapshot reply legal below owes memory.grows tells kept inside in
       λ last grows ended. driven-ended memory.answered later last next memory.next (same ∙ sym memory.ended) grows ended driven
+
+-- a driver whose pass's visit told of no event goes on, and its part is as it was
+pub goes-quiet :
+    {P : Type 0} (stands_for : P → Record → Type 0) (kind : P → ℕ) (run : Run) (pass later : Sight) (part : P) (step : Step) → later.thread ≡ pass.thread → pass.thread < run.threads → pass.ended ≡ false
+    → (pass.ended ≡ false → Goes run pass step later) → ((seq : ℕ) (call : Call) (snapshot : Snapshot) → step ≡ Told seq call snapshot → ⊥) → GoesOn stands_for kind run pass part later part
+goes-quiet stands_for kind run pass later part step thread below open_now goes none =
+    record { thread = thread; driven = λ whose driven. driven-quiet stands_for kind run whose pass later part step below open_now (goes open_now) none driven }

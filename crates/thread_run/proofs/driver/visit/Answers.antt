@@ -1,5 +1,5 @@
 use Rattle.std.proofs.Common.{◌≡◌, false, sym, ◌∙◌}
-use Rattle.thread_run.proofs.Driving.{driven-grown, driven-quiet, inside-told}
+use Rattle.thread_run.proofs.Driving.{driven-grown, goes-quiet, inside-told}
 use Rattle.thread_run.proofs.driver.visit.Goals as goal
 
 pub returns-in-Ok-Told-clause-goes : goal.returns-in-Ok-Told-clause-goes
@@ -12,27 +12,15 @@ returns-in-Ok-Told-clause-goes g c =
 
 pub returns-in-Ok-Quiet-clause-goes : goal.returns-in-Ok-Quiet-clause-goes
 returns-in-Ok-Quiet-clause-goes g c =
-    let open_now : c.args.pass.now.ended ≡ false = sym c.ended.ensures ∙ c.if-ended.false in
-    record {
-      thread = c.go.ensures.thread;
-      driven = λ whose driven. driven-quiet g.P.ToolPart.stands_for g.P.ToolPart.kind g.K.BookName.run whose c.args.pass.now c.go.new.pass c.args.part.now _ c.legal.ensures.below open_now (c.in-Ok-Quiet.ensures.ok open_now) (λ seq call snapshot told. cc) driven;
-    }
+    goes-quiet g.P.ToolPart.stands_for g.P.ToolPart.kind g.K.BookName.run c.args.pass.now c.go.new.pass c.args.part.now _ c.go.ensures.thread c.legal.ensures.below (sym c.ended.ensures ∙ c.if-ended.false) c.in-Ok-Quiet.ensures.ok (λ seq call snapshot told. cc)
 
 pub returns-in-Ok-NotYet-clause-goes : goal.returns-in-Ok-NotYet-clause-goes
 returns-in-Ok-NotYet-clause-goes g c =
-    let open_now : c.args.pass.now.ended ≡ false = sym c.ended.ensures ∙ c.if-ended.false in
-    record {
-      thread = c.go.ensures.thread;
-      driven = λ whose driven. driven-quiet g.P.ToolPart.stands_for g.P.ToolPart.kind g.K.BookName.run whose c.args.pass.now c.go.new.pass c.args.part.now _ c.legal.ensures.below open_now (c.in-Ok-NotYet.ensures.ok open_now) (λ seq call snapshot told. cc) driven;
-    }
+    goes-quiet g.P.ToolPart.stands_for g.P.ToolPart.kind g.K.BookName.run c.args.pass.now c.go.new.pass c.args.part.now _ c.go.ensures.thread c.legal.ensures.below (sym c.ended.ensures ∙ c.if-ended.false) c.in-Ok-NotYet.ensures.ok (λ seq call snapshot told. cc)
 
 pub returns-in-Ok-Ended-clause-goes : goal.returns-in-Ok-Ended-clause-goes
 returns-in-Ok-Ended-clause-goes g c =
-    let open_now : c.args.pass.now.ended ≡ false = sym c.ended.ensures ∙ c.if-ended.false in
-    record {
-      thread = c.go.ensures.thread;
-      driven = λ whose driven. driven-quiet g.P.ToolPart.stands_for g.P.ToolPart.kind g.K.BookName.run whose c.args.pass.now c.go.new.pass c.args.part.now _ c.legal.ensures.below open_now (c.in-Ok-Ended.ensures.ok open_now) (λ seq call snapshot told. cc) driven;
-    }
+    goes-quiet g.P.ToolPart.stands_for g.P.ToolPart.kind g.K.BookName.run c.args.pass.now c.go.new.pass c.args.part.now _ c.go.ensures.thread c.legal.ensures.below (sym c.ended.ensures ∙ c.if-ended.false) c.in-Ok-Ended.ensures.ok (λ seq call snapshot told. cc)
 
 pub returns-in-Err-clause-goes : goal.returns-in-Err-clause-goes
 returns-in-Err-clause-goes g c = record {
