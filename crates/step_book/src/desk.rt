@@ -80,7 +80,8 @@ impl<K: BookName> Desk<K> {
         add_hold(count, &mut self.seat, &self.book.entries()[before..]);
         self.book.legal();
         give_pass(count, &mut self.seat, &mut pass.badge);
-        pass.told_over = tells_over(&result);
+        let told_over = tells_over(&result);
+        pass.told_over = told_over;
         result
     }
 

@@ -19,7 +19,7 @@ invariant_of-self g c =
 pub returns-clause-ok : goal.returns-clause-ok
 returns-clause-ok g c =
     let made = round _ _ _ _ _ _ _ _ _ _ _ c.self.invariant.seat c.pass.invariant.badge c.take_pass.ensures.view c.take_pass.ensures.told c.add_hold.ensures.view c.give_pass.ensures.view c.give_pass.ensures.pass_view in
-    let hold = hold-made _ _ _ _ _ _ _ made c.self.invariant.own _ _ c.pass.inside.ended c.tells_over.result _ c.pass.view_is in
+    let hold = hold-made _ _ _ _ _ _ _ made c.self.invariant.own _ _ c.pass.inside.ended c.tells_over-told_over.result _ c.pass.view_is in
     let seen = ap (λ (v : Sight). v.seen) c.pass.view_is in
     let thread = ap (λ (v : Sight). v.thread) c.pass.view_is in
     let now = book-now _ _ _ _ _ _ _ c.self.invariant made.begins ∙ ap (λ seen. pages_of g.K.BookName.run (seen ++ made.begins.rest) c.self.inside.book.ended) seen in
@@ -35,7 +35,7 @@ returns-clause-owes g c =
 pub returns-clause-memory : goal.returns-clause-memory
 returns-clause-memory g c =
     let made = round _ _ _ _ _ _ _ _ _ _ _ c.self.invariant.seat c.pass.invariant.badge c.take_pass.ensures.view c.take_pass.ensures.told c.add_hold.ensures.view c.give_pass.ensures.view c.give_pass.ensures.pass_view in
-    let hold = hold-made _ _ _ _ _ _ _ made c.self.invariant.own _ _ c.pass.inside.ended c.tells_over.result _ c.pass.view_is in
+    let hold = hold-made _ _ _ _ _ _ _ made c.self.invariant.own _ _ c.pass.inside.ended c.tells_over-told_over.result _ c.pass.view_is in
     let seen = ap (λ (v : Sight). v.seen) c.pass.view_is in
     let now = book-now _ _ _ _ _ _ _ c.self.invariant made.begins ∙ ap (λ seen. pages_of g.K.BookName.run (seen ++ made.begins.rest) c.self.inside.book.ended) seen in
     goes-memory g.K.BookName.run c.self.inside.book c.go-result.new.self c.args.pass.now _ made.begins.rest _ hold now (λ added whole. beyond c.self.inside.book c.go-result.new.self _ _ added c.entries-before.ensures c.entries.ensures whole) c.go-result.result c.go-result.ensures.memory
