@@ -177,12 +177,13 @@ impl Sleepers {
         }
     }
 
-    /// So many of the threads that are asleep and may go on now, downwards from the thread of the hold and round. The next one mostly may go on,
-    /// since threads meet at barriers.
+    /// So many of the threads that are asleep and may go on now, downwards from the thread of the hold and round, but thread 0 last. The next one
+    /// mostly may go on, since threads meet at barriers. Thread 0 then waits for all others at the end of a region.
     fn look(&self, book: &Book, thread: u8, wanted: u32) -> Ahead {
         let mut first = None;
         let mut all = ThreadSet::EMPTY;
-        for other in (0..thread).rev().chain((thread..THREADS).rev()) {
+        let round = (1..thread).rev().chain((thread.max(1)..THREADS).rev());
+        for other in round.chain(0..1) {
             if all.len() >= wanted {
                 break;
             }
