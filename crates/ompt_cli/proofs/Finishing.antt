@@ -1,4 +1,4 @@
--- How a run has ended: whole exactly where main returned, and with no thread inside a callback.
+-- How a run has ended: whole exactly at Done or Returned, and with no thread inside a callback.
 use Rattle.std.proofs.Common.{◌≡◌, ◌≢◌, ℕ, zero, suc, ℤ, pos, negsuc, ◌&&◌, Bool, true, false, if◌then◌else◌, List, [], ◌∷◌, Option, Some, None, is_none, slice_index_or, refl, sym, ap, subst, ◌∙◌, ◌↔◌}
 use Rattle.std.specs.List.{list_all}
 use Rattle.tool_api.specs.Record.{Record}
@@ -11,11 +11,12 @@ use Rattle.omp_model.specs.declared.history.Entry.{Entry}
 use Rattle.omp_model.specs.State.{Run, State}
 use Rattle.omp_model.specs.Cause.{cause_of, cause_by_halt, cause_of_halt, cause_of_value, cause_of_whole, is_stuck, main_value, threads_over, whole_value}
 use Rattle.omp_model.specs.Gates.{main_returned}
-use Rattle.omp_model.specs.Legal.{after}
+use Rattle.omp_model.specs.Legal.{Legal, after}
 use Rattle.team_run.specs.Serving.{RunsFor}
 use Rattle.team_run.specs.Unheard.{IsUnheard}
 use Rattle.thread_run.specs.Driving.{LeftAt, RunsThreads}
 use Rattle.ompt_cli.specs.Runs.{AreOutside, IsReturn, IsWhole}
+use Rattle.ompt_cli.proofs.Halting.{not_halted}
 
 -- what main returned is told as a return
 returns : (value : ℤ) → IsReturn (cause_of_value value)
@@ -37,25 +38,25 @@ both run S cause true true same is = (refl, refl)
 both run S cause true false same is = absurd (not-stuck (is_stuck run S) cause same is)
 both run S cause false returned same is = absurd (not-stuck (is_stuck run S) cause same is)
 
-whole-from : (run : Run) (history : List Entry) (cause : Cause) (halt : Option Halt) → (after run history).halt ≡ halt → cause_by_halt run (after run history) halt ≡ Some cause → IsReturn cause → IsWhole run history
-whole-from run history cause (Some halt) halted same is = let told : cause_of_halt halt ≡ cause = cc in absurd (no-return halt (subst IsReturn (sym told) is))
-whole-from run history cause None halted same is =
+whole-from : (run : Run) (history : List Entry) (cause : Cause) (halt : Option Halt) → cause_by_halt run (after run history) halt ≡ Some cause → IsReturn cause → IsWhole run history
+whole-from run history cause (Some halt) same is = let told : cause_of_halt halt ≡ cause = cc in absurd (no-return halt (subst IsReturn (sym told) is))
+whole-from run history cause None same is =
     let S = after run history in
     let ends = both run S cause (threads_over S.world) (main_returned S.world) same is in
-    record { over = ends.0; returned = ends.1; not_halted = halted }
+    record { over = ends.0; returned = ends.1 }
 
 -- where a run is whole, its cause is a return
-return-from : (run : Run) (history : List Entry) (cause : Cause) → cause_of run history ≡ Some cause → IsWhole run history → IsReturn cause
-return-from run history cause same whole =
+return-from : (run : Run) (history : List Entry) (cause : Cause) → Legal run history → cause_of run history ≡ Some cause → IsWhole run history → IsReturn cause
+return-from run history cause legal same whole =
     let S = after run history in
     let value : whole_value S.world ≡ Some (main_value S.world) = rw (whole.over, whole.returned) refl in
-    let told : cause_of run history ≡ Some (cause_of_value (main_value S.world)) = ap (cause_by_halt run S) whole.not_halted ∙ ap (cause_of_whole run S) value in
+    let told : cause_of run history ≡ Some (cause_of_value (main_value S.world)) = ap (cause_by_halt run S) (not_halted run history legal whole.over) ∙ ap (cause_of_whole run S) value in
     let is : cause_of_value (main_value S.world) ≡ cause = cc in
     subst IsReturn is (returns (main_value S.world))
 
 -- a run is whole exactly where its cause is a return
-pub finished : (run : Run) (history : List Entry) (cause : Cause) → cause_of run history ≡ Some cause → IsReturn cause ↔ IsWhole run history
-finished run history cause same = (whole-from run history cause (after run history).halt refl same, return-from run history cause same)
+pub finished : (run : Run) (history : List Entry) (cause : Cause) → Legal run history → cause_of run history ≡ Some cause → IsReturn cause ↔ IsWhole run history
+finished run history cause legal same = (whole-from run history cause (after run history).halt same, return-from run history cause legal same)
 
 -- of threads of which none is inside a callback, each is outside
 each-outside : (pending : List (Option Callback)) (k : ℕ) → list_all (λ (callback : Option Callback). is_none callback) pending ≡ true → slice_index_or pending k None ≡ None

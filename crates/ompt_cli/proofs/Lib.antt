@@ -1,5 +1,6 @@
 pub mod Calls
 pub mod Runs
+pub mod Halting
 pub mod Finishing
 pub mod Handing
 pub mod Keeping

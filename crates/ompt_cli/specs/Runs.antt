@@ -13,13 +13,12 @@ use Rattle.team_run.specs.Serving.{Becomes, mask_of}
 use Rattle.team_run.specs.Unheard.{IsUnheard}
 use Rattle.thread_run.specs.Driving.{LeftAt, called_for, record_of_first}
 
--- every thread that was made has ended, main has returned, and no trap or limit was met
+-- every thread that was made has ended, and main has returned
 pub record IsWhole (run : Run) (history : List Entry) : Type 0 where
   pub over : threads_over (after run history).world ≡ true
   pub returned : main_returned (after run history).world ≡ true
-  pub not_halted : (after run history).halt ≡ None
 
--- the cause is that main returned
+-- the cause is Done or Returned
 abbrev pub IsReturn : Cause → Type 0
 IsReturn causes.Done = ⊤
 IsReturn (causes.Returned value) = ⊤

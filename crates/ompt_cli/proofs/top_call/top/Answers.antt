@@ -103,7 +103,7 @@ returns-clause-silent_run g c =
 
 pub returns-clause-finished : goal.returns-clause-finished
 returns-clause-finished g c =
-    rw c.tell-2.ensures.ran (where_some c.run_command.result.ran c.run_command.ensures.report (λ report r found. finished (run_of report) report.history report.cause (r.observes.ends found)))
+    rw c.tell-2.ensures.ran (where_some c.run_command.result.ran c.run_command.ensures.report (λ report r found. finished (run_of report) report.history report.cause r.observes.legal (r.observes.ends found)))
 
 pub returns-clause-whole : goal.returns-clause-whole
 returns-clause-whole g c =

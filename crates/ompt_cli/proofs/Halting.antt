@@ -1,0 +1,174 @@
+-- A trap or a limit leaves a thread that hasn't ended: the one that met it is inside no callback and has no turn any more, so nothing takes it further.
+use Rattle.std.proofs.Common.{◌≡◌, ℕ, zero, suc, ◌+◌, ◌&&◌, Bool, true, false, IsTrue, if◌then◌else◌, List, [], ◌∷◌, Option, Some, None, is_none, slice_index_or, refl, sym, ap, subst, ◌∙◌, true≢false}
+use Rattle.std.proofs.lemmas.Bool.{and_parts}
+use Rattle.std.specs.List.{list_all}
+use Rattle.c_model.specs.declared.point.SyncStage.TheVariants as sync_stage
+use Rattle.ompt_calls.specs.declared.snapshot.Target.{Target}
+use Rattle.omp_model.specs.declared.event.Callback.{Callback}
+use Rattle.omp_model.specs.declared.event.Event.{Event}
+use Rattle.omp_model.specs.declared.event.Event.TheVariants as event
+use Rattle.omp_model.specs.declared.event.Halt.{Halt}
+use Rattle.omp_model.specs.declared.event.Outcome.{Outcome}
+use Rattle.omp_model.specs.declared.event.Outcome.TheVariants as outcome
+use Rattle.omp_model.specs.declared.history.Entry.{Entry}
+use Rattle.omp_model.specs.declared.history.What.{What}
+use Rattle.omp_model.specs.declared.history.What.TheVariants.{Go, Put, Back}
+use Rattle.omp_model.specs.declared.parts.ThreadStage.{ThreadStage}
+use Rattle.omp_model.specs.declared.parts.ThreadStage.TheVariants as stage
+use Rattle.omp_model.specs.Alike.{QuietWorld}
+use Rattle.omp_model.specs.Cause.{threads_over}
+use Rattle.omp_model.specs.Changes.{all_summoned, made, opened, summoned}
+use Rattle.omp_model.specs.Gates.{arrival, arrival_at, is_out}
+use Rattle.omp_model.specs.Legal.{AllowsFrom, Legal, after, after_from, back_from, does, entered, may, put_from}
+use Rattle.omp_model.specs.Members.{is_outermost}
+use Rattle.omp_model.specs.Returning.{after_created, at_back}
+use Rattle.omp_model.specs.State.{Run, State, Thread, World, first, pending_at, region_at, thread_at, unmade, with_thread}
+use Rattle.omp_model.specs.Turn.{enabled, goes_on, turn}
+use Rattle.omp_model.proofs.AlikeWorlds.{alike-stored, quiet-turn}
+use Rattle.omp_model.proofs.Later.{at-set}
+use Rattle.omp_model.proofs.MadeWords.{at-summoned}
+use Rattle.omp_model.proofs.Turning.{Turned}
+use Rattle.omp_model.proofs.Turns.{halts-pending, turn-goes, turn-happens, turn-not_idle, turn-quiet}
+
+-- the thread was made and hasn't ended
+abbrev IsIn : Thread → Type 0
+IsIn thread = is_out thread.stage ≡ false
+
+-- a thread is left that hasn't ended, and no callback can return on it
+record Left (S : State) : Type 0 where
+  t : ℕ
+  is_in : IsIn (thread_at S.world t)
+  outside : pending_at S t ≡ None
+
+-- .. where the run is halted
+abbrev LeftWhere : State → Option Halt → Type 0
+LeftWhere S None = Unit {0}
+LeftWhere S (Some halt) = Left S
+
+abbrev LeavesOne : State → Type 0
+LeavesOne S = LeftWhere S S.halt
+
+-- a thread that has a turn hasn't ended
+stage-in : (W : World) (t : ℕ) (now : ThreadStage) → goes_on (arrival_at W t now) ≡ true → is_out now ≡ false
+stage-in W t stage.Unmade goes = absurd (true≢false (sym goes))
+stage-in W t stage.Made goes = refl
+stage-in W t stage.Begun goes = refl
+stage-in W t stage.Ended goes = absurd (true≢false (sym goes))
+
+-- an enabled thread hasn't ended
+enabled-in : (S : State) (t : ℕ) → enabled S t ≡ true → IsIn (thread_at S.world t)
+unfolding enabled arrival
+enabled-in S t goes = stage-in S.world t (thread_at S.world t).stage (and_parts (is_none (pending_at S t) && is_none S.halt) (goes_on (arrival S.world t)) goes).1
+
+-- where the run isn't halted nothing is asked
+none-left : (S : State) → S.halt ≡ None → LeavesOne S
+none-left S none = subst (LeftWhere S) (sym none) tt
+
+-- one thread that is left is enough, halted or not
+one-left : (S : State) (halt : Option Halt) → Left S → LeftWhere S halt
+one-left S None left = tt
+one-left S (Some halt) left = left
+
+-- where the thread that is left stays so, one is left still
+still-left : (S after : State) (halt : Option Halt) → (Left S → Left after) → LeftWhere S halt → LeftWhere after halt
+still-left S after None keeps left = tt
+still-left S after (Some halt) keeps left = keeps left
+
+-- a turn that halts the run leaves its thread
+turn-leaves : (run : Run) (S : State) (t : ℕ) (o : Outcome) → enabled S t ≡ true → (turn run S t).outcome ≡ o → Turned run (QuietWorld t S.world) t (turn run S t).state.world o → LeavesOne (turn run S t).state
+turn-leaves run S t outcome.Idle goes is quiet = absurd (turn-not_idle run S t goes is)
+turn-leaves run S t outcome.Quiet goes is quiet = none-left (turn run S t).state (turn-quiet run S t goes is).halt
+turn-leaves run S t (outcome.Happens e) goes is quiet = none-left (turn run S t).state (turn-happens run S t e goes is).halt
+turn-leaves run S t (outcome.Halts halt) goes is quiet =
+    one-left (turn run S t).state (turn run S t).state.halt (record {
+      t = t;
+      is_in = rw (quiet.alike.thread t).stage (enabled-in S t goes);
+      outside = ap (λ (pending : List (Option Callback)). slice_index_or pending t None) (halts-pending run S t halt is) ∙ (turn-goes S t goes).outside;
+    })
+
+-- a thread inside a callback isn't the one that is left
+apart : (S : State) (t : ℕ) (callback : Callback) (left : Left S) → pending_at S t ≡ Some callback → left.t ≡ t → ⊥
+apart S t callback left is same = let other : pending_at S t ≡ None = subst (λ u. pending_at S u ≡ None) same left.outside in cc
+
+-- a store keeps each thread's stage, and the other threads' callbacks
+put-leaves : (S : State) (t : ℕ) (target : Target) (word : ℕ) (callback : Option Callback) → pending_at S t ≡ callback → LeavesOne S → LeavesOne (put_from S t target word callback)
+put-leaves S t target word None is left = left
+put-leaves S t target word (Some callback) is left =
+    let after = put_from S t target word (Some callback) in
+    still-left S after S.halt (λ one. record {
+      t = one.t;
+      is_in = rw ((alike-stored S.world target word).thread one.t).stage one.is_in;
+      outside = at-set (λ (pending : Option Callback). pending ≡ None) None S.pending t one.t (Some (record callback { stores = callback.stores + 1 })) one.outside (λ same. absurd (apart S t callback one is same));
+    }) left
+
+-- a thread that is summoned and hadn't ended hasn't ended
+made-in : (now : ThreadStage) → is_out now ≡ false → is_out (made now) ≡ false
+made-in stage.Unmade is = refl
+made-in stage.Made is = is
+made-in stage.Begun is = is
+made-in stage.Ended is = is
+
+-- the Back of a thread's event ends no other thread
+module _ (W : World) (t u : ℕ) (other : u ≡ t → ⊥) (is : IsIn (thread_at W u)) where
+  either-in : (b : Bool) (after : World) → IsIn (thread_at after u) → IsIn (thread_at (if b then after else W) u)
+  either-in true after changed = changed
+  either-in false after changed = is
+
+  opened-in : (r : ℕ) → IsIn (thread_at (opened W t r) u)
+  opened-in r =
+      elim (is_outermost W r) as (λ b. IsIn (thread_at (if b then record W { threads = all_summoned r (region_at W r).head.size W.threads } else with_thread W t (summoned r (thread_at W t))) u)) [
+        | true ↦ at-summoned IsIn r (region_at W r).head.size W.threads u is (λ within. made-in (thread_at W u).stage is)
+        | false ↦ at-set IsIn unmade W.threads t u (summoned r (thread_at W t)) is (λ same. absurd (other same))
+      ]
+
+  created-in : (task : ℕ) (undeferred : Bool) → IsIn (thread_at (after_created W t task undeferred) u)
+  created-in task true = at-set IsIn unmade W.threads t u (record (thread_at W t) { undeferred = task }) is (λ same. absurd (other same))
+  created-in task false = either-in _ _ is
+
+  back-in : (e : Event) → IsIn (thread_at (at_back W t e) u)
+  unfolding at_back
+  back-in event.ThreadEnd = at-set IsIn unmade W.threads t u (record (thread_at W t) { stage = stage.Ended }) is (λ same. absurd (other same))
+  back-in (event.ParallelBegin r requested codeptr) = opened-in r
+  back-in (event.ParallelEnd r codeptr) = is
+  back-in (event.MemberEnd r k) = is
+  back-in (event.TaskCreate task undeferred codeptr) = created-in task undeferred
+  back-in (event.TaskEnd task) = either-in _ _ is
+  back-in (event.Sync kind sync_stage.WaitBegin codeptr) = either-in _ _ is
+  back-in rest = is
+
+-- the thread that is left is inside no callback, so no Back is its own
+back-leaves : (S : State) (t : ℕ) (callback : Option Callback) → pending_at S t ≡ callback → LeavesOne S → LeavesOne (back_from S t callback)
+back-leaves S t None is left = left
+back-leaves S t (Some callback) is left =
+    let after = back_from S t (Some callback) in
+    still-left S after S.halt (λ one. record {
+      t = one.t;
+      is_in = back-in S.world t one.t (apart S t callback one is) one.is_in callback.event;
+      outside = at-set (λ (pending : Option Callback). pending ≡ None) None S.pending t one.t None one.outside (λ same. refl);
+    }) left
+
+-- each entry that may stand
+entry-leaves : (run : Run) (S : State) (t : ℕ) (what : What) → IsTrue (may run S t what) → LeavesOne S → LeavesOne (does run S t what)
+entry-leaves run S t Go goes left = turn-leaves run S t (turn run S t).outcome goes refl (quiet-turn run t S)
+entry-leaves run S t (Put target word) goes left = put-leaves S t target word (pending_at S t) refl left
+entry-leaves run S t Back goes left = back-leaves S t (pending_at S t) refl left
+
+-- .. and all entries of a history
+entries-leave : (run : Run) (S : State) (history : List Entry) → AllowsFrom run S history → LeavesOne S → LeavesOne (after_from run S history)
+entries-leave run S [] legal left = left
+entries-leave run S (entry ∷ rest) legal left = entries-leave run (entered run S entry) rest legal.1 (entry-leaves run S entry.thread entry.what legal.0 left)
+
+-- of threads that have all ended, or weren't made, each is so
+over-out : (threads : List Thread) (u : ℕ) → list_all (λ (thread : Thread). is_out thread.stage) threads ≡ true → is_out (slice_index_or threads u unmade).stage ≡ true
+over-out [] u over = refl
+over-out (thread ∷ threads) zero over = (and_parts (is_out thread.stage) (list_all (λ (thread : Thread). is_out thread.stage) threads) over).0
+over-out (thread ∷ threads) (suc u) over = over-out threads u (and_parts (is_out thread.stage) (list_all (λ (thread : Thread). is_out thread.stage) threads) over).1
+
+-- then none is left, and the run isn't halted
+not-left : (S : State) (halt : Option Halt) → LeftWhere S halt → threads_over S.world ≡ true → halt ≡ None
+not-left S None left over = refl
+not-left S (Some halt) left over = absurd (true≢false (sym (over-out S.world.threads left.t over) ∙ left.is_in))
+
+-- where every thread that was made has ended, no trap or limit was met
+pub not_halted : (run : Run) (history : List Entry) → Legal run history → threads_over (after run history).world ≡ true → (after run history).halt ≡ None
+not_halted run history legal over = not-left (after run history) (after run history).halt (entries-leave run (first run) history legal tt) over
