@@ -9,7 +9,7 @@
 //! program, what the outputs gain, and what the guests were called for. Words that ask for help or the version have a text written to
 //! the output in its place.
 //!
-//! Each thread number has a thread of the system (`thread_run`), or with `--serial` one thread has all turns (`team_run`).
+//! Each thread number has a thread of the system, where it gives one (`thread_run`), or with `--serial` one thread has all turns (`team_run`).
 //!
 //! Every text runs that is a program of the grammar, breaks no rule and is at most 65,536 bytes long. What its program printed
 //! is written where the run ends in any cause but want of memory: also at a trap, at a limit, and where no thread can go on.

@@ -21,7 +21,7 @@ pub struct Report {
     pub threads: u8,
     /// How many silent steps there might be.
     pub steps: u32,
-    /// Whether the run was serial: one thread had all turns. Else each thread number had a thread of its own.
+    /// Whether the run was serial: one thread had all turns. Else each thread number had a thread of its own, if it could be started.
     pub serial: bool,
     /// The run's entries.
     pub history: History,

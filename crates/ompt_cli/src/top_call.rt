@@ -44,7 +44,8 @@ use tool_api::GuestTool;
 /// and writes `ok` where it is nested. Where the words ask for help or for the version, that text is written to `out`, and nothing is read.
 ///
 /// `words` don't contain the program's own name. With `--serial` one thread has all turns, and nothing is taken of `rt`; else each
-/// thread number has a thread of its own, the first one the caller's. No clause says that a run by threads comes back.
+/// thread number has a thread of its own, the first one the caller's, which drives those too that can't be started. No clause says that a
+/// run by threads comes back.
 /// Where nothing ran the guests are dropped.
 pub fn top<R: Threads + Wait + Sync, S: Source, O: Sink, E: Sink>(
     rt: &R,
@@ -117,7 +118,7 @@ pub fn top<R: Threads + Wait + Sync, S: Source, O: Sink, E: Sink>(
         source.new ≡ source.old }
     ensures mask { IfSome result.ran (λ report. report.command ≢ Command.Run → report.mask ≡ PROFILE_MASK) }
 
-    // Its history is legal, and ends in the cause that is reported: whole exactly where main returned. No thread is inside a callback then.
+    // Its history is legal, and ends in the cause that is reported: whole exactly at Done or Returned. No thread is inside a callback then.
     // With `--serial` it is in the serial order.
     ensures legal { IfSome result.ran (λ report. Legal (run_of report) report.history) }
     ensures cause { IfSome result.ran (λ report. report.cause ≢ Cause.Memory →

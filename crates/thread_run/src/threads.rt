@@ -1,4 +1,4 @@
-//! The run by threads: each thread number has a thread of its own, and callbacks of different threads may overlap.
+//! The run by threads: each thread number has a thread of its own, where it can be started, and callbacks of different threads may overlap.
 
 ghost use Rattle.std.specs.Prelude.{◌≡◌, ◌≢◌, ◌<◌, ◌≤◌, ℕ, Some, IfOk, IfSome, List, get_or, length, vec_capacity, []};
 ghost use Rattle.omp_model.specs.Cause.{cause_of};
