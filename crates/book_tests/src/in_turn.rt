@@ -77,7 +77,7 @@ fn closed_in_turn<R: Wait + Abort, K: BookName>(
     requires run { blank.run ≡ K.run }
     requires threads { K.run.threads ≡ 2 }
 {
-    let (book, mut passes) = SharedBook::<K>::start(alloc, blank)?;
+    let (book, mut passes) = SharedBook::<K>::start(alloc, blank, 1)?;
     let (Some(mut second), Some(mut first)) = (passes.pop(), passes.pop()) else {
         panic!(rt; "there are two passes");
     };

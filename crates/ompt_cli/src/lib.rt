@@ -3,22 +3,23 @@
 //! [`top`] does what the words say, as `ompt_words` reads them. Five commands read a program from a source and run it: `list` writes a
 //! line for each event to an output; `record` writes the trace of the run; `profile` writes how many calls of each callback there were;
 //! `timeline` writes the states of the threads; `run` calls guests, which are tools, at the events of their threads, and writes what the
-//! program printed. `gen` makes a program, runs it, and writes a summary. Three commands read a trace from the source: `show` writes a line
-//! for each event and one for the end, `migrate` writes the trace in the second version of the format, and `check` says whether it is nested.
-//! Where the end isn't a good one, one line goes to standard error. Its contract says, over any source and any sinks, what each end comes with, that what ran is one legal run of the
-//! program, what the outputs gain, and what the guests were called for. Words that ask for help or the version have a text written to
-//! the output in its place.
+//! program printed. `gen` makes a program, runs it, and writes a summary. Three commands read a trace from the source: `show` writes a
+//! line for each event and one for the end, `migrate` writes the trace in the second version of the format, and `check` says whether it
+//! is nested. Where the end isn't a good one, one line goes to standard error. Its contract says, over any source and any sinks, what
+//! each end comes with, that what ran is one legal run of the program, what the outputs gain, and what the guests were called for. Words
+//! that ask for help or the version have a text written to the output in its place.
 //!
-//! Each thread number has a thread of the system, where it gives one (`thread_run`), or with `--serial` one thread has all turns (`team_run`).
+//! Each thread number has a thread of the system, where it gives one (`thread_run`), or with `--serial` one thread has all turns
+//! (`team_run`).
 //!
 //! Every text runs that is a program of the grammar, breaks no rule and is at most 65,536 bytes long. What its program printed
 //! is written where the run ends in any cause but want of memory: also at a trap, at a limit, and where no thread can go on.
 //!
 //! The definitions stand in `specs/`: which words ask for a run or for a trace to be read (`Words`), the texts that run, with their
-//! programs, and why others are refused (`Text`), the status and the line of each end (`Ends`), what a run of either kind gives
-//! (`Runs`), what a command writes (`Commands`) and reports (`Reports`), what one that reads a trace has read and written (`Traces`), and what
-//! guests stand for after a command (`Guests`). The runs are those of `omp_model`, the traces those of `trace_format` and `run_trace`, and
-//! the rules on them those of `trace_check`. A report holds the tree of its program for contracts alone ([`ProgramTree`]).
+//! programs, and why others are refused (`Text`), the status and the line of each end (`Ends`), what a run of either kind gives (`Runs`),
+//! what a command writes (`Commands`) and reports (`Reports`), what one that reads a trace has read and written (`Traces`), and what
+//! guests stand for after a command (`Guests`). The runs are those of `omp_model`, the traces those of `trace_format` and `run_trace`,
+//! and the rules on them those of `trace_check`. A report holds the tree of its program for contracts alone ([`ProgramTree`]).
 //!
 //! Want of memory is free: no clause says when it comes, only what stands after it. That the calls succeed with ample
 //! memory isn't proved: the rows of `run_tables` show it.

@@ -49,15 +49,15 @@ impl<K: BookName> Model for Desk<K> {
 }
 
 impl<K: BookName> Desk<K> {
-    /// The book with its seat, before any thread sleeps.
-    pub fn new(book: Book, seat: BookSeat) -> Desk<K>
+    /// The book with its seat, before any thread sleeps of those that run on so many processors.
+    pub fn new(book: Book, seat: BookSeat, processors: usize) -> Desk<K>
         requires { IsDesk K.table seat.table_id K.run seat.me book }
         ensures { result ≡ holds_in seat.me.0 }
     {
         Desk {
             book,
             seat,
-            sleepers: Sleepers::new(),
+            sleepers: Sleepers::new(processors),
             of: PhantomData,
         }
     }

@@ -48,7 +48,13 @@ pub struct SharedBook<K: BookName> {
 
 impl<K: BookName> SharedBook<K> {
     /// Shares the book of this name, and gives a pass for each thread, in order, which has seen nothing.
-    pub fn start(alloc: Global, blank: Blank) -> Result<(SharedBook<K>, Vec<Pass<K>>), Memory>
+    ///
+    /// How many processors the threads may run on is for the pace alone: on one or two, fewer of those that wait stay ready for their turn.
+    pub fn start(
+        alloc: Global,
+        blank: Blank,
+        processors: usize,
+    ) -> Result<(SharedBook<K>, Vec<Pass<K>>), Memory>
         requires table { blank.table ≡ K.table }
         requires run { blank.run ≡ K.run }
         ensures count { IfOk result (λ made. length made.1.items ≡ K.run.threads) }
@@ -61,7 +67,7 @@ impl<K: BookName> SharedBook<K> {
         } = blank;
         let passes = make_passes(alloc, &words.shared, &mut seat, book.threads())?;
         let bells = make_bells(alloc, book.threads())?;
-        let desk = Mutex::new(Desk::new(book, seat));
+        let desk = Mutex::new(Desk::new(book, seat, processors));
         Ok((SharedBook { words, desk, bells }, passes))
     }
 

@@ -6,8 +6,8 @@ use crate::thread_set::ThreadSet;
 /// The most threads of a run.
 const THREADS: u8 = 16;
 
-/// So many threads are ahead at most: the one that was woken, and those that are called near.
-const AHEAD: u32 = 3;
+/// On so many processors or fewer, threads that are near keep those from theirs that go on.
+const FEW_PROCESSORS: usize = 2;
 
 /// Where no more threads than these sleep, one that begins to sleep stays near.
 const FEW: u32 = 3;
@@ -32,15 +32,6 @@ impl Woken {
     };
 }
 
-/// Threads that may go on, as they are next.
-#[derive(Drop)]
-struct Ahead {
-    /// The first of them.
-    first: Option<u8>,
-    /// All of them.
-    all: ThreadSet,
-}
-
 /// What a thread does after a hold.
 #[derive(Clone, Copy, PartialEq, Eq)]
 pub(crate) enum Then {
@@ -57,7 +48,7 @@ pub(crate) enum Then {
 /// The threads that sleep, or are about to. Nothing is claimed of them. A thread that polls is none of them.
 ///
 /// A thread that sleeps is near or parked. One that is near looks for itself soon, and to wake it earlier costs little. But it takes turns of a
-/// processor meanwhile, so those alone are called near that may go on and are next.
+/// processor meanwhile. On few processors there is room for one near beside the thread that was woken; on more there is room for all.
 ///
 /// While a thread goes on it wakes no other: it only sees to it that one that may go on is near, where none is near yet and none was woken. One
 /// that is near or was woken has a hold soon, whatever the callbacks of others do, and sees to the others in turn: at once, or once it is told not
@@ -69,19 +60,22 @@ pub(crate) struct Sleepers {
     asleep: ThreadSet,
     /// Those of them that are near.
     near: ThreadSet,
+    /// So many have room near, beside the thread that was woken.
+    room: u32,
     /// The thread that was woken and has had no hold since, if there is one.
-    woken: Option<u8>,
+    woken: ThreadSet,
     /// Whether something has changed since one was last looked for that may wake.
     has_changed: bool,
 }
 
 impl Sleepers {
-    /// No thread sleeps.
-    pub fn new() -> Sleepers {
+    /// No thread sleeps of those that run on so many processors.
+    pub fn new(processors: usize) -> Sleepers {
         Sleepers {
             asleep: ThreadSet::EMPTY,
             near: ThreadSet::EMPTY,
-            woken: None,
+            room: room_near(processors),
+            woken: ThreadSet::EMPTY,
             has_changed: false,
         }
     }
@@ -123,10 +117,8 @@ impl Sleepers {
             Then::GoesOn | Then::Polls | Then::IsOver => self.asleep.without(thread),
         };
         self.near = self.near.without(thread);
+        self.woken = self.woken.without(thread);
         self.has_changed = self.has_changed || next == Then::GoesOn;
-        if self.woken == Some(thread) {
-            self.woken = None;
-        }
     }
 
     /// All threads wake that sleep.
@@ -142,12 +134,11 @@ impl Sleepers {
 
     /// A thread that is asleep and may go on now is called near, if there is one, unless another one is near or was woken.
     fn call_one(&mut self, book: &Book, thread: u8) -> Woken {
-        if self.woken.is_some() || !self.near.is_empty() {
+        if !self.woken.is_empty() || !self.near.is_empty() {
             return Woken::NOBODY;
         }
-        let ahead = self.look(book, thread, 1);
         Woken {
-            called: self.call(ahead.all),
+            called: self.call(book, thread, 1),
             ..Woken::NOBODY
         }
     }
@@ -158,60 +149,59 @@ impl Sleepers {
         if !self.has_changed {
             return Woken::NOBODY;
         }
-        if self.woken.is_some() {
-            let ahead = self.look(book, thread, AHEAD - 1);
-            return Woken {
-                called: self.call(ahead.all),
-                ..Woken::NOBODY
-            };
-        }
-        self.has_changed = false;
-        let ahead = self.look(book, thread, AHEAD);
-        match ahead.first {
-            Some(first) => Woken {
-                stays_near: false,
-                rung: self.ring(first),
-                called: self.call(ahead.all.without(first)),
-            },
-            None => Woken::NOBODY,
-        }
-    }
-
-    /// So many of the threads that are asleep and may go on now, downwards from the thread of the hold and round, but thread 0 last. The next one
-    /// mostly may go on, since threads meet at barriers. Thread 0 then waits for all others at the end of a region.
-    fn look(&self, book: &Book, thread: u8, wanted: u32) -> Ahead {
-        let mut first = None;
-        let mut all = ThreadSet::EMPTY;
-        let round = (1..thread).rev().chain((thread.max(1)..THREADS).rev());
-        for other in round.chain(0..1) {
-            if all.len() >= wanted {
-                break;
+        let mut rung = ThreadSet::EMPTY;
+        if self.woken.is_empty() {
+            self.has_changed = false;
+            rung = self.look(book, thread, ThreadSet::EMPTY, 1);
+            if rung.is_empty() {
+                return Woken::NOBODY;
             }
-            if self.asleep.has(other) && book.has_turn(other) {
-                first = first.or(Some(other));
-                all = all.with(other);
-            }
+            self.asleep = self.asleep.minus(rung);
+            self.near = self.near.minus(rung);
+            self.woken = rung;
         }
-        Ahead { first, all }
+        Woken {
+            stays_near: false,
+            rung,
+            called: self.call(book, thread, self.room),
+        }
     }
 
-    /// The thread wakes.
-    fn ring(&mut self, thread: u8) -> ThreadSet {
-        self.asleep = self.asleep.without(thread);
-        self.near = self.near.without(thread);
-        self.woken = Some(thread);
-        ThreadSet::EMPTY.with(thread)
-    }
-
-    /// The threads are called near. It answers those that weren't.
-    fn call(&mut self, threads: ThreadSet) -> ThreadSet {
-        let called = threads.minus(self.near);
+    /// The next threads are called near that are asleep and may go on now, so many with those that are near already. It answers those that weren't.
+    fn call(&mut self, book: &Book, thread: u8, wanted: u32) -> ThreadSet {
+        let called = self.look(book, thread, self.near, wanted).minus(self.near);
         self.near = self.near.union(called);
         called
     }
 
+    /// So many of the threads that are asleep and may go on now, downwards from the thread of the hold and round, but thread 0 last. The next one
+    /// mostly may go on, since threads meet at barriers. Thread 0 then waits for all others at the end of a region. Those of the set count though
+    /// they aren't looked at.
+    fn look(&self, book: &Book, thread: u8, counted: ThreadSet, wanted: u32) -> ThreadSet {
+        let mut found = ThreadSet::EMPTY;
+        let round = (1..thread).rev().chain((thread.max(1)..THREADS).rev());
+        for other in round.chain(0..1) {
+            if found.len() >= wanted {
+                break;
+            }
+            if counted.has(other) || self.asleep.has(other) && book.has_turn(other) {
+                found = found.with(other);
+            }
+        }
+        found
+    }
+
     /// Whether a thread that sleeps may stay near.
     fn has_room_near(&self) -> bool {
-        self.near.len() < AHEAD - 1 || self.asleep.len() <= FEW
+        self.near.len() < self.room || self.asleep.len() <= FEW
+    }
+}
+
+/// So many threads have room near on so many processors.
+fn room_near(processors: usize) -> u32 {
+    if processors <= FEW_PROCESSORS {
+        1
+    } else {
+        u32::from(THREADS)
     }
 }

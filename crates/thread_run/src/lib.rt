@@ -6,9 +6,10 @@
 //! again, for which it takes the lock once. Told not yet it sleeps until its thread may go on. Where the book or the part
 //! finds no memory it ends the run for all.
 //!
-//! The caller has the driver of thread 0, and each other one runs on a thread of its own. Where a start is refused the driver
-//! comes back as it was, and the caller visits it in turn with driver 0, one visit with its answer each. Passes and parts come
-//! back in the order of their threads. Part 0 is started before the book is made, and finished when all drivers have come back, as in a serial run.
+//! The caller has the driver of thread 0, and each other one runs on a thread of its own. Where a start is refused the driver comes
+//! back as it was, and the caller visits it in turn with driver 0, one visit with its answer each. Passes and parts come back in
+//! the order of their threads. Part 0 is started before the book is made, and finished when all drivers have come back, as in a
+//! serial run.
 //!
 //! `driver` has a driver's whole way and a visit alone, `team` starts the drivers and takes them back, `threads` puts them together.
 //! In `specs/` `Driving` says what a driver's part was called for and what a whole run answers, and `Drivers` what is so of all

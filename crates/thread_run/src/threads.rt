@@ -15,6 +15,7 @@ use c_check::Program;
 use omp_model::Cause;
 use std::alloc::Global;
 use std::marker::Brand;
+use std::num::NonZeroUsize;
 use std::sync::Wait;
 use std::sync::atomic::AtomicBool;
 use std::thread;
@@ -111,7 +112,7 @@ fn run_team<R: Threads + Wait + Sync, K: BookName, P: ToolPart>(
     ensures text { IfOk result (λ team. team.closed.text.items ≡ (after K.run team.closed.history).world.store.text) }
     ensures cause { IfOk result (λ team. IfSome team.closed.cause (λ cause. cause ≢ Cause.Memory → cause_of K.run team.closed.history ≡ Some cause)) }
 {
-    let (book, passes) = SharedBook::<K>::start(alloc, blank)?;
+    let (book, passes) = SharedBook::<K>::start(alloc, blank, processors(rt))?;
     let slots = Vec::with_capacity(alloc, passes.len())?;
     let passes_back = Vec::with_capacity(alloc, passes.len())?;
     let parts_back = Vec::with_capacity(alloc, passes.len())?;
@@ -121,6 +122,11 @@ fn run_team<R: Threads + Wait + Sync, K: BookName, P: ToolPart>(
         closed: book.close(passes),
         parts,
     })
+}
+
+/// How many processors the threads may run on, or one where that isn't known.
+fn processors<R: Threads>(rt: &R) -> usize {
+    thread::available_parallelism(rt).map_or(1, NonZeroUsize::get)
 }
 
 /// The driver of each pass and part.
