@@ -6,7 +6,7 @@ use crate::thread_set::ThreadSet;
 /// The most threads of a run.
 const THREADS: u8 = 16;
 
-/// On so many processors or fewer, threads that are near keep those from theirs that go on.
+/// On so many processors or fewer, threads that are near take too many turns from those that go on.
 const FEW_PROCESSORS: usize = 2;
 
 /// Where no more threads than these sleep, one that begins to sleep stays near.
