@@ -33,7 +33,7 @@
 //! - [`Program::slot`], [`Program::sharing`], [`Program::task_copies`], [`Program::critical_number`], [`Program::critical_count`] and
 //!   [`Program::shared_loop`] answer what the definitions have.
 //!
-//! That the loop of each `for` construct of a checked program has parts is not proved. Which sentences of `docs/rules.md` the definitions
+//! That the loop of each `for` construct of a checked program has parts is a law of `c_model`. Which sentences of `docs/rules.md` the definitions
 //! stand for is to be read. The time and the memory are no clauses.
 #![tactic(auto)]
 

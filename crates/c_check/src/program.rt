@@ -117,8 +117,8 @@ impl Program {
         }
     }
 
-    /// The parts of the loop that a construct shares out. `None` for a node that is no `for` or `parallel for`. That each other one has
-    /// parts is not proved.
+    /// The parts of the loop that a construct shares out. `None` for a node that is no `for` or `parallel for`. Of a checked program
+    /// each other one has parts, by a law of `c_model`.
     pub fn shared_loop(&self, construct: u32) -> Option<SharedLoop>
         requires { construct < length self.now.trees }
         ensures parts { IfSome result (λ found. loop_parts (tree_at self.now.trees construct) ≡ Some (loop_at self.now.trees found)) }

@@ -1,4 +1,4 @@
--- Where the code of each kind of task begins (OpenMP 5.2, 12.1 and 12.5).
+-- Where the code of each kind of task begins (OpenMP 5.2, 10.1, 12.5 and 12.8).
 use Rattle.std.specs.Prelude.{ℕ, List, [], ◌∷◌, ◌++◌, length, None}
 use Rattle.c_syntax.specs.declared.node.Directive.TheVariants as directive
 use Rattle.c_syntax.specs.declared.node.NodeKind.{NodeKind}

@@ -1,4 +1,4 @@
--- The parts of a directive: its clauses, and its statement (OpenMP 5.2, 3.1 and 5).
+-- The parts of a directive: its clauses, and its statement (OpenMP 5.2, 3.2 and 5).
 use Rattle.std.specs.Prelude.{ℕ, if◌then◌else◌, Bool, true, false, List, [], ◌∷◌, ◌++◌, map, Option, Some, None}
 use Rattle.std.specs.List.{list_any}
 use Rattle.c_syntax.specs.declared.node.Data.TheVariants as data_clause

@@ -21,5 +21,5 @@ pub const TEXT_LIMIT: usize = 1_048_576;
 /// What a line counts in a place that tools are told as `codeptr_ra`: line × 65536 + column.
 pub const LINE_UNIT: u64 = 65_536;
 
-/// The wait identifier of a lock is this and the number of its cell.
+/// The wait identifier of a lock is the number of its cell plus this.
 pub const LOCK_UNIT: u32 = 65_536;

@@ -60,3 +60,4 @@ pub mod FileSorts
 pub mod ProgramMeaning
 mod GoingOn
 pub mod OneAnswer
+pub mod OddNames

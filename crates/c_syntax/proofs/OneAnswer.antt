@@ -1,8 +1,9 @@
 -- A text whose tokens are read has one tree, or one fault.
-use Rattle.std.proofs.Common.{ℕ, ◌≡◌, ◌⊎◌, List, Ok, inl, inr, subst}
+use Rattle.std.proofs.Common.{ℕ, ◌≡◌, ◌⊎◌, List, inl, inr, subst}
 use Rattle.c_tokens.specs.declared.token.Token.{Token}
-use Rattle.c_tokens.specs.workings.Tokens.{tokens_of}
-use Rattle.c_tokens.proofs.Law.{reads-one, scan-reads}
+use Rattle.c_tokens.specs.language.Places.{beginning}
+use Rattle.c_tokens.specs.language.Pieces.{Reads}
+use Rattle.c_tokens.proofs.Law.{reads-one, reads-tokens}
 use Rattle.c_syntax.specs.declared.fault.SyntaxFault.{SyntaxFault}
 use Rattle.c_syntax.specs.language.Words.{words_of}
 use Rattle.c_syntax.specs.language.Tree.{Tree}
@@ -29,9 +30,9 @@ not_both text tree found one other =
     program-no_fault (words_of text one.tokens) tree found one.spelled
     (subst (λ (tokens : List Token). IsFault (words_of text tokens) found) same other.fault)
 
-pub tree_or_fault : (text : List ℕ) (tokens : List Token) → tokens_of text ≡ Ok tokens → ((tree : Tree) × Spells text tree) ⊎ ((found : SyntaxFault) × HasSyntaxFault text found)
-tree_or_fault text tokens are = by-answer (text-answered text tokens are)
+pub tree_or_fault : (text : List ℕ) (tokens : List Token) → Reads beginning text tokens → ((tree : Tree) × Spells text tree) ⊎ ((found : SyntaxFault) × HasSyntaxFault text found)
+tree_or_fault text tokens read = by-answer (text-answered text tokens (reads-tokens text tokens read))
   where
     by-answer : IsAnswered (words_of text tokens) → ((tree : Tree) × Spells text tree) ⊎ ((found : SyntaxFault) × HasSyntaxFault text found)
-    by-answer (inl (tree, program)) = inl (tree, record { tokens = tokens; read = scan-reads text tokens are; spelled = program })
-    by-answer (inr (found, is)) = inr (found, record { tokens = tokens; read = scan-reads text tokens are; fault = is })
+    by-answer (inl (tree, program)) = inl (tree, record { tokens = tokens; read = read; spelled = program })
+    by-answer (inr (found, is)) = inr (found, record { tokens = tokens; read = read; fault = is })

@@ -5,6 +5,7 @@ pub mod Tree
 pub mod Productions
 pub mod Heads
 pub mod Faults
+pub mod OutOfLanguage
 pub mod Numbered
 pub mod Texts
 pub mod Places

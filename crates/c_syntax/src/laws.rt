@@ -1,15 +1,19 @@
 //! What follows from the definitions alone: each law is the contract of a function with an empty body.
 
-ghost use Rattle.std.specs.Prelude.{◌≡◌, ◌∷◌, ◌++◌, ◌↔◌, ◌⊎◌, [], ℕ, List, Ok};
+ghost use Rattle.std.specs.Prelude.{◌≡◌, ◌∷◌, ◌++◌, ◌↔◌, ◌⊎◌, [], ℕ, List};
 ghost use Rattle.c_tokens.specs.declared.token.Token.{Token};
-ghost use Rattle.c_tokens.specs.workings.Tokens.{tokens_of};
+ghost use Rattle.c_tokens.specs.language.Places.{beginning};
+ghost use Rattle.c_tokens.specs.language.Pieces.{Reads};
 ghost use Rattle.c_syntax.specs.declared.fault.SyntaxFault.{SyntaxFault};
 ghost use Rattle.c_syntax.specs.declared.term.Term.TheVariants.{End};
 ghost use Rattle.c_syntax.specs.language.Words.{Word};
 ghost use Rattle.c_syntax.specs.language.Tree.{Tree};
 ghost use Rattle.c_syntax.specs.language.Productions.{GoesOn, IsProgram, depth_limit};
 ghost use Rattle.c_syntax.specs.workings.Derivation.{CanGoOn, SpellsWithin};
-ghost use Rattle.c_syntax.specs.language.Faults.{IsAnswered, IsFault};
+ghost use Rattle.c_syntax.specs.declared.head.Head.{Head};
+ghost use Rattle.c_syntax.specs.language.Words.{name_term};
+ghost use Rattle.c_syntax.specs.language.Faults.{IsAnswered, IsFault, is_odd_at};
+ghost use Rattle.c_syntax.specs.language.OutOfLanguage.{is_out_at};
 ghost use Rattle.c_syntax.specs.language.Texts.{HasSyntaxFault, Spells};
 ghost use Rattle.c_syntax.specs.language.Places.{HasOneConstructAPlace, HasOneNameAPlace};
 
@@ -35,7 +39,7 @@ pub fn program_or_fault()
 
 /// A text whose tokens are read is a program with a tree or has a fault, not both, and one of them alone.
 pub fn one_answer_of_a_text()
-    ensures tree_or_fault { (text : List ℕ) (tokens : List Token) → tokens_of text ≡ Ok tokens →
+    ensures tree_or_fault { (text : List ℕ) (tokens : List Token) → Reads beginning text tokens →
         ((tree : Tree) × Spells text tree) ⊎ ((found : SyntaxFault) × HasSyntaxFault text found) }
     ensures not_both { (text : List ℕ) (tree : Tree) (found : SyntaxFault) → Spells text tree → HasSyntaxFault text found → ⊥ }
     ensures one_tree { (text : List ℕ) (first second : Tree) → Spells text first → Spells text second → first ≡ second }
@@ -47,6 +51,12 @@ pub fn one_answer_of_a_text()
 pub fn table_is_the_grammar()
     ensures spelled { (limit : ℕ) (words : List Word) (tree : Tree) → IsProgram limit words tree ↔ SpellsWithin limit words tree }
     ensures goes_on { (limit : ℕ) (words : List Word) → GoesOn limit words ↔ CanGoOn limit words }
+{}
+
+/// The tables of words have the words of the three lists and no others: a name is out of the language, wherever words leave off before it, exactly where
+/// the list of that place has it, or where it begins with `omp_` and is no word of the language.
+pub fn tables_have_the_words()
+    ensures { (at : Head) (bytes : List ℕ) → is_odd_at at (name_term bytes) ≡ is_out_at at bytes }
 {}
 
 /// A spot tells a name: nodes of a program that have one, and stand at one spot, have the same.

@@ -10,7 +10,8 @@
 //! The definitions that the public clauses rest on, and that a reader is to believe:
 //!
 //! - `specs/language/Words.antt`: what a token is to the grammar. All names have numbers, in the order in which they first appear.
-//!   `specs/language/WordClasses.antt`: which words are names, and which are routines;
+//!   `specs/language/WordClasses.antt`: which words are names, and which are routines. `specs/language/OutOfLanguage.antt`: the
+//!   words of C, of directives and of clauses that are out of the language, as lists;
 //! - `specs/language/Tree.antt`: trees. `specs/language/Numbered.antt`: trees by their numbers, as a [`Tree`] has them;
 //! - `specs/language/Productions.antt`: the grammar. Each production is a relation, or a case of one, between the words from where
 //!   it begins, the words behind it, and what it makes. The ranks of operators, the nearest `if` of an `else`, the comma before a
@@ -33,6 +34,8 @@
 //!
 //! - [`read_program`] answers `Ok` with a tree that the text spells, and a fault that the text has. It may answer want of memory
 //!   at any time, and no clause says when. Its one condition is that the tokens are those of the text, however long that is;
+//! - a name is out of the language at a place exactly where the lists of `specs/language/OutOfLanguage.antt` have it there, by
+//!   [`tables_have_the_words`]: those lists have the words that the tables of the code leave out of the language;
 //! - words are a program with one tree at most, by [`one_tree`], and have one fault at most, by [`one_fault`]. No words are a
 //!   program and have a fault, by [`tree_or_fault`], and words that end with the end of the text are one or have the other, by
 //!   [`program_or_fault`]. [`one_answer_of_a_text`] says the same of a text whose tokens are read. So the answer is determined but
@@ -77,7 +80,7 @@ mod words;
 pub use fault::SyntaxFault;
 pub use laws::{
     one_answer_of_a_text, one_construct_a_place, one_fault, one_name_a_place, one_tree,
-    program_or_fault, table_is_the_grammar, tree_or_fault,
+    program_or_fault, table_is_the_grammar, tables_have_the_words, tree_or_fault,
 };
 pub use node::{
     BinaryOp, Bump, Data, Default, Directive, Getter, Lead, LockCall, NodeKind, Parameters,

@@ -1,8 +1,9 @@
 //! The program that tokens are.
 
-ghost use Rattle.std.specs.Prelude.{◌≡◌, ◌≢◌, ◌∷◌, ◌++◌, [], List, All, IfOk, IfErr, OnOk, Ok, length, map};
+ghost use Rattle.std.specs.Prelude.{◌≡◌, ◌≢◌, ◌∷◌, ◌++◌, [], List, All, IfOk, IfErr, OnOk, length, map};
 ghost use Rattle.c_tokens.specs.declared.token.Token.{Token};
-ghost use Rattle.c_tokens.specs.workings.Tokens.{tokens_of};
+ghost use Rattle.c_tokens.specs.language.Places.{beginning as first_place};
+ghost use Rattle.c_tokens.specs.language.Pieces.{Reads};
 ghost use Rattle.c_syntax.specs.language.Words.{main_of};
 ghost use Rattle.c_syntax.specs.language.Texts.{HasSyntaxFault, Spells};
 ghost use Rattle.c_syntax.specs.language.Numbered.{root_tree};
@@ -20,7 +21,7 @@ use std::alloc::Global;
 
 /// The tree of the program that a text is, where these are its tokens. Or the fault at the first token with which no program goes on.
 pub fn read_program(alloc: Global, text: &[u8], tokens: &[Token]) -> Result<Tree, SyntaxFault>
-    requires tokens { tokens_of text.now ≡ Ok tokens.now }
+    requires read { Reads first_place text.now tokens.now }
 
     // The words of the text are a program by the productions, and this is its tree.
     ensures tree { IfOk result (λ tree. Spells text.now (root_tree tree)) }

@@ -1,6 +1,7 @@
 //! The callbacks of the profile: those whose events a program may have.
 
-ghost use Rattle.std.specs.Prelude.{◌≡◌};
+ghost use Rattle.std.specs.Prelude.{◌≡◌, ◌==◌, ℕ, All, true};
+ghost use Rattle.std.specs.Int.{bit_at};
 ghost use Rattle.omp_codes.specs.Answers.{in_profile, mask_of};
 
 /// `ompt_callback_thread_begin` of `ompt_callbacks_t` (OpenMP 5.2, 19.4.2), as all that follow.
@@ -104,7 +105,9 @@ pub fn is_profile(number: u32) -> bool
     )
 }
 
-/// A law: the mask of the profile has the callbacks that `PROFILE` lists, and no others.
+/// A law: the mask of the profile has the callbacks that `PROFILE` lists, and no others, and these are the callbacks of the profile.
 pub fn profile_has_its_mask()
-    ensures { PROFILE_MASK ≡ mask_of PROFILE }
+    ensures listed { PROFILE_MASK ≡ mask_of PROFILE }
+    ensures within { All (λ number. in_profile number ≡ true) PROFILE }
+    ensures bits { (number : ℕ) → (bit_at PROFILE_MASK number == 1) ≡ in_profile number }
 {}

@@ -112,7 +112,7 @@ impl Snapshot {
         (self.state, self.wait_id)
     }
 
-    /// The thread's data word, as `ompt_get_thread_data` answers (OpenMP 5.2, 19.6.1.3).
+    /// The thread's data word, as `ompt_get_thread_data` answers (OpenMP 5.2, 19.6.1.5).
     pub fn get_thread_data(&self) -> Word
         ensures { result ≡ self.now.thread }
     {

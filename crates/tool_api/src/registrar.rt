@@ -43,7 +43,7 @@ impl Registrar {
         self.mask
     }
 
-    /// Registers the callback with this number, as `ompt_set_callback` does (OpenMP 5.2, 19.5.1): where the answer is 5,
+    /// Registers the callback with this number, as `ompt_set_callback` does (OpenMP 5.2, 19.6.1.3): where the answer is 5,
     /// always, it is registered. Otherwise the answer is 1, never, or 0, an error, and nothing changes.
     pub fn set(&mut self, number: u32) -> u8
         ensures answer { result ≡ answer_of number }
@@ -67,7 +67,7 @@ impl Registrar {
         }
     }
 
-    /// Whether the callback with this number is registered, as `ompt_get_callback` answers (OpenMP 5.2, 19.5.1): 1 where
+    /// Whether the callback with this number is registered, as `ompt_get_callback` answers (OpenMP 5.2, 19.6.1.4): 1 where
     /// it is, else 0.
     pub fn get(&self, number: u32) -> u8
         ensures { result ≡ get_answer self.now number }
