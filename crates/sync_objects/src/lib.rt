@@ -17,16 +17,14 @@
 //! The code keeps a place for each wait identifier that a lock has or had, by rising identifier, and searches them by
 //! halves; that the identifier is greater than all others is found at once. A lock that is destroyed leaves its place,
 //! which an [`Locks::init`] of the same identifier takes again, so that nothing behind it moves, in whichever order locks
-//! go. `specs/Places.antt` says what the places are seen as. What calls cost is no clause. Tests try the faults in a row
-//! of calls, and long lists of calls beside a list that is searched from its front.
+//! go. `specs/Places.antt` says what the places are seen as. What calls cost is no clause. Tests of `test_parts` try the
+//! faults in a row of calls, and long lists of calls beside a list that is searched from its front.
 #![tactic(auto)]
 
 mod entry;
 mod lock;
 mod lock_fault;
 mod locks;
-#[cfg(test)]
-mod tests;
 
 pub use lock::Lock;
 pub use lock_fault::LockFault;

@@ -22,7 +22,7 @@
 //! `specs/Links.antt`, says that the links spell the ready order forwards and backwards, and each region's part of it. So
 //! no call but [`Pool::newest_allowed`] and [`Pool::ready_list`] has a loop. What calls cost is no clause.
 //!
-//! Tests try a small pool and a full one, and long lists of calls beside plain lists.
+//! Tests of `test_parts` try a small pool and a full one, and long lists of calls beside plain lists.
 #![tactic(auto)]
 
 mod chain;
@@ -30,8 +30,6 @@ mod laws;
 mod node;
 mod pool;
 mod task;
-#[cfg(test)]
-mod tests;
 
 pub use laws::descending_is_reachability;
 pub use pool::{Memory, Pool};

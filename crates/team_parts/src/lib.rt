@@ -31,8 +31,8 @@
 //! barriers each member has begun to wait, and the most at which a wait has ended, so that no member is looked at where a
 //! wait may end. What calls cost is no clause.
 //!
-//! Tests try chunks of each schedule, meetings, barriers and sections, and long lists of calls beside plain lists of all
-//! that each member met and took.
+//! Tests of `test_parts` try chunks of each schedule, meetings, barriers and sections, and long lists of calls beside plain
+//! lists of all that each member met and took.
 #![tactic(auto)]
 
 mod chunks;

@@ -12,9 +12,6 @@ use crate::member::{Member, new_member};
 use std::alloc::Global;
 use std::marker::Model;
 
-#[cfg(test)]
-mod tests;
-
 /// The error of a call that found no memory.
 pub type Memory = std::alloc::AllocError;
 

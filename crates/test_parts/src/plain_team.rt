@@ -1,24 +1,45 @@
 //! All that each member of a team met and took, in plain lists.
-use crate::meeting::{Meeting, Mismatch, Schedule};
-use std::alloc::Global;
-use std::test::Fail;
+
+use std::alloc::{AllocError, Global};
+use team_parts::{Meeting, Mismatch, Schedule};
 
 /// What a member met, with the chunks and sections that it took there.
 #[derive(Drop)]
-pub struct PlainMeeting {
+pub(crate) struct PlainMeeting {
     pub what: Meeting,
     pub chunks: Vec<(u64, u64)>,
     pub has_arrived: bool,
     pub has_passed: bool,
 }
 
+impl PlainMeeting {
+    /// Whether the iteration is in a chunk that was taken.
+    fn has_taken(&self, iteration: u64) -> bool {
+        for (start, length) in &self.chunks {
+            if *start <= iteration && iteration - *start < *length {
+                return true;
+            }
+        }
+        false
+    }
+}
+
 /// All that each member met.
 #[derive(Drop)]
-pub struct PlainTeam {
+pub(crate) struct PlainTeam {
     pub members: Vec<Vec<PlainMeeting>>,
 }
 
 impl PlainTeam {
+    /// So many members that have met nothing.
+    pub fn new(alloc: Global, size: u32) -> Result<PlainTeam, AllocError> {
+        let mut members = Vec::new(alloc);
+        for _member in 0..size {
+            members.push(Vec::new(alloc))?;
+        }
+        Ok(PlainTeam { members })
+    }
+
     /// How many meetings the member had.
     pub fn met(&self, member: usize) -> usize {
         self.members
@@ -26,8 +47,10 @@ impl PlainTeam {
             .map_or(0, |meetings| meetings.len())
     }
 
-    pub fn last_mut(&mut self, member: usize) -> Option<&mut PlainMeeting> {
-        self.members.get_mut(member)?.last_mut()
+    /// What the member met last, if anything.
+    pub fn last(&self, member: usize) -> Option<Meeting> {
+        let meeting = self.members.get(member)?.last()?;
+        Some(meeting.what)
     }
 
     /// Whether the member's last meeting is a barrier that it hasn't passed.
@@ -37,37 +60,70 @@ impl PlainTeam {
         }))
     }
 
+    /// The member's wait at its last meeting ends, or else it begins.
+    pub fn wait(&mut self, member: usize, may_end: bool) {
+        if let Some(meeting) = self.last_mut(member) {
+            meeting.has_passed = may_end;
+            meeting.has_arrived = meeting.has_arrived || !may_end;
+        }
+    }
+
+    /// The member takes this chunk in its last meeting.
+    pub fn take(&mut self, member: usize, chunk: (u64, u64)) -> Result<(), AllocError> {
+        if let Some(meeting) = self.last_mut(member) {
+            meeting.chunks.push(chunk)?;
+        }
+        Ok(())
+    }
+
+    fn last_mut(&mut self, member: usize) -> Option<&mut PlainMeeting> {
+        self.members.get_mut(member)?.last_mut()
+    }
+
+    /// The member meets this next, if nobody met something else in this place. Tells whether it is the first here.
     pub fn meet(
         &mut self,
         alloc: Global,
         member: usize,
         what: Meeting,
-    ) -> Result<Result<bool, Mismatch>, Fail> {
-        let number = self.met(member);
+    ) -> Result<Result<bool, Mismatch>, AllocError> {
+        let answer = self.answer_to_meet(self.met(member), what);
+        if answer.is_ok() {
+            self.put(alloc, member, what)?;
+        }
+        Ok(answer)
+    }
+
+    /// Whether nobody has had the meeting with this number, if nobody met something else there.
+    fn answer_to_meet(&self, number: usize, what: Meeting) -> Result<bool, Mismatch> {
         let mut is_first = true;
         for meetings in &self.members {
             if let Some(meeting) = meetings.get(number) {
                 is_first = false;
                 if meeting.what != what {
-                    return Ok(Err(Mismatch));
+                    return Err(Mismatch);
                 }
             }
         }
-        let Some(meetings) = self.members.get_mut(member) else {
-            return Err(Fail::from("no such member"));
-        };
-        meetings.push(PlainMeeting {
-            what,
-            chunks: Vec::new(alloc),
-            has_arrived: false,
-            has_passed: false,
-        })?;
-        Ok(Ok(is_first))
+        Ok(is_first)
+    }
+
+    /// The member has met this.
+    fn put(&mut self, alloc: Global, member: usize, what: Meeting) -> Result<(), AllocError> {
+        if let Some(meetings) = self.members.get_mut(member) {
+            meetings.push(PlainMeeting {
+                what,
+                chunks: Vec::new(alloc),
+                has_arrived: false,
+                has_passed: false,
+            })?;
+        }
+        Ok(())
     }
 
     /// How many iterations or sections all members took in the meeting with this number.
     fn taken_by_all(&self, number: usize) -> u64 {
-        let mut taken = 0u64;
+        let mut taken = 0_u64;
         for meetings in &self.members {
             if let Some(meeting) = meetings.get(number) {
                 for chunk in &meeting.chunks {
@@ -78,18 +134,10 @@ impl PlainTeam {
         taken
     }
 
-    /// The iterations that the schedule gives to the member in its last loop, by going through all of them.
-    pub fn next_chunk(&self, member: usize, what: Meeting) -> Option<(u64, u64)> {
+    /// The iterations or sections that the schedule gives to the member in what it met last, by going through all of them.
+    pub fn next_piece(&self, member: usize, last: Option<Meeting>) -> Option<(u64, u64)> {
         let size = self.members.len() as u64;
-        let (count, schedule) = match what {
-            Meeting::Loop {
-                count,
-                schedule,
-                ..
-            } => (count, schedule),
-            Meeting::Sections { count, .. } => (u64::from(count), Schedule::Dynamic(1)),
-            _ => (0, Schedule::Dynamic(1)),
-        };
+        let (count, schedule) = dealt_of(last?);
         let taken = self.taken_by_all(self.met(member).saturating_sub(1));
         let rest = count.saturating_sub(taken);
         match schedule {
@@ -137,15 +185,16 @@ impl PlainTeam {
     }
 }
 
-impl PlainMeeting {
-    /// Whether the iteration is in a chunk that was taken.
-    fn has_taken(&self, iteration: u64) -> bool {
-        for (start, length) in &self.chunks {
-            if *start <= iteration && iteration - *start < *length {
-                return true;
-            }
-        }
-        false
+/// How many iterations or sections there are, and how they are dealt.
+fn dealt_of(what: Meeting) -> (u64, Schedule) {
+    match what {
+        Meeting::Loop {
+            count,
+            schedule,
+            ..
+        } => (count, schedule),
+        Meeting::Sections { count, .. } => (u64::from(count), Schedule::Dynamic(1)),
+        Meeting::Single { .. } | Meeting::Barrier { .. } => (0, Schedule::Dynamic(1)),
     }
 }
 
