@@ -4,7 +4,7 @@ use crate::node::{Directive, Getter, NodeKind};
 use crate::term::Term;
 
 /// A class of words whose value a node keeps.
-#[derive(Clone, Copy, Debug, PartialEq, Eq)]
+#[derive(Clone, Copy)]
 pub enum Class {
     /// A name. In the head of a directive each word is one.
     Name,
@@ -17,7 +17,7 @@ pub enum Class {
 }
 
 /// A step of reading.
-#[derive(Clone, Copy, Debug, PartialEq, Eq)]
+#[derive(Clone, Copy)]
 pub enum Step {
     /// The next word is this one.
     Expect(Term),
@@ -44,7 +44,7 @@ pub enum Step {
 }
 
 /// A sort of text.
-#[derive(Clone, Copy, Debug, PartialEq, Eq)]
+#[derive(Clone, Copy)]
 pub enum Sort {
     /// The whole text.
     Program,

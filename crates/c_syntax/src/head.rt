@@ -11,7 +11,7 @@ use crate::term::Term;
 
 /// Where the words so far leave off, in the head of a directive or outside. A head reaches from `#pragma omp` to the end of its
 /// line.
-#[derive(Clone, Copy, Debug, PartialEq, Eq)]
+#[derive(Clone, Copy)]
 pub enum Head {
     /// Outside a head.
     Outside,

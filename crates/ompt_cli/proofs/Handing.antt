@@ -3,14 +3,14 @@ use Rattle.std.proofs.Common.{◌≡◌, ℕ, zero, suc, ◌<◌, ◌≤◌, Boo
 use Rattle.std.proofs.lemmas.List.{nil_from_length}
 use Rattle.tool_api.specs.Record.{Record, QuietFor, StartedWith, StoresNothing}
 use Rattle.tool_api.specs.declared.quiet.Quiet.{Quiet}
-use Rattle.tool_api.specs.Handed.{HandedFor, kind_of}
+use Rattle.tool_api.specs.Handed.{HandedFor, SameHanded}
 use Rattle.tool_api.specs.declared.handed.Handed.{Handed}
 use Rattle.tool_api.specs.declared.handed.Handed.TheVariants as held
 use Rattle.omp_model.specs.declared.cause.Cause.{Cause}
 use Rattle.omp_model.specs.declared.history.Entry.{Entry}
 use Rattle.omp_model.specs.State.{Run}
 use Rattle.omp_model.specs.Heard.{heard_of}
-use Rattle.team_run.specs.Serving.{SameKinds}
+use Rattle.team_run.specs.Serving.{AreSame}
 use Rattle.team_run.specs.Standing.{AreSilent}
 use Rattle.thread_run.specs.Driving.{called_for, record_of_first}
 use Rattle.ompt_cli.specs.Runs.{RunsParts}
@@ -33,28 +33,32 @@ module _ {G : Type 0} {B : Type 0} (box : G → B) where
   guests-more (held.Guest guest ∷ parts) part = ap (λ guests. box guest ∷ guests) (guests-more parts part)
   guests-more (held.Quiet quiet ∷ parts) part = guests-more parts part
 
--- two parts of one kind, and those after them
-kinds-head : {P : Type 0} (kind : P → ℕ) (x y : P) (xs ys : List P) → SameKinds kind (x ∷ xs) (y ∷ ys) → kind y ≡ kind x
-kinds-head kind x y xs ys same = same.each 0 x (omega arith)
+-- the first of two lists of the same parts, and those after it
+same-head : {P : Type 0} (Same : P → P → Type 0) (x y : P) (xs ys : List P) → AreSame Same (x ∷ xs) (y ∷ ys) → Same x y
+same-head Same x y xs ys same = same.each 0 x (omega arith)
 
-kinds-tail : {P : Type 0} (kind : P → ℕ) (x y : P) (xs ys : List P) → SameKinds kind (x ∷ xs) (y ∷ ys) → SameKinds kind xs ys
-kinds-tail kind x y xs ys same = record { each = λ k d below. same.each (suc k) d (omega (arith, below)) }
+same-tail : {P : Type 0} (Same : P → P → Type 0) (x y : P) (xs ys : List P) → AreSame Same (x ∷ xs) (y ∷ ys) → AreSame Same xs ys
+same-tail Same x y xs ys same = record { each = λ k d below. same.each (suc k) d (omega (arith, below)) }
 
-module _ {G : Type 0} {B : Type 0} (box : G → B) (stands : B → Record → Type 0) where
+module _ {G : Type 0} {B : Type 0} (box : G → B) (stands : B → Record → Type 0) (Same : B → B → Type 0) where
+  -- two parts that are the same: that hold the same guest, or none
+  abbrev SamePart : Handed G → Handed G → Type 0
+  SamePart part other = SameHanded (λ guest after. Same (box guest) (box after)) part other
+
   -- what a part stands for: what its guest does
   abbrev For : Handed G → Record → Type 0
   For part h = HandedFor (λ guest h. stands (box guest) h) part h
 
   -- the guests are as many as they were
-  as-many : (guests : List B) (parts after : List (Handed G)) (rest : List B) → HandOut box guests parts rest → length after ≡ length parts → SameKinds kind_of parts after → length (guests_of box after ++ rest) ≡ length guests
+  as-many : (guests : List B) (parts after : List (Handed G)) (rest : List B) → HandOut box guests parts rest → length after ≡ length parts → AreSame SamePart parts after → length (guests_of box after ++ rest) ≡ length guests
   as-many guests [] [] rest out same kinds = ap length (sym out)
   as-many guests [] (a ∷ after) rest out same kinds = absurd (omega (arith, same))
   as-many guests (p ∷ parts) [] rest out same kinds = absurd (omega (arith, same))
   as-many [] (held.Guest g ∷ parts) (a ∷ after) rest out same kinds = absurd out
-  as-many (b ∷ guests) (held.Guest g ∷ parts) (held.Guest a ∷ after) rest out same kinds = ap suc (as-many guests parts after rest out.1 (omega (arith, same)) (kinds-tail kind_of (held.Guest g) (held.Guest a) parts after kinds))
-  as-many (b ∷ guests) (held.Guest g ∷ parts) (held.Quiet a ∷ after) rest out same kinds = absurd (omega (arith, kinds-head kind_of (held.Guest g) (held.Quiet a) parts after kinds))
-  as-many [] (held.Quiet q ∷ parts) (held.Quiet a ∷ after) rest out same kinds = as-many [] parts after rest out (omega (arith, same)) (kinds-tail kind_of (held.Quiet q) (held.Quiet a) parts after kinds)
-  as-many [] (held.Quiet q ∷ parts) (held.Guest a ∷ after) rest out same kinds = absurd (omega (arith, kinds-head kind_of (held.Quiet q) (held.Guest a) parts after kinds))
+  as-many (b ∷ guests) (held.Guest g ∷ parts) (held.Guest a ∷ after) rest out same kinds = ap suc (as-many guests parts after rest out.1 (omega (arith, same)) (same-tail SamePart (held.Guest g) (held.Guest a) parts after kinds))
+  as-many (b ∷ guests) (held.Guest g ∷ parts) (held.Quiet a ∷ after) rest out same kinds = absurd (same-head SamePart (held.Guest g) (held.Quiet a) parts after kinds)
+  as-many [] (held.Quiet q ∷ parts) (held.Quiet a ∷ after) rest out same kinds = as-many [] parts after rest out (omega (arith, same)) (same-tail SamePart (held.Quiet q) (held.Quiet a) parts after kinds)
+  as-many [] (held.Quiet q ∷ parts) (held.Guest a ∷ after) rest out same kinds = absurd (same-head SamePart (held.Quiet q) (held.Guest a) parts after kinds)
   as-many (b ∷ guests) (held.Quiet q ∷ parts) (a ∷ after) rest out same kinds = absurd out
 
   -- the part of a guest stands for what the guest does
@@ -67,30 +71,42 @@ module _ {G : Type 0} {B : Type 0} (box : G → B) (stands : B → Record → Ty
   guest-in (b ∷ guests) (held.Quiet q ∷ parts) rest out k d e h below some for = absurd out
 
   -- and afterwards the guest for what the part does
-  guest-out : (guests : List B) (parts after : List (Handed G)) (rest : List B) → HandOut box guests parts rest → length after ≡ length parts → SameKinds kind_of parts after → (k : ℕ) (d : B) (e : Handed G) (h : Record) → k < length parts → k < length guests → For (slice_index_or after k e) h → stands (slice_index_or (guests_of box after ++ rest) k d) h
+  guest-out : (guests : List B) (parts after : List (Handed G)) (rest : List B) → HandOut box guests parts rest → length after ≡ length parts → AreSame SamePart parts after → (k : ℕ) (d : B) (e : Handed G) (h : Record) → k < length parts → k < length guests → For (slice_index_or after k e) h → stands (slice_index_or (guests_of box after ++ rest) k d) h
   guest-out guests [] after rest out same kinds k d e h below some for = absurd (omega (arith, below))
   guest-out guests (p ∷ parts) [] rest out same kinds k d e h below some for = absurd (omega (arith, same))
   guest-out [] (p ∷ parts) (a ∷ after) rest out same kinds k d e h below some for = absurd (omega (arith, some))
   guest-out (b ∷ guests) (held.Guest g ∷ parts) (held.Guest a ∷ after) rest out same kinds zero d e h below some for = for
   guest-out (b ∷ guests) (held.Guest g ∷ parts) (held.Guest a ∷ after) rest out same kinds (suc k) d e h below some for =
-      guest-out guests parts after rest out.1 (omega (arith, same)) (kinds-tail kind_of (held.Guest g) (held.Guest a) parts after kinds) k d e h (omega (arith, below)) (omega (arith, some)) for
-  guest-out (b ∷ guests) (held.Guest g ∷ parts) (held.Quiet a ∷ after) rest out same kinds k d e h below some for = absurd (omega (arith, kinds-head kind_of (held.Guest g) (held.Quiet a) parts after kinds))
+      guest-out guests parts after rest out.1 (omega (arith, same)) (same-tail SamePart (held.Guest g) (held.Guest a) parts after kinds) k d e h (omega (arith, below)) (omega (arith, some)) for
+  guest-out (b ∷ guests) (held.Guest g ∷ parts) (held.Quiet a ∷ after) rest out same kinds k d e h below some for = absurd (same-head SamePart (held.Guest g) (held.Quiet a) parts after kinds)
   guest-out (b ∷ guests) (held.Quiet q ∷ parts) (a ∷ after) rest out same kinds k d e h below some for = absurd out
 
   -- those past the parts are as they were
-  guest-past : (guests : List B) (parts after : List (Handed G)) (rest : List B) → HandOut box guests parts rest → length after ≡ length parts → SameKinds kind_of parts after → (k : ℕ) (d : B) → length parts ≤ k → slice_index_or (guests_of box after ++ rest) k d ≡ slice_index_or guests k d
+  guest-past : (guests : List B) (parts after : List (Handed G)) (rest : List B) → HandOut box guests parts rest → length after ≡ length parts → AreSame SamePart parts after → (k : ℕ) (d : B) → length parts ≤ k → slice_index_or (guests_of box after ++ rest) k d ≡ slice_index_or guests k d
   guest-past guests [] [] rest out same kinds k d past = ap (λ guests. slice_index_or guests k d) (sym out)
   guest-past guests [] (a ∷ after) rest out same kinds k d past = absurd (omega (arith, same))
   guest-past guests (p ∷ parts) [] rest out same kinds k d past = absurd (omega (arith, same))
   guest-past guests (p ∷ parts) (a ∷ after) rest out same kinds zero d past = absurd (omega (arith, past))
   guest-past [] (held.Guest g ∷ parts) (a ∷ after) rest out same kinds (suc k) d past = absurd out
   guest-past (b ∷ guests) (held.Guest g ∷ parts) (held.Guest a ∷ after) rest out same kinds (suc k) d past =
-      guest-past guests parts after rest out.1 (omega (arith, same)) (kinds-tail kind_of (held.Guest g) (held.Guest a) parts after kinds) k d (omega (arith, past))
-  guest-past (b ∷ guests) (held.Guest g ∷ parts) (held.Quiet a ∷ after) rest out same kinds (suc k) d past = absurd (omega (arith, kinds-head kind_of (held.Guest g) (held.Quiet a) parts after kinds))
+      guest-past guests parts after rest out.1 (omega (arith, same)) (same-tail SamePart (held.Guest g) (held.Guest a) parts after kinds) k d (omega (arith, past))
+  guest-past (b ∷ guests) (held.Guest g ∷ parts) (held.Quiet a ∷ after) rest out same kinds (suc k) d past = absurd (same-head SamePart (held.Guest g) (held.Quiet a) parts after kinds)
   guest-past [] (held.Quiet q ∷ parts) (held.Quiet a ∷ after) rest out same kinds (suc k) d past =
-      guest-past [] parts after rest out (omega (arith, same)) (kinds-tail kind_of (held.Quiet q) (held.Quiet a) parts after kinds) (suc k) d (omega (arith, past))
-  guest-past [] (held.Quiet q ∷ parts) (held.Guest a ∷ after) rest out same kinds (suc k) d past = absurd (omega (arith, kinds-head kind_of (held.Quiet q) (held.Guest a) parts after kinds))
+      guest-past [] parts after rest out (omega (arith, same)) (same-tail SamePart (held.Quiet q) (held.Quiet a) parts after kinds) (suc k) d (omega (arith, past))
+  guest-past [] (held.Quiet q ∷ parts) (held.Guest a ∷ after) rest out same kinds (suc k) d past = absurd (same-head SamePart (held.Quiet q) (held.Guest a) parts after kinds)
   guest-past (b ∷ guests) (held.Quiet q ∷ parts) (a ∷ after) rest out same kinds (suc k) d past = absurd out
+
+  -- and each guest is the tool that it was
+  guest-same : ((guest : B) → Same guest guest) → (guests : List B) (parts after : List (Handed G)) (rest : List B) → HandOut box guests parts rest → length after ≡ length parts → AreSame SamePart parts after → (k : ℕ) (d : B) → k < length guests → Same (slice_index_or guests k d) (slice_index_or (guests_of box after ++ rest) k d)
+  guest-same itself [] parts after rest out same kinds k d below = absurd (omega (arith, below))
+  guest-same itself (b ∷ guests) [] [] rest out same kinds k d below = subst (λ rest. Same (slice_index_or (b ∷ guests) k d) (slice_index_or rest k d)) out (itself (slice_index_or (b ∷ guests) k d))
+  guest-same itself (b ∷ guests) [] (a ∷ after) rest out same kinds k d below = absurd (omega (arith, same))
+  guest-same itself (b ∷ guests) (p ∷ parts) [] rest out same kinds k d below = absurd (omega (arith, same))
+  guest-same itself (b ∷ guests) (held.Guest g ∷ parts) (held.Guest a ∷ after) rest out same kinds zero d below = subst (λ b. Same b (box a)) out.0 (same-head SamePart (held.Guest g) (held.Guest a) parts after kinds)
+  guest-same itself (b ∷ guests) (held.Guest g ∷ parts) (held.Guest a ∷ after) rest out same kinds (suc k) d below =
+      guest-same itself guests parts after rest out.1 (omega (arith, same)) (same-tail SamePart (held.Guest g) (held.Guest a) parts after kinds) k d (omega (arith, below))
+  guest-same itself (b ∷ guests) (held.Guest g ∷ parts) (held.Quiet a ∷ after) rest out same kinds k d below = absurd (same-head SamePart (held.Guest g) (held.Quiet a) parts after kinds)
+  guest-same itself (b ∷ guests) (held.Quiet q ∷ parts) (a ∷ after) rest out same kinds k d below = absurd out
 
   -- a part without a guest answers 0
   quiet-answer : (answer registered : ℕ) (g h : Record) (quiet : Quiet) → SameCalls g h → h.started ≡ record { answer = answer; mask = registered } ∷ [] → QuietFor quiet g → answer ≡ 0
@@ -101,11 +117,11 @@ module _ {G : Type 0} {B : Type 0} (box : G → B) (stands : B → Record → Ty
   fresh-quiet : (quiet : Quiet) → QuietFor quiet nothing_called
   fresh-quiet quiet = record { started = λ k d below. absurd (omega (arith, below)); silent = λ k d below. absurd (omega (arith, below)); heard = refl; alone = refl }
 
-  first-answer : (serial : Bool) (run : Run) (cause : Cause) (H : List Entry) (parts after : List (Handed G)) (rest : List B) → 1 ≤ length parts → HandOut box [] parts rest → length after ≡ length parts → SameKinds kind_of parts after → (runs : RunsParts For serial run cause H parts after) → runs.answer ≡ 0
+  first-answer : (serial : Bool) (run : Run) (cause : Cause) (H : List Entry) (parts after : List (Handed G)) (rest : List B) → 1 ≤ length parts → HandOut box [] parts rest → length after ≡ length parts → AreSame SamePart parts after → (runs : RunsParts For serial run cause H parts after) → runs.answer ≡ 0
   first-answer serial run cause H [] after rest some out same kinds runs = absurd (omega (arith, some))
   first-answer serial run cause H (p ∷ parts) [] rest some out same kinds runs = absurd (omega (arith, same))
   first-answer serial run cause H (held.Guest g ∷ parts) (a ∷ after) rest some out same kinds runs = absurd out
-  first-answer serial run cause H (held.Quiet q ∷ parts) (held.Guest a ∷ after) rest some out same kinds runs = absurd (omega (arith, kinds-head kind_of (held.Quiet q) (held.Guest a) parts after kinds))
+  first-answer serial run cause H (held.Quiet q ∷ parts) (held.Guest a ∷ after) rest some out same kinds runs = absurd (same-head SamePart (held.Quiet q) (held.Guest a) parts after kinds)
   first-answer serial run cause H (held.Quiet q ∷ parts) (held.Quiet a ∷ after) rest some out same kinds runs =
       quiet-answer runs.answer runs.registered _ _ a (same-first runs.answer runs.registered (heard_of run H 0) (runs.missed 0) nothing_called) refl (runs.first (held.Quiet q) nothing_called (fresh-quiet q))
 
@@ -120,21 +136,21 @@ module _ {G : Type 0} {B : Type 0} (box : G → B) (stands : B → Record → Ty
   none-in (b ∷ guests) (held.Quiet q ∷ parts) rest out k e past below = absurd out
 
   -- and afterwards it stands for calls alone that stored nothing
-  none-out : (guests : List B) (parts after : List (Handed G)) (rest : List B) → HandOut box guests parts rest → length after ≡ length parts → SameKinds kind_of parts after → (k : ℕ) (e : Handed G) (h : Record) → length guests ≤ k → k < length parts → For (slice_index_or after k e) h → StoresNothing h.calls
+  none-out : (guests : List B) (parts after : List (Handed G)) (rest : List B) → HandOut box guests parts rest → length after ≡ length parts → AreSame SamePart parts after → (k : ℕ) (e : Handed G) (h : Record) → length guests ≤ k → k < length parts → For (slice_index_or after k e) h → StoresNothing h.calls
   none-out guests [] after rest out same kinds k e h past below for = absurd (omega (arith, below))
   none-out guests (p ∷ parts) [] rest out same kinds k e h past below for = absurd (omega (arith, same))
   none-out [] (held.Guest g ∷ parts) (a ∷ after) rest out same kinds k e h past below for = absurd out
-  none-out [] (held.Quiet q ∷ parts) (held.Guest a ∷ after) rest out same kinds k e h past below for = absurd (omega (arith, kinds-head kind_of (held.Quiet q) (held.Guest a) parts after kinds))
+  none-out [] (held.Quiet q ∷ parts) (held.Guest a ∷ after) rest out same kinds k e h past below for = absurd (same-head SamePart (held.Quiet q) (held.Guest a) parts after kinds)
   none-out [] (held.Quiet q ∷ parts) (held.Quiet a ∷ after) rest out same kinds zero e h past below for = for.silent
   none-out [] (held.Quiet q ∷ parts) (held.Quiet a ∷ after) rest out same kinds (suc k) e h past below for =
-      none-out [] parts after rest out (omega (arith, same)) (kinds-tail kind_of (held.Quiet q) (held.Quiet a) parts after kinds) k e h (omega arith) (omega (arith, below)) for
+      none-out [] parts after rest out (omega (arith, same)) (same-tail SamePart (held.Quiet q) (held.Quiet a) parts after kinds) k e h (omega arith) (omega (arith, below)) for
   none-out (b ∷ guests) (held.Guest g ∷ parts) (a ∷ after) rest out same kinds zero e h past below for = absurd (omega (arith, past))
   none-out (b ∷ guests) (held.Guest g ∷ parts) (a ∷ after) rest out same kinds (suc k) e h past below for =
-      none-out guests parts after rest out.1 (omega (arith, same)) (kinds-tail kind_of (held.Guest g) a parts after kinds) k e h (omega (arith, past)) (omega (arith, below)) for
+      none-out guests parts after rest out.1 (omega (arith, same)) (same-tail SamePart (held.Guest g) a parts after kinds) k e h (omega (arith, past)) (omega (arith, below)) for
   none-out (b ∷ guests) (held.Quiet q ∷ parts) (a ∷ after) rest out same kinds k e h past below for = absurd out
 
   -- so nothing is stored on a thread without a guest
-  without-guest : (serial : Bool) (run : Run) (cause : Cause) (H : List Entry) (guests : List B) (parts after : List (Handed G)) (rest : List B) → HandOut box guests parts rest → SameKinds kind_of parts after → RunsParts For serial run cause H parts after → (k : ℕ) (e : Handed G) → length guests ≤ k → k < length parts → AreSilent (heard_of run H k)
+  without-guest : (serial : Bool) (run : Run) (cause : Cause) (H : List Entry) (guests : List B) (parts after : List (Handed G)) (rest : List B) → HandOut box guests parts rest → AreSame SamePart parts after → RunsParts For serial run cause H parts after → (k : ℕ) (e : Handed G) → length guests ≤ k → k < length parts → AreSilent (heard_of run H k)
   without-guest serial run cause H guests parts after rest out kinds runs zero e past below =
       silent-each (heard_of run H 0) (subst StoresNothing (same-first runs.answer runs.registered (heard_of run H 0) (runs.missed 0) nothing_called).calls
       (none-out guests parts after rest out runs.as_many kinds 0 e _ past below (runs.first e nothing_called (none-in guests parts rest out 0 e past below))))
@@ -143,9 +159,9 @@ module _ {G : Type 0} {B : Type 0} (box : G → B) (stands : B → Record → Ty
       (none-out guests parts after rest out runs.as_many kinds (suc k) e _ past below (runs.each (suc k) (omega arith) below e nothing_called (none-in guests parts rest out (suc k) e past below))))
 
   -- so the guests stand for what their threads heard
-  pub guests-serve : (serial : Bool) (run : Run) (cause : Cause) (H : List Entry) (guests : List B) (parts after : List (Handed G)) (rest : List B) → 1 ≤ run.threads → length parts ≡ run.threads → HandOut box guests parts rest → SameKinds kind_of parts after → RunsParts For serial run cause H parts after → GuestsServe stands serial run cause H guests (guests_of box after ++ rest)
-  guests-serve serial run cause H guests [] after rest some each out kinds runs = absurd (omega (arith, some, each))
-  guests-serve serial run cause H guests (p ∷ parts) after rest some each out kinds runs =
+  pub guests-serve : ((guest : B) → Same guest guest) → (serial : Bool) (run : Run) (cause : Cause) (H : List Entry) (guests : List B) (parts after : List (Handed G)) (rest : List B) → 1 ≤ run.threads → length parts ≡ run.threads → HandOut box guests parts rest → AreSame SamePart parts after → RunsParts For serial run cause H parts after → GuestsServe stands Same serial run cause H guests (guests_of box after ++ rest)
+  guests-serve itself serial run cause H guests [] after rest some each out kinds runs = absurd (omega (arith, some, each))
+  guests-serve itself serial run cause H guests (p ∷ parts) after rest some each out kinds runs =
       record {
         as_many = as-many guests (p ∷ parts) after rest out runs.as_many kinds;
         answer = runs.answer;
@@ -161,6 +177,7 @@ module _ {G : Type 0} {B : Type 0} (box : G → B) (stands : B → Record → Ty
         missed = runs.missed;
         are_missed = runs.are_missed;
         all_heard = runs.all_heard;
+        same_tools = λ k d below. guest-same itself guests (p ∷ parts) after rest out runs.as_many kinds k d below;
         guestless = λ k past below. without-guest serial run cause H guests (p ∷ parts) after rest out kinds runs k p past (omega (arith, below, each));
         rest = λ k d past. guest-past guests (p ∷ parts) after rest out runs.as_many kinds k d (omega (arith, past, each));
       }

@@ -25,7 +25,8 @@ use Rattle.omp_model.specs.Legal.{entered}
 use Rattle.omp_model.specs.Heard.{has_back, stores_in, heard_event, heard_outcome, heard_at, heard_from, heard, heard_of}
 use Rattle.omp_model.specs.Records.{record_of, records_of}
 use Rattle.omp_model.proofs.Recording.{records-by_thread}
-use Rattle.team_run.specs.Serving.{served, mask_of}
+use Rattle.team_run.specs.Serving.{served}
+use Rattle.tool_api.specs.Registering.{mask_of}
 use Rattle.team_run.specs.Standing.{AreSilent, HearsOwn, HearsSilent}
 use Rattle.ompt_cli.specs.Runs.{RunsParts}
 use Rattle.ompt_cli.proofs.Calls.{SameCalls, same-first, same-missed}

@@ -8,7 +8,8 @@ use Rattle.omp_model.specs.declared.cause.Cause.TheVariants as causes
 use Rattle.omp_model.specs.declared.history.Entry.{Entry}
 use Rattle.omp_model.specs.State.{Run}
 use Rattle.omp_model.specs.Heard.{heard_of}
-use Rattle.team_run.specs.Serving.{Becomes, mask_of}
+use Rattle.team_run.specs.Serving.{Becomes}
+use Rattle.tool_api.specs.Registering.{mask_of}
 use Rattle.team_run.specs.Standing.{AreSilent}
 use Rattle.thread_run.specs.Driving.{called_for, record_of_first}
 use Rattle.ompt_words.specs.declared.settings.Command.{Command}
@@ -18,8 +19,8 @@ use Rattle.ompt_cli.specs.Runs.{AreMissed}
 -- guest 0 was started, with this answer and these callbacks registered, called for what thread 0 heard, and finished after all
 -- that where it is active; guest t was called for what thread t heard; those past the threads are as they were. Beside that a guest
 -- was called once more where its thread missed an event, for which no memory was found, and then the cause says so. Where there is no
--- guest, nothing is registered, and nothing is stored on a thread without a guest
-pub record GuestsServe {B : Type 0} (stands_for : B → Record → Type 0) (serial : Bool) (run : Run) (cause : Cause) (history : List Entry) (guests after : List B) : Type 0 where
+-- guest, nothing is registered, and nothing is stored on a thread without a guest. Each is the tool that was handed in
+pub record GuestsServe {B : Type 0} (stands_for : B → Record → Type 0) (Same : B → B → Type 0) (serial : Bool) (run : Run) (cause : Cause) (history : List Entry) (guests after : List B) : Type 0 where
   pub as_many : length after ≡ length guests
   pub answer : ℕ
   pub registered : ℕ
@@ -31,16 +32,17 @@ pub record GuestsServe {B : Type 0} (stands_for : B → Record → Type 0) (seri
   pub first : 0 < length guests → Becomes stands_for guests after 0 (record_of_first answer registered (heard_of run history 0) (missed 0))
   pub others : (k : ℕ) → 0 < k → k < run.threads → k < length guests → Becomes stands_for guests after k (called_for (heard_of run history k) (missed k))
   pub rest : (k : ℕ) (d : B) → run.threads ≤ k → slice_index_or after k d ≡ slice_index_or guests k d
+  pub same_tools : (k : ℕ) (d : B) → k < length guests → Same (slice_index_or guests k d) (slice_index_or after k d)
   pub guestless : (k : ℕ) → length guests ≤ k → k < run.threads → AreSilent (heard_of run history k)
 
 -- what guests stand for after a command: all but `run` leave them as they were
-abbrev pub GuestsAfter : {B : Type 0} → (B → Record → Type 0) → Command → Bool → Run → Cause → List Entry → List B → List B → Type 0
-GuestsAfter stands_for Listing serial run cause history guests after = after ≡ guests
-GuestsAfter stands_for Recording serial run cause history guests after = after ≡ guests
-GuestsAfter stands_for Profiling serial run cause history guests after = after ≡ guests
-GuestsAfter stands_for (Timelining columns) serial run cause history guests after = after ≡ guests
-GuestsAfter stands_for (Generating blocks) serial run cause history guests after = after ≡ guests
-GuestsAfter stands_for Running serial run cause history guests after = GuestsServe stands_for serial run cause history guests after
+abbrev pub GuestsAfter : {B : Type 0} → (B → Record → Type 0) → (B → B → Type 0) → Command → Bool → Run → Cause → List Entry → List B → List B → Type 0
+GuestsAfter stands_for Same Listing serial run cause history guests after = after ≡ guests
+GuestsAfter stands_for Same Recording serial run cause history guests after = after ≡ guests
+GuestsAfter stands_for Same Profiling serial run cause history guests after = after ≡ guests
+GuestsAfter stands_for Same (Timelining columns) serial run cause history guests after = after ≡ guests
+GuestsAfter stands_for Same (Generating blocks) serial run cause history guests after = after ≡ guests
+GuestsAfter stands_for Same Running serial run cause history guests after = GuestsServe stands_for Same serial run cause history guests after
 
 -- the guests that these parts hold, in order
 abbrev pub guests_of : {G : Type 0} {B : Type 0} → (G → B) → List (Handed G) → List B

@@ -1,6 +1,7 @@
 -- What a report says of its run.
 use Rattle.std.specs.Prelude.{◌≡◌, ◌≢◌, List, [], Option, Some, true}
 use Rattle.omp_codes.specs.declared.callbacks.TheConstants.{PROFILE_MASK}
+use Rattle.tool_api.specs.Registering.{AreAlways}
 use Rattle.omp_model.specs.declared.cause.Cause.TheVariants as cause
 use Rattle.omp_model.specs.Cause.{cause_of}
 use Rattle.omp_model.specs.Legal.{Legal}
@@ -14,7 +15,7 @@ use Rattle.ompt_cli.specs.Job.{JobView}
 use Rattle.ompt_cli.specs.Runs.{AreOutside}
 
 -- the report is of a run of this job by this command: a legal one that ends in its cause, serially where the job says so. Where nothing is stored a
--- serial run is the one that there is
+-- serial run is the one that there is. Each callback that was registered is one that is called always
 pub record Observes {Table : Type 0} {Behind : Table → Type 0} (command : Command) (job : JobView) (report : Report Table Behind) : Type 0 where
   pub command_is : report.command ≡ command
   pub program_is : report.program.tree ≡ job.program
@@ -27,6 +28,7 @@ pub record Observes {Table : Type 0} {Behind : Table → Type 0} (command : Comm
   pub in_order : report.serial ≡ true → Serial (run_of report) report.history
   pub whole : report.serial ≡ true → report.cause ≢ cause.Memory → HearsSilent (run_of report) report.history → report.history ≡ serial (run_of report)
   pub begun : report.cause ≡ cause.Memory → report.history ≢ []
+  pub always : AreAlways report.mask
 
 -- where the parts are no guests, all callbacks of the profile are registered, and nothing is stored
 pub record StaysSilent {Table : Type 0} {Behind : Table → Type 0} (report : Report Table Behind) : Type 0 where

@@ -9,7 +9,8 @@ use Rattle.omp_model.specs.Cause.{threads_over}
 use Rattle.omp_model.specs.Gates.{main_returned}
 use Rattle.omp_model.specs.Heard.{heard_of}
 use Rattle.omp_model.specs.Legal.{after}
-use Rattle.team_run.specs.Serving.{Becomes, mask_of}
+use Rattle.team_run.specs.Serving.{Becomes}
+use Rattle.tool_api.specs.Registering.{mask_of}
 use Rattle.team_run.specs.Unheard.{IsUnheard}
 use Rattle.thread_run.specs.Driving.{LeftAt, called_for, record_of_first}
 

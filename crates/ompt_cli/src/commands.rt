@@ -37,7 +37,8 @@ pub(crate) fn run_command<R: Threads + Wait + Sync, O: Sink>(
     ensures alone { IsNone result.shown × IsNone result.read }
     ensures report { IfSome result.ran (Reports command job) }
     ensures guests { IfSome result.ran (λ report.
-        GuestsAfter (λ guest h. (GuestTool-box guest).stands_for guest.value h) report.command report.serial (run_of report)
+        GuestsAfter (λ guest h. (GuestTool-box guest).stands_for guest.value h) (λ guest other. guest.vtable ≡ other.vtable)
+        report.command report.serial (run_of report)
         report.cause report.history guests.items report.guests.items) }
     ensures ended { IfSome result.ran (λ report. EndsAs report.cause result.end) }
     ensures missing { IsNone result.ran → result.end ≡ End.Memory }

@@ -2,7 +2,7 @@
 
 ghost use Rattle.std.specs.Prelude.{◌≡◌, IfOk, length};
 ghost use Rattle.omp_model.specs.Legal.{after};
-ghost use Rattle.team_run.specs.Serving.{SameKinds};
+ghost use Rattle.team_run.specs.Serving.{AreSame};
 ghost use Rattle.team_run.specs.Standing.{HearsOwn};
 ghost use Rattle.ompt_cli.specs.Commands.{run_of};
 ghost use Rattle.ompt_cli.specs.Reports.{Observes};
@@ -40,7 +40,7 @@ pub(crate) fn observe<R: Threads + Wait + Sync, P: ToolPart>(
     ensures guests { IfOk result (λ observed. observed.report.guests ≡ guests) }
     ensures parts { IfOk result (λ observed. RunsParts P.stands_for observed.report.serial (run_of observed.report)
         observed.report.cause observed.report.history parts.items observed.parts.items) }
-    ensures kinds { IfOk result (λ observed. SameKinds P.kind parts.items observed.parts.items) }
+    ensures same { IfOk result (λ observed. AreSame P.same parts.items observed.parts.items) }
     ensures own { IfOk result (λ observed. HearsOwn (run_of observed.report) observed.report.history) }
     ensures text { IfOk result (λ observed. observed.text.items ≡
         (after (run_of observed.report) observed.report.history).world.store.text) }

@@ -4,8 +4,9 @@ ghost use Rattle.std.specs.Prelude.{◌≡◌, ◌≢◌, [], Some, IfOk, length
 ghost use Rattle.omp_model.specs.Cause.{cause_of};
 ghost use Rattle.omp_model.specs.Legal.{Legal, after};
 ghost use Rattle.omp_model.specs.Serial.{Serial, serial};
+ghost use Rattle.tool_api.specs.Registering.{AreAlways};
 ghost use Rattle.team_run.specs.Program.{run_of_program};
-ghost use Rattle.team_run.specs.Serving.{SameKinds};
+ghost use Rattle.team_run.specs.Serving.{AreSame};
 ghost use Rattle.team_run.specs.Standing.{HearsOwn, HearsSilent};
 ghost use Rattle.ompt_cli.specs.Runs.{AreOutside, RunsParts};
 
@@ -29,7 +30,8 @@ pub(crate) fn run_job<R: Threads + Wait + Sync, P: ToolPart>(
     ensures legal { IfOk result (λ ran. Legal (run_of_program job.program ran.mask job.threads job.steps) ran.history) }
     ensures parts { IfOk result (λ ran. RunsParts P.stands_for job.serial (run_of_program job.program ran.mask job.threads job.steps)
         ran.cause ran.history parts.items ran.parts.items) }
-    ensures kinds { IfOk result (λ ran. SameKinds P.kind parts.items ran.parts.items) }
+    ensures same { IfOk result (λ ran. AreSame P.same parts.items ran.parts.items) }
+    ensures always { IfOk result (λ ran. AreAlways ran.mask) }
     ensures own { IfOk result (λ ran. HearsOwn (run_of_program job.program ran.mask job.threads job.steps) ran.history) }
     ensures cause { IfOk result (λ ran. ran.cause ≢ Cause.Memory →
         cause_of (run_of_program job.program ran.mask job.threads job.steps) ran.history ≡ Some ran.cause) }

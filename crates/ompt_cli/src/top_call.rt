@@ -17,6 +17,7 @@ ghost use Rattle.trace_format.specs.declared.refusal.Refusal.{Refusal as TraceRe
 ghost use Rattle.trace_format.specs.declared.trace.Trace.{Trace};
 ghost use Rattle.ompt_cli.specs.Text.{IsProgram, IsRefused, Spells, text_for};
 ghost use Rattle.ompt_cli.specs.Ends.{IsLost, IsQuiet, IsTold, status_of_lost};
+ghost use Rattle.tool_api.specs.Registering.{AreAlways};
 ghost use Rattle.team_run.specs.Standing.{HearsSilent};
 ghost use Rattle.ompt_cli.specs.Commands.{EndsAs, HasOutput, IsReading, IsShowing, IsUnread, MayRefuse, MayRun, out_of, run_of, settings_in};
 ghost use Rattle.ompt_cli.specs.Guests.{GuestsAfter};
@@ -117,6 +118,7 @@ pub fn top<R: Threads + Wait + Sync, S: Source, O: Sink, E: Sink>(
     ensures generates { (settings : Settings) → AskFor (texts words.now) settings → (blocks : ℕ) → settings.command ≡ Command.Generate blocks →
         source.new ≡ source.old }
     ensures mask { IfSome result.ran (λ report. report.command ≢ Command.Run → report.mask ≡ PROFILE_MASK) }
+    ensures always { IfSome result.ran (λ report. AreAlways report.mask) }
 
     // Its history is legal, and ends in the cause that is reported: whole exactly at Done or Returned. No thread is inside a callback then.
     // With `--serial` it is in the serial order.
@@ -137,7 +139,8 @@ pub fn top<R: Threads + Wait + Sync, S: Source, O: Sink, E: Sink>(
     // Guest t was called for what thread t heard, in its order, and for nothing else but a call that found no memory, which ends the
     // run. Threads without a guest stored nothing.
     ensures guests { IfSome result.ran (λ report.
-        GuestsAfter (λ guest h. (GuestTool-box guest).stands_for guest.value h) report.command report.serial (run_of report)
+        GuestsAfter (λ guest h. (GuestTool-box guest).stands_for guest.value h) (λ guest other. guest.vtable ≡ other.vtable)
+        report.command report.serial (run_of report)
         report.cause report.history guests.items report.guests.items) }
 
     // The end is the run's, unless a write or memory fails.
@@ -166,8 +169,8 @@ pub fn top<R: Threads + Wait + Sync, S: Source, O: Sink, E: Sink>(
     ensures kept { IsNone result.read → result.end ≡ End.Memory → Keeps (O.held out.old) (O.held out.new) }
     ensures traced { result.end ≢ End.WriteFault → result.end ≢ End.Memory → IfSome result.ran (λ report. report.command ≡ Command.Record →
         IsTrace (trace_of (run_of report) report.cause report.history)) }
-    // It breaks no rule of the checker.
-    ensures nested { result.end ≢ End.WriteFault → result.end ≢ End.Memory → IfSome result.ran (λ report. report.command ≡ Command.Record →
+    // Where the parts are no guests, the trace of the run, written or not, breaks no rule of the checker.
+    ensures nested { IfSome result.ran (λ report. report.command ≢ Command.Run → report.cause ≢ Cause.Memory →
         IsNested (trace_of (run_of report) report.cause report.history)) }
 {
     let settings = match request_of(alloc, words) {

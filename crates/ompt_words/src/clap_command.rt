@@ -1,6 +1,7 @@
 //! The command line, as clap is told of it.
 
 ghost use Rattle.std.specs.Prelude.{◌≡◌, IfOk, false};
+ghost use Rattle.clap.specs.Simple.{with_subcommand};
 ghost use Rattle.clap.specs.Words.{app_of, shape_of};
 ghost use Rattle.clap.specs.declared.builder.command.Command.TheViews.{out-Command};
 ghost use Rattle.ompt_words.specs.CommandLine.{generator, ompt, program, reader, reporters, runner, runners, timeline};
@@ -17,28 +18,28 @@ pub(crate) fn ompt_command<'a>(alloc: Global) -> Result<Command<'a>, AllocError>
     ensures app { IfOk result (λ command. app_of command ≡ ompt) }
     ensures local { IfOk result (λ command. (out-Command command).has_globals ≡ false) }
 {
-    let show = reader(
+    let line = reporters(alloc)?;
+    let line = with_reader(
         alloc,
+        line,
         "show",
         "Reads a trace and writes a line for each event, and one for the end",
         "Example: ompt show < run.trace",
     )?;
-    let migrate = reader(
+    let line = with_reader(
         alloc,
+        line,
         "migrate",
         "Reads a trace and writes it in the second version of the format",
         "Example: ompt migrate < old.trace > new.trace",
     )?;
-    let check = reader(
+    with_reader(
         alloc,
+        line,
         "check",
         "Reads a trace and says whether it is nested",
         "Example: ompt check < run.trace",
-    )?;
-    reporters(alloc)?
-        .subcommand(show)?
-        .subcommand(migrate)?
-        .subcommand(check)
+    )
 }
 
 /// The program with all commands that run a program.
@@ -46,16 +47,16 @@ fn reporters<'a>(alloc: Global) -> Result<Command<'a>, AllocError>
     ensures app { IfOk result (λ command. app_of command ≡ reporters) }
     ensures local { IfOk result (λ command. (out-Command command).has_globals ≡ false) }
 {
-    let profile = runner(
+    let line = runners(alloc)?;
+    let line = with_runner(
         alloc,
+        line,
         "profile",
         "Runs a program and writes how many calls of each callback there were",
         "Example: ompt profile --threads 2 < program.c",
     )?;
-    runners(alloc)?
-        .subcommand(profile)?
-        .subcommand(timeline(alloc)?)?
-        .subcommand(generator(alloc)?)
+    let line = with_timeline(alloc, line)?;
+    with_generator(alloc, line)
 }
 
 /// The program with the first commands that run a program.
@@ -63,28 +64,80 @@ fn runners<'a>(alloc: Global) -> Result<Command<'a>, AllocError>
     ensures app { IfOk result (λ command. app_of command ≡ runners) }
     ensures local { IfOk result (λ command. (out-Command command).has_globals ≡ false) }
 {
-    let run = runner(
+    let line = program(alloc)?;
+    let line = with_runner(
         alloc,
+        line,
         "run",
         "Runs a program with the tools, and writes what it prints",
         "Example: ompt run --serial --threads 2 --steps 5000 < program.c",
     )?;
-    let list = runner(
+    let line = with_runner(
         alloc,
+        line,
         "list",
         "Runs a program and writes a line for each event",
         "Example: ompt list --serial --threads 2 < program.c",
     )?;
-    let record = runner(
+    with_runner(
         alloc,
+        line,
         "record",
         "Runs a program and writes the trace of the run",
         "Example: ompt record --threads 2 < program.c > run.trace",
-    )?;
-    program(alloc)?
-        .subcommand(run)?
-        .subcommand(list)?
-        .subcommand(record)
+    )
+}
+
+/// The command line with one more command that runs a program.
+fn with_runner<'a>(
+    alloc: Global,
+    line: Command<'a>,
+    name: &'a str,
+    about: &'a str,
+    example: &'a str,
+) -> Result<Command<'a>, AllocError>
+    requires { (out-Command line).has_globals ≡ false }
+    ensures app { IfOk result (λ command. app_of command ≡ with_subcommand (app_of line.entry) (runner name.entry.now)) }
+    ensures local { IfOk result (λ command. (out-Command command).has_globals ≡ false) }
+{
+    let more = runner(alloc, name, about, example)?;
+    line.subcommand(more)
+}
+
+/// The command line with one more command that reads a trace.
+fn with_reader<'a>(
+    alloc: Global,
+    line: Command<'a>,
+    name: &'a str,
+    about: &'a str,
+    example: &'a str,
+) -> Result<Command<'a>, AllocError>
+    requires { (out-Command line).has_globals ≡ false }
+    ensures app { IfOk result (λ command. app_of command ≡ with_subcommand (app_of line.entry) (reader name.entry.now)) }
+    ensures local { IfOk result (λ command. (out-Command command).has_globals ≡ false) }
+{
+    let more = reader(alloc, name, about, example)?;
+    line.subcommand(more)
+}
+
+/// The command line with the command that writes the states of threads.
+fn with_timeline<'a>(alloc: Global, line: Command<'a>) -> Result<Command<'a>, AllocError>
+    requires { (out-Command line).has_globals ≡ false }
+    ensures app { IfOk result (λ command. app_of command ≡ with_subcommand (app_of line.entry) timeline) }
+    ensures local { IfOk result (λ command. (out-Command command).has_globals ≡ false) }
+{
+    let more = timeline(alloc)?;
+    line.subcommand(more)
+}
+
+/// The command line with the command that generates a program.
+fn with_generator<'a>(alloc: Global, line: Command<'a>) -> Result<Command<'a>, AllocError>
+    requires { (out-Command line).has_globals ≡ false }
+    ensures app { IfOk result (λ command. app_of command ≡ with_subcommand (app_of line.entry) generator) }
+    ensures local { IfOk result (λ command. (out-Command command).has_globals ≡ false) }
+{
+    let more = generator(alloc)?;
+    line.subcommand(more)
 }
 
 /// The program itself, without its commands.

@@ -50,7 +50,11 @@ impl ToolPart for Keeping {
 
     ghost stands_for = { λ part h. ⊤ };
 
-    ghost kind = { λ part. 0 };
+    ghost same = { λ part other. ⊤ };
+
+    ghost same_itself = { λ part. tt };
+
+    ghost same_onward = { λ first second third one other. tt };
 
     fn initialize(&mut self, registrar: &mut Registrar) -> u32 {
         registrar.set_profile();

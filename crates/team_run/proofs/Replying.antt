@@ -4,7 +4,7 @@ use Rattle.std.proofs.lemmas.List.{get_or_default, get_or-set_same, get_or-set_o
 use Rattle.std.proofs.lemmas.Bool.Decides.{eqb_tells}
 use Rattle.ompt_calls.specs.Item.{Item}
 use Rattle.tool_api.specs.Record.{Record, told, one_unheard}
-use Rattle.team_run.specs.Serving.{Becomes, told_on}
+use Rattle.team_run.specs.Serving.{AreSame, Becomes, told_on}
 use Rattle.team_run.specs.Unheard.{unheard_on}
 
 module _ {P : Type 0} (stands_for : P → Record → Type 0) (parts : List P) (t : ℕ) (found part : P) (is : found ≡ slice_index_or parts t found) (within : t < length parts) where
@@ -30,3 +30,15 @@ module _ {P : Type 0} (stands_for : P → Record → Type 0) (parts : List P) (t
     | inl same ↦ rw (same.0, ← same.1, get_or-set_same parts t part d within) (keeps h (found-at k d h same.1 stands))
     | inr different ↦ rw (different.0, get_or-set_other parts t k part d (λ same. different.1 (sym same))) stands
   ]
+
+-- the part of the thread is the one that it was, and so are the others
+pub same-at :
+    {P : Type 0} (Same : P → P → Type 0) → ((part : P) → Same part part) → (parts : List P) (t : ℕ) (found part : P) → found ≡ slice_index_or parts t found → t < length parts → Same found part
+    → AreSame Same parts (slice_set parts t part)
+same-at {P} Same itself parts t found part is within same = record { each = each }
+  where
+    each : (k : ℕ) (d : P) → k < length parts → Same (slice_index_or parts k d) (slice_index_or (slice_set parts t part) k d)
+    each k d below = elim (eqb_tells t k) [
+      | inl equal ↦ rw (← equal.1, get_or-set_same parts t part d within) (subst (λ p. Same p part) (is ∙ get_or_default parts t found d within) same)
+      | inr different ↦ rw (get_or-set_other parts t k part d (λ equal. different.1 (sym equal))) (itself (slice_index_or parts k d))
+    ]

@@ -10,7 +10,8 @@ use Rattle.omp_model.specs.declared.cause.Cause.TheVariants as causes
 use Rattle.omp_model.specs.declared.history.Entry.{Entry}
 use Rattle.omp_model.specs.State.{Run}
 use Rattle.omp_model.specs.Heard.{heard, heard_of}
-use Rattle.team_run.specs.Serving.{Becomes, served, Serves, ServesTo, OnlyUnheard, told_on, mask_of, finished_by, RunsFor, SameKinds}
+use Rattle.team_run.specs.Serving.{Becomes, served, Serves, ServesTo, OnlyUnheard, told_on, finished_by, RunsFor, AreSame}
+use Rattle.tool_api.specs.Registering.{mask_of}
 use Rattle.team_run.specs.Unheard.{unheard_on}
 use Rattle.team_run.specs.Standing.{AreSilent, HearsSilent, HearsOwn}
 
@@ -154,10 +155,10 @@ runs-whole {P} stands_for run cause H parts started between after answer registe
     from-nothing : (k : ℕ) (d : P) (h : Record) → stands_for (slice_index_or started k d) h → stands_for (slice_index_or started k d) (served h (heard_of run [] k))
     from-nothing k d h stands = subst (λ (h : Record). stands_for (slice_index_or started k d) h) (sym (served-nil h)) stands
 
--- the kinds of parts, where nothing changes, and where one step follows another
-pub kinds-same : {P : Type 0} (kind : P → ℕ) (parts : List P) → SameKinds kind parts parts
-kinds-same kind parts = record { each = λ k d below. refl }
+-- the same parts, where nothing changes, and where one step follows another
+pub same-itself : {P : Type 0} (Same : P → P → Type 0) → ((part : P) → Same part part) → (parts : List P) → AreSame Same parts parts
+same-itself Same itself parts = record { each = λ k d below. itself (slice_index_or parts k d) }
 
-pub kinds-then : {P : Type 0} (kind : P → ℕ) (parts between after : List P) → length between ≡ length parts → SameKinds kind parts between → SameKinds kind between after → SameKinds kind parts after
-kinds-then kind parts between after as_many first second =
-    record { each = λ k d below. second.each k d (omega (arith, below, as_many)) ∙ first.each k d below }
+pub same-then : {P : Type 0} (Same : P → P → Type 0) → ((first second third : P) → Same first second → Same second third → Same first third) → (parts between after : List P) → length between ≡ length parts → AreSame Same parts between → AreSame Same between after → AreSame Same parts after
+same-then Same onward parts between after as_many first second =
+    record { each = λ k d below. onward (slice_index_or parts k d) (slice_index_or between k d) (slice_index_or after k d) (first.each k d below) (second.each k d (omega (arith, below, as_many))) }

@@ -7,6 +7,7 @@ use Rattle.ompt_calls.specs.declared.reply.Reply.{Reply}
 use Rattle.ompt_calls.specs.Item.{Item, item_of}
 use Rattle.ompt_calls.specs.Snapshot.{stores_of}
 use Rattle.tool_api.specs.Record.{Record, initialized, told, finalized}
+use Rattle.tool_api.specs.Registering.{mask_of}
 use Rattle.omp_model.specs.declared.cause.Cause.{Cause}
 use Rattle.omp_model.specs.declared.cause.Cause.TheVariants as causes
 use Rattle.omp_model.specs.declared.history.Entry.{Entry}
@@ -56,13 +57,9 @@ pub record OnlyUnheard {P : Type 0} (stands_for : P → Record → Type 0) (unhe
   pub as_many : length others ≡ length parts
   pub each : (k : ℕ) → k < length parts → Becomes stands_for parts others k (unheard_on unheard k)
 
--- each part is of the kind of which it was
-pub record SameKinds {P : Type 0} (kind : P → ℕ) (parts others : List P) : Type 0 where
-  pub each : (k : ℕ) (d : P) → k < length parts → kind (slice_index_or others k d) ≡ kind (slice_index_or parts k d)
-
--- the mask of a run whose first part answered this and registered these
-abbrev pub mask_of : ℕ → ℕ → ℕ
-mask_of answer registered = if answer == 0 then 0 else registered
+-- each part is the one that it was
+pub record AreSame {P : Type 0} (Same : P → P → Type 0) (parts others : List P) : Type 0 where
+  pub each : (k : ℕ) (d : P) → k < length parts → Same (slice_index_or parts k d) (slice_index_or others k d)
 
 -- an active part is finished at the end
 abbrev pub finished_by : ℕ → Record → Record

@@ -2,7 +2,8 @@
 
 ghost use Rattle.std.specs.Prelude.{◌≡◌, ◌<◌, length, slice_index_or, ℕ};
 ghost use Rattle.tool_api.specs.Record.{Record, initialized};
-ghost use Rattle.team_run.specs.Serving.{Becomes, SameKinds, finished_by, mask_of};
+ghost use Rattle.team_run.specs.Serving.{Becomes, AreSame, finished_by};
+ghost use Rattle.tool_api.specs.Registering.{AreAlways, mask_of};
 
 use tool_api::{Registrar, ToolPart};
 
@@ -19,7 +20,8 @@ pub struct Start {
 pub fn initialize_first<P: ToolPart>(parts: &mut [P]) -> Start
     requires { 0 < length parts.old }
     ensures as_many { length parts.new ≡ length parts.old }
-    ensures kinds { SameKinds P.kind parts.old parts.new }
+    ensures always { AreAlways result.registered }
+    ensures same { AreSame P.same parts.old parts.new }
     ensures first { Becomes P.stands_for parts.old parts.new 0
         (λ (h : Record). initialized h result.answer result.registered) }
     ensures others { (k : ℕ) (d : P) → 0 < k → slice_index_or parts.new k d ≡ slice_index_or parts.old k d }
@@ -34,7 +36,8 @@ pub fn initialize_first<P: ToolPart>(parts: &mut [P]) -> Start
 
 /// What is heard of a run: what the first part registered, where it is active.
 pub fn mask_of(start: Start) -> u64
-    ensures { result ≡ mask_of start.answer start.registered }
+    ensures mask { result ≡ mask_of start.answer start.registered }
+    ensures always { AreAlways start.registered → AreAlways result }
 {
     if start.answer == 0 {
         0
@@ -47,7 +50,7 @@ pub fn mask_of(start: Start) -> u64
 pub fn finalize_first<P: ToolPart>(start: Start, parts: &mut [P])
     requires { 0 < length parts.old }
     ensures as_many { length parts.new ≡ length parts.old }
-    ensures kinds { SameKinds P.kind parts.old parts.new }
+    ensures same { AreSame P.same parts.old parts.new }
     ensures first { Becomes P.stands_for parts.old parts.new 0 (finished_by start.answer) }
     ensures others { (k : ℕ) (d : P) → 0 < k → slice_index_or parts.new k d ≡ slice_index_or parts.old k d }
 {

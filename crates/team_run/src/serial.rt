@@ -4,8 +4,9 @@ ghost use Rattle.std.specs.Prelude.{◌≡◌, ◌≢◌, ◌≤◌, [], Some, I
 ghost use Rattle.omp_model.specs.Serial.{Serial, serial};
 ghost use Rattle.omp_model.specs.Cause.{cause_of};
 ghost use Rattle.omp_model.specs.Legal.{after};
+ghost use Rattle.tool_api.specs.Registering.{AreAlways};
 ghost use Rattle.team_run.specs.Program.{run_of_program};
-ghost use Rattle.team_run.specs.Serving.{RunsFor, SameKinds};
+ghost use Rattle.team_run.specs.Serving.{RunsFor, AreSame};
 ghost use Rattle.team_run.specs.Standing.{HearsOwn, HearsSilent};
 
 use crate::edges::{finalize_first, initialize_first, mask_of};
@@ -41,7 +42,8 @@ pub fn run_serial<P: ToolPart>(
     ensures serial { IfOk result (λ ran. Serial (run_of_program program ran.mask threads steps) ran.history) }
     ensures parts { IfOk result (λ ran. RunsFor P.stands_for (run_of_program program ran.mask threads steps)
         ran.cause ran.history parts.items ran.parts.items) }
-    ensures kinds { IfOk result (λ ran. SameKinds P.kind parts.items ran.parts.items) }
+    ensures same { IfOk result (λ ran. AreSame P.same parts.items ran.parts.items) }
+    ensures always { IfOk result (λ ran. AreAlways ran.mask) }
     ensures own { IfOk result (λ ran. HearsOwn (run_of_program program ran.mask threads steps) ran.history) }
     ensures cause { IfOk result (λ ran. ran.cause ≢ Cause.Memory →
         cause_of (run_of_program program ran.mask threads steps) ran.history ≡ Some ran.cause) }

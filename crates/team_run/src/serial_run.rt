@@ -7,7 +7,7 @@ ghost use Rattle.omp_model.specs.Cause.{cause_of};
 ghost use Rattle.step_book.specs.Owing.{Owes};
 ghost use Rattle.step_book.specs.Pages.{Pages, state_of};
 ghost use Rattle.team_run.specs.Program.{run_of_program};
-ghost use Rattle.team_run.specs.Serving.{Answers, OnlyUnheard, SameKinds, ServesTo};
+ghost use Rattle.team_run.specs.Serving.{Answers, OnlyUnheard, AreSame, ServesTo};
 ghost use Rattle.team_run.specs.Standing.{StandsAt, StopsAt};
 
 use crate::ran::Memory;
@@ -64,7 +64,7 @@ impl<P: ToolPart> SerialRun<P> {
         ensures run { self.new.book.run ≡ self.old.book.run }
         ensures serves { ServesTo P.stands_for self.old.book.run self.old.parts.items self.old.book.history
             self.new.parts.items self.new.book.history }
-        ensures kinds { SameKinds P.kind self.old.parts.items self.new.parts.items }
+        ensures same { AreSame P.same self.old.parts.items self.new.parts.items }
         ensures stops { StopsAt self.old.book.run (state_of self.new.book) self.new.book.history }
         ensures stands { result ≢ Cause.Memory →
             StandsAt self.new.book.run (state_of self.new.book) self.new.next self.new.book.history }
@@ -93,7 +93,7 @@ impl<P: ToolPart> SerialRun<P> {
         ensures run { self.new.book.run ≡ self.old.book.run }
         ensures serves { ServesTo P.stands_for self.old.book.run self.old.parts.items self.old.book.history
             self.new.parts.items self.new.book.history }
-        ensures kinds { SameKinds P.kind self.old.parts.items self.new.parts.items }
+        ensures same { AreSame P.same self.old.parts.items self.new.parts.items }
         ensures stops { StopsAt self.old.book.run (state_of self.new.book) self.new.book.history }
         ensures stands { OnOk result
             (StandsAt self.new.book.run (state_of self.new.book) self.new.next self.new.book.history) }
@@ -114,7 +114,7 @@ impl<P: ToolPart> SerialRun<P> {
         requires owes { Owes self.old.book.run self.old.book.history thread seq call.now snapshot }
         ensures run { self.new.book.run ≡ self.old.book.run }
         ensures next { self.new.next ≡ self.old.next }
-        ensures kinds { SameKinds P.kind self.old.parts.items self.new.parts.items }
+        ensures same { AreSame P.same self.old.parts.items self.new.parts.items }
         ensures answers { OnOk result (Answers P.stands_for seq thread call.now snapshot
             self.old.parts.items self.old.book.history self.new.parts.items self.new.book.history) }
         ensures memory { OnErr result ((self.new.book ≡ self.old.book)

@@ -16,7 +16,8 @@ use Rattle.step_book.specs.Sharing.{AreOwn, IsClosed, Sight, any_ended, fresh_pa
 use Rattle.step_book.proofs.Others.{entries-append, holds-others, own-back}
 use Rattle.thread_run.specs.Driving.{GoesOn, IsDriven, LeftAt, RunsThreads, called_for}
 use Rattle.thread_run.specs.Drivers.{AreDrivers, AreFor, AreKept, HaveServed, IsDriver}
-use Rattle.team_run.specs.Serving.{finished_by, mask_of}
+use Rattle.team_run.specs.Serving.{finished_by}
+use Rattle.tool_api.specs.Registering.{mask_of}
 use Rattle.team_run.specs.Standing.{HearsOwn}
 use Rattle.thread_run.proofs.Driving.{heard-others, left-others}
 use Rattle.team_run.proofs.Serving.{served-nil}
@@ -31,28 +32,28 @@ outside-first n t = elim (cases_lt t n) [
   | inr past ↦ get_or_past (replicate n nobody) t nobody (omega (arith, past, length-replicate n nobody))
 ]
 
-module _ {P : Type 0} (stands_for : P → Record → Type 0) (kind : P → ℕ) (run : Run) where
+module _ {P : Type 0} (stands_for : P → Record → Type 0) (Same : P → P → Type 0) (run : Run) where
   -- a driver before its first visit
-  pub driver-first : (t : ℕ) (first_part part : P) (pass : Sight) → pass ≡ fresh_pass t → part ≡ first_part → IsDriver stands_for kind run t first_part pass part
-  driver-first t first_part part pass fresh same =
+  pub driver-first : ((part : P) → Same part part) → (t : ℕ) (first_part part : P) (pass : Sight) → pass ≡ fresh_pass t → part ≡ first_part → IsDriver stands_for Same run t first_part pass part
+  driver-first itself t first_part part pass fresh same =
       let outside : pending_at (first run) t ≡ None = outside-first run.threads t in
-      let driven : IsDriven stands_for kind run first_part (fresh_pass t) first_part = record {
+      let driven : IsDriven stands_for Same run first_part (fresh_pass t) first_part = record {
         unheard = false;
         left = outside;
         over = λ said. absurd (true≢false (sym said));
         hears = λ h stands. subst (λ (h : Record). stands_for first_part h) (sym (served-nil h)) stands;
-        kind_is = refl;
+        same_is = itself first_part;
       } in
       rw (fresh, same) (record { thread = refl; driven = driven })
 
   -- a driver that has gone on
-  pub driver-on : (t : ℕ) (whose : P) (pass later : Sight) (part next : P) → GoesOn stands_for kind run pass part later next → IsDriver stands_for kind run t whose pass part → IsDriver stands_for kind run t whose later next
+  pub driver-on : (t : ℕ) (whose : P) (pass later : Sight) (part next : P) → GoesOn stands_for Same run pass part later next → IsDriver stands_for Same run t whose pass part → IsDriver stands_for Same run t whose later next
   driver-on t whose pass later part next goes driver = record { thread = goes.thread ∙ driver.thread; driven = goes.driven whose driver.driven }
 
-  pub goes-not : (pass : Sight) (part : P) → GoesOn stands_for kind run pass part pass part
+  pub goes-not : (pass : Sight) (part : P) → GoesOn stands_for Same run pass part pass part
   goes-not pass part = record { thread = refl; driven = λ whose driven. driven }
 
-  pub goes-then : (pass between later : Sight) (part middle next : P) → GoesOn stands_for kind run pass part between middle → GoesOn stands_for kind run between middle later next → GoesOn stands_for kind run pass part later next
+  pub goes-then : (pass between later : Sight) (part middle next : P) → GoesOn stands_for Same run pass part between middle → GoesOn stands_for Same run between middle later next → GoesOn stands_for Same run pass part later next
   goes-then pass between later part middle next one two = record { thread = two.thread ∙ one.thread; driven = λ whose driven. two.driven whose (one.driven whose driven) }
 
 -- one more of a list
@@ -81,14 +82,14 @@ any-at [] k d below ended = absurd (omega arith)
 any-at (pass ∷ rest) zero d below ended = or_left pass.ended (any_ended rest) ended
 any-at (pass ∷ rest) (suc k) d below ended = or_right pass.ended (any_ended rest) (any-at rest k d (omega arith) ended)
 
-module _ {P : Type 0} (stands_for : P → Record → Type 0) (kind : P → ℕ) (run : Run) (parts others : List P) (passes : List Sight) (history : List Entry) (cause : Option Cause) (p : P)
+module _ {P : Type 0} (stands_for : P → Record → Type 0) (Same : P → P → Type 0) (run : Run) (parts others : List P) (passes : List Sight) (history : List Entry) (cause : Option Cause) (p : P)
     (count : length parts ≡ run.threads) (passed : length passes ≡ run.threads) (back : length others ≡ run.threads)
-    (drivers : AreDrivers stands_for kind run parts passes others) (closed : IsClosed run passes history)
+    (drivers : AreDrivers stands_for Same run parts passes others) (closed : IsClosed run passes history)
     (cause_is : cause ≡ (if any_ended passes then Some causes.Memory else cause_of run history)) where
   none : Sight
   none = fresh_pass 0
 
-  driver : (k : ℕ) → k < run.threads → IsDriver stands_for kind run k (get_or parts k p) (get_or passes k none) (get_or others k p)
+  driver : (k : ℕ) → k < run.threads → IsDriver stands_for Same run k (get_or parts k p) (get_or passes k none) (get_or others k p)
   driver k below = drivers k none p p (omega (arith, below, passed))
 
   -- what stands in the history beyond what a pass has seen is others'
@@ -136,15 +137,16 @@ module _ {P : Type 0} (stands_for : P → Record → Type 0) (kind : P → ℕ) 
       subst (λ part. stands_for part (called_for (heard_of run history k) one.driven.unheard h)) (get_or_default others k p d (omega (arith, below, back))) (rw same hears)
   each-by k (inr past) d h less stands = absurd (omega arith)
 
-  pub have-served : HaveServed stands_for kind run cause history parts others
+  pub have-served : HaveServed stands_for Same run cause history parts others
   have-served = record {
     as_many = back ∙ sym count;
     unheard = λ k. unheard-by k (cases_lt k run.threads);
     left = λ k below. left-by k (cases_lt k run.threads) below;
     all_heard = λ other k below. heard-by k (cases_lt k run.threads) other below;
     each = λ k d h below stands. each-by k (cases_lt k run.threads) d h below stands;
-    kinds = λ k d below.
-        ap kind (get_or_default others k d p (omega (arith, below, count, back))) ∙ (driver k (omega (arith, below, count))).driven.kind_is ∙ ap kind (get_or_default parts k p d below);
+    same = λ k d below.
+        subst (λ part. Same (get_or parts k d) part) (sym (get_or_default others k d p (omega (arith, below, count, back))))
+        (subst (λ part. Same part (get_or others k p)) (sym (get_or_default parts k d p below)) (driver k (omega (arith, below, count))).driven.same_is);
   }
 
 -- nothing is heard on a thread that the run doesn't have
@@ -155,12 +157,12 @@ hears-own run passes history closed k past =
 
 -- a run whose first part was started before, and finished after
 pub runs-threads :
-    {P : Type 0} (stands_for : P → Record → Type 0) (kind : P → ℕ) (run : Run) (cause : Cause) (closed : Option Cause) (history : List Entry) (parts started between after : List P) (answer registered : ℕ) → run.mask ≡ mask_of answer registered
+    {P : Type 0} (stands_for : P → Record → Type 0) (Same : P → P → Type 0) (run : Run) (cause : Cause) (closed : Option Cause) (history : List Entry) (parts started between after : List P) (answer registered : ℕ) → run.mask ≡ mask_of answer registered
     → 0 < length parts → length started ≡ length parts → ((d : P) (h : Record) → stands_for (get_or parts 0 d) h → stands_for (get_or started 0 d) (initialized h answer registered))
-    → ((k : ℕ) (d : P) → 0 < k → get_or started k d ≡ get_or parts k d) → HaveServed stands_for kind run closed history started between → (cause ≢ causes.Memory → closed ≢ Some causes.Memory)
+    → ((k : ℕ) (d : P) → 0 < k → get_or started k d ≡ get_or parts k d) → HaveServed stands_for Same run closed history started between → (cause ≢ causes.Memory → closed ≢ Some causes.Memory)
     → length after ≡ length between → ((d : P) (h : Record) → stands_for (get_or between 0 d) h → stands_for (get_or after 0 d) (finished_by answer h))
     → ((k : ℕ) (d : P) → 0 < k → get_or after k d ≡ get_or between k d) → RunsThreads stands_for run cause history parts after
-runs-threads {P} stands_for kind run cause closed history parts started between after answer registered mask_is some as_many first others served causes_too as_many_too last others_too =
+runs-threads {P} stands_for Same run cause closed history parts started between after answer registered mask_is some as_many first others served causes_too as_many_too last others_too =
     record {
       as_many = as_many_too ∙ served.as_many ∙ as_many;
       answer = answer;
@@ -197,10 +199,10 @@ module _ {L : Type 0} (all yielded behind rest : List L) (one : L) (whole : yiel
 
   -- one more has come back
   pub finish-more :
-      {P : Type 0} (stands_for : P → Record → Type 0) (kind : P → ℕ) (run : Run) (is : ℕ → P → L → Type 0) (first : List P) (passes : List Sight) (parts : List P) (pass : Sight) (part : P)
-      → length passes ≡ length yielded → length parts ≡ length yielded → AreFor is first all → AreDrivers stands_for kind run first passes parts
-      → ((t : ℕ) (whose : P) → is t whose one → IsDriver stands_for kind run t whose pass part) → AreDrivers stands_for kind run first (passes ++ pass ∷ []) (parts ++ part ∷ [])
-  finish-more stands_for kind run is first passes parts pass part passed parted are there goes k d e f below = elim (cases_eq k (length yielded)) [
+      {P : Type 0} (stands_for : P → Record → Type 0) (Same : P → P → Type 0) (run : Run) (is : ℕ → P → L → Type 0) (first : List P) (passes : List Sight) (parts : List P) (pass : Sight) (part : P)
+      → length passes ≡ length yielded → length parts ≡ length yielded → AreFor is first all → AreDrivers stands_for Same run first passes parts
+      → ((t : ℕ) (whose : P) → is t whose one → IsDriver stands_for Same run t whose pass part) → AreDrivers stands_for Same run first (passes ++ pass ∷ []) (parts ++ part ∷ [])
+  finish-more stands_for Same run is first passes parts pass part passed parted are there goes k d e f below = elim (cases_eq k (length yielded)) [
     | inl here ↦ rw (here, get_or_push passes pass d (length yielded) passed, get_or_push parts part f (length yielded) parted)
         (goes (length yielded) (get_or first (length yielded) e) (subst (λ item. is (length yielded) (get_or first (length yielded) e) item) (item-at one) (are (length yielded) one e item-below)))
     | inr other ↦

@@ -147,12 +147,12 @@ legal-behind : (run : Run) (S : State) (xs ys : List Entry) → AllowsFrom run S
 legal-behind run S [] ys legal = legal
 legal-behind run S (entry ∷ xs) ys legal = legal-behind run (entered run S entry) xs ys legal.1
 
-module _ {P : Type 0} (stands_for : P → Record → Type 0) (kind : P → ℕ) (run : Run) (whose : P) where
+module _ {P : Type 0} (stands_for : P → Record → Type 0) (Same : P → P → Type 0) (run : Run) (whose : P) where
   abbrev Driven : Sight → P → Type 0
-  Driven pass part = IsDriven stands_for kind run whose pass part
+  Driven pass part = IsDriven stands_for Same run whose pass part
 
   abbrev Inside : Sight → P → Type 0
-  Inside pass part = IsInside stands_for kind run whose pass part
+  Inside pass part = IsInside stands_for Same run whose pass part
 
   -- others' entries change nothing
   pub driven-others : (pass later : Sight) (part : P) (more : List Entry) → NotBy pass.thread more → later.thread ≡ pass.thread → entries_of later.seen ≡ entries_of pass.seen ++ more → (pass.ended ≡ true → later.ended ≡ true) → Driven pass part → Driven later part
@@ -162,7 +162,7 @@ module _ {P : Type 0} (stands_for : P → Record → Type 0) (kind : P → ℕ) 
         left = rw (seen, thread) (left-others run (entries_of pass.seen) more pass.thread driven.unheard none driven.left);
         over = λ unheard. ended (driven.over unheard);
         hears = λ h stands. rw (seen, thread, heard-others run (entries_of pass.seen) more pass.thread none) (driven.hears h stands);
-        kind_is = driven.kind_is;
+        same_is = driven.same_is;
       }
 
   -- a hold without an entry
@@ -182,11 +182,11 @@ module _ {P : Type 0} (stands_for : P → Record → Type 0) (kind : P → ℕ) 
   outside-of pass part ended driven = rw (not-unheard pass part ended driven) at driven.left
 
   pub inside-of : (pass : Sight) (part : P) → pass.ended ≡ false → Driven pass part → Inside pass part
-  inside-of pass part ended driven = record { hears = rw (not-unheard pass part ended driven) at driven.hears; kind_is = driven.kind_is }
+  inside-of pass part ended driven = record { hears = rw (not-unheard pass part ended driven) at driven.hears; same_is = driven.same_is }
 
   pub driven-open : (pass : Sight) (part : P) → pending_at (after run (entries_of pass.seen)) pass.thread ≡ None → Inside pass part → Driven pass part
   driven-open pass part outside inside =
-      record { unheard = false; left = outside; over = λ same. absurd (true≢false (sym same)); hears = inside.hears; kind_is = inside.kind_is }
+      record { unheard = false; left = outside; over = λ same. absurd (true≢false (sym same)); hears = inside.hears; same_is = inside.same_is }
 
   -- a visit that tells of no event
   pub driven-quiet :
@@ -202,7 +202,7 @@ module _ {P : Type 0} (stands_for : P → Record → Type 0) (kind : P → ℕ) 
       let seen : entries_of later.seen ≡ book.history ++ (visit book t).added = hold-entries pass later goes.between (visit book t).added goes.is_hold ∙ ap (λ front. front ++ (visit book t).added) (sym whole) in
       let inside = inside-of pass part ended driven in
       let same : heard_of run (entries_of later.seen) later.thread ≡ heard_of run (entries_of pass.seen) t = rw (seen, goes.is_hold.thread) (calm.same ∙ rw whole (heard-others run (entries_of pass.seen) (entries_of goes.between) t goes.is_hold.not_by)) in
-      driven-open later part (rw (seen, goes.is_hold.thread) calm.outside) (record { hears = λ h stands. rw same (inside.hears h stands); kind_is = inside.kind_is })
+      driven-open later part (rw (seen, goes.is_hold.thread) calm.outside) (record { hears = λ h stands. rw same (inside.hears h stands); same_is = inside.same_is })
 
   -- a visit that tells of one
   pub inside-told : (pass later : Sight) (part : P) (seq : ℕ) (call : Call) (snapshot : Snapshot) → pass.ended ≡ false → Goes run pass (Told seq call snapshot) later → Driven pass part → Inside later part
@@ -215,7 +215,7 @@ module _ {P : Type 0} (stands_for : P → Record → Type 0) (kind : P → ℕ) 
       hold-entries pass later goes.between (visit book t).added goes.is_hold ∙ ap (λ added. (entries_of pass.seen ++ entries_of goes.between) ++ added) (told-added book t seq call snapshot (sym goes.step_is)) ∙ append_assoc (entries_of pass.seen) (entries_of goes.between) (go_at t ∷ []) in
       let same : heard_of run (entries_of later.seen) later.thread ≡ heard_of run (entries_of pass.seen) t =
       rw (seen, goes.is_hold.thread) (more-without run (first run) 0 t (entries_of pass.seen) more (no-back t (entries_of goes.between) goes.is_hold.not_by)) in
-      record { hears = λ h stands. rw same (inside.hears h stands); kind_is = inside.kind_is }
+      record { hears = λ h stands. rw same (inside.hears h stands); same_is = inside.same_is }
     where
       no-back : (t : ℕ) (xs : List Entry) → NotBy t xs → Rattle.omp_model.specs.Heard.has_back t (xs ++ go_at t ∷ []) ≡ false
       no-back t xs none = Rattle.thread_run.proofs.Hearing.back-append t xs (go_at t ∷ []) refl ∙ back-others t xs none
@@ -223,8 +223,8 @@ module _ {P : Type 0} (stands_for : P → Record → Type 0) (kind : P → ℕ) 
   -- its callback was answered
   pub driven-answered :
       (pass later : Sight) (part next : P) (seq : ℕ) (call : Call) (snapshot : Snapshot) (reply : Reply) → Legal run (entries_of pass.seen) → pass.thread < run.threads → Owes run (entries_of pass.seen) pass.thread seq call snapshot
-      → Grows pass later (event_reply pass.thread (stores_of reply snapshot)) → ((h : Record) → stands_for part h → stands_for next (told h (item_of seq pass.thread call snapshot reply))) → kind next ≡ kind part → Inside pass part → Driven later next
-  driven-answered pass later part next seq call snapshot reply legal below owed grows tells kept inside =
+      → Grows pass later (event_reply pass.thread (stores_of reply snapshot)) → ((h : Record) → stands_for part h → stands_for next (told h (item_of seq pass.thread call snapshot reply))) → ((first second third : P) → Same first second → Same second third → Same first third) → Same part next → Inside pass part → Driven later next
+  driven-answered pass later part next seq call snapshot reply legal below owed grows tells onward kept inside =
       let t = pass.thread in
       let stores = stores_of reply snapshot in
       let between = entries_of grows.between in
@@ -247,7 +247,7 @@ module _ {P : Type 0} (stands_for : P → Record → Type 0) (kind : P → ℕ) 
       rw (hold-entries pass later grows.between (event_reply t stores) grows.is_hold, grows.is_hold.thread) (reply-outside run (entries_of pass.seen ++ entries_of grows.between) t stores) in
       driven-open later next left (record {
         hears = λ h stands. subst (λ (h : Record). stands_for next h) (longer h (heard_of run owed.before t) item (item_of seq t call snapshot reply) is (heard_of run (entries_of later.seen) later.thread) heard) (tells (served h (heard_of run owed.before t)) (subst (λ items. stands_for part (served h items)) before (inside.hears h stands)));
-        kind_is = kept ∙ inside.kind_is;
+        same_is = onward whose part next inside.same_is kept;
       })
     where
       longer : (h : Record) (items : List Item) (one other : Item) → one ≡ other → (all : List Item) → all ≡ items ++ one ∷ [] → told (served h items) other ≡ served h all
@@ -261,8 +261,8 @@ module _ {P : Type 0} (stands_for : P → Record → Type 0) (kind : P → ℕ) 
   -- its part found no memory
   pub driven-unheard :
       (pass later : Sight) (part next : P) (seq : ℕ) (call : Call) (snapshot : Snapshot) → Owes run (entries_of pass.seen) pass.thread seq call snapshot → Grows pass later [] → later.ended ≡ true
-      → ((h : Record) → stands_for part h → stands_for next (one_unheard h)) → kind next ≡ kind part → Inside pass part → Driven later next
-  driven-unheard pass later part next seq call snapshot owes grows ended none kept inside =
+      → ((h : Record) → stands_for part h → stands_for next (one_unheard h)) → ((first second third : P) → Same first second → Same second third → Same first third) → Same part next → Inside pass part → Driven later next
+  driven-unheard pass later part next seq call snapshot owes grows ended none onward kept inside =
       let t = pass.thread in
       let seen : entries_of later.seen ≡ entries_of pass.seen ++ entries_of grows.between = hold-entries pass later grows.between [] grows.is_hold ∙ append-nil _ in
       let left : LeftAt run (entries_of later.seen) later.thread true = rw (seen, grows.is_hold.thread) (left-others run (entries_of pass.seen) (entries_of grows.between) t true grows.is_hold.not_by (record { seq = seq; call = call; snapshot = snapshot; owes = owes })) in
@@ -271,11 +271,11 @@ module _ {P : Type 0} (stands_for : P → Record → Type 0) (kind : P → ℕ) 
         left = left;
         over = λ same. ended;
         hears = λ h stands. rw (seen, grows.is_hold.thread, heard-others run (entries_of pass.seen) (entries_of grows.between) t grows.is_hold.not_by) (none _ (inside.hears h stands));
-        kind_is = kept ∙ inside.kind_is;
+        same_is = onward whose part next inside.same_is kept;
       }
 
   -- a visit of a pass that hasn't ended the run
-  step-gone : (pass later : Sight) (part : P) (step : Step) → pass.thread < run.threads → pass.ended ≡ false → later.ended ≡ pass.ended → Goes run pass step later → Driven pass part → HasStep stands_for kind run whose later part step
+  step-gone : (pass later : Sight) (part : P) (step : Step) → pass.thread < run.threads → pass.ended ≡ false → later.ended ≡ pass.ended → Goes run pass step later → Driven pass part → HasStep stands_for Same run whose later part step
   step-gone pass later part (Told seq call snapshot) below ended same goes driven = (same ∙ ended, inside-told pass later part seq call snapshot ended goes driven)
   step-gone pass later part Quiet below ended same goes driven = driven-quiet pass later part Quiet below ended goes (λ seq call snapshot told. cc) driven
   step-gone pass later part NotYet below ended same goes driven = driven-quiet pass later part NotYet below ended goes (λ seq call snapshot told. cc) driven
@@ -290,10 +290,10 @@ module _ {P : Type 0} (stands_for : P → Record → Type 0) (kind : P → ℕ) 
   pub come-gone :
       {E : Type 0} (pass later : Sight) (part : P) (result : Result Step E) → pass.thread < run.threads
       → (pass.ended ≡ true → (later ≡ pass) × IsOk result × IfOk result (λ step. step ≡ Ended causes.Memory)) → (pass.ended ≡ false → IfOk result (λ step. Goes run pass step later))
-      → OnErr result (Grows pass later []) → later.ended ≡ pass.ended → Driven pass part → HasCome stands_for kind run whose later part result
+      → OnErr result (Grows pass later []) → later.ended ≡ pass.ended → Driven pass part → HasCome stands_for Same run whose later part result
   come-gone pass later part (Ok step) below over goes memory same driven = by pass.ended refl
     where
-      by : (ended : Bool) → pass.ended ≡ ended → HasStep stands_for kind run whose later part step
+      by : (ended : Bool) → pass.ended ≡ ended → HasStep stands_for Same run whose later part step
       by true ended = rw ((over ended).2, (over ended).0) driven
       by false ended = step-gone pass later part step below ended same (goes ended) driven
   come-gone pass later part (Err e) below over goes memory same driven = λ last grows ended. driven-ended pass later last part memory same grows ended driven
@@ -304,17 +304,17 @@ module _ {P : Type 0} (stands_for : P → Record → Type 0) (kind : P → ℕ) 
       → Owes run (entries_of pass.seen) pass.thread seq call snapshot
       → IfOk result (λ step. Answers pass (event_reply pass.thread (stores_of reply snapshot)) (λ answered. Goes run answered step later))
       → OnErr result (Answers pass (event_reply pass.thread (stores_of reply snapshot)) (λ answered. Grows answered later [])) → later.ended ≡ pass.ended
-      → ((h : Record) → stands_for part h → stands_for next (told h (item_of seq pass.thread call snapshot reply))) → kind next ≡ kind part → Inside pass part → HasCome stands_for kind run whose later next result
-  come-answered pass later part next seq call snapshot reply (Ok step) legal below open_now owes goes memory same tells kept inside =
-      let driven = driven-answered pass goes.answered part next seq call snapshot reply legal below owes goes.grows tells kept inside in
+      → ((h : Record) → stands_for part h → stands_for next (told h (item_of seq pass.thread call snapshot reply))) → ((first second third : P) → Same first second → Same second third → Same first third) → Same part next → Inside pass part → HasCome stands_for Same run whose later next result
+  come-answered pass later part next seq call snapshot reply (Ok step) legal below open_now owes goes memory same tells onward kept inside =
+      let driven = driven-answered pass goes.answered part next seq call snapshot reply legal below owes goes.grows tells onward kept inside in
       step-gone goes.answered later next step (rw goes.grows.is_hold.thread below) (goes.ended ∙ open_now) (same ∙ sym goes.ended) goes.next driven
-  come-answered pass later part next seq call snapshot reply (Err e) legal below open_now owes goes memory same tells kept inside =
-      let driven = driven-answered pass memory.answered part next seq call snapshot reply legal below owes memory.grows tells kept inside in
+  come-answered pass later part next seq call snapshot reply (Err e) legal below open_now owes goes memory same tells onward kept inside =
+      let driven = driven-answered pass memory.answered part next seq call snapshot reply legal below owes memory.grows tells onward kept inside in
       λ last grows ended. driven-ended memory.answered later last next memory.next (same ∙ sym memory.ended) grows ended driven
 
 -- a driver whose pass's visit told of no event goes on, and its part is as it was
 pub goes-quiet :
-    {P : Type 0} (stands_for : P → Record → Type 0) (kind : P → ℕ) (run : Run) (pass later : Sight) (part : P) (step : Step) → later.thread ≡ pass.thread → pass.thread < run.threads → pass.ended ≡ false
-    → (pass.ended ≡ false → Goes run pass step later) → ((seq : ℕ) (call : Call) (snapshot : Snapshot) → step ≡ Told seq call snapshot → ⊥) → GoesOn stands_for kind run pass part later part
-goes-quiet stands_for kind run pass later part step thread below open_now goes none =
-    record { thread = thread; driven = λ whose driven. driven-quiet stands_for kind run whose pass later part step below open_now (goes open_now) none driven }
+    {P : Type 0} (stands_for : P → Record → Type 0) (Same : P → P → Type 0) (run : Run) (pass later : Sight) (part : P) (step : Step) → later.thread ≡ pass.thread → pass.thread < run.threads → pass.ended ≡ false
+    → (pass.ended ≡ false → Goes run pass step later) → ((seq : ℕ) (call : Call) (snapshot : Snapshot) → step ≡ Told seq call snapshot → ⊥) → GoesOn stands_for Same run pass part later part
+goes-quiet stands_for Same run pass later part step thread below open_now goes none =
+    record { thread = thread; driven = λ whose driven. driven-quiet stands_for Same run whose pass later part step below open_now (goes open_now) none driven }

@@ -10,23 +10,23 @@ use Rattle.step_book.specs.Sharing.{Sight}
 use Rattle.thread_run.specs.Driving.{IsDriven, LeftAt, called_for}
 
 -- the driver of a thread, whose part was this one at first
-pub record IsDriver {P : Type 0} (stands_for : P → Record → Type 0) (kind : P → ℕ) (run : Run) (t : ℕ) (first : P) (pass : Sight) (part : P) : Type 0 where
+pub record IsDriver {P : Type 0} (stands_for : P → Record → Type 0) (Same : P → P → Type 0) (run : Run) (t : ℕ) (first : P) (pass : Sight) (part : P) : Type 0 where
   pub thread : pass.thread ≡ t
-  pub driven : IsDriven stands_for kind run first pass part
+  pub driven : IsDriven stands_for Same run first pass part
 
 -- a driver that runs on a thread of its own, as it was when it was started, or that the caller has
-abbrev pub IsSlot : {P H : Type 0} → (H → Sight) → (H → P) → (P → Record → Type 0) → (P → ℕ) → Run → ℕ → P → Result H (Sight × P) → Type 0
-IsSlot pass_of part_of stands_for kind run t first (Ok running) = IsDriver stands_for kind run t first (pass_of running) (part_of running)
-IsSlot pass_of part_of stands_for kind run t first (Err here) = IsDriver stands_for kind run t first here.0 here.1
+abbrev pub IsSlot : {P H : Type 0} → (H → Sight) → (H → P) → (P → Record → Type 0) → (P → P → Type 0) → Run → ℕ → P → Result H (Sight × P) → Type 0
+IsSlot pass_of part_of stands_for Same run t first (Ok running) = IsDriver stands_for Same run t first (pass_of running) (part_of running)
+IsSlot pass_of part_of stands_for Same run t first (Err here) = IsDriver stands_for Same run t first here.0 here.1
 
 -- each of these is what this says of its place and of the part that was there at first
 abbrev pub AreFor : {P L : Type 0} → (ℕ → P → L → Type 0) → List P → List L → Type 0
 AreFor {P = P} {L = L} is parts slots = (k : ℕ) (d : L) (e : P) → k < length slots → is k (get_or parts k e) (get_or slots k d)
 
 -- the passes and parts of all threads, in order
-abbrev pub AreDrivers : {P : Type 0} → (P → Record → Type 0) → (P → ℕ) → Run → List P → List Sight → List P → Type 0
-AreDrivers {P = P} stands_for kind run first passes parts =
-    (k : ℕ) (d : Sight) (e f : P) → k < length passes → IsDriver stands_for kind run k (get_or first k e) (get_or passes k d) (get_or parts k f)
+abbrev pub AreDrivers : {P : Type 0} → (P → Record → Type 0) → (P → P → Type 0) → Run → List P → List Sight → List P → Type 0
+AreDrivers {P = P} stands_for Same run first passes parts =
+    (k : ℕ) (d : Sight) (e f : P) → k < length passes → IsDriver stands_for Same run k (get_or first k e) (get_or passes k d) (get_or parts k f)
 
 -- what is so of a list of slots is so of the other
 abbrev pub AreKept : {P L : Type 0} → (ℕ → P → L → Type 0) → List L → List L → Type 0
@@ -34,10 +34,10 @@ AreKept {P = P} {L = L} is slots others = (k : ℕ) (d : L) (t : ℕ) (first : P
 
 -- The parts of all threads were called for what their threads hear of the history, and else at most once, where the call found no memory. Then the run
 -- ended for want of memory.
-pub record HaveServed {P : Type 0} (stands_for : P → Record → Type 0) (kind : P → ℕ) (run : Run) (cause : Option Cause) (history : List Entry) (parts others : List P) : Type 0 where
+pub record HaveServed {P : Type 0} (stands_for : P → Record → Type 0) (Same : P → P → Type 0) (run : Run) (cause : Option Cause) (history : List Entry) (parts others : List P) : Type 0 where
   pub as_many : length others ≡ length parts
   pub unheard : ℕ → Bool
   pub left : (k : ℕ) → k < run.threads → LeftAt run history k (unheard k)
   pub all_heard : cause ≢ Some causes.Memory → (k : ℕ) → k < run.threads → unheard k ≡ false
   pub each : (k : ℕ) (d : P) (h : Record) → k < length parts → stands_for (get_or parts k d) h → stands_for (get_or others k d) (called_for (heard_of run history k) (unheard k) h)
-  pub kinds : (k : ℕ) (d : P) → k < length parts → kind (get_or others k d) ≡ kind (get_or parts k d)
+  pub same : (k : ℕ) (d : P) → k < length parts → Same (get_or parts k d) (get_or others k d)

@@ -30,7 +30,7 @@ pub(crate) fn drive<R: Wait, K: BookName, P: ToolPart>(
     pass: &mut Pass<K>,
     part: &mut P,
 )
-    ensures goes { GoesOn P.stands_for P.kind K.run pass.old part.old pass.new part.new }
+    ensures goes { GoesOn P.stands_for P.same K.run pass.old part.old pass.new part.new }
     ensures over { is_over pass.new ≡ true }
 {
     pass.legal();
@@ -69,8 +69,8 @@ fn serve_and_go<R: Wait, K: BookName, P: ToolPart>(
     ensures thread { pass.new.thread ≡ pass.old.thread }
     ensures owes { IfOk result (λ step. OwesStep (pages_of K.run pass.new.seen pass.new.ended) pass.new.thread step) }
     ensures told { IfOk result (λ step. KeepsStep pass.new step) }
-    ensures comes { (first : P) → pass.old.ended ≡ false → IsInside P.stands_for P.kind K.run first pass.old part.old →
-        HasCome P.stands_for P.kind K.run first pass.new part.new result }
+    ensures comes { (first : P) → pass.old.ended ≡ false → IsInside P.stands_for P.same K.run first pass.old part.old →
+        HasCome P.stands_for P.same K.run first pass.new part.new result }
 {
     pass.legal();
     let reply = part.callback(seq, pass.thread(), call, &snapshot)?;
@@ -86,7 +86,7 @@ pub(crate) fn visit<R: Wait, K: BookName, P: ToolPart>(
     pass: &mut Pass<K>,
     part: &mut P,
 ) -> Visited
-    ensures goes { GoesOn P.stands_for P.kind K.run pass.old part.old pass.new part.new }
+    ensures goes { GoesOn P.stands_for P.same K.run pass.old part.old pass.new part.new }
     ensures over { result ≡ Visited.Over → is_over pass.new ≡ true }
 {
     if pass.ended() {
@@ -118,8 +118,8 @@ fn serve<R: Wait, K: BookName, P: ToolPart>(
 ) -> Visited
     requires owes { Owes K.run (entries_of pass.old.seen) pass.old.thread seq call.now snapshot.now }
     ensures thread { pass.new.thread ≡ pass.old.thread }
-    ensures driven { (first : P) → IsInside P.stands_for P.kind K.run first pass.old part.old →
-        IsDriven P.stands_for P.kind K.run first pass.new part.new }
+    ensures driven { (first : P) → IsInside P.stands_for P.same K.run first pass.old part.old →
+        IsDriven P.stands_for P.same K.run first pass.new part.new }
     ensures over { result ≡ Visited.Over → is_over pass.new ≡ true }
 {
     pass.legal();

@@ -33,7 +33,7 @@ pub(crate) struct Driver<K: BookName, P: ToolPart> {
 struct Drives<K: BookName, P: ToolPart>(Snapshot<Pass<K>>, Snapshot<P>);
 
 impl<K: BookName, P: ToolPart> Promise<(Pass<K>, P)> for Drives<K, P> {
-    ghost kept_by = { λ promise r. GoesOn P.stands_for P.kind K.run promise.0.value promise.1.value r.0 r.1 };
+    ghost kept_by = { λ promise r. GoesOn P.stands_for P.same K.run promise.0.value promise.1.value r.0 r.1 };
 }
 
 /// A driver that runs on a thread of its own, or that the caller has.
@@ -52,14 +52,14 @@ fn start<'s, E: 's, R: Wait + Sync, K: BookName + 's, P: ToolPart + 's>(
     pass: Pass<K>,
     part: P,
 ) -> Slot<K, P>
-    ensures { (t : ℕ) (first : P) → IsDriver P.stands_for P.kind K.run t first pass part →
-        IsSlot (λ h. h.promise.0.value) (λ h. h.promise.1.value) P.stands_for P.kind K.run t first result.driver }
+    ensures { (t : ℕ) (first : P) → IsDriver P.stands_for P.same K.run t first pass part →
+        IsSlot (λ h. h.promise.0.value) (λ h. h.promise.1.value) P.stands_for P.same K.run t first result.driver }
 {
     let promise = Drives(Snapshot::of(&pass), Snapshot::of(&part));
     match scope.spawn_with(
         promise,
         move || -> (Pass<K>, P)
-            ensures { GoesOn P.stands_for P.kind K.run pass part result.0 result.1 }
+            ensures { GoesOn P.stands_for P.same K.run pass part result.0 result.1 }
         {
             if stays.load(Ordering::SeqCst) {
                 return (pass, part);
@@ -83,8 +83,8 @@ fn start<'s, E: 's, R: Wait + Sync, K: BookName + 's, P: ToolPart + 's>(
 /// The driver as it has come back from its thread, if it has one.
 fn finish<R: Threads, K: BookName, P: ToolPart>(rt: &R, slot: Slot<K, P>) -> (Pass<K>, P)
     ensures { (t : ℕ) (first : P) →
-        IsSlot (λ h. h.promise.0.value) (λ h. h.promise.1.value) P.stands_for P.kind K.run t first slot.driver →
-        IsDriver P.stands_for P.kind K.run t first result.0 result.1 }
+        IsSlot (λ h. h.promise.0.value) (λ h. h.promise.1.value) P.stands_for P.same K.run t first slot.driver →
+        IsDriver P.stands_for P.same K.run t first result.0 result.1 }
 {
     match slot.driver {
         Ok(child) => child.join(rt),
@@ -105,7 +105,7 @@ pub(crate) fn drive_here<R: Wait, K: BookName, P: ToolPart>(
 )
     ensures as_many { length slots.new ≡ length slots.old }
     ensures kept { AreKept (λ t first slot.
-        IsSlot (λ h. h.promise.0.value) (λ h. h.promise.1.value) P.stands_for P.kind K.run t first slot.driver) slots.old slots.new }
+        IsSlot (λ h. h.promise.0.value) (λ h. h.promise.1.value) P.stands_for P.same K.run t first slot.driver) slots.old slots.new }
 {
     if count_here(slots) == 1 {
         drive_alone(rt, book, slots);
@@ -122,7 +122,7 @@ fn drive_alone<R: Wait, K: BookName, P: ToolPart>(
 )
     ensures as_many { length slots.new ≡ length slots.old }
     ensures kept { AreKept (λ t first slot.
-        IsSlot (λ h. h.promise.0.value) (λ h. h.promise.1.value) P.stands_for P.kind K.run t first slot.driver) slots.old slots.new }
+        IsSlot (λ h. h.promise.0.value) (λ h. h.promise.1.value) P.stands_for P.same K.run t first slot.driver) slots.old slots.new }
 {
     for place in 0..slots.len() {
         drive_slot(rt, book, &mut slots[place]);
@@ -136,8 +136,8 @@ fn drive_slot<R: Wait, K: BookName, P: ToolPart>(
     slot: &mut Slot<K, P>,
 )
     ensures { (t : ℕ) (first : P) →
-        IsSlot (λ h. h.promise.0.value) (λ h. h.promise.1.value) P.stands_for P.kind K.run t first slot.old.driver →
-        IsSlot (λ h. h.promise.0.value) (λ h. h.promise.1.value) P.stands_for P.kind K.run t first slot.new.driver }
+        IsSlot (λ h. h.promise.0.value) (λ h. h.promise.1.value) P.stands_for P.same K.run t first slot.old.driver →
+        IsSlot (λ h. h.promise.0.value) (λ h. h.promise.1.value) P.stands_for P.same K.run t first slot.new.driver }
 {
     if let Err((pass, part)) = &mut slot.driver {
         drive(rt, book, pass, part);
@@ -152,7 +152,7 @@ fn drive_in_turn<R: Wait, K: BookName, P: ToolPart>(
 )
     ensures as_many { length slots.new ≡ length slots.old }
     ensures kept { AreKept (λ t first slot.
-        IsSlot (λ h. h.promise.0.value) (λ h. h.promise.1.value) P.stands_for P.kind K.run t first slot.driver) slots.old slots.new }
+        IsSlot (λ h. h.promise.0.value) (λ h. h.promise.1.value) P.stands_for P.same K.run t first slot.driver) slots.old slots.new }
 {
     for _ in rt.forever() {
         if !visit_all(rt, book, slots) {
@@ -170,7 +170,7 @@ fn visit_all<R: Wait, K: BookName, P: ToolPart>(
 ) -> bool
     ensures as_many { length slots.new ≡ length slots.old }
     ensures kept { AreKept (λ t first slot.
-        IsSlot (λ h. h.promise.0.value) (λ h. h.promise.1.value) P.stands_for P.kind K.run t first slot.driver) slots.old slots.new }
+        IsSlot (λ h. h.promise.0.value) (λ h. h.promise.1.value) P.stands_for P.same K.run t first slot.driver) slots.old slots.new }
 {
     let mut goes_on = false;
     for place in 0..slots.len() {
@@ -188,8 +188,8 @@ fn visit_here<R: Wait, K: BookName, P: ToolPart>(
     slot: &mut Slot<K, P>,
 ) -> Visited
     ensures { (t : ℕ) (first : P) →
-        IsSlot (λ h. h.promise.0.value) (λ h. h.promise.1.value) P.stands_for P.kind K.run t first slot.old.driver →
-        IsSlot (λ h. h.promise.0.value) (λ h. h.promise.1.value) P.stands_for P.kind K.run t first slot.new.driver }
+        IsSlot (λ h. h.promise.0.value) (λ h. h.promise.1.value) P.stands_for P.same K.run t first slot.old.driver →
+        IsSlot (λ h. h.promise.0.value) (λ h. h.promise.1.value) P.stands_for P.same K.run t first slot.new.driver }
 {
     match &mut slot.driver {
         Err((pass, part)) => visit(rt, book, pass, part),
@@ -210,9 +210,9 @@ pub(crate) fn start_all<'s, E: 's, R: Wait + Sync, K: BookName + 's, P: ToolPart
     requires empty { slots.items ≡ [] }
     requires room { length drivers.items ≤ vec_capacity slots }
     ensures as_many { length result.items ≡ length drivers.items }
-    ensures slots { (parts : List P) → AreFor (λ t first driver. IsDriver P.stands_for P.kind K.run t first driver.pass driver.part) parts drivers.items →
+    ensures slots { (parts : List P) → AreFor (λ t first driver. IsDriver P.stands_for P.same K.run t first driver.pass driver.part) parts drivers.items →
         AreFor (λ t first slot.
-        IsSlot (λ h. h.promise.0.value) (λ h. h.promise.1.value) P.stands_for P.kind K.run t first slot.driver) parts result.items }
+        IsSlot (λ h. h.promise.0.value) (λ h. h.promise.1.value) P.stands_for P.same K.run t first slot.driver) parts result.items }
 {
     let mut slots = slots;
     for driver in drivers {
@@ -244,8 +244,8 @@ pub(crate) fn finish_all<R: Threads, K: BookName, P: ToolPart>(
     ensures passes { length result.0.items ≡ length slots.items }
     ensures parts { length result.1.items ≡ length slots.items }
     ensures drivers { (first : List P) → AreFor (λ t first slot.
-        IsSlot (λ h. h.promise.0.value) (λ h. h.promise.1.value) P.stands_for P.kind K.run t first slot.driver) first slots.items →
-        AreDrivers P.stands_for P.kind K.run first result.0.items result.1.items }
+        IsSlot (λ h. h.promise.0.value) (λ h. h.promise.1.value) P.stands_for P.same K.run t first slot.driver) first slots.items →
+        AreDrivers P.stands_for P.same K.run first result.0.items result.1.items }
 {
     let mut passes = passes;
     let mut parts = parts;

@@ -7,7 +7,8 @@ ghost use Rattle.step_book.specs.Sharing.{Sight, fresh_pass};
 ghost use Rattle.thread_run.specs.Driving.{RunsThreads};
 ghost use Rattle.thread_run.specs.Drivers.{AreDrivers, AreFor, HaveServed, IsDriver};
 ghost use Rattle.team_run.specs.Program.{run_of_program};
-ghost use Rattle.team_run.specs.Serving.{SameKinds, mask_of};
+ghost use Rattle.team_run.specs.Serving.{AreSame};
+ghost use Rattle.tool_api.specs.Registering.{AreAlways, mask_of};
 ghost use Rattle.team_run.specs.Standing.{HearsOwn};
 
 use crate::team::{Driver, Slot, Stays, drive_here, finish_all, start_all};
@@ -48,7 +49,8 @@ pub fn run_threads<R: Threads + Wait + Sync, P: ToolPart>(
     ensures legal { IfOk result (λ ran. Legal (run_of_program program ran.mask threads steps) ran.history) }
     ensures parts { IfOk result (λ ran. RunsThreads P.stands_for (run_of_program program ran.mask threads steps)
         ran.cause ran.history parts.items ran.parts.items) }
-    ensures kinds { IfOk result (λ ran. SameKinds P.kind parts.items ran.parts.items) }
+    ensures same { IfOk result (λ ran. AreSame P.same parts.items ran.parts.items) }
+    ensures always { IfOk result (λ ran. AreAlways ran.mask) }
     ensures own { IfOk result (λ ran. HearsOwn (run_of_program program ran.mask threads steps) ran.history) }
     ensures cause { IfOk result (λ ran. ran.cause ≢ Cause.Memory →
         cause_of (run_of_program program ran.mask threads steps) ran.history ≡ Some ran.cause) }
@@ -107,7 +109,7 @@ fn run_team<R: Threads + Wait + Sync, K: BookName, P: ToolPart>(
     requires few { K.run.threads ≤ 16 }
     requires parts { length parts.items ≡ K.run.threads }
     ensures legal { IfOk result (λ team. Legal K.run team.closed.history) }
-    ensures served { IfOk result (λ team. HaveServed P.stands_for P.kind K.run team.closed.cause team.closed.history parts.items team.parts.items) }
+    ensures served { IfOk result (λ team. HaveServed P.stands_for P.same K.run team.closed.cause team.closed.history parts.items team.parts.items) }
     ensures own { IfOk result (λ team. HearsOwn K.run team.closed.history) }
     ensures text { IfOk result (λ team. team.closed.text.items ≡ (after K.run team.closed.history).world.store.text) }
     ensures cause { IfOk result (λ team. IfSome team.closed.cause (λ cause. cause ≢ Cause.Memory → cause_of K.run team.closed.history ≡ Some cause)) }
@@ -169,8 +171,8 @@ fn run_drivers<R: Threads + Wait + Sync, K: BookName, P: ToolPart>(
     requires parts { length drivers.items ≤ vec_capacity parts }
     ensures passes { length result.0.items ≡ length drivers.items }
     ensures parts { length result.1.items ≡ length drivers.items }
-    ensures drivers { (first : List P) → AreFor (λ t first driver. IsDriver P.stands_for P.kind K.run t first driver.pass driver.part) first drivers.items →
-        AreDrivers P.stands_for P.kind K.run first result.0.items result.1.items }
+    ensures drivers { (first : List P) → AreFor (λ t first driver. IsDriver P.stands_for P.same K.run t first driver.pass driver.part) first drivers.items →
+        AreDrivers P.stands_for P.same K.run first result.0.items result.1.items }
 {
     let stays: Stays = [
         stay(),
@@ -204,8 +206,8 @@ fn run_drivers<R: Threads + Wait + Sync, K: BookName, P: ToolPart>(
             requires parts { length drivers.items ≤ vec_capacity parts }
             ensures passes { length result.0.items ≡ length drivers.items }
             ensures parts { length result.1.items ≡ length drivers.items }
-            ensures drivers { (first : List P) → AreFor (λ t first driver. IsDriver P.stands_for P.kind K.run t first driver.pass driver.part) first drivers.items →
-                AreDrivers P.stands_for P.kind K.run first result.0.items result.1.items }
+            ensures drivers { (first : List P) → AreFor (λ t first driver. IsDriver P.stands_for P.same K.run t first driver.pass driver.part) first drivers.items →
+                AreDrivers P.stands_for P.same K.run first result.0.items result.1.items }
         {
             let mut slots = start_all(scope, rt, book, stays, drivers, slots);
             drive_here(rt, book, &mut slots);

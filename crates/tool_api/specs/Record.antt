@@ -53,7 +53,3 @@ pub record QuietFor (part : Quiet) (h : Record) : Type 0 where
   pub silent : StoresNothing h.calls
   pub heard : h.unheard ≡ 0
   pub alone : h.within ≡ []
-
--- each is of the same kind
-abbrev pub quiet_kind : Quiet → ℕ
-quiet_kind quiet = 0

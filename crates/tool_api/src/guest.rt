@@ -12,7 +12,14 @@ pub struct Guest(pub Box<dyn GuestTool>);
 impl ToolPart for Guest {
     ghost stands_for = { λ guest h. (GuestTool-box guest.0).stands_for guest.0.value h };
 
-    ghost kind = { λ guest. 0 };
+    ghost use Rattle.std.specs.Prelude.{◌≡◌};
+    ghost use Rattle.std.proofs.Common.{refl, ◌∙◌};
+
+    ghost same = { λ guest other. guest.0.vtable ≡ other.0.vtable };
+
+    ghost same_itself = { λ guest. refl };
+
+    ghost same_onward = { λ first second third one other. one ∙ other };
 
     fn initialize(&mut self, registrar: &mut Registrar) -> u32 {
         self.0.initialize(registrar)

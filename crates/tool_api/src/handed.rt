@@ -1,6 +1,6 @@
 //! A part that a runtime is handed.
 
-ghost use Rattle.tool_api.specs.Handed.{HandedFor, kind_of};
+ghost use Rattle.tool_api.specs.Handed.{HandedFor, SameHanded, handed-itself, handed-onward};
 
 use crate::guest::Guest;
 use crate::part::{Memory, ToolPart};
@@ -21,7 +21,11 @@ pub enum Handed<G = Guest> {
 impl<G: ToolPart> ToolPart for Handed<G> {
     ghost stands_for = { HandedFor G.stands_for };
 
-    ghost kind = { kind_of };
+    ghost same = { SameHanded G.same };
+
+    ghost same_itself = { handed-itself G.same G.same_itself };
+
+    ghost same_onward = { handed-onward G.same G.same_onward };
 
     fn initialize(&mut self, registrar: &mut Registrar) -> u32 {
         match self {

@@ -11,7 +11,8 @@
 //!
 //! - after `initialize`, `callback` and `finalize` it stands for the record with that call at its end;
 //! - after a `callback` that found no memory it stands for the record with one more such call, and nothing else changed;
-//! - no call changes its `kind`, a number by which a part that may be of several kinds is told again.
+//! - each call keeps `same`, a relation between the part before some calls and the part after them: of a tool in a box, that the box
+//!   has the same type of tool in it. A part has it to itself, and it goes on from one to the next.
 //!
 //! In return it is promised that nothing is registered yet when `initialize` is called. What a part does with a call, and
 //! whether it finds memory, is left to its own contracts.
@@ -31,6 +32,8 @@
 //!   stay as they were;
 //! - [`Registrar::set_profile`] registers the callbacks of the profile, where nothing is registered yet;
 //! - [`Registrar::get`] answers 1 exactly where the callback is registered, and else 0.
+//!
+//! Each callback that a [`Registrar`] has registered is one that is called always: that is its invariant, and [`Registrar::mask`] says it.
 //!
 //! Tests in `call_tests` register callbacks, and those of `ompt_tests` run tools in boxes. The must-fail edits try wrong bodies.
 #![tactic(auto)]

@@ -1,6 +1,6 @@
 //! What a part of a tool is asked for.
 
-ghost use Rattle.std.specs.Prelude.{ℕ, ◌≡◌, IfOk, OnErr};
+ghost use Rattle.std.specs.Prelude.{◌≡◌, IfOk, OnErr};
 ghost use Rattle.ompt_calls.specs.Item.{item_of};
 ghost use Rattle.tool_api.specs.Record.{Record, initialized, told, one_unheard, finalized};
 
@@ -14,11 +14,12 @@ pub type Memory = std::alloc::AllocError;
 ///
 /// `stands_for` says which records a part may have behind it. Each call keeps this: a part that stands for a record stands
 /// afterwards for the record with that call, and after an error for the record with one more call that found no memory.
-/// `kind` is a number that no call changes, by which a part that may be of several kinds is told again.
+/// `same` says that a part after some calls is the one that it was before them: each call keeps it, it holds of a part and itself, and it goes on
+/// from one to the next.
 pub trait ToolPart: Drop + Send {
     ghost stands_for: { Self → Record → Type 0 };
 
-    ghost kind: { Self → ℕ };
+    ghost same: { Self → Self → Type 0 };
 
     /// Starts the part, as `ompt_initialize_t` does (OpenMP 5.2, 19.5.1.1). It may register callbacks meanwhile. With
     /// the answer 0 the tool is inactive, and with any other one it is active.
@@ -27,7 +28,7 @@ pub trait ToolPart: Drop + Send {
         requires { registrar.old ≡ 0 }
         ensures started { (h : Record) → stands_for self.old h →
             stands_for self.new (initialized h result registrar.new) }
-        ensures kept { kind self.new ≡ kind self.old };
+        ensures kept { same self.old self.new };
 
     /// Tells the part of an event: its position in the history, its thread, and its callback with the arguments. The
     /// snapshot has what can be inquired meanwhile, and the reply what the part stores.
@@ -41,10 +42,14 @@ pub trait ToolPart: Drop + Send {
         ensures heard { IfOk result (λ reply. (h : Record) → stands_for self.old h →
             stands_for self.new (told h (item_of seq thread call.now snapshot.now reply))) }
         ensures memory { OnErr result ((h : Record) → stands_for self.old h → stands_for self.new (one_unheard h)) }
-        ensures kept { kind self.new ≡ kind self.old };
+        ensures kept { same self.old self.new };
 
     /// Finishes the part, as `ompt_finalize_t` does (OpenMP 5.2, 19.5.1.2).
     fn finalize(&mut self)
         ensures finished { (h : Record) → stands_for self.old h → stands_for self.new (finalized h) }
-        ensures kept { kind self.new ≡ kind self.old };
+        ensures kept { same self.old self.new };
+
+    ghost same_itself: { (part : Self) → same part part };
+
+    ghost same_onward: { (first second third : Self) → same first second → same second third → same first third };
 }

@@ -1,8 +1,8 @@
 //! A part that does nothing.
 
-ghost use Rattle.std.specs.Prelude.{◌≡◌, IfOk, OnErr, IsOk};
+ghost use Rattle.std.specs.Prelude.{IfOk, OnErr, IsOk, ⊤};
 ghost use Rattle.ompt_calls.specs.Item.{item_of};
-ghost use Rattle.tool_api.specs.Record.{Record, QuietFor, quiet_kind, told, one_unheard};
+ghost use Rattle.tool_api.specs.Record.{Record, QuietFor, told, one_unheard};
 
 use crate::part::{Memory, ToolPart};
 use crate::registrar::Registrar;
@@ -15,7 +15,11 @@ pub struct Quiet;
 impl ToolPart for Quiet {
     ghost stands_for = { QuietFor };
 
-    ghost kind = { quiet_kind };
+    ghost same = { λ quiet other. ⊤ };
+
+    ghost same_itself = { λ quiet. tt };
+
+    ghost same_onward = { λ first second third one other. tt };
 
     fn initialize(&mut self, _registrar: &mut Registrar) -> u32 {
         0
@@ -31,7 +35,7 @@ impl ToolPart for Quiet {
         ensures heard { IfOk result (λ reply. (h : Record) → QuietFor self.old h →
             QuietFor self.new (told h (item_of seq thread call.now snapshot.now reply))) }
         ensures memory { OnErr result ((h : Record) → QuietFor self.old h → QuietFor self.new (one_unheard h)) }
-        ensures kept { quiet_kind self.new ≡ quiet_kind self.old }
+        ensures kept { ⊤ }
 
         // It takes no memory.
         ensures no_error { IsOk result }

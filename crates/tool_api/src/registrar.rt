@@ -3,7 +3,7 @@
 ghost use Rattle.std.specs.Prelude.{◌≡◌, ◌^◌, ℕ};
 ghost use Rattle.omp_codes.specs.Answers.{answer_of};
 ghost use Rattle.ompt_calls.specs.Number.{is_registered};
-ghost use Rattle.tool_api.specs.Registering.{is_registered_after, get_answer};
+ghost use Rattle.tool_api.specs.Registering.{AreAlways, is_registered_after, get_answer};
 
 use omp_codes::{PROFILE, PROFILE_MASK, set_answer};
 use ompt_calls::is_registered;
@@ -13,7 +13,7 @@ use std::marker::Model;
 const ALWAYS: u8 = 5;
 
 /// What a tool has registered while it is initialized. Contracts see it as a mask: bit n for the callback with number n
-/// in `ompt_callbacks_t` (OpenMP 5.2, 19.4.2).
+/// in `ompt_callbacks_t` (OpenMP 5.2, 19.4.2). Each callback that is registered is one that is called always.
 #[derive(Drop)]
 pub struct Registrar {
     /// The callbacks: bit n for number n.
@@ -22,10 +22,13 @@ pub struct Registrar {
 
 impl Model for Registrar {
     ghost use Rattle.std.specs.Prelude.{ℕ};
+    ghost use Rattle.tool_api.specs.Registering.{AreAlways};
 
     ghost Value = { ℕ };
 
     ghost view = { λ registrar. registrar.mask };
+
+    ghost invariant = { λ registrar. AreAlways registrar.mask };
 }
 
 impl Registrar {
@@ -38,7 +41,8 @@ impl Registrar {
 
     /// What is registered: bit n for number n.
     pub fn mask(&self) -> u64
-        ensures { result ≡ self.now }
+        ensures mask { result ≡ self.now }
+        ensures always { AreAlways result }
     {
         self.mask
     }

@@ -1,6 +1,6 @@
 //! A part that counts what it is told.
 
-ghost use Rattle.std.specs.Prelude.{◌≡◌, ◌<◌, [], slice_index_or};
+ghost use Rattle.std.specs.Prelude.{◌≡◌, ◌<◌, [], slice_index_or, ⊤};
 ghost use Rattle.omp_codes.specs.declared.callbacks.TheConstants.{PROFILE};
 ghost use Rattle.ompt_calls.specs.Number.{number_of};
 ghost use Rattle.tool_report.specs.Counts.{counts_of};
@@ -63,7 +63,11 @@ impl Profile {
 impl ToolPart for Profile {
     ghost stands_for = { ProfileFor };
 
-    ghost kind = { λ profile. 0 };
+    ghost same = { λ profile other. ⊤ };
+
+    ghost same_itself = { λ profile. tt };
+
+    ghost same_onward = { λ first second third one other. tt };
 
     fn initialize(&mut self, registrar: &mut Registrar) -> u32 {
         registrar.set_profile();

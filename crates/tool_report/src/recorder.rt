@@ -1,6 +1,6 @@
 //! A part that keeps what it is told.
 
-ghost use Rattle.std.specs.Prelude.{◌≡◌, []};
+ghost use Rattle.std.specs.Prelude.{◌≡◌, [], ⊤};
 ghost use Rattle.tool_report.specs.Standing.{RecorderFor};
 
 use crate::shipped::{ACTIVE, NOTHING};
@@ -49,7 +49,11 @@ impl Recorder {
 impl ToolPart for Recorder {
     ghost stands_for = { RecorderFor };
 
-    ghost kind = { λ recorder. 0 };
+    ghost same = { λ recorder other. ⊤ };
+
+    ghost same_itself = { λ recorder. tt };
+
+    ghost same_onward = { λ first second third one other. tt };
 
     fn initialize(&mut self, registrar: &mut Registrar) -> u32 {
         registrar.set_profile();

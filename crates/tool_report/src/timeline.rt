@@ -1,6 +1,6 @@
 //! A part that keeps when its thread was in which state.
 
-ghost use Rattle.std.specs.Prelude.{◌≡◌, []};
+ghost use Rattle.std.specs.Prelude.{◌≡◌, [], ⊤};
 ghost use Rattle.tool_report.specs.Standing.{TimelineFor};
 
 use crate::shipped::{ACTIVE, NOTHING};
@@ -55,7 +55,11 @@ impl Timeline {
 impl ToolPart for Timeline {
     ghost stands_for = { TimelineFor };
 
-    ghost kind = { λ timeline. 0 };
+    ghost same = { λ timeline other. ⊤ };
+
+    ghost same_itself = { λ timeline. tt };
+
+    ghost same_onward = { λ first second third one other. tt };
 
     fn initialize(&mut self, registrar: &mut Registrar) -> u32 {
         registrar.set_profile();

@@ -4,7 +4,7 @@ use c_syntax::{Default, Directive, Returns};
 use c_tokens::Spot;
 
 /// What a name is declared as.
-#[derive(Clone, Copy, PartialEq, Eq)]
+#[derive(Clone, Copy)]
 pub enum Thing {
     /// A variable.
     Int,
@@ -17,7 +17,7 @@ pub enum Thing {
 }
 
 /// A data clause: the sharing that it gives to the names that it lists.
-#[derive(Clone, Copy, PartialEq, Eq)]
+#[derive(Clone, Copy)]
 pub enum DataClause {
     Shared,
     Private,
@@ -26,14 +26,14 @@ pub enum DataClause {
 }
 
 /// Whether the value of a call is used.
-#[derive(Clone, Copy, PartialEq, Eq)]
+#[derive(Clone, Copy)]
 pub enum Value {
     Used,
     Dropped,
 }
 
 /// How a name is used.
-#[derive(Clone, Copy, PartialEq, Eq)]
+#[derive(Clone, Copy)]
 pub enum Usage {
     /// As a variable without an index.
     Plain,
@@ -48,7 +48,7 @@ pub enum Usage {
 }
 
 /// A clause that may stand once in a directive.
-#[derive(Clone, Copy, PartialEq, Eq)]
+#[derive(Clone, Copy)]
 pub enum Single {
     NumThreads,
     Default(Default),
@@ -59,21 +59,21 @@ pub enum Single {
 }
 
 /// Whether something follows a `return`.
-#[derive(Clone, Copy, PartialEq, Eq)]
+#[derive(Clone, Copy)]
 pub enum Returned {
     Nothing,
     Something,
 }
 
 /// Whether the arguments of a `printf` are as its text says.
-#[derive(Clone, Copy, PartialEq, Eq)]
+#[derive(Clone, Copy)]
 pub enum Printed {
     Right,
     Wrong,
 }
 
 /// One thing that a program does, in the order of its text.
-#[derive(Clone, Copy, PartialEq, Eq)]
+#[derive(Clone, Copy)]
 pub enum Act {
     /// A scope begins.
     Open,

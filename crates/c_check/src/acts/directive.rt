@@ -95,7 +95,7 @@ pub fn critical_name(tree: &Tree, node: u32) -> u32
     ensures { result ≡ statements.name_of_critical (children_of (tree_at tree.now.trees node)) }
 {
     match tree.child(node, 0) {
-        Some(child) if tree.kind(child) == NodeKind::Name => tree.name(child),
+        Some(child) if matches!(tree.kind(child), NodeKind::Name) => tree.name(child),
         _ => 0,
     }
 }

@@ -13,7 +13,7 @@ use crate::acts::shared_loops::{has_head, loop_name};
 use c_syntax::{BinaryOp, Bump, NodeKind, Setting, Tree};
 
 /// The parts of a loop `for (i = a; i < b; i += c) body` or one of its kin (OpenMP 5.2, 4.4.1).
-#[derive(Clone, Copy, Debug, PartialEq, Eq)]
+#[derive(Clone, Copy)]
 pub struct SharedLoop {
     /// The node of `i`: a place, or the name that the loop declares.
     pub variable: u32,

@@ -1,7 +1,7 @@
 //! What stands around a node.
 
 /// What stands around a node, as far as its acts depend on it.
-#[derive(Clone, Copy, PartialEq, Eq)]
+#[derive(Clone, Copy)]
 pub enum Role {
     /// Nothing of that kind. The value of a call is dropped.
     Plain,
@@ -14,7 +14,7 @@ pub enum Role {
 }
 
 /// What the names of a list are there for.
-#[derive(Clone, Copy, PartialEq, Eq)]
+#[derive(Clone, Copy)]
 pub enum Naming {
     /// They are declared as parameters.
     Parameters,

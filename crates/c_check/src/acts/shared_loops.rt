@@ -14,7 +14,7 @@ pub fn loop_name(tree: &Tree, statement: u32) -> Option<u32>
     requires { statement < length tree.now.trees }
     ensures { result ≡ loops.loop_name (tree_at tree.now.trees statement) }
 {
-    if tree.kind(statement) != NodeKind::For {
+    if !matches!(tree.kind(statement), NodeKind::For) {
         return None;
     }
     let first = tree.child(statement, 0)?;
@@ -107,7 +107,7 @@ fn is_apart_from_start(
     let Some(first) = tree.child(statement, 0) else {
         return Ok(true);
     };
-    Ok(tree.kind(first) == NodeKind::Init || !stands_at(alloc, tree, name, first, 1)?)
+    Ok(matches!(tree.kind(first), NodeKind::Init) || !stands_at(alloc, tree, name, first, 1)?)
 }
 
 /// Whether the variable doesn't stand in the end of a loop.
@@ -170,7 +170,7 @@ fn is_stride(tree: &Tree, assignment: u32) -> bool
     ensures { result ≡ loops.is_stride (loops.child_at (tree_at tree.now.trees assignment) 1) }
 {
     match tree.child(assignment, 1) {
-        Some(stride) => tree.kind(stride) == NodeKind::Number && tree.number(stride) >= 1,
+        Some(stride) => matches!(tree.kind(stride), NodeKind::Number) && tree.number(stride) >= 1,
         None => false,
     }
 }
@@ -243,5 +243,5 @@ fn is_named(tree: &Tree, name: u32, node: u32) -> bool
     requires { node < length tree.now.trees }
     ensures { result ≡ (loops.is_place (kind_of (tree_at tree.now.trees node)) && name_of (tree_at tree.now.trees node) == name) }
 {
-    tree.kind(node) == NodeKind::Place && tree.name(node) == name
+    matches!(tree.kind(node), NodeKind::Place) && tree.name(node) == name
 }

@@ -27,6 +27,7 @@ returns-clause-report g c =
       in_order = subst (λ (program : TreeView). job.serial ≡ true → Serial (run_of_program program ran.mask job.threads job.steps) ran.history) tree (rw (← c.job.view_is) at c.in_ok-ran.ensures.serial);
       whole = subst (λ (program : TreeView). job.serial ≡ true → ran.cause ≢ cause.Memory → HearsSilent (run_of_program program ran.mask job.threads job.steps) ran.history → ran.history ≡ serial (run_of_program program ran.mask job.threads job.steps)) tree (rw (← c.job.view_is) at c.in_ok-ran.ensures.whole);
       begun = c.in_ok-ran.ensures.begun;
+      always = c.in_ok-ran.ensures.always;
     })
 
 pub returns-clause-own : goal.returns-clause-own

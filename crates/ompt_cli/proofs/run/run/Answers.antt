@@ -23,6 +23,7 @@ returns-clause-report g c =
       in_order = observes.in_order;
       whole = observes.whole;
       begun = observes.begun;
+      always = observes.always;
     })
 
 pub returns-clause-guests : goal.returns-clause-guests
@@ -38,7 +39,7 @@ returns-clause-guests g c =
     let waiting : c.reverse-2.new.self.items ≡ guests_of (λ guest. guest.0) after ++ rest =
     c.reverse-2.ensures.items ∙ c.take_back.ensures ∙ ap (λ items. guests_of (λ guest. guest.0) after ++ reverse items) c.in-Ok-reserve.ensures.items in
     rw (c.having_run.ensures, waiting)
-    (guests-serve (λ guest. guest.0) _ report.serial (run_of report) report.cause report.history c.args.guests.items parts after rest (subst (λ (n : ℕ). 1 ≤ n) (sym threads) c.job.invariant.0) (c.in-Ok.ensures.each ∙ sym threads) out c.in-Ok-observe.ensures.kinds c.in-Ok-observe.ensures.parts)
+    (guests-serve (λ guest. guest.0) _ (λ guest other. guest.vtable ≡ other.vtable) (λ guest. refl) report.serial (run_of report) report.cause report.history c.args.guests.items parts after rest (subst (λ (n : ℕ). 1 ≤ n) (sym threads) c.job.invariant.0) (c.in-Ok.ensures.each ∙ sym threads) out c.in-Ok-observe.ensures.same c.in-Ok-observe.ensures.parts)
 
 pub returns-clause-part : goal.returns-clause-part
 returns-clause-part g c =

@@ -9,7 +9,6 @@ use Rattle.ompt_cli.specs.Commands.{IsAfterRun, run_of, settings_in}
 use Rattle.ompt_cli.specs.Text.{IsRefused, IsSpelled, Spells, text_for}
 use Rattle.ompt_cli.proofs.Finishing.{finished}
 use Rattle.ompt_cli.proofs.NestedRuns.{nested-run}
-use Rattle.ompt_cli.proofs.Recorded.{ends-found as memory-found}
 use Rattle.ompt_cli.proofs.Telling.{after-may, asked-settings, ends-done, ends-found, ends-limit, ends-returned, ends-stuck, ends-trapped, is-none, err-end, lost-read, lost-write, none-if, not-reading, not-running, not-shown, not-usage, ok-not-refused, read-as, same-settings, settings-as, spells-as, where_both, where_some, where_when}
 use Rattle.ompt_cli.proofs.Traced.{trace_unbroken, trace_unrefused}
 use Rattle.ompt_cli.specs.declared.end.End.TheVariants.{ReadFault}
@@ -219,12 +218,15 @@ returns-in-Err-clause-unread g c =
 
 pub returns-clause-nested : goal.returns-clause-nested
 returns-clause-nested g c =
-    rw (c.tell-2.ensures.end, c.tell-2.ensures.ran)
-    (λ whole memory. where_both c.run_command.result.ran c.run_command.ensures.ended c.run_command.ensures.report (λ report ends r recorded.
-    let found = memory-found report.cause c.run_command.result.end ends memory in
+    rw c.tell-2.ensures.ran
+    (where_some c.run_command.result.ran c.run_command.ensures.report (λ report r not_run found.
     let read = subst (AreReadAs _) c.in-Ok-Run.field-0-is c.in-Ok-Run.ensures.read in
     let threads = r.observes.threads_are ∙ ap (λ (job : JobView). job.threads) c.new-job.ensures in
     let program = r.observes.program_is ∙ ap (λ (job : JobView). job.program) c.new-job.ensures in
-    let mask = (r.stays (λ (is : _ ≡ Running). let same = sym recorded ∙ (r.observes.command_is ∙ is) in cc)).mask_is in
+    let mask = (r.stays (λ (is : _ ≡ Running). not_run (r.observes.command_is ∙ is))).mask_is in
     nested-run (run_of report) report.history report.cause (subst (λ (n : ℕ). 1 ≤ n) (sym threads) read.some_threads) (subst (λ (n : ℕ). n ≤ 16) (sym threads) read.few_threads) mask
     (subst (λ (view : TreeView). IsSpelled view) (sym program) c.in-Ok.ensures.spelled) r.observes.legal (r.observes.ends found) (r.observes.outside found)))
+
+pub returns-clause-always : goal.returns-clause-always
+returns-clause-always g c =
+    rw c.tell-2.ensures.ran (where_some c.run_command.result.ran c.run_command.ensures.report (λ report r. r.observes.always))

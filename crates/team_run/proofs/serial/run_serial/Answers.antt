@@ -9,8 +9,8 @@ use Rattle.team_run.specs.Program.{run_of_program}
 use Rattle.omp_model.proofs.Recording.{HasRun-after, HasRun-whole}
 use Rattle.omp_model.proofs.SerialLaws.{serial-whole}
 use Rattle.team_run.specs.Standing.{HearsOwn, HearsSilent, StandsAt}
-use Rattle.team_run.specs.Serving.{RunsFor, SameKinds, ServesTo}
-use Rattle.team_run.proofs.Serving.{kinds-then, runs-whole, written-back}
+use Rattle.team_run.specs.Serving.{RunsFor, AreSame, ServesTo}
+use Rattle.team_run.proofs.Serving.{same-then, runs-whole, written-back}
 use Rattle.team_run.proofs.Visiting.{unheard-none}
 use Rattle.team_run.proofs.serial.run_serial.Goals as goal
 
@@ -36,7 +36,7 @@ returns-clause-parts g c =
     let stands : cause ≢ causes.Memory → StandsAt begun.book.run (state_of ended.book) ended.next ended.book.history =
     λ found. subst (λ (run : Run). StandsAt run (state_of ended.book) ended.next ended.book.history) c.finish-cause.ensures.run (c.finish-cause.ensures.stands found) in
     let whole : RunsFor stands_for begun.book.run cause ended.book.history parts after =
-    runs-whole stands_for begun.book.run cause ended.book.history parts started between after first.answer first.registered (ap (λ (run : Run). run.mask) c.in_ok-run.ensures.run ∙ c.mask_of-mask.ensures) (omega (arith, c.requires.some, c.requires.parts, ap length c.deref_mut.ensures.value)) c.initialize_first-start.ensures.as_many c.initialize_first-start.ensures.first c.initialize_first-start.ensures.others serves (λ found. unheard-none begun.book.run _ _ _ serves.unheard (stands found) serves.is_unheard) c.finalize_first.ensures.as_many c.finalize_first.ensures.first c.finalize_first.ensures.others in
+    runs-whole stands_for begun.book.run cause ended.book.history parts started between after first.answer first.registered (ap (λ (run : Run). run.mask) c.in_ok-run.ensures.run ∙ c.mask_of-mask.ensures.mask) (omega (arith, c.requires.some, c.requires.parts, ap length c.deref_mut.ensures.value)) c.initialize_first-start.ensures.as_many c.initialize_first-start.ensures.first c.initialize_first-start.ensures.others serves (λ found. unheard-none begun.book.run _ _ _ serves.unheard (stands found) serves.is_unheard) c.finalize_first.ensures.as_many c.finalize_first.ensures.first c.finalize_first.ensures.others in
     let of_items : RunsFor stands_for begun.book.run cause ended.book.history c.args.parts.items after =
     subst (λ parts. RunsFor stands_for begun.book.run cause ended.book.history parts after) c.deref_mut.ensures.value whole in
     let of_run : RunsFor stands_for (run_of_program c.args.program c.mask_of-mask.result c.args.threads c.args.steps) cause ended.book.history c.args.parts.items after =
@@ -58,22 +58,22 @@ returns-clause-whole g c = λ found silent.
     let quiet : HearsSilent (run_of_program c.args.program c.mask_of-mask.result c.args.threads c.args.steps) c.finish-cause.new.self.book.history = rw (← c.close-history.ensures.history) silent in
     rw c.close-history.ensures.history (subst (λ (run : Run). c.finish-cause.new.self.book.history ≡ serial run) same (sym (serial-whole c.finish-cause.new.self.book.run c.finish-cause.new.self.book.history (HasRun-whole stands.has_run (c.finish-cause.ensures.over found)) (stands.silent (subst (λ (run : Run). HearsSilent run c.finish-cause.new.self.book.history) (sym same) quiet)))))
 
-pub returns-clause-kinds : goal.returns-clause-kinds
-returns-clause-kinds g c =
-    let kind = g.P.ToolPart.kind in
+pub returns-clause-same : goal.returns-clause-same
+returns-clause-same g c =
+    let Same = g.P.ToolPart.same in
     let items = c.args.parts.items in
     let started = c.initialize_first-start.new.parts in
     let ended = c.finish-cause.new.self.parts in
     let after = c.finalize_first.new.parts in
     let started_is : c.in_ok-run.run'.parts.items ≡ started =
     ap (λ parts. parts.items) c.in_ok-run.ensures.parts ∙ written-back started items c.args.parts.len (c.initialize_first-start.ensures.as_many ∙ ap length c.deref_mut.ensures.value) (sym c.args.parts.ok.0) in
-    let first : SameKinds kind items started = subst (λ parts. SameKinds kind parts started) c.deref_mut.ensures.value c.initialize_first-start.ensures.kinds in
-    let second : SameKinds kind started ended.items = subst (λ started. SameKinds kind started ended.items) started_is c.finish-cause.ensures.kinds in
-    let third : SameKinds kind ended.items after = subst (λ between. SameKinds kind between after) c.deref_mut-2.ensures.value c.finalize_first.ensures.kinds in
+    let first : AreSame Same items started = subst (λ parts. AreSame Same parts started) c.deref_mut.ensures.value c.initialize_first-start.ensures.same in
+    let second : AreSame Same started ended.items = subst (λ started. AreSame Same started ended.items) started_is c.finish-cause.ensures.same in
+    let third : AreSame Same ended.items after = subst (λ between. AreSame Same between after) c.deref_mut-2.ensures.value c.finalize_first.ensures.same in
     let as_many : length started ≡ length items = c.initialize_first-start.ensures.as_many ∙ ap length c.deref_mut.ensures.value in
-    let whole : SameKinds kind items after =
-    kinds-then kind items ended.items after (c.finish-cause.ensures.serves.serves.as_many ∙ ap length started_is ∙ as_many) (kinds-then kind items started ended.items as_many first second) third in
-    subst (λ after. SameKinds kind items after) (sym (written-back after ended.items ended.len (c.finalize_first.ensures.as_many ∙ ap length c.deref_mut-2.ensures.value) (sym ended.ok.0))) whole
+    let whole : AreSame Same items after =
+    same-then Same (g.met.P.ToolPart g.world.𝓛 g.world.𝓜 g.world.𝓡 ((λ s x. x), (λ x. x), (λ x. x), λ x. x)).same_onward items ended.items after (c.finish-cause.ensures.serves.serves.as_many ∙ ap length started_is ∙ as_many) (same-then Same (g.met.P.ToolPart g.world.𝓛 g.world.𝓜 g.world.𝓡 ((λ s x. x), (λ x. x), (λ x. x), λ x. x)).same_onward items started ended.items as_many first second) third in
+    subst (λ after. AreSame Same items after) (sym (written-back after ended.items ended.len (c.finalize_first.ensures.as_many ∙ ap length c.deref_mut-2.ensures.value) (sym ended.ok.0))) whole
 
 pub returns-clause-own : goal.returns-clause-own
 returns-clause-own g c =
@@ -90,3 +90,6 @@ returns-clause-text g c =
     let of_history : after (run_of_program c.args.program c.mask_of-mask.result c.args.threads c.args.steps) c.close-history.result.history ≡ (state_of ended.book) =
     subst (λ history. after (run_of_program c.args.program c.mask_of-mask.result c.args.threads c.args.steps) history ≡ (state_of ended.book)) (sym c.close-history.ensures.history) of_run in
     c.close-history.ensures.text ∙ ap (λ (S : State). S.world.store.text) (sym of_history)
+
+pub returns-clause-always : goal.returns-clause-always
+returns-clause-always g c = c.mask_of-mask.ensures.always c.initialize_first-start.ensures.always

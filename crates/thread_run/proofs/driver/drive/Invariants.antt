@@ -9,5 +9,5 @@ invariant-loop g l =
     (l.pass.thread ≡ l.fn.pass.thread) ×
     IfOk l.came (λ step. OwesStep (pages_of g.K.BookName.run l.pass.seen l.pass.ended) l.pass.thread step) ×
     IfOk l.came (λ step. KeepsStep l.pass step) ×
-    ((first : g.row.P.Denot) → IsDriven g.P.ToolPart.stands_for g.P.ToolPart.kind g.K.BookName.run first l.fn.pass l.fn.part →
-    HasCome g.P.ToolPart.stands_for g.P.ToolPart.kind g.K.BookName.run first l.pass l.part l.came)
+    ((first : g.row.P.Denot) → IsDriven g.P.ToolPart.stands_for g.P.ToolPart.same g.K.BookName.run first l.fn.pass l.fn.part →
+    HasCome g.P.ToolPart.stands_for g.P.ToolPart.same g.K.BookName.run first l.pass l.part l.came)

@@ -13,6 +13,6 @@ loop-place-preserved g c =
       omega (arith, kept.0, kept.1, many),
       many ∙ kept.1,
       kept-set {P = g.row.P.Denot} {L = Slot g.row.K.Denot g.row.P.Denot}
-          (λ t first slot. IsSlot (λ h. h.promise.0.value) (λ h. h.promise.1.value) g.P.ToolPart.stands_for g.P.ToolPart.kind g.K.BookName.run t first slot.driver)
+          (λ t first slot. IsSlot (λ h. h.promise.0.value) (λ h. h.promise.1.value) g.P.ToolPart.stands_for g.P.ToolPart.same g.K.BookName.run t first slot.driver)
           c.args.slots.now c.loop-place.slots c.loop-place.place c.index-slots-place.result c.drive_slot.new.slot kept.2 kept.1 within c.drive_slot.ensures,
     )

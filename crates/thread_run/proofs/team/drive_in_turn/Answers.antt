@@ -9,7 +9,7 @@ pub loop-preserved : goal.loop-preserved
 loop-preserved g c = (
   c.visit_all.ensures.as_many ∙ c.loop.invariant.0,
   kept-then {P = g.row.P.Denot} {L = Slot g.row.K.Denot g.row.P.Denot}
-      (λ t first slot. IsSlot (λ h. h.promise.0.value) (λ h. h.promise.1.value) g.P.ToolPart.stands_for g.P.ToolPart.kind g.K.BookName.run t first slot.driver)
+      (λ t first slot. IsSlot (λ h. h.promise.0.value) (λ h. h.promise.1.value) g.P.ToolPart.stands_for g.P.ToolPart.same g.K.BookName.run t first slot.driver)
       c.args.slots.now c.loop.slots c.visit_all.new.slots c.loop.invariant.0 c.loop.invariant.1 c.visit_all.ensures.kept,
 )
 
@@ -17,6 +17,6 @@ pub returns-clause-kept : goal.returns-clause-kept
 returns-clause-kept g c = elim c.match-next.branch [
   | in-None w ↦ rw w.slots-is c.loop.invariant.1
   | in-Some+then-not-visit_all w ↦ rw w.slots-is (kept-then {P = g.row.P.Denot} {L = Slot g.row.K.Denot g.row.P.Denot}
-      (λ t first slot. IsSlot (λ h. h.promise.0.value) (λ h. h.promise.1.value) g.P.ToolPart.stands_for g.P.ToolPart.kind g.K.BookName.run t first slot.driver)
+      (λ t first slot. IsSlot (λ h. h.promise.0.value) (λ h. h.promise.1.value) g.P.ToolPart.stands_for g.P.ToolPart.same g.K.BookName.run t first slot.driver)
       c.args.slots.now c.loop.slots w.visit_all.new.slots c.loop.invariant.0 c.loop.invariant.1 w.visit_all.ensures.kept)
 ]

@@ -10,5 +10,5 @@ invariant-loop-driver g l =
     (l.yielded ++ into_iter_items l.driver-iterator ≡ l.fn.drivers.items) ×
     (length l.slots.items ≡ length l.yielded) ×
     (length l.fn.drivers.items ≤ vec_capacity l.slots) ×
-    ((parts : List g.row.P.Denot) → AreFor (λ t first driver. IsDriver g.P.ToolPart.stands_for g.P.ToolPart.kind g.K.BookName.run t first driver.pass driver.part) parts l.fn.drivers.items →
-    AreFor (λ t first slot. IsSlot (λ h. h.promise.0.value) (λ h. h.promise.1.value) g.P.ToolPart.stands_for g.P.ToolPart.kind g.K.BookName.run t first slot.driver) parts l.slots.items)
+    ((parts : List g.row.P.Denot) → AreFor (λ t first driver. IsDriver g.P.ToolPart.stands_for g.P.ToolPart.same g.K.BookName.run t first driver.pass driver.part) parts l.fn.drivers.items →
+    AreFor (λ t first slot. IsSlot (λ h. h.promise.0.value) (λ h. h.promise.1.value) g.P.ToolPart.stands_for g.P.ToolPart.same g.K.BookName.run t first slot.driver) parts l.slots.items)

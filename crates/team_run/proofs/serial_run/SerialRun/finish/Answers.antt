@@ -9,7 +9,7 @@ use Rattle.omp_model.proofs.Recording.{first_enabled-enabled}
 use Rattle.step_book.specs.Pages.{state_of}
 use Rattle.team_run.specs.Standing.{StandsAt, StopsAt}
 use Rattle.team_run.specs.Serving.{Serves}
-use Rattle.team_run.proofs.Serving.{serves-then, kinds-then}
+use Rattle.team_run.proofs.Serving.{serves-then, same-then}
 use Rattle.team_run.proofs.Visiting.{caused, stops-here, serves-to, serves-all}
 use Rattle.team_run.proofs.serial_run.SerialRun.finish.Goals as goal
 
@@ -36,7 +36,7 @@ loop-ready-preserved g c =
       run = c.in-Ok.ensures.run ∙ kept.run;
       stands = c.in-Ok.ensures.stands;
       serves = serves-then stands_for c.args.self.now.book.run _ _ _ _ _ _ None kept.serves of_run;
-      kinds = kinds-then g.P.ToolPart.kind _ _ _ kept.serves.as_many kept.kinds c.in-Ok.ensures.kinds;
+      same = same-then g.P.ToolPart.same (g.met.P.ToolPart g.world.𝓛 g.world.𝓜 g.world.𝓡 ((λ s x. x), (λ x. x), (λ x. x), λ x. x)).same_onward _ _ _ kept.serves.as_many kept.same c.in-Ok.ensures.same;
     }
 
 pub returns-clause-serves : goal.returns-clause-serves

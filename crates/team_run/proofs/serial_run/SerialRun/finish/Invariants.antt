@@ -1,7 +1,7 @@
 use Rattle.std.proofs.Common.{◌≡◌, ◌-◌, None}
 use Rattle.omp_model.specs.declared.limits.TheConstants.{TURN_LIMIT}
 use Rattle.step_book.specs.Pages.{state_of}
-use Rattle.team_run.specs.Serving.{Serves, SameKinds}
+use Rattle.team_run.specs.Serving.{Serves, AreSame}
 use Rattle.team_run.specs.Standing.{StandsAt}
 use Rattle.team_run.proofs.serial_run.SerialRun.finish.Given as goal
 
@@ -12,7 +12,7 @@ invariant-loop-ready g l =
       run : l.self.book.run ≡ l.initial.self.book.run;
       stands : StandsAt l.self.book.run (state_of l.self.book) l.self.next l.self.book.history;
       serves : Serves g.P.ToolPart.stands_for l.initial.self.book.run l.initial.self.parts.items l.initial.self.book.history None l.self.parts.items l.self.book.history;
-      kinds : SameKinds g.P.ToolPart.kind l.initial.self.parts.items l.self.parts.items;
+      same : AreSame g.P.ToolPart.same l.initial.self.parts.items l.self.parts.items;
     }
 
 -- the turns that are left

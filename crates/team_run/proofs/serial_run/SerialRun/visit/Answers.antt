@@ -4,7 +4,7 @@ use Rattle.omp_model.proofs.Recording.{first_enabled-enabled, first_enabled-belo
 use Rattle.step_book.specs.Pages.{Pages, state_of, with_entries}
 use Rattle.step_book.proofs.Telling.{told-step, quiet-step, ended-step, not_yet-step}
 use Rattle.team_run.specs.Serving.{Answers}
-use Rattle.team_run.proofs.Serving.{kinds-same}
+use Rattle.team_run.proofs.Serving.{same-itself}
 use Rattle.team_run.proofs.Visiting.{QuietVisit, alone-visit, stops-here, stops-said, untold-visit, visited-said, serves-said, serves-to, from_either, from_ok}
 use Rattle.team_run.proofs.serial_run.SerialRun.visit.Goals as goal
 
@@ -94,7 +94,7 @@ returns-in-Quiet g c =
     record {
       run = rw quiet.whole refl;
       serves = rw quiet.whole (serves-to _ _ _ _ _ quiet.visited.stands stands_for _ _ quiet.visited.serves);
-      kinds = kinds-same g.P.ToolPart.kind parts;
+      same = same-itself g.P.ToolPart.same (g.met.P.ToolPart g.world.𝓛 g.world.𝓜 g.world.𝓡 ((λ s x. x), (λ x. x), (λ x. x), λ x. x)).same_itself parts;
       stops = rw quiet.whole (stops-here _ _ _ _ quiet.visited.stands);
       stands = rw quiet.whole quiet.visited.stands;
       turns = rw quiet.whole quiet.visited.turns;

@@ -18,6 +18,6 @@ returns g c =
       drivers = λ first are.
           c.finish_all.ensures.drivers first
           (rw back (for-kept {P = g.row.P.Denot} {L = Slot g.row.K.Denot g.row.P.Denot}
-          (λ t first slot. IsSlot (λ h. h.promise.0.value) (λ h. h.promise.1.value) g.P.ToolPart.stands_for g.P.ToolPart.kind g.K.BookName.run t first slot.driver)
+          (λ t first slot. IsSlot (λ h. h.promise.0.value) (λ h. h.promise.1.value) g.P.ToolPart.stands_for g.P.ToolPart.same g.K.BookName.run t first slot.driver)
           first slots.items c.drive_here.new.slots many (c.start_all-slots.ensures.slots first are) (rw value at c.drive_here.ensures.kept)));
     }
