@@ -164,7 +164,7 @@ pub enum ScheduleKind {
 }
 
 /// What a node is. Its children are counted from 0; a place that is said to be absent keeps its number.
-#[derive(Clone, Copy)]
+#[derive(Clone, Copy, Debug)]
 pub enum NodeKind {
     /// The whole text: includes, functions, variables and locks in order.
     Program,
