@@ -345,6 +345,10 @@ pub record Checks (checker : Checker) (header : Header) (events : List EventReco
   pub rises : Rises (reverse events)
   pub kept_so : KeptSo checker.kept checker.breach header (reverse events)
 
+-- the position of the last event that it was told of
+abbrev pub last_of : Checker → Option ℕ
+last_of checker = checker.last
+
 -- how many entries its lists have
 abbrev pub entries_of : Checker → ℕ
 entries_of checker = kept_by checker.kept
