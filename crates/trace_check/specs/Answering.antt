@@ -1,7 +1,6 @@
 -- What was read of a source and said of it, by how the checking of a trace ended.
 use Rattle.std.specs.Prelude.{ℕ, List, Option}
 use Rattle.std.specs.Io.KnownBytes.{Consumes}
-use Rattle.trace_format.specs.declared.refusal.Refusal.{Refusal}
 use Rattle.trace_format.specs.declared.trace.Trace.{Trace}
 use Rattle.trace_format.specs.Inputs.{IsInput, IsRefusedInput, IsUnrefused}
 use Rattle.trace_format.specs.Validity.{Writes}

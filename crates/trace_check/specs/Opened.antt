@@ -1,6 +1,6 @@
 -- How much a trace has open after some events, the newest first.
-use Rattle.std.specs.Prelude.{ℕ, ◌+◌, ◌==◌, Bool, true, false, not, List, [], ◌∷◌, length, count_by, Option, Some, None, if◌then◌else◌}
-use Rattle.std.specs.List.{list_any, sum_by}
+use Rattle.std.specs.Prelude.{ℕ, ◌+◌, Bool, true, false, not, List, [], ◌∷◌, length, count_by, Option, Some, None, if◌then◌else◌}
+use Rattle.std.specs.List.{sum_by}
 use Rattle.ompt_calls.specs.declared.call.Call.{Call}
 use Rattle.ompt_calls.specs.declared.call.Call.TheVariants.{MutexAcquired}
 use Rattle.ompt_calls.specs.declared.event.EventRecord.{EventRecord}

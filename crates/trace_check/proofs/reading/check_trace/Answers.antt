@@ -1,4 +1,3 @@
-use Rattle.std.proofs.Common.{◌≡◌}
 use Rattle.trace_format.specs.declared.trace.Trace.{Trace}
 use Rattle.trace_check.specs.Nested.{IsFirstBreach, Nested}
 use Rattle.trace_check.proofs.Whole.{whole_known}

@@ -1,5 +1,5 @@
 use Rattle.std.proofs.Common.{◌<◌, refl, take, length, arith, length-take-le, rules}
-use Rattle.trace_format.proofs.Handing.{reads_cut, reads_failed, reads_fewer, reads_more, reads_none, reads_truncated, reads_unfailed, reads_whole}
+use Rattle.trace_format.proofs.Handing.{reads_cut, reads_fewer, reads_more, reads_none, reads_truncated, reads_unfailed, reads_whole}
 use Rattle.trace_format.proofs.reading.read_items.Goals as goal
 
 pub loop-count-init : goal.loop-count-init
