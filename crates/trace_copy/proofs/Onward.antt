@@ -51,39 +51,23 @@ front_behind old mid new done next whole is first (n, room, second) =
       subst (Appends old new) front (Appends-trans old mid new done (take n next) first second),
     )
 
--- what is said of one item more was written
-put_more :
-    (form : Form) (before end now : Option EndMark) (held between after : Option (List ℕ)) (items : List Item) (it : Item)
-    → HasPut form before end held between items → now ≡ last_end end (it ∷ []) → Appends between after (written_of_item form it)
-    → HasPut form before now held after (items ++ it ∷ [])
-put_more form before end now held between after items it (is, wrote) last one = (
-  last ∙ ap (λ (found : Option EndMark). last_end found (it ∷ [])) is ∙ sym (last_behind before items (it ∷ [])),
-  subst (Appends held after) (sym (written_more form items it))
-      (Appends-trans held between after (written_of form items) (written_of_item form it) wrote one),
-)
-
--- .. or a front of it
-put_part :
-    (form : Form) (before end : Option EndMark) (held between after : Option (List ℕ)) (items : List Item) (it : Item)
-    → HasPut form before end held between items → AppendsFront between after (written_of_item form it)
-    → AppendsFront held after (written_of form (items ++ it ∷ []))
-put_part form before end held between after items it (is, wrote) part =
-    front_behind held between after (written_of form items) (written_of_item form it) (written_of form (items ++ it ∷ [])) (written_more form items it)
-    wrote part
-
 -- a copier has taken items, and takes one more
 pub took_more :
     {N : Type 0} (form kept : Form) (faults mid counted : ℕ) (before end now : Option EndMark) (held between after : Option (List ℕ))
     (items : List Item) (it : Item) → N × (kept ≡ form) × (mid ≡ faults) × HasPut form before end held between items
     → now ≡ last_end end (it ∷ []) → counted ≡ mid → Appends between after (written_of_item kept it)
     → N × (kept ≡ form) × (counted ≡ faults) × HasPut form before now held after (items ++ it ∷ [])
-took_more form kept faults mid counted before end now held between after items it (same, is, steady, put) last unfailed one = (
-  same,
-  is,
-  unfailed ∙ steady,
-  put_more form before end now held between after items it put last
-      (subst (λ (f : Form). Appends between after (written_of_item f it)) is one),
-)
+took_more form kept faults mid counted before end now held between after items it (same, is, steady, (found_is, wrote)) last unfailed one =
+    let item_wrote = subst (λ (f : Form). Appends between after (written_of_item f it)) is one in (
+      same,
+      is,
+      unfailed ∙ steady,
+      (
+        last ∙ ap (λ (found : Option EndMark). last_end found (it ∷ [])) found_is ∙ sym (last_behind before items (it ∷ [])),
+        subst (Appends held after) (sym (written_more form items it))
+            (Appends-trans held between after (written_of form items) (written_of_item form it) wrote item_wrote),
+      ),
+    )
 
 -- .. or stops at it
 pub stopped_at :
@@ -92,7 +76,7 @@ pub stopped_at :
     → (stop ≡ WriteFault) ⊎ (stop ≡ Memory) → (kept ≡ SecondVersion → stop ≢ Memory) → (stop ≡ WriteFault → Rose mid counted)
     → (stop ≢ WriteFault → counted ≡ mid) → AppendsFront between after (written_of_item kept it)
     → N × StopsAt form stop faults counted held after items it
-stopped_at form kept stop faults mid counted before end held between after items it (same, is, steady, put) ends memory write unfailed part = (
+stopped_at form kept stop faults mid counted before end held between after items it (same, is, steady, (found_is, wrote)) ends memory write unfailed part = (
   same,
   record {
     ends = ends;
@@ -100,7 +84,7 @@ stopped_at form kept stop faults mid counted before end held between after items
     write = λ failed. subst (λ (count : ℕ). Rose count counted) steady (write failed);
     steady = λ other. unfailed other ∙ steady;
     part =
-        put_part form before end held between after items it put
-        (subst (λ (f : Form). AppendsFront between after (written_of_item f it)) is part);
+        front_behind held between after (written_of form items) (written_of_item form it) (written_of form (items ++ it ∷ [])) (written_more form items it)
+        wrote (subst (λ (f : Form). AppendsFront between after (written_of_item f it)) is part);
   },
 )

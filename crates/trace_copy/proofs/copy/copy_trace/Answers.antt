@@ -6,22 +6,19 @@ use Rattle.trace_copy.proofs.copy.copy_trace.Goals as goal
 
 pub returns-in-Ok-clause-copied : goal.returns-in-Ok-clause-copied
 returns-in-Ok-clause-copied g c =
-    let taker = c.read_items.new.taker in
     let left = g.S.Source.left c.args.source.now in
     let rest = g.S.Source.left c.read_items.new.source in
     let held = g.O.Sink.held c.args.out.now in
     let same : c.put_last.new.out ≡ _ = search rules in
     subst (λ (out : _). HasCopied c.args.form Whole left rest held (g.O.Sink.held out)) same
-    (copied_whole c.args.form taker.end left rest held (g.O.Sink.held taker.out.now) (g.O.Sink.held c.put_last.new.out) c.in-Whole.ensures.read
-    c.in-Ok.ensures.whole)
+    (copied_whole c.args.form _ left rest held _ (g.O.Sink.held c.put_last.new.out) c.in-Whole.ensures.read c.in-Ok.ensures.whole)
 
 pub returns-in-Err-clause-copied : goal.returns-in-Err-clause-copied
 returns-in-Err-clause-copied g c =
-    let taker = c.read_items.new.taker in
     let left = g.S.Source.left c.args.source.now in
     let rest = g.S.Source.left c.read_items.new.source in
     let held = g.O.Sink.held c.args.out.now in
     let same : c.put_last.new.out ≡ _ = search rules in
     subst (λ (out : _). HasCopied c.args.form c.in-Err.stop left rest held (g.O.Sink.held out)) same
-    (copied_last c.args.form taker.end c.in-Err.stop left rest held (g.O.Sink.held taker.out.now) (g.O.Sink.held c.put_last.new.out)
-    c.in-Whole.ensures.read (c.in-Err.ensures.ends c.in-Err.stop refl) c.in-Err.ensures.part)
+    (copied_last c.args.form _ c.in-Err.stop left rest held _ (g.O.Sink.held c.put_last.new.out) c.in-Whole.ensures.read
+    (c.in-Err.ensures.ends c.in-Err.stop refl) c.in-Err.ensures.part)
