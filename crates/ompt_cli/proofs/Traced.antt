@@ -2,6 +2,7 @@
 use Rattle.std.proofs.Common.{◌≡◌, ℕ, List, [], ◌++◌, Option, Some, None, IsSomeAnd, ◌⊎◌, inl, inr, refl, subst, sym}
 use Rattle.trace_format.specs.declared.refusal.Refusal.{Refusal}
 use Rattle.trace_format.specs.declared.trace.Trace.{Trace}
+use Rattle.trace_format.specs.Inputs.{IsRefusedInput}
 use Rattle.trace_format.specs.Refusing.{IsTruncated}
 use Rattle.trace_format.specs.Validity.{Writes}
 use Rattle.trace_format.proofs.Unique.{one_spelling}
@@ -10,7 +11,6 @@ use Rattle.trace_check.specs.declared.breach.Breach.{Breach}
 use Rattle.trace_check.specs.declared.checked.Checked.TheVariants as checks
 use Rattle.trace_check.specs.Answering.{HasChecked}
 use Rattle.trace_check.specs.Nested.{Broken as BreaksRule, Nested}
-use Rattle.trace_copy.specs.Copying.{IsRefusedInput}
 use Rattle.ompt_words.specs.declared.settings.TraceCommand.{TraceCommand}
 use Rattle.ompt_cli.specs.declared.end.End.{End}
 use Rattle.ompt_cli.specs.declared.end.End.TheVariants.{Broken, TraceRefused}

@@ -18,7 +18,7 @@ use Rattle.trace_check.proofs.Joined.{join_in, seat_is, seat_of}
 use Rattle.trace_check.proofs.Kept12.{KeepsAll, keeps_all}
 use Rattle.trace_check.proofs.Creations.{initial_unjoined}
 use Rattle.trace_check.proofs.Unmoved.{closes_at, stays_at}
-use Rattle.trace_check.proofs.Tests.{left, right}
+use Rattle.trace_check.proofs.Tests.{left}
 
 -- ---- tasks without a place in a team
 

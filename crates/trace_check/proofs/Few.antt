@@ -25,7 +25,8 @@ use Rattle.trace_check.specs.declared.kept.Kept.{Kept}
 use Rattle.trace_check.specs.declared.things.Region.{Region}
 use Rattle.trace_check.specs.Before.{Creation, Join, creations, events_of, has_begun_region, has_ended, has_ended_region, held_after, holder, is_begin, is_complete, is_just, is_open_region, joins, joins_of, opened, region_begun}
 use Rattle.trace_check.specs.Checking.{AreOrdered, Checks, IsKnown, IsRegion, KeptSo, KnownBrackets, KnownCreated, KnownHeld, KnownMembers, KnownRegions, KnownThreads, Unbroken, bracket_at, created_of, creation_in, join_at, kept_by, member_of, thread_known, thread_of}
-use Rattle.trace_check.specs.Opened.{acquired, acquired_ids, and_id, begun_threads, held_ids, is_among, is_begin_of_open, is_held, open_brackets, open_members, open_of, open_regions, open_tasks}
+use Rattle.trace_format.specs.Validity.{is_among}
+use Rattle.trace_check.specs.Opened.{acquired, acquired_ids, and_id, begun_threads, held_ids, is_begin_of_open, is_held, open_brackets, open_members, open_of, open_regions, open_tasks}
 use Rattle.trace_check.specs.Rules.{keeps_threads}
 use Rattle.trace_check.proofs.Firsts.{keeps_each}
 use Rattle.trace_check.proofs.Quiet.{quiet_opened}
@@ -382,26 +383,26 @@ few-created kept past ordered known =
 -- ---- wait identifiers
 
 -- an identifier stays among those acquired
-among-more : (id new : ℕ) (ids : List ℕ) → is_among id ids ≡ true → is_among id (and_id (Some new) ids) ≡ true
-among-more id new ids is = by-test (is_among new ids)
+among-more : (id new : ℕ) (ids : List ℕ) → is_among ids id ≡ true → is_among (and_id (Some new) ids) id ≡ true
+among-more id new ids is = by-test (is_among ids new)
   where
-    by-test : (b : Bool) → is_among id (if b then ids else new ∷ ids) ≡ true
+    by-test : (b : Bool) → is_among (if b then ids else new ∷ ids) id ≡ true
     by-test true = is
-    by-test false = or-rest (new == id) (is_among id ids) is
+    by-test false = or-rest (id == new) (is_among ids id) is
 
 -- and one that is acquired is among them
-among-new : (id new : ℕ) (ids : List ℕ) → new ≡ id → is_among id (and_id (Some new) ids) ≡ true
-among-new id new ids same = elim-test (is_among new ids) refl
+among-new : (id new : ℕ) (ids : List ℕ) → new ≡ id → is_among (and_id (Some new) ids) id ≡ true
+among-new id new ids same = elim-test (is_among ids new) refl
   where
-    elim-test : (b : Bool) → is_among new ids ≡ b → is_among id (if b then ids else new ∷ ids) ≡ true
-    elim-test true is = subst (λ (n : ℕ). is_among n ids ≡ true) same is
-    elim-test false is = or-left (new == id) (is_among id ids) (equal new id same)
+    elim-test : (b : Bool) → is_among ids new ≡ b → is_among (if b then ids else new ∷ ids) id ≡ true
+    elim-test true is = subst (λ (n : ℕ). is_among ids n ≡ true) same is
+    elim-test false is = or-left (id == new) (is_among ids id) (equal id new (sym same))
 
 -- what is held after an event was acquired
-held-step : (id thread : ℕ) (call : Call) (before : Option ℕ) (ids : List ℕ) → (is_some before ≡ true → is_among id ids ≡ true) → is_some (held_after id thread call before) ≡ true →
-    is_among id (and_id (acquired call) ids) ≡ true
+held-step : (id thread : ℕ) (call : Call) (before : Option ℕ) (ids : List ℕ) → (is_some before ≡ true → is_among ids id ≡ true) → is_some (held_after id thread call before) ≡ true →
+    is_among (and_id (acquired call) ids) id ≡ true
 held-step id thread (MutexAcquired kind wait_id codeptr) before ids more is =
-    elim (eqb_tells wait_id id) as (λ _. is_among id (and_id (Some wait_id) ids) ≡ true) [
+    elim (eqb_tells wait_id id) as (λ _. is_among (and_id (Some wait_id) ids) id ≡ true) [
       | inl here ↦ among-new id wait_id ids here.1
       | inr other ↦ among-more id wait_id ids (more (rw other.0 at is))
     ]
@@ -409,9 +410,18 @@ held-step id thread (MutexReleased kind wait_id codeptr) before ids more is = mo
 held-step id thread other before ids more is = more is
 
 -- a wait identifier that is held was acquired
-held-among : (id : ℕ) (past : List EventRecord) → is_some (holder id past) ≡ true → is_among id (acquired_ids past) ≡ true
+held-among : (id : ℕ) (past : List EventRecord) → is_some (holder id past) ≡ true → is_among (acquired_ids past) id ≡ true
 held-among id [] is = is
 held-among id (event ∷ past) is = held-step id event.thread event.call (holder id past) (acquired_ids past) (held-among id past) is
+
+-- so one of the identifiers is it
+any-among : (ids : List ℕ) (id : ℕ) → is_among ids id ≡ true → list_any (λ (other : ℕ). other == id) ids ≡ true
+any-among [] id is = is
+any-among (other ∷ ids) id is =
+    elim (eqb_tells id other) as (λ _. list_any (λ (one : ℕ). one == id) (other ∷ ids) ≡ true) [
+      | inl here ↦ or-left (other == id) (list_any (λ (one : ℕ). one == id) ids) (equal other id (sym here.1))
+      | inr apart ↦ or-rest (other == id) (list_any (λ (one : ℕ). one == id) ids) (any-among ids id (rw apart.0 at is))
+    ]
 
 -- one that a thread holds is held
 some-held : (thread : Option ℕ) → is_some thread ≡ true → is_held thread ≡ true
@@ -428,7 +438,7 @@ few-held kept past ordered known =
     (λ (id : ℕ) (same : (id == q) ≡ true).
     let is-it : id ≡ q = equal-so id q same in
     and-both (is_held (holder id past)) (q == id) (subst (λ (n : ℕ). is_held (holder n past) ≡ true) (sym is-it) (some-held (holder q past) holds-it)) (equal q id (sym is-it)))
-    (held-among q past holds-it))
+    (any-among (acquired_ids past) q (held-among q past holds-it)))
 
 -- ---- all that is kept
 
@@ -456,9 +466,9 @@ few-so kept (Some breach) header past ordered so = none-less (kept_by kept) (ope
     none-less a b is = omega arith
 
 -- so a checker keeps no more than is open
-pub keeps_few : (checker : Checker) (header : Header) (events : List EventRecord) (n : ℕ) → Checks checker header events → AreOrdered checker.kept → n ≤ kept_by checker.kept → n ≤ open_of (reverse events) + 16
+pub keeps_few : (checker : Checker) (header : Header) (events : List EventRecord) (n : ℕ) → Checks checker header events → AreOrdered checker.kept → n ≤ kept_by checker.kept → n ≤ open_of (reverse events)
 keeps_few checker header events n checks ordered less =
     at-most n (kept_by checker.kept) (open_of (reverse events)) less (few-so checker.kept checker.breach header (reverse events) ordered checks.kept_so)
   where
-    at-most : (a b c : ℕ) → a ≤ b → b ≤ c → a ≤ c + 16
+    at-most : (a b c : ℕ) → a ≤ b → b ≤ c → a ≤ c
     at-most a b c x y = omega arith

@@ -12,7 +12,6 @@ pub mod Entered
 pub mod Few
 pub mod Firsts
 pub mod Implicit
-pub mod Inputs
 pub mod Joined
 pub mod Kept12
 pub mod Learned
@@ -25,7 +24,6 @@ pub mod Names
 pub mod Once
 pub mod OneMember
 pub mod PassedBarrier
-pub mod Pieces
 pub mod Quiet
 pub mod RegionCalls
 pub mod RegionParts
@@ -43,3 +41,4 @@ pub mod Unmoved
 pub mod Untouched
 pub mod Verdicts
 pub mod WaitedMember
+pub mod Whole

@@ -7,7 +7,7 @@ use Rattle.trace_format.specs.declared.trace.EndMark.{EndMark}
 use Rattle.trace_format.specs.declared.trace.Header.{Header}
 use Rattle.trace_format.specs.declared.trace.Trace.{Trace}
 use Rattle.trace_format.specs.declared.trace.TheConstants.{FIRST_VERSION, VERSION, RECORDED, MIGRATED}
-use Rattle.trace_copy.specs.Written.{migrated_header, migrated_trace}
+use Rattle.trace_format.specs.Migrating.{migrated_header, migrated_trace}
 use Rattle.trace_check.specs.declared.breach.Breach.{Breach}
 use Rattle.trace_check.specs.Nested.{Broken, IsFirstBreach, Nested, first_mask, is_whole_mask}
 

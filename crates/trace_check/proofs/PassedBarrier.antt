@@ -1,5 +1,5 @@
 -- A task passes a barrier: each of its team has begun as many waits as it has.
-use Rattle.std.proofs.Common.{◌≡◌, ℕ, ◌==◌, ◌&&◌, Bool, true, false, List, ◌∷◌, Option, Some, None, refl, sym, ◌∙◌, subst}
+use Rattle.std.proofs.Common.{◌≡◌, ℕ, ◌==◌, Bool, true, false, List, ◌∷◌, Option, Some, None, refl, sym, ◌∙◌, subst}
 use Rattle.std.specs.Ordering.{nat_cmp}
 use Rattle.std.specs.BTreeMap.{BTreeMap, Updates, get}
 use Rattle.std.proofs.lemmas.Bool.{eqb-true}
@@ -19,7 +19,6 @@ use Rattle.trace_check.proofs.RegionCalls.{PassesBarrier, passes_a_barrier}
 use Rattle.trace_check.proofs.RegionParts.{beside_key, waited_still}
 use Rattle.trace_check.proofs.TeamTests.{size_is}
 use Rattle.trace_check.proofs.Untouched.{children_same, created_same, held_same, members_same, region_same, regions_same, task_same}
-use Rattle.trace_check.proofs.Tests.{left, right}
 
 seated_later : (past : List EventRecord) (task : ℕ) (seat : Seat) → Unbroken past → seat_of (join_in task (joins past)) ≡ Some seat → (task == 1) ≡ false
 seated_later past task seat unbroken is = by-test (task == 1) refl

@@ -8,7 +8,7 @@ use Rattle.trace_format.specs.declared.trace.EndMark.{EndMark}
 use Rattle.trace_format.specs.declared.trace.Header.{Header}
 use Rattle.trace_format.specs.declared.trace.Trace.{Trace}
 use Rattle.trace_format.specs.declared.trace.TheConstants.{SEQ_LIMIT}
-use Rattle.trace_format.specs.Items.{AreFirst, given, items_of}
+use Rattle.trace_format.specs.Items.{AreFirst, items_of}
 use Rattle.trace_format.specs.Taking.{Stage, first_stage, next_stage, stage_from}
 use Rattle.trace_format.proofs.Completed.{follow_of}
 use Rattle.trace_format.proofs.Following.{Follow, follow_front, follow_rest}
@@ -106,23 +106,33 @@ before-follows items more first = follow_front SEQ_LIMIT first_stage items more 
 
 -- what is known of items is known once this item is told
 abbrev pub Tells : Told → Told → Item → Type 0
-Tells old new it = (items : List Item) → KnowsItems old items → AreFirst (items ++ given it) → KnowsItems new (items ++ given it)
+Tells old new it = (items : List Item) → KnowsItems old items → AreFirst (items ++ it ∷ []) → KnowsItems new (items ++ it ∷ [])
+
+-- no item tells nothing
+more-told : (told : Told) → Tells told told item.More
+more-told told items knows first = record {
+  events = rw (header-more items item.More refl, events-more items (item.More ∷ []), append-nil (events_in items)) knows.events;
+  end = knows.end ∙ sym (end-more items item.More refl);
+}
+
+pub tells_more : (told : Told) (it : Item) → it ≡ item.More → Tells told told it
+tells_more told it is = subst (Tells told told) (sym is) (more-told told)
 
 -- the header comes first
 header-told :
     (checker : Checker) (told : Told) (header : Header) → Checks checker header []
-    → Tells told (record { checker = Some checker; end = told.end }) (item.Header header)
+    → Tells told (record told { checker = Some checker }) (item.Header header)
 header-told checker told header checks items knows first =
     let none : items ≡ [] =
     none-before SEQ_LIMIT first_stage items (before-follows items (item.Header header ∷ []) first) (next-follows items (item.Header header ∷ []) first).1.0 in
-    subst (λ (its : List Item). KnowsItems (record { checker = Some checker; end = told.end }) (its ++ item.Header header ∷ [])) (sym none)
+    subst (λ (its : List Item). KnowsItems (record told { checker = Some checker }) (its ++ item.Header header ∷ [])) (sym none)
     (record { events = checks; end = knows.end ∙ ap end_in none })
 
 pub tells_header :
     (checker : Checker) (told : Told) (it : Item) (header : Header) → it ≡ item.Header header → Checks checker header []
-    → Tells told (record { checker = Some checker; end = told.end }) it
+    → Tells told (record told { checker = Some checker }) it
 tells_header checker told it header is checks =
-    subst (Tells told (record { checker = Some checker; end = told.end })) (sym is) (header-told checker told header checks)
+    subst (Tells told (record told { checker = Some checker })) (sym is) (header-told checker told header checks)
 
 -- an event, where the checker takes it
 abbrev StepsTo : Checker → Checker → EventRecord → Type 0
@@ -153,11 +163,11 @@ event-known old new items event events same knows = record {
 
 event-told :
     (old new : Checker) (told : Told) (event : EventRecord) → told.checker ≡ Some old → StepsTo old new event
-    → Tells told (record { checker = Some new; end = told.end }) (item.Event event)
+    → Tells told (record told { checker = Some new }) (item.Event event)
 event-told old new told event is steps items knows first =
     let next = (next-follows items (item.Event event ∷ []) first).1 in
     let before = subst (λ (checker : Option Checker). KnowsEvents checker (header_in items) (events_in items)) is knows.events in
-    event-known told (record { checker = Some new; end = told.end }) items event
+    event-known told (record told { checker = Some new }) items event
     (stepped old new (header_in items) (events_in items) event (stage_from first_stage items).least steps (below-least first_stage [] items tt) next.2 before)
     refl knows
 
@@ -171,22 +181,22 @@ event-unheard told event none items knows first =
 
 pub tells_event :
     (old new : Checker) (told : Told) (it : Item) (event : EventRecord) → it ≡ item.Event event → told.checker ≡ Some old → StepsTo old new event
-    → Tells told (record { checker = Some new; end = told.end }) it
+    → Tells told (record told { checker = Some new }) it
 tells_event old new told it event is known steps =
-    subst (Tells told (record { checker = Some new; end = told.end })) (sym is) (event-told old new told event known steps)
+    subst (Tells told (record told { checker = Some new })) (sym is) (event-told old new told event known steps)
 
 pub tells_unheard : (told : Told) (it : Item) (event : EventRecord) → it ≡ item.Event event → told.checker ≡ None → Tells told told it
 tells_unheard told it event is none = subst (Tells told told) (sym is) (event-unheard told event none)
 
 -- the end mark comes last
-end-told : (told : Told) (end : EndMark) → Tells told (record { checker = told.checker; end = Some end }) (item.End end)
+end-told : (told : Told) (end : EndMark) → Tells told (record told { end = Some end }) (item.End end)
 end-told told end items knows first = record {
   events = rw (header-more items (item.End end) refl, events-more items (item.End end ∷ []), append-nil (events_in items)) knows.events;
   end = sym (end-first first_stage items end (next-follows items (item.End end ∷ []) first).0);
 }
 
-pub tells_end : (told : Told) (it : Item) (end : EndMark) → it ≡ item.End end → Tells told (record { checker = told.checker; end = Some end }) it
-tells_end told it end is = subst (Tells told (record { checker = told.checker; end = Some end })) (sym is) (end-told told end)
+pub tells_end : (told : Told) (it : Item) (end : EndMark) → it ≡ item.End end → Tells told (record told { end = Some end }) it
+tells_end told it end is = subst (Tells told (record told { end = Some end })) (sym is) (end-told told end)
 
 -- the events and the end mark of a trace are those of its items
 events-ended : (events : List EventRecord) (end : EndMark) → events_in (map item.Event events ++ item.End end ∷ []) ≡ events

@@ -1,18 +1,12 @@
 -- What was read of a source and said of it, by how the checking of a trace ended.
 use Rattle.std.specs.Prelude.{ℕ, List, Option}
 use Rattle.std.specs.Io.KnownBytes.{Consumes}
-use Rattle.trace_format.specs.declared.refusal.Refusal.{Refusal}
 use Rattle.trace_format.specs.declared.trace.Trace.{Trace}
-use Rattle.trace_format.specs.Refusing.{IsRefused}
+use Rattle.trace_format.specs.Inputs.{IsInput, IsRefusedInput, IsUnrefused}
 use Rattle.trace_format.specs.Validity.{Writes}
-use Rattle.trace_copy.specs.Copying.{IsInput, IsRefusedInput}
 use Rattle.trace_check.specs.declared.checked.Checked.{Checked}
 use Rattle.trace_check.specs.declared.checked.Checked.TheVariants as checked
 use Rattle.trace_check.specs.Nested.{IsFirstBreach, Nested}
-
--- no front of the bytes is refused
-abbrev pub IsUnrefused : List ℕ → Type 0
-IsUnrefused bytes = (refusal : Refusal) → IsRefused bytes refusal → ⊥
 
 -- By the end, over what the source has left before and after. The whole input is a trace, and is nested or has this first breach; or the input is
 -- refused; or a read failed behind bytes that aren't. Want of memory is free.

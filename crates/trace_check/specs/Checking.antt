@@ -1,5 +1,5 @@
 -- What a checker keeps of the events before, the newest first. It serves the proofs.
-use Rattle.std.specs.Prelude.{ℕ, ◌≡◌, ◌+◌, ◌*◌, ◌<◌, ◌≤◌, ◌==◌, ◌&&◌, ◌⊎◌, Bool, true, false, not, nat_le, nat_lt, List, [], ◌∷◌, ◌++◌, length, reverse, count_by, is_some, Option, Some, None, if◌then◌else◌}
+use Rattle.std.specs.Prelude.{ℕ, ◌≡◌, ◌+◌, ◌*◌, ◌<◌, ◌≤◌, ◌==◌, ◌&&◌, ◌⊎◌, Bool, true, false, not, nat_le, nat_lt, List, [], ◌∷◌, ◌++◌, length, reverse, count_by, Option, Some, None, if◌then◌else◌}
 use Rattle.std.specs.Ordering.{nat_cmp}
 use Rattle.std.specs.BTreeMap.{BTreeMap, IsOrdered, btree_map_len, get}
 use Rattle.ompt_calls.specs.declared.call.Call.{Call}
@@ -344,6 +344,10 @@ pub record Checks (checker : Checker) (header : Header) (events : List EventReco
   pub last : checker.last ≡ newest_seq (reverse events)
   pub rises : Rises (reverse events)
   pub kept_so : KeptSo checker.kept checker.breach header (reverse events)
+
+-- the position of the last event that it was told of
+abbrev pub last_of : Checker → Option ℕ
+last_of checker = checker.last
 
 -- how many entries its lists have
 abbrev pub entries_of : Checker → ℕ

@@ -1,14 +1,10 @@
 -- What the items of a trace tell a checker. It serves the contracts of private functions and the proofs.
-use Rattle.std.specs.Prelude.{ℕ, ◌≡◌, List, [], ◌∷◌, ◌++◌, Option, Some, None}
+use Rattle.std.specs.Prelude.{◌≡◌, List, [], ◌∷◌, Option, Some, None}
 use Rattle.ompt_calls.specs.declared.event.EventRecord.{EventRecord}
 use Rattle.trace_format.specs.declared.item.Item.{Item}
 use Rattle.trace_format.specs.declared.item.Item.TheVariants as item
 use Rattle.trace_format.specs.declared.trace.EndMark.{EndMark}
 use Rattle.trace_format.specs.declared.trace.Header.{Header}
-use Rattle.trace_format.specs.Refusing.{Refuses}
-use Rattle.trace_format.specs.Taking.{HasTaken, Reading}
-use Rattle.trace_check.specs.declared.checked.Checked.{Checked}
-use Rattle.trace_check.specs.declared.checked.Checked.TheVariants as checked
 use Rattle.trace_check.specs.declared.checker.Checker.{Checker}
 use Rattle.trace_check.specs.declared.told.Told.{Told}
 use Rattle.trace_check.specs.Checking.{Checks}
@@ -39,15 +35,3 @@ KnowsEvents (Some checker) (Some header) events = Checks checker header events
 pub record KnowsItems (told : Told) (items : List Item) : Type 0 where
   pub events : KnowsEvents told.checker (header_in items) (events_in items)
   pub end : told.end ≡ end_in items
-
--- the bytes were taken, and their items were told
-abbrev pub Passes : Reading → Told → List ℕ → Type 0
-Passes reading told bytes = (items : List Item) × HasTaken reading bytes items × KnowsItems told items
-
--- A piece was taken behind bytes up to where it stopped: at a refusal, or where memory failed. The bytes are those before with the piece.
-abbrev pub IsStopped : Checked → List ℕ → Type 0
-IsStopped checked.Nested bytes = ⊥
-IsStopped (checked.Broken breach) bytes = ⊥
-IsStopped (checked.Refused refusal) bytes = (taken rest : List ℕ) × (bytes ≡ taken ++ rest) × Refuses taken refusal
-IsStopped checked.ReadFault bytes = ⊥
-IsStopped checked.Memory bytes = Unit {0}

@@ -12,7 +12,7 @@ use Rattle.trace_check.specs.Rules.{keeps}
 
 -- the whole mask of the first version has no dispatch
 abbrev pub first_mask : ℕ
-first_mask = 263389438
+first_mask = 0x0FB300FE
 
 -- rule 1: the mask is the whole one
 abbrev pub is_whole_mask : Header → Bool

@@ -1,9 +1,10 @@
 -- How much a trace has open after some events, the newest first.
-use Rattle.std.specs.Prelude.{ℕ, ◌+◌, ◌==◌, Bool, true, false, not, List, [], ◌∷◌, length, count_by, Option, Some, None, if◌then◌else◌}
-use Rattle.std.specs.List.{list_any, sum_by}
+use Rattle.std.specs.Prelude.{ℕ, ◌+◌, Bool, true, false, not, List, [], ◌∷◌, length, count_by, Option, Some, None, if◌then◌else◌}
+use Rattle.std.specs.List.{sum_by}
 use Rattle.ompt_calls.specs.declared.call.Call.{Call}
 use Rattle.ompt_calls.specs.declared.call.Call.TheVariants.{MutexAcquired}
 use Rattle.ompt_calls.specs.declared.event.EventRecord.{EventRecord}
+use Rattle.trace_format.specs.Validity.{is_among}
 use Rattle.trace_check.specs.Before.{Creation, Join, creations, holder, is_begin, is_complete, is_open_region, joins, opened, region_begun}
 
 -- the threads that began, and the brackets that are open on them
@@ -36,12 +37,9 @@ abbrev pub acquired : Call → Option ℕ
 acquired (MutexAcquired kind wait_id codeptr) = Some wait_id
 acquired other = None
 
-abbrev pub is_among : ℕ → List ℕ → Bool
-is_among id ids = list_any (λ (other : ℕ). other == id) ids
-
 abbrev pub and_id : Option ℕ → List ℕ → List ℕ
 and_id None ids = ids
-and_id (Some id) ids = if is_among id ids then ids else id ∷ ids
+and_id (Some id) ids = if is_among ids id then ids else id ∷ ids
 
 -- each wait identifier that was acquired, once
 abbrev pub acquired_ids : List EventRecord → List ℕ

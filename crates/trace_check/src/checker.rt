@@ -1,9 +1,9 @@
 //! The checker.
 
-ghost use Rattle.std.specs.Prelude.{◌≡◌, ◌<◌, ◌≤◌, ◌+◌, ◌++◌, ◌∷◌, [], List, IfSome, MatchResult, OnErr, OnOk, None, Some, min, reverse};
+ghost use Rattle.std.specs.Prelude.{◌≡◌, ◌<◌, ◌≤◌, ◌++◌, ◌∷◌, [], List, IfSome, MatchResult, OnErr, OnOk, None, Some, min, reverse};
 ghost use Rattle.ompt_calls.specs.declared.event.EventRecord.{EventRecord};
 ghost use Rattle.trace_check.specs.Before.{is_just};
-ghost use Rattle.trace_check.specs.Checking.{BreaksOne, Checks, entries_of};
+ghost use Rattle.trace_check.specs.Checking.{BreaksOne, Checks, entries_of, last_of};
 ghost use Rattle.trace_check.specs.Nested.{IsFirstBreach, Nested, has_returned, is_whole_mask};
 ghost use Rattle.trace_check.specs.Opened.{open_of};
 ghost use Rattle.trace_format.specs.declared.trace.Header.{Header as HeaderOf};
@@ -33,7 +33,7 @@ impl Checker {
     /// A checker of a trace with this header, that was told of no event yet.
     pub fn new(alloc: Global, header: Header) -> Checker
         ensures checks { Checks result header [] }
-        ensures last { result.last ≡ None }
+        ensures last { last_of result ≡ None }
     {
         let breach = if is_whole_mask(&header) {
             None
@@ -50,10 +50,10 @@ impl Checker {
     /// Takes the next event. Where its position is greater than that of the last one, the checker checks one event more. Where it finds no memory it has
     /// taken none.
     pub fn step(&mut self, event: &EventRecord) -> Result<(), AllocError>
-        ensures last { OnOk result (self.new.last ≡ Some event.now.seq) }
-        ensures stays { OnErr result (self.new.last ≡ self.old.last) }
+        ensures last { OnOk result (last_of self.new ≡ Some event.now.seq) }
+        ensures stays { OnErr result (last_of self.new ≡ last_of self.old) }
         ensures checks { OnOk result ((header : HeaderOf) (events : List EventRecord) → Checks self.old header events →
-            IfSome self.old.last (λ last. last < event.now.seq) → Checks self.new header (events ++ event.now ∷ [])) }
+            IfSome (last_of self.old) (λ last. last < event.now.seq) → Checks self.new header (events ++ event.now ∷ [])) }
         ensures unchanged { OnErr result ((header : HeaderOf) (events : List EventRecord) → Checks self.old header events →
             Checks self.new header events) }
     {
@@ -106,7 +106,7 @@ impl Checker {
     #[tactic(auto, using(crate::proofs::Verdicts::keeps_nothing))]
     pub fn kept(&self) -> usize
         ensures sum { result ≡ min (entries_of self.now) 18446744073709551615 }
-        ensures few { (header : HeaderOf) (events : List EventRecord) → Checks self.now header events → result ≤ open_of (reverse events) + 16 }
+        ensures few { (header : HeaderOf) (events : List EventRecord) → Checks self.now header events → result ≤ open_of (reverse events) }
         ensures none { (header : HeaderOf) (events : List EventRecord) → Checks self.now header events → BreaksOne header events → result ≡ 0 }
     {
         self.kept.length()

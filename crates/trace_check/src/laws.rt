@@ -2,7 +2,7 @@
 
 ghost use Rattle.std.specs.Prelude.{◌↔◌};
 ghost use Rattle.trace_format.specs.declared.trace.Trace.{Trace};
-ghost use Rattle.trace_copy.specs.Written.{migrated_trace};
+ghost use Rattle.trace_format.specs.Migrating.{migrated_trace};
 ghost use Rattle.trace_check.specs.declared.breach.Breach.{Breach};
 ghost use Rattle.trace_check.specs.Nested.{IsFirstBreach, Nested};
 

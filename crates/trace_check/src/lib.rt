@@ -4,7 +4,7 @@
 //! else of its events: the threads that began, the brackets that are open on them, the regions that have no end yet with the implicit
 //! tasks that these had, the created tasks that aren't complete, and the wait identifiers that are held.
 //!
-//! [`check_trace`] reads a trace from a source in pieces, and says what a checker says of it.
+//! [`check_trace`] reads a trace from a source (`trace_format::read_items`), and says what a checker says of it.
 //!
 //! The definitions that are to be believed stand in `specs/`: `Brackets` has what can be open on a thread, `Before` what the events before
 //! one tell, `Rules` the rules on events, `Nested` the rules on the whole trace, which traces are nested, and the first breach, and
@@ -20,14 +20,14 @@
 //! - [`Checker::new`] was told of none, and after [`Checker::step`] it was told of one event more, if positions rise; where there was no
 //!   memory, of those before;
 //! - [`Checker::verdict`] is `Ok` exactly where the trace is nested, and else the first breach: the least by position, and then by rule;
-//! - [`Checker::kept`] is the sum of the lengths of its lists, which is at most what the trace has open and 16, and 0 once the mask or an
-//!   event breaks a rule.
+//! - [`Checker::kept`] is the sum of the lengths of its lists, which is at most what the trace has open, and 0 once the mask or an event
+//!   breaks a rule.
 //!
 //! Beside these:
 //!
 //! - [`check_trace`] answers `Nested` only where the whole input is a trace that is nested, `Broken` only where it is a trace with this first
-//!   breach, and `Refused` only where it is none, whatever rule was broken before; at `ReadFault` a read failed, and was counted. It returns:
-//!   each read takes a byte or ends it, and no bytes without a refusal are longer than the longest trace. Want of memory is free;
+//!   breach, and `Refused` only where it is none, whatever rule was broken before; at `ReadFault` a read failed, and was counted. It returns,
+//!   as `trace_format::read_items` does. Want of memory is free;
 //! - [`migrated_alike`] is a law: a trace is nested where what it is migrated to is, and they have the same first breach.
 //!
 //! How much memory an entry takes isn't proved, nor that [`check_trace`] keeps no more than its checker and one piece: that is plain in its

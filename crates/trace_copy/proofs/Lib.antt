@@ -1,4 +1,3 @@
 pub mod Onward
 pub mod Traces
 pub mod Endings
-pub mod Migrating

@@ -15,7 +15,8 @@ use Rattle.trace_format.proofs.Lists.{spelling_items}
 use Rattle.trace_copy.specs.declared.form.Form.{Form}
 use Rattle.trace_copy.specs.declared.form.Form.TheVariants.{Lines, SecondVersion}
 use Rattle.trace_copy.specs.Ending.{last_end, last_line}
-use Rattle.trace_copy.specs.Written.{migrated_header, migrated_trace, written_of, written_of_trace}
+use Rattle.trace_format.specs.Migrating.{migrated_header, migrated_trace}
+use Rattle.trace_copy.specs.Written.{written_of, written_of_trace}
 
 -- events, and the end mark behind them
 abbrev ended : List EventRecord → EndMark → List Item

@@ -1,38 +1,21 @@
 -- What was read of a source and written to a sink, by how it ended.
-use Rattle.std.specs.Prelude.{ℕ, ◌≡◌, ◌⊎◌, List, ◌++◌, Option, IfSome}
+use Rattle.std.specs.Prelude.{ℕ, ◌⊎◌, List, Option}
 use Rattle.std.specs.Io.KnownBytes.{Appends, Consumes}
 use Rattle.run_edges.specs.Edges.{AppendsFront}
 use Rattle.trace_format.specs.declared.item.Item.{Item}
-use Rattle.trace_format.specs.declared.refusal.Refusal.{Refusal}
 use Rattle.trace_format.specs.declared.trace.Trace.{Trace}
-use Rattle.trace_format.specs.Items.{AreWhole}
-use Rattle.trace_format.specs.Refusing.{IsTruncated, Refuses}
+use Rattle.trace_format.specs.Inputs.{AreItems, IsInput, IsInputFront, IsRefusedInput}
 use Rattle.trace_format.specs.Validity.{Writes}
 use Rattle.trace_copy.specs.declared.form.Form.{Form}
 use Rattle.trace_copy.specs.declared.copied.Copied.{Copied}
 use Rattle.trace_copy.specs.declared.copied.Copied.TheVariants.{Whole, Refused, ReadFault, WriteFault, Memory}
 use Rattle.trace_copy.specs.Written.{written_of, written_of_trace}
 
--- the bytes are the whole input, where it is told, and they are a front of it
-abbrev pub IsInput : Option (List ℕ) → List ℕ → Type 0
-IsInput left bytes = IfSome left (λ text. text ≡ bytes)
-
-abbrev pub IsFront : Option (List ℕ) → List ℕ → Type 0
-IsFront left bytes = IfSome left (λ text. (rest : List ℕ) × (text ≡ bytes ++ rest))
-
--- the items that are whole in the bytes
-abbrev pub AreItems : List ℕ → List Item → Type 0
-AreItems bytes items = (begun : List ℕ) × AreWhole bytes items begun
-
--- the bytes that were taken are refused with the last of them, or the whole input is cut
-abbrev pub IsRefusedInput : Option (List ℕ) → List ℕ → Refusal → Type 0
-IsRefusedInput left taken refusal = (IsFront left taken × Refuses taken refusal) ⊎ (IsInput left taken × IsTruncated taken refusal)
-
 -- what was written before a write or memory failed: a front of what is written of the items of a front of the input, or, where the whole input is a
 -- trace, a front of what is written of it
 abbrev pub IsCutOff : Form → (left held after : Option (List ℕ)) → Type 0
 IsCutOff form left held after =
-    ((taken : List ℕ) × (items : List Item) × IsFront left taken × AreItems taken items × AppendsFront held after (written_of form items))
+    ((taken : List ℕ) × (items : List Item) × IsInputFront left taken × AreItems taken items × AppendsFront held after (written_of form items))
     ⊎ ((taken : List ℕ) × (trace : Trace) × IsInput left taken × Writes trace taken × AppendsFront held after (written_of_trace form trace))
 
 -- By the end, over what the source has left before and after, and what the sink holds before and after. The whole input is a trace, and is written
@@ -46,16 +29,3 @@ HasCopied form ReadFault left rest held after =
     (taken : List ℕ) × (items : List Item) × Consumes left rest taken × AreItems taken items × Appends held after (written_of form items)
 HasCopied form WriteFault left rest held after = IsCutOff form left held after
 HasCopied form Memory left rest held after = IsCutOff form left held after
-
--- A piece was taken behind bytes in which these items are whole, and what is said of the further ones was written up to where it stopped: at a refusal,
--- or where a write or memory failed. The bytes are those before with the piece.
-abbrev pub IsStopped : Form → Copied → (bytes : List ℕ) (items : List Item) (held after : Option (List ℕ)) → Type 0
-IsStopped form Whole bytes items held after = ⊥
-IsStopped form (Refused refusal) bytes items held after =
-    (taken rest : List ℕ) × (more : List Item) × (bytes ≡ taken ++ rest) × Refuses taken refusal × AreItems taken (items ++ more)
-    × Appends held after (written_of form more)
-IsStopped form ReadFault bytes items held after = ⊥
-IsStopped form WriteFault bytes items held after =
-    (taken rest : List ℕ) × (more : List Item) × (bytes ≡ taken ++ rest) × AreItems taken (items ++ more) × AppendsFront held after (written_of form more)
-IsStopped form Memory bytes items held after =
-    (taken rest : List ℕ) × (more : List Item) × (bytes ≡ taken ++ rest) × AreItems taken (items ++ more) × AppendsFront held after (written_of form more)

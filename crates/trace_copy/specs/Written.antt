@@ -1,5 +1,5 @@
 -- What is written of a trace and of its items: lines, or the trace in the second version of the format.
-use Rattle.std.specs.Prelude.{ℕ, ◌==◌, if◌then◌else◌, List, [], ◌∷◌, ◌++◌, codes}
+use Rattle.std.specs.Prelude.{ℕ, List, [], ◌∷◌, ◌++◌, codes}
 use Rattle.std.specs.List.{flat_map}
 use Rattle.std.specs.Fmt.{decimal}
 use Rattle.ompt_calls.specs.declared.event.EventRecord.{EventRecord}
@@ -7,23 +7,12 @@ use Rattle.ompt_calls.specs.Line.{line_text}
 use Rattle.trace_format.specs.declared.item.Item.{Item}
 use Rattle.trace_format.specs.declared.item.Item.TheVariants as item
 use Rattle.trace_format.specs.declared.trace.EndMark.{EndMark}
-use Rattle.trace_format.specs.declared.trace.Header.{Header}
 use Rattle.trace_format.specs.declared.trace.Trace.{Trace}
-use Rattle.trace_format.specs.declared.trace.TheConstants.{FIRST_VERSION, VERSION, MIGRATED}
 use Rattle.trace_format.specs.Fields.{fields_of, spelling}
 use Rattle.trace_format.specs.Items.{item_bytes}
+use Rattle.trace_format.specs.Migrating.{migrated, migrated_trace}
 use Rattle.trace_copy.specs.declared.form.Form.{Form}
 use Rattle.trace_copy.specs.declared.form.Form.TheVariants.{Lines, SecondVersion}
-
--- a header of the first version in the second one: it says where it comes from
-abbrev pub migrated_header : Header → Header
-migrated_header header =
-    if header.version == FIRST_VERSION then record header { version = VERSION; origin = MIGRATED } else header
-
--- an item in the second version of the format
-abbrev pub migrated : Item → Item
-migrated (item.Header header) = item.Header (migrated_header header)
-migrated other = other
 
 -- a line for each event
 abbrev pub line_of_item : Item → List ℕ
@@ -42,10 +31,6 @@ written_of form items = flat_map (written_of_item form) items
 -- a line for the end mark
 abbrev pub line_of_end : EndMark → List ℕ
 line_of_end end = codes "end " ++ decimal end.status ++ codes " " ++ decimal end.detail ++ codes " " ++ decimal end.count ++ 10 ∷ []
-
--- the trace in the second version of the format
-abbrev pub migrated_trace : Trace → Trace
-migrated_trace trace = record trace { header = migrated_header trace.header }
 
 -- what is written of a whole trace: a line for each event and one for the end mark, or the trace in the second version of the format
 abbrev pub written_of_trace : Form → Trace → List ℕ

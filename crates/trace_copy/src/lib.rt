@@ -1,8 +1,8 @@
 //! A trace that is read from a source and written again: as lines, or in the second version of the format.
 //!
-//! [`copy_trace`] reads pieces of at most 4,096 bytes, and writes what it says of each item as soon as the item is whole. The
-//! definitions stand in `specs/`: `Written` has what is written of a trace and of its items, `Copying` what the call has read and written,
-//! by how it ended. `Ending` serves the proofs.
+//! [`copy_trace`] reads the items of a trace (`trace_format::read_items`), and writes what it says of each as soon as the item is whole.
+//! The definitions stand in `specs/`: `Written` has what is written of a trace and of its items, `Copying` what the call has read and
+//! written, by how it ended. `Ending` serves the proofs.
 //!
 //! Proved by the contract of [`copy_trace`]:
 //!
@@ -12,21 +12,17 @@
 //!   written is that of all items that are whole in what was taken;
 //! - at `WriteFault` a write failed, and was counted; what was written is a front of what is defined. So it is at `Memory`, which isn't
 //!   answered for the second version;
-//! - the call returns: each read takes a byte or ends it, and no bytes without a refusal are longer than the longest trace.
-//!
-//! [`migrated_once`] is a law of the definitions: what was migrated is a trace of the second version, and migrating it again changes
-//! nothing.
+//! - the call returns, as `read_items` does.
 //!
 //! Its memory doesn't grow with the trace: that isn't proved, but plain in the code.
 #![tactic(auto)]
 
 mod copied;
+mod copier;
 mod copy;
 mod form;
-mod laws;
 mod put;
 
 pub use copied::Copied;
 pub use copy::copy_trace;
 pub use form::Form;
-pub use laws::migrated_once;

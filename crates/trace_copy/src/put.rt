@@ -6,7 +6,8 @@ ghost use Rattle.std.specs.Io.KnownBytes.{Appends};
 ghost use Rattle.arrayvec.specs.ArrayString.{array_string_len};
 ghost use Rattle.run_edges.specs.Edges.{Rose, AppendsFront};
 ghost use Rattle.trace_copy.specs.Ending.{last_line};
-ghost use Rattle.trace_copy.specs.Written.{line_of_end, migrated, migrated_header, written_of_item};
+ghost use Rattle.trace_copy.specs.Written.{line_of_end, written_of_item};
+ghost use Rattle.trace_format.specs.Migrating.{migrated, migrated_header};
 
 use crate::copied::Copied;
 use crate::form::Form;

@@ -43,9 +43,11 @@ pub mod Outcomes
 pub mod Accepted
 pub mod Stepping
 pub mod Feeding
+pub mod Handing
 pub mod Ending
 pub mod HeaderPlaces
 pub mod RecordPlaces
 pub mod ArgumentPlaces
 pub mod Comes
 pub mod Unrefused
+pub mod Migrating

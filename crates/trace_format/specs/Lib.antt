@@ -3,6 +3,9 @@ pub mod Validity
 pub mod Refusing
 pub mod Items
 pub mod Taking
+pub mod Inputs
+pub mod Handing
+pub mod Migrating
 pub mod Accepting
 pub mod Decoding
 pub mod Reached

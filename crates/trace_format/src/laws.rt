@@ -2,9 +2,11 @@
 
 ghost use Rattle.std.specs.Prelude.{◌≡◌, ◌≤◌, ℕ, List, ◌++◌, length};
 ghost use Rattle.trace_format.specs.declared.refusal.Refusal.{Refusal};
+ghost use Rattle.trace_format.specs.declared.trace.TheConstants.{VERSION};
 ghost use Rattle.trace_format.specs.declared.trace.Trace.{Trace};
+ghost use Rattle.trace_format.specs.Migrating.{migrated_trace};
 ghost use Rattle.trace_format.specs.Refusing.{IsRefused, IsTruncated};
-ghost use Rattle.trace_format.specs.Validity.{Writes};
+ghost use Rattle.trace_format.specs.Validity.{IsTrace, Writes};
 
 /// A trace is written in one way, no other trace is written so, and no trace's bytes begin with another's.
 pub fn one_spelling()
@@ -25,4 +27,10 @@ pub fn one_refusal()
 /// Bytes that are a trace are refused nowhere, and don't end too early.
 pub fn never_refused()
     ensures { (trace : Trace) (bytes : List ℕ) (refusal : Refusal) → Writes trace bytes → (IsRefused bytes refusal → ⊥) × (IsTruncated bytes refusal → ⊥) }
+{}
+
+/// What was migrated is a trace of the second version, and migrating it again changes nothing.
+pub fn migrated_once()
+    ensures { (trace : Trace) → IsTrace trace → IsTrace (migrated_trace trace) × ((migrated_trace trace).header.version ≡ VERSION)
+        × (migrated_trace (migrated_trace trace) ≡ migrated_trace trace) }
 {}

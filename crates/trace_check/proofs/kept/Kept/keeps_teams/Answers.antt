@@ -1,4 +1,4 @@
-use Rattle.std.proofs.Common.{◌≡◌, Bool, true, false, sym, ◌∙◌, subst}
+use Rattle.std.proofs.Common.{◌≡◌, false, sym, ◌∙◌, subst}
 use Rattle.trace_check.specs.Before.{is_open_region}
 use Rattle.trace_check.specs.Checking.{IsRegion, OpenRegion}
 use Rattle.trace_check.proofs.kept.Kept.keeps_teams.Goals as goal

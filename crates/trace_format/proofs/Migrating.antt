@@ -6,7 +6,7 @@ use Rattle.trace_format.specs.declared.trace.Header.{Header}
 use Rattle.trace_format.specs.declared.trace.Trace.{Trace}
 use Rattle.trace_format.specs.declared.trace.TheConstants.{FIRST_VERSION, VERSION, MIGRATED}
 use Rattle.trace_format.specs.Validity.{AreEvents, IsAmong, IsHeader, IsTrace}
-use Rattle.trace_copy.specs.Written.{migrated_header, migrated_trace}
+use Rattle.trace_format.specs.Migrating.{migrated_header, migrated_trace}
 
 -- the header that is written, by whether it is one of the first version
 abbrev chosen : Bool → Header → Header

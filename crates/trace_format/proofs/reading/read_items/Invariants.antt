@@ -1,11 +1,11 @@
 use Rattle.std.proofs.Common.{◌≡◌, ◌-◌, None}
-use Rattle.trace_check.proofs.Inputs.{IsReadSo}
-use Rattle.trace_check.proofs.reading.check_trace.Given as goal
+use Rattle.trace_format.proofs.Handing.{ReadsSo}
+use Rattle.trace_format.proofs.reading.read_items.Given as goal
 
--- what was read so far was taken, and its items were told
+-- what was read so far was taken, and its items were handed on
 abbrev pub invariant-loop-count : goal.invariant-loop-count
 invariant-loop-count g l = record {
-  read_so : IsReadSo l.reader l.told (g.S.Source.left l.fn.source) (g.S.Source.left l.source);
+  reads_so : ReadsSo l.reader (g.S.Source.left l.fn.source) (g.S.Source.left l.source) (g.T.Taker.took l.fn.taker l.taker);
   open_still : l.reader.refusal ≡ None;
   steady : g.S.Source.faults l.source ≡ g.S.Source.faults l.fn.source;
 }
