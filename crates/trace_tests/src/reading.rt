@@ -1,6 +1,6 @@
 //! Reading a trace in pieces, and what is refused.
 
-use crate::smallest::{BYTES, CUTS, END, HEADER, LENGTH, events};
+use crate::smallest::{BYTES, END, ENDS_OF_ITEMS, HEADER, LENGTH, events};
 use std::alloc::{AllocError, Global};
 use std::test::Fail;
 use trace_format::{Item, Reader, Reason, Refusal};
@@ -17,6 +17,20 @@ struct Given {
 /// Reads the bytes in pieces of this length at most.
 fn read(alloc: Global, bytes: &[u8], most: usize) -> Result<Given, AllocError> {
     let mut reader = Reader::new();
+    let items = items_of(alloc, &mut reader, bytes, most)?;
+    Ok(Given {
+        items,
+        end: reader.end(),
+    })
+}
+
+/// The items that the reader gives.
+fn items_of(
+    alloc: Global,
+    reader: &mut Reader,
+    bytes: &[u8],
+    most: usize,
+) -> Result<Vec<Item>, AllocError> {
     let mut items = Vec::new(alloc);
     let mut rest = bytes;
     // Each call takes a byte at least.
@@ -26,37 +40,59 @@ fn read(alloc: Global, bytes: &[u8], most: usize) -> Result<Given, AllocError> {
             break;
         };
         rest = rest.get(taken.used..).unwrap_or(&[]);
-        if taken.item != Item::More {
+        if is_whole(&taken.item) {
             items.push(taken.item)?;
         }
     }
-    Ok(Given {
-        items,
-        end: reader.end(),
-    })
+    Ok(items)
 }
 
-/// The first items of the trace.
-fn first_items(alloc: Global, count: usize) -> Result<Vec<Item>, AllocError> {
-    let mut items = Vec::new(alloc);
-    items.push(Item::Header(HEADER))?;
-    for event in events() {
-        items.push(Item::Event(event))?;
-    }
-    items.push(Item::End(END))?;
-    items.truncate(count);
-    Ok(items)
+/// Whether it is an item.
+fn is_whole(item: &Item) -> bool {
+    !matches!(item, Item::More)
+}
+
+/// Whether these bytes, in pieces of this length at most, give the first items of the trace, so many, and end so.
+fn gives(
+    alloc: Global,
+    bytes: &[u8],
+    most: usize,
+    count: usize,
+    end: Result<(), Refusal>,
+) -> Result<bool, AllocError> {
+    let given = read(alloc, bytes, most)?;
+    Ok(given.end == end && Some(given.items.as_slice()) == items().get(..count))
+}
+
+/// Whether these bytes, in pieces of this length at most, are refused so.
+fn is_refused(
+    alloc: Global,
+    bytes: &[u8],
+    most: usize,
+    refusal: Refusal,
+) -> Result<bool, AllocError> {
+    let given = read(alloc, bytes, most)?;
+    Ok(given.end == Err(refusal))
+}
+
+/// The items of the trace.
+fn items() -> [Item; 6] {
+    let [begins, task_begins, task_ends, ends] = events();
+    [
+        Item::Header(HEADER),
+        Item::Event(begins),
+        Item::Event(task_begins),
+        Item::Event(task_ends),
+        Item::Event(ends),
+        Item::End(END),
+    ]
 }
 
 #[test]
 fn reads_in_pieces(rt: HostRuntime) -> Result<(), Fail> {
     for most in [1, 2, 3, 5, 7, 11, 16, 60, 100, LENGTH] {
-        let given = read(rt.alloc(), BYTES.as_slice(), most)?;
-        assert!(rt; given.end == Ok(()), "pieces of {most}");
-        assert!(rt;
-            given.items == first_items(rt.alloc(), 6)?,
-            "pieces of {most}"
-        );
+        let is_as_told = gives(rt.alloc(), BYTES, most, 6, Ok(()))?;
+        assert!(rt; is_as_told, "pieces of {most}");
     }
     Ok(())
 }
@@ -64,19 +100,31 @@ fn reads_in_pieces(rt: HostRuntime) -> Result<(), Fail> {
 #[test]
 fn reads_each_front(rt: HostRuntime) -> Result<(), Fail> {
     for length in 0..LENGTH {
-        let whole = CUTS.iter().skip(1).filter(|cut| **cut <= length).count();
-        let given = read(rt.alloc(), &BYTES[..length], LENGTH)?;
-        let truncated = Refusal {
-            reason: Reason::Truncated,
-            offset: length as u64,
-        };
-        assert!(rt; given.end == Err(truncated), "the first {length} bytes");
-        assert!(rt;
-            given.items == first_items(rt.alloc(), whole)?,
-            "the first {length} bytes"
-        );
+        let is_as_told = gives_front(rt.alloc(), length)?;
+        assert!(rt; is_as_told, "the first {length} bytes");
     }
     Ok(())
+}
+
+/// Whether the first bytes give the items that are whole in them, and are truncated.
+fn gives_front(alloc: Global, length: usize) -> Result<bool, AllocError> {
+    let front = BYTES.get(..length).unwrap_or(&[]);
+    let truncated = Refusal {
+        reason: Reason::Truncated,
+        offset: length as u64,
+    };
+    gives(alloc, front, LENGTH, whole_items(length), Err(truncated))
+}
+
+/// How many items are whole in the first bytes.
+fn whole_items(length: usize) -> usize {
+    let mut count = 0_usize;
+    for cut in ENDS_OF_ITEMS {
+        if *cut <= length {
+            count = count.saturating_add(1);
+        }
+    }
+    count
 }
 
 /// A change of bytes, from this place on, and how they are refused then.
@@ -113,34 +161,36 @@ const WRONGS: &[Wrong] = &[
 
 #[test]
 fn refuses_what_is_no_trace(rt: HostRuntime) -> Result<(), Fail> {
-    for (place, change, reason, offset) in WRONGS {
-        let mut bytes = BYTES.to_vec(rt.alloc())?;
-        for (byte, new) in bytes.iter_mut().skip(*place).zip(*change) {
-            *byte = *new;
-        }
-        let refusal = Refusal {
-            reason: *reason,
-            offset: *offset,
-        };
-        for most in [1, LENGTH] {
-            let given = read(rt.alloc(), bytes.as_slice(), most)?;
-            assert!(rt;
-                given.end == Err(refusal),
-                "a change at {place}, in pieces of {most}"
-            );
-        }
+    for wrong in WRONGS {
+        let is_as_told = refuses(rt.alloc(), wrong)?;
+        assert!(rt; is_as_told, "a change at {}", wrong.0);
     }
     Ok(())
 }
 
+/// Whether the bytes are refused with this change, as one piece and byte by byte.
+fn refuses(alloc: Global, (place, change, reason, offset): &Wrong) -> Result<bool, AllocError> {
+    let bytes = changed(alloc, *place, change)?;
+    let refusal = Refusal {
+        reason: *reason,
+        offset: *offset,
+    };
+    Ok(is_refused(alloc, &bytes, 1, refusal)? && is_refused(alloc, &bytes, LENGTH, refusal)?)
+}
+
+/// The bytes of the trace with this change, from this place on.
+fn changed(alloc: Global, place: usize, change: &[u8]) -> Result<Vec<u8>, AllocError> {
+    let mut bytes = BYTES.to_vec(alloc)?;
+    for (byte, new) in bytes.iter_mut().skip(place).zip(change) {
+        *byte = *new;
+    }
+    Ok(bytes)
+}
+
 #[test]
 fn refuses_swapped_events(rt: HostRuntime) -> Result<(), Fail> {
-    let mut bytes = Vec::new(rt.alloc());
-    bytes.extend_from_slice(&BYTES[..44])?;
-    bytes.extend_from_slice(&BYTES[96..148])?;
-    bytes.extend_from_slice(&BYTES[44..96])?;
-    bytes.extend_from_slice(&BYTES[148..])?;
-    let given = read(rt.alloc(), bytes.as_slice(), LENGTH)?;
+    let bytes = swapped(rt.alloc())?;
+    let given = read(rt.alloc(), &bytes, LENGTH)?;
     let refusal = Refusal {
         reason: Reason::SeqNotRising,
         offset: 97,
@@ -150,16 +200,24 @@ fn refuses_swapped_events(rt: HostRuntime) -> Result<(), Fail> {
     Ok(())
 }
 
+/// The bytes of the trace where the begin of the initial task stands behind its end.
+fn swapped(alloc: Global) -> Result<Vec<u8>, AllocError> {
+    let mut bytes = Vec::new(alloc);
+    for part in [0..44, 96..148, 44..96, 148..LENGTH] {
+        bytes.extend_from_slice(BYTES.get(part).unwrap_or(&[]))?;
+    }
+    Ok(bytes)
+}
+
 #[test]
 fn refuses_a_byte_behind_the_end(rt: HostRuntime) -> Result<(), Fail> {
     let mut bytes = BYTES.to_vec(rt.alloc())?;
     bytes.push(0)?;
-    let given = read(rt.alloc(), bytes.as_slice(), LENGTH + 1)?;
     let refusal = Refusal {
         reason: Reason::AfterEnd,
         offset: LENGTH as u64,
     };
-    assert!(rt; given.end == Err(refusal));
-    assert!(rt; given.items == first_items(rt.alloc(), 6)?);
+    let is_as_told = gives(rt.alloc(), &bytes, LENGTH + 1, 6, Err(refusal))?;
+    assert!(rt; is_as_told);
     Ok(())
 }

@@ -7,12 +7,12 @@ use trace_format::{EndMark, Events, Header, RECORDED, Trace, VERSION};
 /// How many bytes it has.
 pub(crate) const LENGTH: usize = 182;
 
-/// Where its items begin, and where the last one ends.
-pub(crate) const CUTS: [usize; 7] = [0, 16, 44, 96, 148, 172, 182];
+/// Where its items end.
+pub(crate) const ENDS_OF_ITEMS: &[usize] = &[16, 44, 96, 148, 172, 182];
 
 /// Its bytes: the header, four events and the end mark.
 #[rattlefmt::skip]
-pub(crate) const BYTES: [u8; LENGTH] = [
+pub(crate) const BYTES: &[u8] = &[
     // The header: version 2, one thread, recorded, the mask of the profile.
     0x4f, 0x4d, 0x50, 0x54, 0x00, 0x02, 0x01, 0x00, 0x00, 0x00, 0x00, 0x01, 0x0f, 0xb3, 0x00, 0xfe,
     // The initial thread begins, at 0.
