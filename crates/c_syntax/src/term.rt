@@ -1,7 +1,7 @@
 //! What a token is to the grammar.
 
 /// What a token is to the grammar. Symbols are named by what they say; names that the grammar has a use for are told apart.
-#[derive(Clone, Copy)]
+#[derive(Clone, Copy, PartialEq, Eq)]
 pub enum Term {
     OpenBrace,
     CloseBrace,

@@ -21,6 +21,8 @@
 //! guests stand for after a command (`Guests`). The runs are those of `omp_model`, the traces those of `trace_format` and `run_trace`,
 //! and the rules on them those of `trace_check`. A report holds the tree of its program for contracts alone ([`ProgramTree`]).
 //!
+//! [`own_words`] gathers the words for a program's `main`. No clause says which they are, since none can.
+//!
 //! Want of memory is free: no clause says when it comes, only what stands after it. That the calls succeed with ample
 //! memory isn't proved: the rows of `run_tables` show it.
 #![tactic(auto)]
@@ -33,6 +35,7 @@ mod guest_part;
 mod guests;
 mod job;
 mod observing;
+mod own_words;
 mod program_tree;
 mod recording;
 mod report;
@@ -46,6 +49,7 @@ mod writing;
 
 pub use end::{End, Refusal};
 pub use ompt_words::{Command, TraceCommand};
+pub use own_words::own_words;
 pub use program_tree::ProgramTree;
 pub use report::{Report, Top};
 pub use top_call::top;

@@ -15,15 +15,13 @@ ghost use Rattle.ompt_cli.specs.Ends.{status_of};
 mod profile;
 mod profiler;
 
-use ompt_cli::{End, Top, top};
+use ompt_cli::{End, Top, own_words, top};
 use profile::Profile;
 use profiler::Profiler;
 use run_edges::{Sink, StdSink, StdSource, write_all};
 use std::alloc::Global;
 use std::process::ExitCode;
-use std::rt::Env;
 use std::sync::{Arc, Mutex};
-use std::{env, io};
 use tool_api::GuestTool;
 
 fn main(rt: HostRuntime) -> ExitCode {
@@ -44,8 +42,9 @@ fn main(rt: HostRuntime) -> ExitCode {
             return ended(End::Memory, &mut err);
         };
     }
-    // Where the words can't be had there are none, and without a command words are wrong.
-    let words = words(&rt).unwrap_or(Vec::new(rt.alloc()));
+    let Ok(words) = own_words(&rt) else {
+        return ended(End::Memory, &mut err);
+    };
     let mut source = StdSource::new(rt.stdin());
     let mut out = StdSink::new(rt.stdout());
     let top = top(
@@ -63,11 +62,6 @@ fn main(rt: HostRuntime) -> ExitCode {
         }
     }
     ExitCode::from(top.status)
-}
-
-/// The words behind the program's own name.
-fn words<R: Env + AllocGlobal>(rt: &R) -> io::Result<Vec<String>> {
-    Ok(env::args(rt)?.skip(1).collect(rt.alloc())?)
 }
 
 /// Whether there is a run to report, and memory and the output were there for it.

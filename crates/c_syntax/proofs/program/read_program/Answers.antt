@@ -29,7 +29,7 @@ is-fault text tokens read (fault.UnknownDirective spot) may other = record { tok
 is-fault text tokens read (fault.TooDeep spot) may other = record { tokens = tokens; read = read; fault = may }
 
 pub words_of-requires : goal.words_of-requires
-words_of-requires c = reads-tokens c.args.text.now c.args.tokens.now c.requires.read
+words_of-requires c = record { tokens = reads-tokens c.args.text.now c.args.tokens.now c.requires.read }
 
 pub returns-in_err-read_words-clause-fault : goal.returns-in_err-read_words-clause-fault
 returns-in_err-read_words-clause-fault c =
