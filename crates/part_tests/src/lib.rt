@@ -7,6 +7,8 @@ mod fixture;
 #[cfg(test)]
 mod generated;
 #[cfg(test)]
+mod hearing;
+#[cfg(test)]
 mod parts;
 #[cfg(test)]
 mod reports;
@@ -16,3 +18,5 @@ mod runs_of_programs;
 mod snapshots;
 #[cfg(test)]
 mod states;
+#[cfg(test)]
+mod timelines;

@@ -161,14 +161,19 @@ fn a_reply_stores_thrice(rt: HostRuntime) -> Result<(), Memory> {
     assert!(rt; ran.cause == Cause::Done);
     let stored = STORED.map(|what| Entry { thread: 0, what });
     assert!(rt; ran.history.entries().get(6..14) == Some(stored.as_slice()));
-    assert!(rt; ran.parts.len() == 1);
-    for part in &ran.parts {
-        assert!(rt; part.heard.len() == 12);
-        for (heard, words) in part.heard.iter().skip(3).zip(&MEMBER_WORDS) {
-            has_words(&rt, heard, words);
-        }
-    }
+    let [part] = ran.parts.as_slice() else {
+        panic!(rt; "there is one part");
+    };
+    hears_the_words(&rt, &part.heard);
     Ok(())
+}
+
+/// There are twelve calls, of which those from the fourth one on have the words of the member's task.
+fn hears_the_words(rt: &impl Abort, heard: &[Heard]) {
+    assert!(rt; heard.len() == 12);
+    for (heard, words) in heard.iter().skip(3).zip(&MEMBER_WORDS) {
+        has_words(rt, heard, words);
+    }
 }
 
 /// What was heard has this position, and these words of the thread, the region and the task.
@@ -183,22 +188,43 @@ fn has_words(
     assert!(rt; innermost == Some((*region, *task)), "at {seq}");
 }
 
-/// A run on one thread, with three stores where the member's task begins. Where its barrier begins there are three more: that
-/// event makes nothing, and there are two levels of tasks.
+/// Three stores where the member's task begins.
+const THRICE: Reply = Reply {
+    first: Some(Store {
+        place: WordAt::Thread,
+        word: 11,
+    }),
+    second: Some(Store {
+        place: WordAt::Task(0),
+        word: 22,
+    }),
+    third: Some(Store {
+        place: WordAt::Parallel(0),
+        word: 33,
+    }),
+};
+
+/// Three more where its barrier begins: that event makes nothing, and there are two levels of tasks.
+const ONCE: Reply = Reply {
+    first: Some(Store {
+        place: WordAt::Fresh,
+        word: 44,
+    }),
+    second: Some(Store {
+        place: WordAt::Task(2),
+        word: 55,
+    }),
+    third: Some(Store {
+        place: WordAt::Thread,
+        word: 66,
+    }),
+};
+
+/// A run on one thread, whose part stores.
 fn run_with_stores(alloc: Global) -> Result<Ran<Keeping>, Memory> {
     let mut part = new_part(alloc);
-    let thrice = Reply {
-        first: store(WordAt::Thread, 11),
-        second: store(WordAt::Task(0), 22),
-        third: store(WordAt::Parallel(0), 33),
-    };
-    let once = Reply {
-        first: store(WordAt::Fresh, 44),
-        second: store(WordAt::Task(2), 55),
-        third: store(WordAt::Thread, 66),
-    };
-    part.replies.push((6, thrice))?;
-    part.replies.push((11, once))?;
+    part.replies
+        .extend_from_slice(&[(6, THRICE), (11, ONCE)])?;
     let parts = Vec::from_array(alloc, [part])?;
     run_with(alloc, REGION_OF_TWO, parts)
 }
@@ -229,9 +255,4 @@ fn heard_at(rt: &impl Abort, part: &Keeping, thread: u8, positions: &[u32]) {
     for (heard, position) in part.heard.iter().zip(positions) {
         assert!(rt; (heard.seq, heard.thread) == (*position, thread));
     }
-}
-
-/// A store.
-fn store(place: WordAt, word: u64) -> Option<Store> {
-    Some(Store { place, word })
 }
