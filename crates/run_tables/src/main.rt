@@ -47,6 +47,8 @@
 //! ```
 #![tactic(auto)]
 
+mod expected;
+mod given;
 mod piece;
 mod row;
 mod row_fault;
@@ -65,17 +67,29 @@ fn main(rt: HostRuntime) -> io::Result<()> {
     let mut number = 0_u32;
     for line in BufReader::new(rt.alloc(), rt.reader())?.lines(rt.alloc()) {
         let line = line?;
-        if ends_row(line.as_str()) {
-            end_row(&rt, &mut table, &mut tally)?;
-        }
         number = number.saturating_add(1);
-        if let Err(fault) = table.take(rt.alloc(), line.as_str()) {
-            tally.add(Verdict::Differs);
-            println!(rt; "{number}: {fault}")?;
-        }
+        take_line(&rt, &mut table, &mut tally, number, line.as_str())?;
     }
     end_row(&rt, &mut table, &mut tally)?;
     println!(rt; "{tally}")
+}
+
+/// Takes the line with this number, which may end a row.
+fn take_line<R: AllocGlobal + Print + Threads + Wait + Sync>(
+    rt: &R,
+    table: &mut Table,
+    tally: &mut Tally,
+    number: u32,
+    line: &str,
+) -> io::Result<()> {
+    if ends_row(line) {
+        end_row(rt, table, tally)?;
+    }
+    if let Err(fault) = table.take(rt.alloc(), line) {
+        tally.add(Verdict::Differs);
+        println!(rt; "{number}: {fault}")?;
+    }
+    Ok(())
 }
 
 /// Ends the row of the table, if one began, and counts it.

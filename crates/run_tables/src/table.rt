@@ -44,13 +44,15 @@ impl Table {
 
     /// Takes the words of a line without a mode, or one more word.
     fn take_words(&mut self, alloc: Global, mode: &str, text: &str) -> Result<(), RowFault> {
-        if !mode.is_empty() {
-            let mut word = Vec::new(alloc);
-            add_piece(&mut word, alloc, mode, text)?;
-            let word = String::from_utf8(word).map_err(|_| RowFault::NoWord)?;
-            self.words.push(word)?;
-            return Ok(());
+        if mode.is_empty() {
+            return self.set_words(alloc, text);
         }
+        self.words.push(word_of(alloc, mode, text)?)?;
+        Ok(())
+    }
+
+    /// Takes these words in place of those before.
+    fn set_words(&mut self, alloc: Global, text: &str) -> Result<(), RowFault> {
         self.words.clear();
         for word in text.split_whitespace() {
             self.words.push(String::from_str(alloc, word)?)?;
@@ -67,6 +69,13 @@ impl Table {
         let row = self.row.take()?;
         Some(row.difference(rt, alloc, self.words.as_slice()))
     }
+}
+
+/// The word of this mode and text.
+fn word_of(alloc: Global, mode: &str, text: &str) -> Result<String, RowFault> {
+    let mut word = Vec::new(alloc);
+    add_piece(&mut word, alloc, mode, text)?;
+    String::from_utf8(word).map_err(|_| RowFault::NoWord)
 }
 
 /// Whether a row ends before this line.

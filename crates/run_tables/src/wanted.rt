@@ -30,12 +30,10 @@ enum Gap {
 
 impl Wanted {
     /// Nothing is wanted to be there.
-    pub fn new(alloc: Global) -> Result<Wanted, RowFault> {
-        let mut wanted = Wanted {
+    pub fn new(alloc: Global) -> Wanted {
+        Wanted {
             parts: Vec::new(alloc),
-        };
-        wanted.begin(alloc, Gap::Nothing)?;
-        Ok(wanted)
+        }
     }
 
     /// Adds what a line wants.
@@ -43,10 +41,18 @@ impl Wanted {
         match mode.strip_prefix("...") {
             Some("") => self.begin(alloc, Gap::Any),
             Some(lines) => self.begin(alloc, Gap::Lines(lines.parse()?)),
-            None => match self.parts.last_mut() {
-                Some(part) => add_piece(&mut part.bytes, alloc, mode, text),
-                None => Ok(()),
-            },
+            None => self.add_bytes(alloc, mode, text),
+        }
+    }
+
+    /// Adds bytes to the last part, which is the first one where none began.
+    fn add_bytes(&mut self, alloc: Global, mode: &str, text: &str) -> Result<(), RowFault> {
+        if self.parts.is_empty() {
+            self.begin(alloc, Gap::Nothing)?;
+        }
+        match self.parts.last_mut() {
+            Some(part) => add_piece(&mut part.bytes, alloc, mode, text),
+            None => Ok(()),
         }
     }
 
