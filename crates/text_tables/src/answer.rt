@@ -12,6 +12,7 @@ use crate::refusal::{Refusal, program_of, tree_of};
 use crate::row_fault::RowFault;
 use crate::seen;
 use crate::tree_line::write_node;
+use c_check::Program;
 use c_tokens::tokens;
 use std::alloc::{AllocError, Global};
 
@@ -30,15 +31,25 @@ pub(crate) fn answer(
         Question::Syntax => syntax(alloc, text),
         Question::Fault => fault(alloc, text),
         Question::Main => main_and_end(alloc, text),
+        Question::Steps => return done_by(alloc, text, want),
         Question::Slots
         | Question::Sharing
         | Question::Copies
         | Question::Criticals
-        | Question::Loop
-        | Question::Steps => return seen_in(alloc, question, text, want),
+        | Question::Loop => return seen_in(alloc, question, text, want),
     };
     match answered {
         Ok(told) => Ok(told),
+        Err(refusal) => refused(alloc, refusal),
+    }
+}
+
+/// What the code of a text's program does.
+fn done_by(alloc: Global, text: &[u8], want: &str) -> Result<String, RowFault>
+    requires { length text.now ≤ 65536 }
+{
+    match program_of(alloc, text) {
+        Ok(program) => steps(alloc, program, want),
         Err(refusal) => refused(alloc, refusal),
     }
 }
@@ -48,15 +59,27 @@ fn seen_in(alloc: Global, question: Question, text: &[u8], want: &str) -> Result
     requires { length text.now ≤ 65536 }
 {
     match program_of(alloc, text) {
-        Ok(program) => match question {
-            Question::Slots => seen::slots(alloc, &program, want),
-            Question::Copies => copies(alloc, &program, text, want),
-            Question::Criticals => criticals(alloc, &program),
-            Question::Loop => loop_parts(alloc, &program, want),
-            Question::Steps => steps(alloc, program, want),
-            _ => seen::sharing(alloc, &program, want),
-        },
+        Ok(program) => seen_of(alloc, question, &program, text, want),
         Err(refusal) => refused(alloc, refusal),
+    }
+}
+
+/// What a program says of its names, variables and constructs.
+fn seen_of(
+    alloc: Global,
+    question: Question,
+    program: &Program,
+    text: &[u8],
+    want: &str,
+) -> Result<String, RowFault>
+    requires { length text.now ≤ 65536 }
+{
+    match question {
+        Question::Slots => seen::slots(alloc, program, want),
+        Question::Copies => copies(alloc, program, text, want),
+        Question::Criticals => criticals(alloc, program),
+        Question::Loop => loop_parts(alloc, program, want),
+        _ => seen::sharing(alloc, program, want),
     }
 }
 
