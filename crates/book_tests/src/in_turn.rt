@@ -42,6 +42,18 @@ const REGION_BEGINS: Call = Call::ParallelBegin {
     codeptr: 131_073,
 };
 
+/// What the entries are: whose they are, and what happened.
+const ENTRIES: [(u8, What); 8] = [
+    (0, What::Go),
+    (0, What::Back),
+    (0, What::Go),
+    (0, What::Back),
+    (0, What::Go),
+    (0, What::Back),
+    (1, What::Go),
+    (1, What::Back),
+];
+
 /// The worker of a region waits until the callback of the region's begin has returned. Then it begins.
 #[test]
 fn passes_in_turn(rt: HostRuntime) -> Result<(), Fail> {
@@ -49,25 +61,19 @@ fn passes_in_turn(rt: HostRuntime) -> Result<(), Fail> {
     let blank = Blank::new(rt.alloc(), program, 1 << PARALLEL_BEGIN, 2, STEPS)?;
     let closed = closed_in_turn::<HostRuntime, Brand>(&rt, rt.alloc(), blank)?;
     assert!(rt; closed.cause.is_none());
-    let expected = [
-        (0, What::Go),
-        (0, What::Back),
-        (0, What::Go),
-        (0, What::Back),
-        (0, What::Go),
-        (0, What::Back),
-        (1, What::Go),
-        (1, What::Back),
-    ];
-    let entries = closed.history.entries();
-    assert!(rt; entries.len() == expected.len());
-    for (entry, &(thread, what)) in entries.iter().zip(&expected) {
-        assert!(rt; *entry == Entry { thread, what });
-    }
+    are_in_turn(&rt, closed.history.entries());
     Ok(())
 }
 
-/// The visits: thread 1 has to wait, thread 0 comes to the region's begin, and thread 1 has to wait up to the answer to it.
+/// The entries are those that are wanted.
+fn are_in_turn(rt: &impl Abort, entries: &[Entry]) {
+    assert!(rt; entries.len() == ENTRIES.len());
+    for (entry, &(thread, what)) in entries.iter().zip(&ENTRIES) {
+        assert!(rt; *entry == Entry { thread, what });
+    }
+}
+
+/// The book of two passes, after their visits.
 fn closed_in_turn<R: Wait + Abort, K: BookName>(
     rt: &R,
     alloc: Global,
@@ -77,25 +83,68 @@ fn closed_in_turn<R: Wait + Abort, K: BookName>(
     requires run { blank.run ≡ K.run }
     requires threads { K.run.threads ≡ 2 }
 {
-    let (book, mut passes) = SharedBook::<K>::start(alloc, blank, 1)?;
-    let (Some(mut second), Some(mut first)) = (passes.pop(), passes.pop()) else {
+    let (book, passes) = SharedBook::<K>::start(alloc, blank, 1)?;
+    let passes = visited(rt, &book, passes)?;
+    assert!(rt; are_in_order(&passes, 2));
+    Ok(book.close(passes))
+}
+
+/// The two passes after their visits.
+fn visited<R: Wait + Abort, K: BookName>(
+    rt: &R,
+    book: &SharedBook<K>,
+    mut passes: Vec<Pass<K>>,
+) -> Result<Vec<Pass<K>>, Memory> {
+    let Some(mut second) = passes.pop() else {
         panic!(rt; "there are two passes");
     };
-    assert!(rt; matches!(step_of(rt, &book, &mut second), Step::NotYet));
-    assert!(rt; matches!(step_of(rt, &book, &mut first), Step::Quiet));
-    assert!(rt; matches!(step_of(rt, &book, &mut first), Step::Quiet));
-    let Step::Told(seq, call, snapshot) = step_of(rt, &book, &mut first) else {
+    let Some(mut first) = passes.pop() else {
+        panic!(rt; "there are two passes");
+    };
+    visit_in_turn(rt, book, &mut first, &mut second);
+    passes.push(first)?;
+    passes.push(second)?;
+    Ok(passes)
+}
+
+/// The visits: thread 1 has to wait, thread 0 comes to the region's begin, and thread 1 has to wait up to the answer to it.
+fn visit_in_turn<R: Wait + Abort, K: BookName>(
+    rt: &R,
+    book: &SharedBook<K>,
+    first: &mut Pass<K>,
+    second: &mut Pass<K>,
+) {
+    has_to_wait(rt, book, second);
+    goes_on(rt, book, first);
+    goes_on(rt, book, first);
+    begin_the_region(rt, book, first, second);
+    goes_on(rt, book, second);
+}
+
+/// The first pass is told the region's begin. Until it has answered, the second one has to wait.
+fn begin_the_region<R: Wait + Abort, K: BookName>(
+    rt: &R,
+    book: &SharedBook<K>,
+    first: &mut Pass<K>,
+    second: &mut Pass<K>,
+) {
+    let Step::Told(seq, call, snapshot) = step_of(rt, book, first) else {
         panic!(rt; "the region's begin is told");
     };
     assert!(rt; seq == 4);
     assert!(rt; call == REGION_BEGINS);
-    assert!(rt; matches!(step_of(rt, &book, &mut second), Step::NotYet));
-    book.answer(rt, &mut first, &NO_STORES, &snapshot);
-    assert!(rt; matches!(step_of(rt, &book, &mut second), Step::Quiet));
-    passes.push(first)?;
-    passes.push(second)?;
-    assert!(rt; are_in_order(&passes, 2));
-    Ok(book.close(passes))
+    has_to_wait(rt, book, second);
+    book.answer(rt, first, &NO_STORES, &snapshot);
+}
+
+/// A visit that can't be made yet.
+fn has_to_wait<R: Wait + Abort, K: BookName>(rt: &R, book: &SharedBook<K>, pass: &mut Pass<K>) {
+    assert!(rt; matches!(step_of(rt, book, pass), Step::NotYet));
+}
+
+/// A visit in which nothing is told.
+fn goes_on<R: Wait + Abort, K: BookName>(rt: &R, book: &SharedBook<K>, pass: &mut Pass<K>) {
+    assert!(rt; matches!(step_of(rt, book, pass), Step::Quiet));
 }
 
 /// A visit, which finds memory.

@@ -1,13 +1,18 @@
 //! Four passes, each on a thread of the system, with a lister that is told what its pass is told.
 
+ghost use Rattle.std.specs.Prelude.{◌≡◌, IfOk, length};
+
 use crate::fixture::{STEPS, program_of};
 use crate::replay::replay;
 use omp_codes::PROFILE_MASK;
-use omp_machine::{Machine, Memory};
+use omp_machine::Machine;
 use omp_model::Cause;
-use std::alloc::Global;
+use ompt_calls::EventRecord;
+use std::alloc::{AllocError, Global};
 use std::process::Abort;
+use std::sync::Wait;
 use std::test::Fail;
+use std::thread::Threads;
 use team_run::Ran;
 use thread_run::run_threads;
 use tool_report::Lister;
@@ -50,44 +55,83 @@ const ROUNDS: u32 = 100;
 #[test]
 fn four_passes_on_four_threads(rt: HostRuntime) -> Result<(), Fail> {
     for _ in 0..ROUNDS {
-        let alloc = rt.alloc();
-        let program = program_of(&rt, alloc, TASKS_AND_A_LOOP)?;
-        let listers = [
-            Lister::new(alloc),
-            Lister::new(alloc),
-            Lister::new(alloc),
-            Lister::new(alloc),
-        ];
-        let listers = Vec::from_array(alloc, listers)?;
-        let ran = run_threads(&rt, alloc, program, THREADS, STEPS, listers)?;
-        let program = program_of(&rt, alloc, TASKS_AND_A_LOOP)?;
-        let machine = Machine::new(alloc, program, PROFILE_MASK, THREADS, STEPS)?;
-        is_replayed(&rt, alloc, machine, &ran)?;
+        let ran = run_on_threads(&rt, rt.alloc())?;
+        is_replayed(&rt, rt.alloc(), &ran)?;
     }
     Ok(())
 }
 
-/// The machine goes through the history of the run to the same end, and tells what the listers were told.
-fn is_replayed(
+/// A run of the program, each thread with a lister.
+fn run_on_threads<R: Threads + Wait + Sync + Abort>(
+    rt: &R,
+    alloc: Global,
+) -> Result<Ran<Lister>, Fail> {
+    let program = program_of(rt, alloc, TASKS_AND_A_LOOP)?;
+    let listers = four_listers(alloc)?;
+    Ok(run_threads(rt, alloc, program, THREADS, STEPS, listers)?)
+}
+
+/// A lister for each thread, which has heard nothing.
+fn four_listers(alloc: Global) -> Result<Vec<Lister>, AllocError>
+    ensures { IfOk result (λ listers. length listers.items ≡ 4) }
+{
+    let listers = [
+        Lister::new(alloc),
+        Lister::new(alloc),
+        Lister::new(alloc),
+        Lister::new(alloc),
+    ];
+    Ok(Vec::from_array(alloc, listers)?)
+}
+
+/// A machine goes through the history of the run to the same end, and tells what the listers were told.
+fn is_replayed(rt: &impl Abort, alloc: Global, ran: &Ran<Lister>) -> Result<(), Fail> {
+    let mut machine = new_machine(rt, alloc)?;
+    goes_through(rt, alloc, &mut machine, ran)
+}
+
+/// A machine of the program before the first entry.
+fn new_machine(rt: &impl Abort, alloc: Global) -> Result<Machine, Fail> {
+    let program = program_of(rt, alloc, TASKS_AND_A_LOOP)?;
+    Ok(Machine::new(alloc, program, PROFILE_MASK, THREADS, STEPS)?)
+}
+
+/// The machine goes through the history of the run.
+fn goes_through(
     rt: &impl Abort,
     alloc: Global,
-    mut machine: Machine,
+    machine: &mut Machine,
     ran: &Ran<Lister>,
-) -> Result<(), Memory> {
-    let replayed = replay(rt, alloc, &mut machine, ran.history.entries())?;
-    assert!(rt; ran.cause == Cause::Done);
-    assert!(rt; machine.cause() == Some(Cause::Done));
+) -> Result<(), Fail> {
+    let told = replay(rt, alloc, machine, ran.history.entries())?;
+    are_done(rt, ran, machine);
+    have_heard(rt, &ran.parts, &told);
+    Ok(())
+}
+
+/// The run and the machine are done, and have printed the same.
+fn are_done(rt: &impl Abort, ran: &Ran<Lister>, machine: &Machine) {
+    assert!(rt; matches!(ran.cause, Cause::Done));
+    assert!(rt; matches!(machine.cause(), Some(Cause::Done)));
     assert!(rt; ran.text.as_slice() == PRINTED);
     assert!(rt; machine.text() == PRINTED);
-    assert!(rt; ran.parts.len() == usize::from(THREADS));
-    for (thread, lister) in ran.parts.iter().enumerate() {
-        let mut heard = lister.events().iter();
-        for event in &replayed {
-            if usize::from(event.thread) == thread {
-                assert!(rt; heard.next() == Some(event));
-            }
-        }
-        assert!(rt; heard.next().is_none());
+}
+
+/// Each lister has heard the events of its thread among those that were told.
+fn have_heard(rt: &impl Abort, listers: &[Lister], told: &[EventRecord]) {
+    assert!(rt; listers.len() == usize::from(THREADS));
+    for (thread, lister) in listers.iter().enumerate() {
+        has_heard(rt, thread, lister.events(), told);
     }
-    Ok(())
+}
+
+/// These are the events of the thread among those that were told.
+fn has_heard(rt: &impl Abort, thread: usize, events: &[EventRecord], told: &[EventRecord]) {
+    let mut heard = events.iter();
+    for event in told {
+        if usize::from(event.thread) == thread {
+            assert!(rt; heard.next() == Some(event));
+        }
+    }
+    assert!(rt; heard.next().is_none());
 }
