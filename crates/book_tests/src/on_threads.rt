@@ -86,10 +86,25 @@ fn four_listers(alloc: Global) -> Result<Vec<Lister>, AllocError>
 
 /// A machine goes through the history of the run to the same end, and tells what the listers were told.
 fn is_replayed(rt: &impl Abort, alloc: Global, ran: &Ran<Lister>) -> Result<(), Fail> {
+    let mut machine = new_machine(rt, alloc)?;
+    goes_through(rt, alloc, &mut machine, ran)
+}
+
+/// A machine of the program before the first entry.
+fn new_machine(rt: &impl Abort, alloc: Global) -> Result<Machine, Fail> {
     let program = program_of(rt, alloc, TASKS_AND_A_LOOP)?;
-    let mut machine = Machine::new(alloc, program, PROFILE_MASK, THREADS, STEPS)?;
-    let told = replay(rt, alloc, &mut machine, ran.history.entries())?;
-    are_done(rt, ran, &machine);
+    Ok(Machine::new(alloc, program, PROFILE_MASK, THREADS, STEPS)?)
+}
+
+/// The machine goes through the history of the run.
+fn goes_through(
+    rt: &impl Abort,
+    alloc: Global,
+    machine: &mut Machine,
+    ran: &Ran<Lister>,
+) -> Result<(), Fail> {
+    let told = replay(rt, alloc, machine, ran.history.entries())?;
+    are_done(rt, ran, machine);
     have_heard(rt, &ran.parts, &told);
     Ok(())
 }

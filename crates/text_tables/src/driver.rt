@@ -4,6 +4,7 @@
 //! their order. The task executes each `single`. A lock that is owned isn't waited for.
 
 ghost use Rattle.std.specs.Prelude.{ℕ, ◌≡◌, ◌<◌, slice_get, ◌≤◌, length, IfOk};
+ghost use Rattle.std.specs.List.{All};
 ghost use Rattle.c_syntax.specs.language.Numbered.{tree_at};
 ghost use Rattle.c_model.specs.declared.limits.TheConstants.{CELL_LIMIT};
 ghost use Rattle.c_model.specs.declared.point.Point.TheVariants as event;
@@ -38,12 +39,7 @@ const ALONE: View = View {
 pub(crate) fn steps(alloc: Global, program: Program, want: &str) -> Result<String, RowFault> {
     let code = Code::new(alloc, program)?;
     let mut driver = Driver::new(alloc, code, Parts::by_answer(want))?;
-    for _ in 0..MOST {
-        if let Some(end) = driver.advance(alloc)? {
-            return driver.told(alloc, end);
-        }
-    }
-    driver.told(alloc, End::RunsOn)
+    driver.run(alloc)
 }
 
 /// The code that is open, and what its thread knows of shared work and locks. Contracts see the program's tree.
@@ -75,10 +71,20 @@ impl Model for Driver {
 impl Driver {
     /// Before the first step.
     fn new(alloc: Global, code: Code, parts: Parts) -> Result<Driver, RowFault> {
-        let main = Control::main(alloc, &code)?;
+        let controls = code_of_main(alloc, &code)?;
+        Driver::with(alloc, code, controls, parts)
+    }
+
+    /// With this code open, of which nothing is executed yet.
+    fn with(
+        alloc: Global,
+        code: Code,
+        controls: Vec<Control>,
+        parts: Parts,
+    ) -> Result<Driver, RowFault>
+        requires made { All (IsMadeFor code) controls.items }
+    {
         let cells = Cells::new(alloc, &code)?;
-        let mut controls = Vec::new(alloc);
-        controls.push(main)?;
         Ok(Driver {
             code,
             cells,
@@ -86,6 +92,16 @@ impl Driver {
             team: Team::new(alloc),
             account: Account::new(alloc, parts),
         })
+    }
+
+    /// Advances the code until the run ends. Gives what is told of it.
+    fn run(&mut self, alloc: Global) -> Result<String, RowFault> {
+        for _ in 0..MOST {
+            if let Some(end) = self.advance(alloc)? {
+                return self.told(alloc, end);
+            }
+        }
+        self.told(alloc, End::RunsOn)
     }
 
     /// What is told of a run that has ended so.
@@ -231,6 +247,16 @@ impl Driver {
         self.account.code_end()?;
         Ok(None)
     }
+}
+
+/// The code of main alone.
+fn code_of_main(alloc: Global, code: &Code) -> Result<Vec<Control>, AllocError>
+    ensures made { IfOk result (λ controls. All (IsMadeFor code.now) controls.items) }
+{
+    let main = Control::main(alloc, code)?;
+    let mut controls = Vec::new(alloc);
+    controls.push(main)?;
+    Ok(controls)
 }
 
 /// An explicit task is created, and the code that creates it goes on behind that event. Gives the task's code.
