@@ -65,12 +65,17 @@ fn reads_in_scripts(rt: HostRuntime) -> Result<(), Fail> {
 
 /// Whether a read comes to what is told of it.
 fn reads(alloc: Global, (script, limit, want): &Reading) -> Result<bool, AllocError> {
-    let bytes = b"edges".to_vec(alloc)?;
-    let mut source = MemSource::new(bytes, script.to_vec(alloc)?);
+    let mut source = source_of(alloc, script)?;
     Ok(match read_all(alloc, &mut source, *limit) {
         Ok(bytes) => *want == Ok(()) && bytes.as_slice() == b"edges".as_slice(),
         Err(fault) => *want == Err(fault),
     })
+}
+
+/// A source of "edges" under this script.
+fn source_of(alloc: Global, script: &[Script]) -> Result<MemSource, AllocError> {
+    let bytes = b"edges".to_vec(alloc)?;
+    Ok(MemSource::new(bytes, script.to_vec(alloc)?))
 }
 
 /// A write of "edges" under a script into so much room, what it comes to, and what is held then.
@@ -105,15 +110,20 @@ fn writes(alloc: Global, (script, room, want, held): &Writing) -> Result<bool, A
 
 #[test]
 fn adapts_readers(rt: HostRuntime) -> Result<(), Fail> {
-    let mut source = StdSource::new(b"edges".as_slice());
-    let read = read_all(rt.alloc(), &mut source, 5)?;
-    assert!(rt; read.as_slice() == b"edges".as_slice());
-
+    let is_read = reads_a_slice(rt.alloc())?;
+    assert!(rt; is_read);
     let mut failing = StdSource::new(FailsOnce { has_failed: false });
     let mut buf = [0; 4];
     assert!(rt; failing.read(&mut buf) == Got::Failed);
     assert!(rt; failing.read(&mut buf) == Got::End);
     Ok(())
+}
+
+/// Whether the bytes of a slice are read.
+fn reads_a_slice(alloc: Global) -> Result<bool, ReadAllFault> {
+    let mut source = StdSource::new(b"edges".as_slice());
+    let read = read_all(alloc, &mut source, 5)?;
+    Ok(read.as_slice() == b"edges".as_slice())
 }
 
 #[test]

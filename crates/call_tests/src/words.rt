@@ -2,7 +2,6 @@
 
 use ompt_words::{Command, Request, Settings, TraceCommand, WordsFault, request_of};
 use std::alloc::{AllocError, Global};
-use std::test::Fail;
 
 /// What is asked for where only the command and `--serial` are said.
 const RUN: Settings = Settings {
@@ -194,43 +193,63 @@ const SHOWN: &[(&str, &str)] = &[
 ];
 
 #[test]
-fn words_give_requests(rt: HostRuntime) -> Result<(), Fail> {
+fn words_give_requests(rt: HostRuntime) {
     for (words, request) in REQUESTS {
-        let given = asked(rt.alloc(), words)?.expect(&rt, "a request");
-        assert!(rt; given == *request, "{words}");
+        assert!(rt; give(rt.alloc(), words, request), "{words}");
     }
-    Ok(())
+}
+
+/// Whether the words ask for this.
+fn give(alloc: Global, words: &str, request: &Request) -> bool {
+    match asked(alloc, words) {
+        Ok(given) => given == *request,
+        Err(_) => false,
+    }
 }
 
 #[test]
-fn other_words_are_refused(rt: HostRuntime) -> Result<(), Fail> {
+fn other_words_are_refused(rt: HostRuntime) {
     for words in WRONG {
-        assert!(rt;
-            matches!(asked(rt.alloc(), words)?, Err(WordsFault::Usage)),
-            "{words}"
-        );
+        assert!(rt; are_refused(rt.alloc(), words), "{words}");
     }
-    Ok(())
+}
+
+/// Whether the words are refused.
+fn are_refused(alloc: Global, words: &str) -> bool {
+    matches!(asked(alloc, words), Err(WordsFault::Usage))
 }
 
 #[test]
-fn a_text_is_shown(rt: HostRuntime) -> Result<(), Fail> {
+fn a_text_is_shown(rt: HostRuntime) {
     for (words, line) in SHOWN {
-        match asked(rt.alloc(), words)? {
-            Err(WordsFault::Shown(text)) => {
-                assert!(rt; text.as_str().lines().next() == Some(*line), "{words}");
-            }
-            _ => panic!(rt; "{words}"),
-        }
+        assert!(rt; show(rt.alloc(), words, line), "{words}");
     }
-    Ok(())
+}
+
+/// Whether the words ask for a text with this first line.
+fn show(alloc: Global, words: &str, line: &str) -> bool {
+    match asked(alloc, words) {
+        Err(WordsFault::Shown(text)) => has_first_line(&text, line),
+        _ => false,
+    }
+}
+
+/// Whether this is the first line of the text.
+fn has_first_line(text: &str, line: &str) -> bool {
+    text.lines().next() == Some(line)
 }
 
 /// What the words of this text ask for.
-fn asked(alloc: Global, text: &str) -> Result<Result<Request, WordsFault>, AllocError> {
+fn asked(alloc: Global, text: &str) -> Result<Request, WordsFault> {
+    let words = words_of(alloc, text)?;
+    request_of(alloc, &words)
+}
+
+/// The words of this text.
+fn words_of(alloc: Global, text: &str) -> Result<Vec<String>, AllocError> {
     let mut words = Vec::new(alloc);
     for word in text.split_ascii_whitespace() {
         words.push(String::from_str(alloc, word)?)?;
     }
-    Ok(request_of(alloc, &words))
+    Ok(words)
 }
