@@ -1,8 +1,7 @@
 //! How many calls four guests get of each callback, through the command: serially, and by threads in each order of events.
 
 use crate::fixture::{Ran, Told, ran_in, tell_guests};
-use crate::listening::Listening;
-use omp_codes::PROFILE_MASK;
+use crate::listening::ACTIVE;
 use run_edges::Memory;
 use std::process::Abort;
 use std::sync::Wait;
@@ -76,26 +75,28 @@ int main(void) {
 fn guests_on_four_threads_count_their_calls(rt: HostRuntime) -> Result<(), Fail> {
     for words in RUNS_ON_FOUR {
         for counted in COUNTED {
-            let told = told_to_four(&rt, words, counted.text)?;
-            assert!(rt; told.status == 0);
-            assert!(rt; told.out.bytes() == counted.printed);
-            has_calls(&rt, ran_in(&rt, &told), counted);
+            count(&rt, words, counted)?;
         }
     }
     Ok(())
 }
 
-/// Hands the command these words and the text, with four guests that register the callbacks of the profile.
-fn told_to_four<R: AllocGlobal + Threads + Wait + Sync>(
+/// Four guests that register the callbacks of the profile count the calls of this program.
+fn count<R: AllocGlobal + Threads + Wait + Sync + Abort>(
     rt: &R,
     words: &[&str],
-    text: &[u8],
-) -> Result<Told, Memory> {
-    let mut guests = Vec::new(rt.alloc());
-    for _guest in 0..4 {
-        guests.push(Listening::new(rt.alloc(), PROFILE_MASK, 1)?)?;
-    }
-    tell_guests(rt, words, text, guests, &[])
+    counted: &Counted,
+) -> Result<(), Memory> {
+    let told = tell_guests(rt, words, counted.text, 4, ACTIVE, &[])?;
+    are_counted(rt, &told, counted);
+    Ok(())
+}
+
+/// The program has run and printed what it prints, and its calls were counted.
+fn are_counted(rt: &impl Abort, told: &Told, counted: &Counted) {
+    assert!(rt; told.status == 0);
+    assert!(rt; told.out.bytes() == counted.printed);
+    has_calls(rt, ran_in(rt, told), counted);
 }
 
 /// There are four guests, and together they got these calls.
@@ -104,11 +105,16 @@ fn has_calls(rt: &impl Abort, ran: &Ran, counted: &Counted) {
     for (place, calls) in counted.calls.iter().enumerate() {
         assert!(rt; calls_at(ran, place) == *calls, "at {place}");
     }
+    assert!(rt; all_calls(ran) == counted.all);
+}
+
+/// How many calls the guests got together.
+fn all_calls(ran: &Ran) -> u64 {
     let mut all = 0_u64;
     for guest in &ran.guests {
         all = all.saturating_add(guest.counts[0]);
     }
-    assert!(rt; all == counted.all);
+    all
 }
 
 /// How many calls of the callback at this place of the profile the guests got together.

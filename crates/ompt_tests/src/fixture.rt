@@ -1,6 +1,6 @@
 //! What the tests hand to the command, and what is reported of it.
 
-use crate::listening::{Answers, Listening, answers_of};
+use crate::listening::{Answers, Habits, answers_of, listener};
 use omp_model::{Cause, Entry, History, What};
 use ompt_calls::Call;
 use ompt_cli::{Command, End, Report, Top, TraceCommand, top};
@@ -49,6 +49,28 @@ pub(crate) struct Ran {
     pub guests: Vec<Answers>,
 }
 
+impl Told {
+    /// Whether what was asked for is done.
+    pub fn is_done(&self) -> bool {
+        matches!(self.end, End::Done)
+    }
+
+    /// Whether a trace was read to its end.
+    pub fn has_read(&self) -> bool {
+        matches!(self.end, End::Read)
+    }
+}
+
+/// Hands the command these words, this text, an output with ample room, and no guests.
+pub(crate) fn tell_text<R: AllocGlobal + Threads + Wait + Sync>(
+    rt: &R,
+    words: &[&str],
+    text: &[u8],
+) -> Result<Told, Memory> {
+    let mut source = source_of(rt.alloc(), text)?;
+    tell(rt, words, &mut source)
+}
+
 /// Hands the command these words, this source, an output with ample room, and no guests.
 pub(crate) fn tell<R: AllocGlobal + Threads + Wait + Sync, S: Source>(
     rt: &R,
@@ -56,37 +78,71 @@ pub(crate) fn tell<R: AllocGlobal + Threads + Wait + Sync, S: Source>(
     source: &mut S,
 ) -> Result<Told, Memory> {
     let out = ample(rt.alloc())?;
-    hand(rt, words, source, out, Vec::new(rt.alloc()), &[])
+    hand(rt, words, source, out)
 }
 
-/// Hands the command these words, this text, and these guests. The guests are asked for these calls.
-pub(crate) fn tell_guests<R: AllocGlobal + Threads + Wait + Sync>(
-    rt: &R,
-    words: &[&str],
-    text: &[u8],
-    guests: Vec<Listening>,
-    asked: &[(u32, Call)],
-) -> Result<Told, Memory> {
-    let mut source = source_of(rt.alloc(), text)?;
-    hand(rt, words, &mut source, ample(rt.alloc())?, guests, asked)
-}
-
-/// Hands the command all that it takes, with ample room for its line. The guests are boxed here, and the boxes that come back are
-/// asked before this ends: a function that gave away boxes from another crate's call would hide which ones they are.
+/// Hands the command these words, this source and this output, and no guests.
 pub(crate) fn hand<R: AllocGlobal + Threads + Wait + Sync, S: Source>(
     rt: &R,
     words: &[&str],
     source: &mut S,
+    out: MemSink,
+) -> Result<Told, Memory> {
+    hand_boxes(rt, words, source, out, Vec::new(rt.alloc()), &[])
+}
+
+/// Hands the command these words, this text, and a guest with these habits, which is asked for these calls.
+pub(crate) fn tell_guest<R: AllocGlobal + Threads + Wait + Sync>(
+    rt: &R,
+    words: &[&str],
+    text: &[u8],
+    habits: Habits,
+    asked: &[(u32, Call)],
+) -> Result<Told, Memory> {
+    tell_guests(rt, words, text, 1, habits, asked)
+}
+
+/// Hands the command these words, this text, and so many guests with these habits, which are asked for these calls.
+pub(crate) fn tell_guests<R: AllocGlobal + Threads + Wait + Sync>(
+    rt: &R,
+    words: &[&str],
+    text: &[u8],
+    count: usize,
+    habits: Habits,
+    asked: &[(u32, Call)],
+) -> Result<Told, Memory> {
+    let mut boxes: Vec<Box<dyn GuestTool>> = Vec::new(rt.alloc());
+    for _guest in 0..count {
+        boxes.push(listener(rt.alloc(), habits)?)?;
+    }
+    tell_boxes(rt, words, text, boxes, asked)
+}
+
+/// Hands the command these words, this text, an output with ample room, and these boxes.
+fn tell_boxes<R: AllocGlobal + Threads + Wait + Sync>(
+    rt: &R,
+    words: &[&str],
+    text: &[u8],
+    boxes: Vec<Box<dyn GuestTool>>,
+    asked: &[(u32, Call)],
+) -> Result<Told, Memory> {
+    let out = ample(rt.alloc())?;
+    let mut source = source_of(rt.alloc(), text)?;
+    hand_boxes(rt, words, &mut source, out, boxes, asked)
+}
+
+/// Hands the command all that it takes, with ample room for its line. The boxes that come back are asked before this ends: a function that
+/// gave away boxes from another crate's call would hide which ones they are.
+fn hand_boxes<R: AllocGlobal + Threads + Wait + Sync, S: Source>(
+    rt: &R,
+    words: &[&str],
+    source: &mut S,
     mut out: MemSink,
-    guests: Vec<Listening>,
+    boxes: Vec<Box<dyn GuestTool>>,
     asked: &[(u32, Call)],
 ) -> Result<Told, Memory> {
     let words = owned(rt.alloc(), words)?;
     let mut err = ample(rt.alloc())?;
-    let mut boxes: Vec<Box<dyn GuestTool>> = Vec::new(rt.alloc());
-    for guest in guests {
-        boxes.push(Box::new(rt.alloc(), guest)?)?;
-    }
     let top = top(rt, rt.alloc(), &words, source, &mut out, &mut err, boxes);
     told_of(rt.alloc(), top, out, err, asked)
 }
@@ -133,10 +189,7 @@ pub(crate) fn owned(alloc: Global, words: &[&str]) -> Result<Vec<String>, Memory
 /// The report, with what its guests answer.
 fn ran_of(alloc: Global, report: Report, asked: &[(u32, Call)]) -> Result<Ran, Memory> {
     let mut report = report;
-    let mut guests = Vec::new(alloc);
-    for guest in &mut report.guests {
-        guests.push(answers_of(alloc, guest, asked)?)?;
-    }
+    let guests = answers_of_all(alloc, &mut report.guests, asked)?;
     Ok(Ran {
         command: report.command,
         cause: report.cause,
@@ -148,11 +201,32 @@ fn ran_of(alloc: Global, report: Report, asked: &[(u32, Call)]) -> Result<Ran, M
     })
 }
 
+/// What each guest answers.
+fn answers_of_all(
+    alloc: Global,
+    guests: &mut [Box<dyn GuestTool>],
+    asked: &[(u32, Call)],
+) -> Result<Vec<Answers>, Memory> {
+    let mut answers = Vec::new(alloc);
+    for guest in guests {
+        answers.push(answers_of(alloc, guest, asked)?)?;
+    }
+    Ok(answers)
+}
+
 /// What ran.
 pub(crate) fn ran_in<'a>(rt: &impl Abort, told: &'a Told) -> &'a Ran {
     match &told.ran {
         Some(ran) => ran,
         None => panic!(rt; "nothing ran"),
+    }
+}
+
+/// These bytes as text.
+pub(crate) fn text_of<'a>(rt: &impl Abort, bytes: &'a [u8]) -> &'a str {
+    match str::from_utf8(bytes) {
+        Ok(text) => text,
+        Err(_) => panic!(rt; "no text"),
     }
 }
 

@@ -6,7 +6,7 @@ use crate::listening::NOTHING;
 use omp_codes::callbacks;
 use ompt_calls::{Call, Reply, Snapshot};
 use ompt_cli::top;
-use run_edges::Memory;
+use run_edges::{MemSource, Memory};
 use std::alloc::Global;
 use std::process::Abort;
 use std::sync::atomic::{AtomicBool, AtomicU32, Ordering};
@@ -142,20 +142,28 @@ return 0;
 /// Two guests that share two flags get through.
 #[test]
 fn two_guests_meet_at_the_gate(rt: HostRuntime) -> Result<(), Fail> {
-    let gate = gate_for(rt.alloc(), 2)?;
-    let status = status_at(&rt, &["run", "--threads", "2"], CRITICAL_OF_TWO, &gate)?;
-    assert!(rt; status == 0);
-    have_met(&rt, &gate);
+    meet(&rt, &["run", "--threads", "2"], CRITICAL_OF_TWO, 2)?;
     Ok(())
 }
 
 /// Four guests that share four flags get through.
 #[test]
 fn four_guests_meet_at_the_gate(rt: HostRuntime) -> Result<(), Fail> {
-    let gate = gate_for(rt.alloc(), 4)?;
-    let status = status_at(&rt, &["run", "--threads", "4"], CRITICAL_OF_FOUR, &gate)?;
+    meet(&rt, &["run", "--threads", "4"], CRITICAL_OF_FOUR, 4)?;
+    Ok(())
+}
+
+/// So many guests get through in a run with these words and this text.
+fn meet<R: AllocGlobal + Threads + Wait + Sync + Abort>(
+    rt: &R,
+    words: &[&str],
+    text: &[u8],
+    guests: usize,
+) -> Result<(), Memory> {
+    let gate = gate_for(rt.alloc(), guests)?;
+    let status = status_at(rt, words, text, &gate)?;
     assert!(rt; status == 0);
-    have_met(&rt, &gate);
+    have_met(rt, &gate);
     Ok(())
 }
 
@@ -180,34 +188,53 @@ fn status_at<R: AllocGlobal + Threads + Wait + Sync>(
         let gate = Arc::try_clone(gate)?;
         guests.push(Box::new(rt.alloc(), Waiting { gate })?)?;
     }
+    status_with(rt, words, text, guests)
+}
+
+/// The status of the command with these words and this text, and these guests.
+fn status_with<R: AllocGlobal + Threads + Wait + Sync>(
+    rt: &R,
+    words: &[&str],
+    text: &[u8],
+    guests: Vec<Box<dyn GuestTool>>,
+) -> Result<u8, Memory> {
     let words = owned(rt.alloc(), words)?;
     let mut source = source_of(rt.alloc(), text)?;
+    status_from(rt, &words, &mut source, guests)
+}
+
+/// The status of the command with these words and this source, and these guests.
+fn status_from<R: AllocGlobal + Threads + Wait + Sync>(
+    rt: &R,
+    words: &[String],
+    source: &mut MemSource,
+    guests: Vec<Box<dyn GuestTool>>,
+) -> Result<u8, Memory> {
     let mut out = ample(rt.alloc())?;
     let mut err = ample(rt.alloc())?;
-    let top = top(
-        rt,
-        rt.alloc(),
-        &words,
-        &mut source,
-        &mut out,
-        &mut err,
-        guests,
-    );
+    let top = top(rt, rt.alloc(), words, source, &mut out, &mut err, guests);
     Ok(top.status)
 }
 
 /// Each guest has met all others within its limit, and has had the mutex, of which it heard alone, while no other one had it.
 fn have_met(rt: &impl Abort, gate: &[Notes]) {
     for notes in gate {
-        assert!(rt; notes.has_begun.load(Ordering::SeqCst));
-        assert!(rt; !notes.has_given_up.load(Ordering::SeqCst));
-        assert!(rt; !notes.has_strayed.load(Ordering::SeqCst));
-        assert!(rt; notes.acquired.load(Ordering::SeqCst) > 0);
-        assert!(rt; notes.acquired.load(Ordering::SeqCst) < notes.released.load(Ordering::SeqCst));
+        has_met(rt, notes);
     }
     for place in 1..gate.len() {
         is_apart(rt, &gate[place], &gate[..place]);
     }
+}
+
+/// The guest has met all others within its limit, and has had the mutex, of which it heard alone.
+fn has_met(rt: &impl Abort, notes: &Notes) {
+    assert!(rt; notes.has_begun.load(Ordering::SeqCst));
+    assert!(rt; !notes.has_given_up.load(Ordering::SeqCst));
+    assert!(rt; !notes.has_strayed.load(Ordering::SeqCst));
+    let acquired = notes.acquired.load(Ordering::SeqCst);
+    let released = notes.released.load(Ordering::SeqCst);
+    assert!(rt; acquired > 0);
+    assert!(rt; acquired < released);
 }
 
 /// This guest has had the mutex while none of the others had it.

@@ -3,7 +3,7 @@
 //! A guest that comes back from a run is a `Box<dyn GuestTool>`, of which nothing but its calls is there. So it is asked by
 //! a call at a position that no run has here, and answers in the words of its stores.
 
-use omp_codes::PROFILE;
+use omp_codes::{PROFILE, PROFILE_MASK};
 use ompt_calls::{
     Call, Frame, RegionLevel, RegionLevels, Reply, Snapshot, Store, TaskLevel, TaskLevels, Word,
     WordAt, is_registered,
@@ -20,10 +20,12 @@ const CALLBACKS: u32 = 2_000_000;
 /// The question for the counts.
 const COUNTS: u32 = u32::MAX;
 
-/// A guest that keeps what it hears. It registers the callbacks of its mask, and answers its number to its start.
-#[derive(Drop)]
-pub(crate) struct Listening {
+/// How a guest behaves.
+#[derive(Clone, Copy)]
+pub(crate) struct Habits {
+    /// The callbacks that it registers.
     pub mask: u64,
+    /// What it answers to its start.
     pub answer: u32,
     /// What it stores at the begin of a region, into the word of that region; 0 for nothing.
     pub stores: u64,
@@ -31,11 +33,38 @@ pub(crate) struct Listening {
     pub stores_at_work: u64,
     /// The call that finds no memory, counted from 1; 0 for none.
     pub fails: usize,
+}
+
+/// It registers the callbacks of the profile and hears them, stores nothing and finds memory.
+pub(crate) const ACTIVE: Habits = Habits {
+    mask: PROFILE_MASK,
+    answer: 1,
+    stores: 0,
+    stores_at_work: 0,
+    fails: 0,
+};
+
+/// A guest that keeps what it hears.
+#[derive(Drop)]
+pub(crate) struct Listening {
+    habits: Habits,
     /// What it looks for at each call.
     inside: Snapshot,
     heard: Vec<Heard>,
     initialized: u32,
     finalized: u32,
+}
+
+/// A guest that has heard nothing.
+pub(crate) fn listener(alloc: Global, habits: Habits) -> Result<Box<Listening>, Memory> {
+    let guest = Listening {
+        habits,
+        inside: inside(alloc)?,
+        heard: Vec::new(alloc),
+        initialized: 0,
+        finalized: 0,
+    };
+    Ok(Box::new(alloc, guest)?)
 }
 
 /// What a guest heard at a call, and whether it could inquire there what it can inside.
@@ -47,29 +76,21 @@ struct Heard {
     is_inside: bool,
 }
 
-impl Listening {
-    /// A guest that has heard nothing, with these callbacks and this answer. It stores nothing and finds memory.
-    pub fn new(alloc: Global, mask: u64, answer: u32) -> Result<Listening, Memory> {
-        Ok(Listening {
-            mask,
-            answer,
-            stores: 0,
-            stores_at_work: 0,
-            fails: 0,
-            inside: inside(alloc)?,
-            heard: Vec::new(alloc),
-            initialized: 0,
-            finalized: 0,
-        })
+impl Heard {
+    /// Whether this call was heard on this thread at this position.
+    fn is_of(&self, seq: u32, thread: u8, call: &Call) -> bool {
+        self.seq == seq && self.thread == thread && self.call == *call
     }
+}
 
+impl Listening {
     /// At which of its calls, counted from 1, it heard this; 0 where it did at none. Then 1 where it could inquire there
     /// what it can inside, and else 0.
     fn told(&self, seq: u32, thread: u8, call: &Call) -> [u64; 2] {
         let mut number = 0_u64;
         for heard in &self.heard {
             number = number.saturating_add(1);
-            if heard.seq == seq && heard.thread == thread && heard.call == *call {
+            if heard.is_of(seq, thread, call) {
                 return [number, u64::from(heard.is_inside)];
             }
         }
@@ -98,7 +119,7 @@ impl Listening {
         if seq >= QUESTIONS {
             return Ok(reply_of(self.answer_to(seq, thread, call)));
         }
-        if self.heard.len().saturating_add(1) == self.fails {
+        if self.heard.len().saturating_add(1) == self.habits.fails {
             return Err(AllocError);
         }
         self.heard.push(Heard {
@@ -129,13 +150,13 @@ impl Listening {
 
     /// What it answers to this call.
     fn reply_to(&self, call: &Call) -> Reply {
-        match call {
-            Call::ParallelBegin { .. } if self.stores != 0 => storing(WordAt::Fresh, self.stores),
-            Call::Work { endpoint: 1, .. } if self.stores_at_work != 0 => {
-                storing(WordAt::Task(0), self.stores_at_work)
-            }
-            _ => NOTHING,
+        if self.habits.stores != 0 && matches!(call, Call::ParallelBegin { .. }) {
+            return storing(WordAt::Fresh, self.habits.stores);
         }
+        if self.habits.stores_at_work != 0 && matches!(call, Call::Work { endpoint: 1, .. }) {
+            return storing(WordAt::Task(0), self.habits.stores_at_work);
+        }
+        NOTHING
     }
 }
 
@@ -163,11 +184,11 @@ impl GuestTool for Listening {
     fn initialize(&mut self, registrar: &mut Registrar) -> u32 {
         self.initialized = self.initialized.saturating_add(1);
         for number in 0..64_u32 {
-            if is_registered(self.mask, number) {
+            if is_registered(self.habits.mask, number) {
                 registrar.set(number);
             }
         }
-        self.answer
+        self.habits.answer
     }
 
     fn callback(
@@ -205,23 +226,55 @@ pub(crate) fn answers_of(
 ) -> Result<Answers, Memory> {
     let snapshot = inside(alloc)?;
     let counts = words_of(guest.callback(COUNTS, 0, &QUESTION, &snapshot)?);
-    let mut by_callback = Vec::new(alloc);
-    for number in PROFILE {
-        let asked = CALLBACKS.saturating_add(number);
-        let [count, _, _] = words_of(guest.callback(asked, 0, &QUESTION, &snapshot)?);
-        by_callback.push(count)?;
-    }
-    let mut heard = Vec::new(alloc);
-    for (seq, call) in asked {
-        let reply = guest.callback(QUESTIONS.saturating_add(*seq), 0, call, &snapshot)?;
-        let [number, same, _] = words_of(reply);
-        heard.push((number, same == 1))?;
-    }
+    answers_with(alloc, guest, &snapshot, counts, asked)
+}
+
+/// The answers of a guest with these counts.
+fn answers_with(
+    alloc: Global,
+    guest: &mut Box<dyn GuestTool>,
+    snapshot: &Snapshot,
+    counts: [u64; 3],
+    asked: &[(u32, Call)],
+) -> Result<Answers, Memory> {
+    let by_callback = counts_by_callback(alloc, guest, snapshot)?;
+    let heard = heard_of(alloc, guest, snapshot, asked)?;
     Ok(Answers {
         counts,
         by_callback,
         heard,
     })
+}
+
+/// How many calls the guest got of each callback of the profile.
+fn counts_by_callback(
+    alloc: Global,
+    guest: &mut Box<dyn GuestTool>,
+    snapshot: &Snapshot,
+) -> Result<Vec<u64>, Memory> {
+    let mut counts = Vec::new(alloc);
+    for number in PROFILE {
+        let asked = CALLBACKS.saturating_add(number);
+        let [count, _, _] = words_of(guest.callback(asked, 0, &QUESTION, snapshot)?);
+        counts.push(count)?;
+    }
+    Ok(counts)
+}
+
+/// At which of its calls the guest heard each of these, and whether it could inquire there what it can inside.
+fn heard_of(
+    alloc: Global,
+    guest: &mut Box<dyn GuestTool>,
+    snapshot: &Snapshot,
+    asked: &[(u32, Call)],
+) -> Result<Vec<(u64, bool)>, Memory> {
+    let mut heard = Vec::new(alloc);
+    for (seq, call) in asked {
+        let reply = guest.callback(QUESTIONS.saturating_add(*seq), 0, call, snapshot)?;
+        let [number, same, _] = words_of(reply);
+        heard.push((number, same == 1))?;
+    }
+    Ok(heard)
 }
 
 /// The call by which a guest is asked for its counts, which tells nothing.

@@ -1,11 +1,11 @@
 //! What guests hear of runs, through the command.
 
 use crate::fixture::*;
-use crate::listening::{Listening, NULL, ONE, STORED, TWO};
+use crate::listening::{ACTIVE, Habits, NULL, ONE, STORED, TWO};
 use omp_codes::PROFILE_MASK;
 use omp_model::{Cause, What};
 use ompt_calls::{Call, Frame, Target, Word};
-use ompt_cli::{Command, End};
+use ompt_cli::Command;
 use run_edges::Memory;
 use std::process::Abort;
 use std::sync::Wait;
@@ -27,12 +27,9 @@ const TASKS: u64 = 0x80;
 /// A command over a region of two with equal guests, and what is reported of it.
 struct Case {
     words: &'static [&'static str],
-    /// How many guests there are, and the callbacks and the answer of each.
+    /// How many guests there are, and how each behaves.
     guests: usize,
-    registers: u64,
-    answer: u32,
-    /// The call at which each finds no memory, counted from 1; 0 for none.
-    fails: usize,
+    habits: Habits,
     status: u8,
     line: &'static [u8],
     command: Command,
@@ -49,9 +46,7 @@ struct Case {
 const NO_GUESTS: Case = Case {
     words: RUN_ON_TWO,
     guests: 0,
-    registers: 0,
-    answer: 0,
-    fails: 0,
+    habits: ACTIVE,
     status: 0,
     line: b"",
     command: Command::Run,
@@ -67,7 +62,11 @@ const CASES: &[Case] = &[
     // Guests that register and answer 0 hear nothing and aren't finished.
     Case {
         guests: 2,
-        registers: TASKS,
+        habits: Habits {
+            mask: TASKS,
+            answer: 0,
+            ..ACTIVE
+        },
         heard: &[[0, 1, 0], [0, 0, 0]],
         ..NO_GUESTS
     },
@@ -75,8 +74,10 @@ const CASES: &[Case] = &[
     Case {
         words: RUN_ON_ONE,
         guests: 3,
-        registers: TASKS,
-        answer: 1,
+        habits: Habits {
+            mask: TASKS,
+            ..ACTIVE
+        },
         mask: TASKS,
         entries: 24,
         heard: &[[4, 1, 1], [0, 0, 0], [0, 0, 0]],
@@ -86,8 +87,6 @@ const CASES: &[Case] = &[
     // could store, so the history is the one of 41 entries without a store.
     Case {
         guests: 1,
-        registers: PROFILE_MASK,
-        answer: 1,
         mask: PROFILE_MASK,
         heard: &[[12, 1, 1]],
         ..NO_GUESTS
@@ -96,9 +95,7 @@ const CASES: &[Case] = &[
     Case {
         words: RUN_ON_ONE,
         guests: 1,
-        registers: PROFILE_MASK,
-        answer: 1,
-        fails: 3,
+        habits: Habits { fails: 3, ..ACTIVE },
         status: 10,
         line: b"memory\n",
         cause: Cause::Memory,
@@ -111,8 +108,6 @@ const CASES: &[Case] = &[
     Case {
         words: LIST_ON_TWO,
         guests: 2,
-        registers: PROFILE_MASK,
-        answer: 1,
         command: Command::List,
         mask: PROFILE_MASK,
         some: &[(34, 0, What::Go), (35, 1, What::Go)],
@@ -124,23 +119,26 @@ const CASES: &[Case] = &[
 #[test]
 fn guests_hear_of_runs(rt: HostRuntime) -> Result<(), Fail> {
     for case in CASES {
-        let told = told_in(&rt, case)?;
-        assert!(rt; told.status == case.status);
-        assert!(rt; told.err.bytes() == case.line);
-        went(&rt, ran_in(&rt, &told), case);
+        comes_to(&rt, case)?;
     }
     Ok(())
 }
 
-/// Hands the command what the case has.
-fn told_in<R: AllocGlobal + Threads + Wait + Sync>(rt: &R, case: &Case) -> Result<Told, Memory> {
-    let mut guests = Vec::new(rt.alloc());
-    for _guest in 0..case.guests {
-        let mut guest = Listening::new(rt.alloc(), case.registers, case.answer)?;
-        guest.fails = case.fails;
-        guests.push(guest)?;
-    }
-    tell_guests(rt, case.words, REGION_OF_TWO, guests, &[])
+/// The command comes to what the case says.
+fn comes_to<R: AllocGlobal + Threads + Wait + Sync + Abort>(
+    rt: &R,
+    case: &Case,
+) -> Result<(), Memory> {
+    let told = tell_guests(rt, case.words, REGION_OF_TWO, case.guests, case.habits, &[])?;
+    ended(rt, &told, case);
+    went(rt, ran_in(rt, &told), case);
+    Ok(())
+}
+
+/// The command ended as the case says.
+fn ended(rt: &impl Abort, told: &Told, case: &Case) {
+    assert!(rt; told.status == case.status);
+    assert!(rt; told.err.bytes() == case.line);
 }
 
 /// What ran is what the case says, and nothing was stored.
@@ -206,30 +204,52 @@ fn heard_of_a_region() -> [(u32, Call); 5] {
     ]
 }
 
-/// A guest that hears of regions and tasks stores 77 in the word of the region that begins, and finds it there at the next
-/// call.
+/// It hears of regions and tasks, and stores 77 in the word of the region that begins.
+const STORING: Habits = Habits {
+    mask: REGIONS_AND_TASKS,
+    stores: 77,
+    ..ACTIVE
+};
+
+/// A guest that stores 77 in the word of the region that begins finds it there at the next call.
 #[test]
 fn a_guest_stores(rt: HostRuntime) -> Result<(), Fail> {
-    let mut guest = Listening::new(rt.alloc(), REGIONS_AND_TASKS, 1)?;
-    guest.stores = 77;
-    let guests = Vec::from_array(rt.alloc(), [guest])?;
-    let asked = heard_of_a_region();
-    let told = tell_guests(&rt, RUN_ON_ONE, REGION_OF_TWO, guests, &asked)?;
-    assert!(rt; told.end == End::Done);
-    let ran = ran_in(&rt, &told);
+    let told = tell_guest(
+        &rt,
+        RUN_ON_ONE,
+        REGION_OF_TWO,
+        STORING,
+        &heard_of_a_region(),
+    )?;
+    has_stored(&rt, &told);
+    Ok(())
+}
+
+/// The guest stored into the word of the region, and found it there at 7.
+fn has_stored(rt: &impl Abort, told: &Told) {
+    assert!(rt; told.is_done());
+    let ran = ran_in(rt, told);
     assert!(rt; ran.mask == 0x88);
     assert!(rt; ran.history.entries().len() == 25);
     assert!(rt; stores_in(ran) == 1);
-    let put = What::Put(Target::Parallel(2), 77);
-    has_entries(&rt, &ran.history, &[(5, 0, put)]);
-    heard(&rt, ran, &[[5, 1, 1]]);
+    has_entries(
+        rt,
+        &ran.history,
+        &[(5, 0, What::Put(Target::Parallel(2), 77))],
+    );
+    heard(rt, ran, &[[5, 1, 1]]);
+    heard_these(
+        rt,
+        ran,
+        &[(1, false), (2, false), (3, true), (4, false), (5, false)],
+    );
+}
 
-    // The inquiries are those at 7.
-    let heard = [(1, false), (2, false), (3, true), (4, false), (5, false)];
+/// Each guest heard the calls that it was asked for at these of its calls, and could inquire there what it can inside, or couldn't.
+pub(crate) fn heard_these(rt: &impl Abort, ran: &Ran, expected: &[(u64, bool)]) {
     for guest in &ran.guests {
-        assert!(rt; guest.heard.as_slice() == heard.as_slice());
+        assert!(rt; guest.heard.as_slice() == expected);
     }
-    Ok(())
 }
 
 /// Words of a run with one thread that may take one silent step.
@@ -238,11 +258,14 @@ const RUN_ONE_STEP: &[&str] = &["run", "--serial", "--threads", "1", "--steps", 
 /// A run of the empty program that may take one silent step ends at that limit, in its third turn.
 #[test]
 fn a_run_meets_its_limit(rt: HostRuntime) -> Result<(), Fail> {
-    let guests = Vec::from_array(rt.alloc(), [Listening::new(rt.alloc(), PROFILE_MASK, 1)?])?;
-    let told = tell_guests(&rt, RUN_ONE_STEP, PROGRAM, guests, &[])?;
-    let ran = ran_in(&rt, &told);
+    let told = tell_guest(&rt, RUN_ONE_STEP, PROGRAM, ACTIVE, &[])?;
+    has_met_its_limit(&rt, ran_in(&rt, &told));
+    Ok(())
+}
+
+/// The run ended at its limit, in its third turn.
+fn has_met_its_limit(rt: &impl Abort, ran: &Ran) {
     assert!(rt; ran.cause == Cause::Limit(1));
     assert!(rt; ran.history.entries().len() == 5);
-    heard(&rt, ran, &[[2, 1, 1]]);
-    Ok(())
+    heard(rt, ran, &[[2, 1, 1]]);
 }

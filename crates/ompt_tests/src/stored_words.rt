@@ -1,11 +1,11 @@
 //! A guest that stores into the words of a region and of a task, and hears them later.
 
 use crate::fixture::*;
-use crate::listening::{Listening, ONE, STORED, TWO};
-use crate::runs::{RUN_ON_ONE, stores_in};
+use crate::listening::{ACTIVE, Habits, ONE, STORED, TWO};
+use crate::runs::{RUN_ON_ONE, heard, heard_these, stores_in};
 use omp_model::What;
 use ompt_calls::{Call, Frame, Target, Word};
-use ompt_cli::End;
+use std::process::Abort;
 use std::test::Fail;
 
 /// The begin of regions, and work.
@@ -68,22 +68,28 @@ const ENTRIES: &[(usize, u8, What)] = &[
     (13, 0, What::Back),
 ];
 
+/// It hears of regions and work, and stores into both.
+const STORING: Habits = Habits {
+    mask: REGIONS_AND_WORK,
+    stores: 77,
+    stores_at_work: 100,
+    ..ACTIVE
+};
+
 #[test]
 fn a_guest_stores_into_a_region_and_a_task(rt: HostRuntime) -> Result<(), Fail> {
-    let mut guest = Listening::new(rt.alloc(), REGIONS_AND_WORK, 1)?;
-    guest.stores = 77;
-    guest.stores_at_work = 100;
-    let guests = Vec::from_array(rt.alloc(), [guest])?;
-    let told = tell_guests(&rt, RUN_ON_ONE, SINGLE, guests, &heard_of_work())?;
-    assert!(rt; told.end == End::Done);
-    let ran = ran_in(&rt, &told);
+    let told = tell_guest(&rt, RUN_ON_ONE, SINGLE, STORING, &heard_of_work())?;
+    has_stored(&rt, &told);
+    Ok(())
+}
+
+/// The guest stored into the word of the region and into that of the task, and heard both.
+fn has_stored(rt: &impl Abort, told: &Told) {
+    assert!(rt; told.is_done());
+    let ran = ran_in(rt, told);
     assert!(rt; ran.mask == REGIONS_AND_WORK);
     assert!(rt; stores_in(ran) == 2);
-    has_entries(&rt, &ran.history, ENTRIES);
-    let heard = [(1, false), (2, false), (3, false)];
-    for guest in &ran.guests {
-        assert!(rt; guest.counts == [3, 1, 1]);
-        assert!(rt; guest.heard.as_slice() == heard.as_slice());
-    }
-    Ok(())
+    has_entries(rt, &ran.history, ENTRIES);
+    heard(rt, ran, &[[3, 1, 1]]);
+    heard_these(rt, ran, &[(1, false), (2, false), (3, false)]);
 }

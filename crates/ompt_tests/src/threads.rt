@@ -1,10 +1,9 @@
 //! Runs by threads through the command, of which each order of their events is right.
 
 use crate::fixture::*;
-use crate::listening::Listening;
+use crate::listening::{ACTIVE, Habits};
 use crate::runs::{heard, stores_in};
-use omp_codes::PROFILE_MASK;
-use ompt_cli::End;
+use std::process::Abort;
 use std::test::Fail;
 
 /// Three threads share a loop, and the first one prints who had which iteration.
@@ -20,35 +19,47 @@ return 0;
 }
 ";
 
+/// Words of a run by three threads.
+const RUN_ON_THREE: &[&str] = &["run", "--threads", "3"];
+
+/// It registers the callbacks of the profile, and answers 0.
+const DECLINING: Habits = Habits {
+    answer: 0,
+    ..ACTIVE
+};
+
 /// Guests that register all callbacks of the profile and answer 0 hear nothing, store nothing, and aren't finished. The program prints
 /// what it prints without them.
 #[test]
 fn guests_that_decline_hear_nothing_of_threads(rt: HostRuntime) -> Result<(), Fail> {
-    let mut guests = Vec::new(rt.alloc());
-    for _thread in 0..3 {
-        guests.push(Listening::new(rt.alloc(), PROFILE_MASK, 0)?)?;
-    }
-    let told = tell_guests(&rt, &["run", "--threads", "3"], STATIC_LOOP, guests, &[])?;
-    assert!(rt; told.end == End::Done);
+    let told = tell_guests(&rt, RUN_ON_THREE, STATIC_LOOP, 3, DECLINING, &[])?;
+    have_declined(&rt, &told);
+    Ok(())
+}
+
+/// The program printed what it prints, and the guests heard and stored nothing. The first one was started.
+fn have_declined(rt: &impl Abort, told: &Told) {
+    assert!(rt; told.is_done());
     assert!(rt; told.out.bytes() == b"0001112\n".as_slice());
-    let ran = ran_in(&rt, &told);
+    let ran = ran_in(rt, told);
     assert!(rt; ran.mask == 0);
     assert!(rt; stores_in(ran) == 0);
-    heard(&rt, ran, &[[0, 1, 0], [0, 0, 0], [0, 0, 0]]);
-    Ok(())
+    heard(rt, ran, &[[0, 1, 0], [0, 0, 0], [0, 0, 0]]);
 }
 
 /// A listing by threads has a line for each event, in the order of their positions.
 #[test]
 fn a_listing_by_threads_is_in_order(rt: HostRuntime) -> Result<(), Fail> {
-    let mut source = source_of(rt.alloc(), REGION_OF_TWO)?;
-    let told = tell(&rt, &["list", "--threads", "2"], &mut source)?;
-    assert!(rt; told.end == End::Done);
-    let Ok(text) = str::from_utf8(told.out.bytes()) else {
-        panic!(rt; "lines are text");
-    };
-    assert!(rt; count_rising(text) == Some(20));
+    let told = tell_text(&rt, &["list", "--threads", "2"], REGION_OF_TWO)?;
+    is_in_order(&rt, &told);
     Ok(())
+}
+
+/// There are twenty lines, in the order of their positions.
+fn is_in_order(rt: &impl Abort, told: &Told) {
+    assert!(rt; told.is_done());
+    let text = text_of(rt, told.out.bytes());
+    assert!(rt; count_rising(text) == Some(20));
 }
 
 /// How many lines there are, where each begins with a greater number than those before it.
