@@ -177,7 +177,7 @@ module _ {G : Type 0} {B : Type 0} (box : G → B) (stands : B → Record → Ty
         missed = runs.missed;
         are_missed = runs.are_missed;
         all_heard = runs.all_heard;
-        same_tools = λ k d below. guest-same itself guests (p ∷ parts) after rest out runs.as_many kinds k d below;
+        same_types = λ k d below. guest-same itself guests (p ∷ parts) after rest out runs.as_many kinds k d below;
         guestless = λ k past below. without-guest serial run cause H guests (p ∷ parts) after rest out kinds runs k p past (omega (arith, below, each));
         rest = λ k d past. guest-past guests (p ∷ parts) after rest out runs.as_many kinds k d (omega (arith, past, each));
       }

@@ -19,7 +19,7 @@ use Rattle.ompt_cli.specs.Runs.{AreMissed}
 -- guest 0 was started, with this answer and these callbacks registered, called for what thread 0 heard, and finished after all
 -- that where it is active; guest t was called for what thread t heard; those past the threads are as they were. Beside that a guest
 -- was called once more where its thread missed an event, for which no memory was found, and then the cause says so. Where there is no
--- guest, nothing is registered, and nothing is stored on a thread without a guest. Each is the tool that was handed in
+-- guest, nothing is registered, and nothing is stored on a thread without a guest. Each is of the type that was handed in
 pub record GuestsServe {B : Type 0} (stands_for : B → Record → Type 0) (Same : B → B → Type 0) (serial : Bool) (run : Run) (cause : Cause) (history : List Entry) (guests after : List B) : Type 0 where
   pub as_many : length after ≡ length guests
   pub answer : ℕ
@@ -32,7 +32,7 @@ pub record GuestsServe {B : Type 0} (stands_for : B → Record → Type 0) (Same
   pub first : 0 < length guests → Becomes stands_for guests after 0 (record_of_first answer registered (heard_of run history 0) (missed 0))
   pub others : (k : ℕ) → 0 < k → k < run.threads → k < length guests → Becomes stands_for guests after k (called_for (heard_of run history k) (missed k))
   pub rest : (k : ℕ) (d : B) → run.threads ≤ k → slice_index_or after k d ≡ slice_index_or guests k d
-  pub same_tools : (k : ℕ) (d : B) → k < length guests → Same (slice_index_or guests k d) (slice_index_or after k d)
+  pub same_types : (k : ℕ) (d : B) → k < length guests → Same (slice_index_or guests k d) (slice_index_or after k d)
   pub guestless : (k : ℕ) → length guests ≤ k → k < run.threads → AreSilent (heard_of run history k)
 
 -- what guests stand for after a command: all but `run` leave them as they were

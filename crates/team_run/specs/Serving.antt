@@ -57,7 +57,7 @@ pub record OnlyUnheard {P : Type 0} (stands_for : P → Record → Type 0) (unhe
   pub as_many : length others ≡ length parts
   pub each : (k : ℕ) → k < length parts → Becomes stands_for parts others k (unheard_on unheard k)
 
--- each part is the one that it was
+-- each part is the same as before, by a relation of its own
 pub record AreSame {P : Type 0} (Same : P → P → Type 0) (parts others : List P) : Type 0 where
   pub each : (k : ℕ) (d : P) → k < length parts → Same (slice_index_or parts k d) (slice_index_or others k d)
 

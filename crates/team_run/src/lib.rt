@@ -27,7 +27,7 @@
 //!   call, its snapshot, and the stores that took effect. Where the history ends inside the callback of a thread, which is
 //!   then registered, that thread's part was called once more and found no memory. That is so only where the cause is
 //!   [`Memory`](omp_model::Cause::Memory). For nothing else was a part called;
-//! - `same`: each part is the one that it was, by the part's own relation; `always`: the mask has callbacks alone that are called always;
+//! - `same`: each part is the same as before, by a relation of its own; `always`: the mask has callbacks alone that are called always;
 //! - `own`: nothing is heard on a thread that the run doesn't have. So nothing is heard for which no part was called;
 //! - `text`: the text is what the program has printed in the state after the history, also where the cause is `Memory`;
 //! - `cause`: the cause is the one in which the history ends;

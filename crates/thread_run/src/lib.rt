@@ -25,7 +25,7 @@
 //!   snapshot, and the stores that took effect. Beside that a part was called at most once more, for the event whose answer its
 //!   thread owes at the end of the history, and found no memory. That is so only where the cause is
 //!   [`Memory`](omp_model::Cause::Memory). A thread whose part found memory is inside no callback at the end;
-//! - `same`: each part is the one that it was, by the part's own relation; `always`: the mask has callbacks alone that are called always;
+//! - `same`: each part is the same as before, by a relation of its own; `always`: the mask has callbacks alone that are called always;
 //! - `own`: nothing is heard on a thread that the run doesn't have;
 //! - `cause`: where the cause isn't `Memory` it is the one in which the history ends;
 //! - `text`: the text is what the program has printed in the state after the history.

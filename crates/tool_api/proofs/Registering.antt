@@ -1,9 +1,9 @@
 -- A mask after several callbacks are registered.
-use Rattle.std.proofs.Common.{◌≡◌, ℕ, ◌<◌, ◌^◌, Bool, true, ◌&&◌, ◌==◌, ◌+◌, List, [], ◌∷◌, length, get_or, drop, drop-cons, add-one, bit_or, inl, inr, sym, ap, subst, ◌∙◌, arith}
+use Rattle.std.proofs.Common.{◌≡◌, ℕ, ◌<◌, ◌^◌, Bool, true, ◌&&◌, ◌==◌, ◌+◌, List, [], ◌∷◌, length, get_or, drop, drop-cons, add-one, bit_or, inl, inr, sym, subst, ◌∙◌, arith}
 use Rattle.std.specs.List.{All}
 use Rattle.std.specs.Int.{bit_at}
-use Rattle.std.proofs.lemmas.Bool.{and_parts, cases_Bool, eqb-true, false≢true}
-use Rattle.std.proofs.lemmas.Nat.Bits.{bit_at-lt, bit_at-zero, same_from_bits}
+use Rattle.std.proofs.lemmas.Bool.{and_parts, cases_Bool, eqb-true}
+use Rattle.std.proofs.lemmas.Nat.Bits.{bit_at-lt, same_from_bits}
 use Rattle.ompt_calls.specs.Number.{is_registered}
 use Rattle.omp_codes.specs.Answers.{answer_of}
 use Rattle.tool_api.specs.Registering.{AreAlways, is_registered_after}
@@ -33,10 +33,6 @@ registered-more numbers i old new whole always below says before =
     let set = set-gives old new (get_or numbers i 0) (always i 0 below) says in
     let rest : registered_from (bit_or old (2 ^ get_or numbers i 0)) (drop (i + 1) numbers) ≡ whole = rw (drop-cons numbers i 0 below, ← add-one) at before in
     rw set rest
-
--- a mask with nothing registered
-pub always-none : AreAlways 0
-always-none number is = absurd (false≢true (sym (ap (λ bit. bit == 1) (bit_at-zero number)) ∙ is))
 
 -- one callback more is registered that is called always
 pub always-set : (old new number : ℕ) → answer_of number ≡ 5 → ((other : ℕ) → is_registered new other ≡ is_registered_after old number other) → AreAlways old → AreAlways new

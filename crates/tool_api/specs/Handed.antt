@@ -9,7 +9,7 @@ abbrev pub HandedFor : {G : Type 0} → (G → Record → Type 0) → Handed G �
 HandedFor GuestFor (held.Guest guest) h = GuestFor guest h
 HandedFor GuestFor (held.Quiet quiet) h = QuietFor quiet h
 
--- a handed part stays what it is: the same tool, where it is given which tools are the same, or none
+-- a handed part stays what it is: the same tool by a relation that is given, or none
 abbrev pub SameHanded : {G : Type 0} → (G → G → Type 0) → Handed G → Handed G → Type 0
 SameHanded Same (held.Guest guest) (held.Guest other) = Same guest other
 SameHanded Same (held.Guest guest) (held.Quiet other) = ⊥

@@ -14,8 +14,8 @@ pub type Memory = std::alloc::AllocError;
 ///
 /// `stands_for` says which records a part may have behind it. Each call keeps this: a part that stands for a record stands
 /// afterwards for the record with that call, and after an error for the record with one more call that found no memory.
-/// `same` says that a part after some calls is the one that it was before them: each call keeps it, it holds of a part and itself, and it goes on
-/// from one to the next.
+/// `same` is a relation of the part's own between what it was before some calls and what it is after them. Each call keeps it, it holds
+/// of a part and itself, and it goes on from one to the next.
 pub trait ToolPart: Drop + Send {
     ghost stands_for: { Self → Record → Type 0 };
 
