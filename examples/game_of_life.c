@@ -1,4 +1,4 @@
-// A glider on a board of 6 by 6 after 4 generations. The single swaps the boards; its barrier holds the others back.
+// A glider on a board of 6 by 6 after 4 generations. The single copies the new board; its barrier holds the others back.
 #include <stdio.h>
 int cell[36], next[36], n = 6;
 int main(void) {

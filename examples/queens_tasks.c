@@ -1,4 +1,4 @@
-// Six queens: a task for each place that is safe, and no wait but the region's barrier. A call's value goes to a variable.
+// Six queens: a task for each place that is safe, which nobody waits for but a barrier. A call's value goes to a variable first.
 #include <stdio.h>
 int n = 6, found;
 int safe(int placed, int row, int column) {
@@ -16,9 +16,10 @@ void place(int placed, int row) {
   found += row == n;
   for (int column = 0; column < n && row < n; column++) {
     int ok = safe(placed, row, column);
-    #pragma omp task if(ok)
-    if (ok)
+    if (ok) {
+      #pragma omp task
       place(placed * n + column, row + 1);
+    }
   }
 }
 int main(void) {
