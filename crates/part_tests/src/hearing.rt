@@ -53,7 +53,10 @@ pub(crate) const BEGIN_AND_END: [Heard; 2] = [(4, 0x001, BEGIN), (8, 0x101, END)
 const MANY: u32 = 10_000;
 
 /// The part hears a call so often.
-pub(crate) fn hear_many<R: Abort + AllocGlobal, P: ToolPart>(rt: &R, part: &mut P) -> Result<(), Memory> {
+pub(crate) fn hear_many<R: Abort + AllocGlobal, P: ToolPart>(
+    rt: &R,
+    part: &mut P,
+) -> Result<(), Memory> {
     let snapshot = snapshot_in(rt.alloc(), 0x001);
     for seq in 0..MANY {
         let _stores_nothing = part.callback(seq, 0, &BEGIN, &snapshot)?;

@@ -227,8 +227,7 @@ const ONCE: Reply = Reply {
 /// A run on one thread, whose part stores.
 fn run_with_stores(alloc: Global) -> Result<Ran<Keeping>, Memory> {
     let mut part = new_part(alloc);
-    part.replies
-        .extend_from_slice(&[(6, THRICE), (11, ONCE)])?;
+    part.replies.extend_from_slice(&[(6, THRICE), (11, ONCE)])?;
     let parts = Vec::from_array(alloc, [part])?;
     run_with(alloc, REGION_OF_TWO, parts)
 }

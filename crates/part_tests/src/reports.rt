@@ -205,10 +205,7 @@ fn three_profiles<R: Abort + AllocGlobal>(rt: &R) -> Result<Vec<Profile>, Memory
     let first = profile_of_all(rt)?;
     let mut last = Profile::new();
     hear(rt, &mut last, 2, &[(9, 0x101, BEGIN)])?;
-    Ok(Vec::from_array(
-        rt.alloc(),
-        [first, Profile::new(), last],
-    )?)
+    Ok(Vec::from_array(rt.alloc(), [first, Profile::new(), last])?)
 }
 
 /// A thread without a call has no line.

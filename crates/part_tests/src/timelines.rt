@@ -3,6 +3,7 @@
 use crate::hearing::{BEGIN, BEGIN_AND_END, hear, hear_many};
 use std::process::Abort;
 use tool_report::{Memory, Moment, Timeline, timeline_text};
+
 #[test]
 fn a_timeline_keeps_positions_and_states(rt: HostRuntime) -> Result<(), Memory> {
     let mut timeline = Timeline::new(rt.alloc());
