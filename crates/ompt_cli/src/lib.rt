@@ -35,8 +35,8 @@ mod guest_part;
 mod guests;
 mod job;
 mod observing;
-mod own_words;
 mod program_tree;
+mod program_words;
 mod recording;
 mod report;
 mod reporting;
@@ -49,7 +49,7 @@ mod writing;
 
 pub use end::{End, Refusal};
 pub use ompt_words::{Command, TraceCommand};
-pub use own_words::own_words;
 pub use program_tree::ProgramTree;
+pub use program_words::own_words;
 pub use report::{Report, Top};
 pub use top_call::top;
