@@ -11,6 +11,8 @@ mod fixture;
 #[cfg(test)]
 mod gate;
 #[cfg(test)]
+mod hostile;
+#[cfg(test)]
 mod listening;
 #[cfg(test)]
 mod report_commands;
