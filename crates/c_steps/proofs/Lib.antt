@@ -17,6 +17,7 @@ mod Frames
 pub mod Giving
 pub mod InnerNames
 pub mod Iterating
+mod LeftOperands
 pub mod ListedNames
 mod Looking
 pub mod Members

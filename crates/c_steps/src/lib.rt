@@ -29,6 +29,7 @@
 #![tactic(auto)]
 
 mod cells;
+mod chains;
 mod clauses;
 mod code;
 mod control;

@@ -8,16 +8,23 @@ ghost use Rattle.c_model.specs.declared.limits.TheConstants.{CELL_LIMIT};
 ghost use Rattle.c_model.specs.Cells.{cell_at, entry_at_slot, entry_of, first_named, last_named, last_of_slot, no_entry};
 ghost use Rattle.c_model.specs.Parts.{parts};
 ghost use Rattle.c_model.specs.Value.{all_values, binary_value, cell_of, element, getter_number, unary_value, value};
+ghost use Rattle.c_syntax.specs.language.Tree.{kind_of};
 ghost use Rattle.c_steps.specs.Arguments.{without_values};
+ghost use Rattle.c_steps.specs.Chains.{IsChain, left_below};
 ghost use Rattle.c_steps.specs.Entering.{HaveNoTrap, IsNextArgument};
 ghost use Rattle.c_steps.specs.Nodes.{IsPart, part_at};
 ghost use Rattle.c_steps.specs.Rooming.{AreEntries, IsEntry};
 ghost use Rattle.c_steps.specs.Scopes.{HasNumbers, operand_at, scope_of};
 
+use crate::chains::{chain_from, operand_below};
 use crate::numbers::{binary_result, deciding_value, unary_result};
 use crate::parts::next_part;
 use c_model::{CELL_LIMIT, Entry, INDEX, View};
 use c_syntax::{BinaryOp, Getter, NodeKind, Tree, UnaryOp};
+
+/// How many operators deep an expression may be for its number to be tried first without a trap. That of a deeper one is found by
+/// [`Scope::node_value`] alone.
+const QUICK_DEPTH: u32 = 64;
 
 /// The number of an argument of a call, and the place of the next one.
 #[derive(Clone, Copy)]
@@ -157,7 +164,7 @@ impl<'a> Scope<'a> {
         ensures { IfSome result (λ number. value (scope_of self.now) (part_at self.now.tree.now.trees part) ≡ Ok number) }
     {
         match part {
-            Some(node) => self.quick_node(node),
+            Some(node) => self.quick_node(node, QUICK_DEPTH),
             None => Some(0),
         }
     }
@@ -170,15 +177,15 @@ impl<'a> Scope<'a> {
         ensures { IfSome result (λ cell. cell_of (scope_of self.now) (part_at self.now.tree.now.trees place) ≡ Ok cell) }
     {
         match place {
-            Some(node) => self.quick_cell(node),
+            Some(node) => self.quick_cell(node, QUICK_DEPTH),
             None => None,
         }
     }
 
-    /// The number of an expression, if it has no trap.
+    /// The number of an expression, if it has no trap and is no more than so many operators deep.
     #[cycle(quick)]
     #[tactic(auto, using(crate::proofs::Values::value_is, crate::proofs::Values::cell_is))]
-    fn quick_node(&self, node: u32) -> Option<i32>
+    fn quick_node(&self, node: u32, depth: u32) -> Option<i32>
         requires node { node < length self.now.tree.now.trees }
         requires view { HasNumbers self.now.view }
         ensures { IfSome result (λ number. value (scope_of self.now) (tree_at self.now.tree.now.trees node) ≡ Ok number) }
@@ -186,13 +193,13 @@ impl<'a> Scope<'a> {
         match self.tree.kind(node) {
             NodeKind::Number => Some(self.tree.number(node)),
             NodeKind::Place => {
-                let cell = self.quick_cell(node)?;
+                let cell = self.quick_cell(node, depth)?;
                 Some(number_in(self.cells, cell))
             }
-            NodeKind::Paren => self.quick_operand(node, 0),
+            NodeKind::Paren => self.quick_operand(node, 0, depth),
             NodeKind::Getter(which) => Some(thread_number(which, self.view)),
-            NodeKind::Unary(operator) => self.quick_unary(operator, node),
-            NodeKind::Binary(operator) => self.quick_binary(operator, node),
+            NodeKind::Unary(operator) => self.quick_unary(operator, node, depth),
+            NodeKind::Binary(operator) => self.quick_binary(operator, node, depth),
             _ => Some(0),
         }
     }
@@ -201,7 +208,7 @@ impl<'a> Scope<'a> {
     #[cycle(quick)]
     #[tactic(auto, using(crate::proofs::Values::value_is, crate::proofs::Values::cell_is))]
     #[inline(always)]
-    fn quick_operand(&self, node: u32, place: u32) -> Option<i32>
+    fn quick_operand(&self, node: u32, place: u32, depth: u32) -> Option<i32>
         requires node { node < length self.now.tree.now.trees }
         requires view { HasNumbers self.now.view }
         ensures { IfSome result (λ number. operand_at self.now node place ≡ Ok number) }
@@ -213,9 +220,9 @@ impl<'a> Scope<'a> {
             NodeKind::Number => Some(self.tree.number(child)),
             NodeKind::Place => match self.tree.child(child, 0) {
                 None => Some(self.named_number(self.tree.name(child))),
-                Some(_) => self.quick_node(child),
+                Some(_) => self.quick_node(child, depth),
             },
-            _ => self.quick_node(child),
+            _ => self.quick_node(child, depth),
         }
     }
 
@@ -231,7 +238,7 @@ impl<'a> Scope<'a> {
     #[cycle(quick)]
     #[tactic(auto, using(crate::proofs::Values::cell_is))]
     #[inline(always)]
-    fn quick_cell(&self, node: u32) -> Option<usize>
+    fn quick_cell(&self, node: u32, depth: u32) -> Option<usize>
         requires node { node < length self.now.tree.now.trees }
         requires view { HasNumbers self.now.view }
         ensures { IfSome result (λ cell. cell_of (scope_of self.now) (tree_at self.now.tree.now.trees node) ≡ Ok cell) }
@@ -240,7 +247,7 @@ impl<'a> Scope<'a> {
         match self.tree.child(node, 0) {
             None => Some(entry.first as usize),
             Some(child) => {
-                let index = self.quick_node(child)?;
+                let index = self.quick_node(child, depth)?;
                 match element(entry, index) {
                     Ok(cell) => Some(cell),
                     Err(_) => None,
@@ -251,12 +258,12 @@ impl<'a> Scope<'a> {
 
     #[cycle(quick)]
     #[inline(always)]
-    fn quick_unary(&self, operator: UnaryOp, node: u32) -> Option<i32>
+    fn quick_unary(&self, operator: UnaryOp, node: u32, depth: u32) -> Option<i32>
         requires node { node < length self.now.tree.now.trees }
         requires view { HasNumbers self.now.view }
         ensures { IfSome result (λ number. unary_value operator (operand_at self.now node 0) ≡ Ok number) }
     {
-        let number = self.quick_operand(node, 0)?;
+        let number = self.quick_operand(node, 0, depth)?;
         match unary_result(operator, number) {
             Ok(result) => Some(result),
             Err(_) => None,
@@ -266,16 +273,17 @@ impl<'a> Scope<'a> {
     /// The right operand isn't looked at where the left one decides.
     #[cycle(quick)]
     #[inline(always)]
-    fn quick_binary(&self, operator: BinaryOp, node: u32) -> Option<i32>
+    fn quick_binary(&self, operator: BinaryOp, node: u32, depth: u32) -> Option<i32>
         requires node { node < length self.now.tree.now.trees }
         requires view { HasNumbers self.now.view }
         ensures { IfSome result (λ number. binary_value operator (operand_at self.now node 0) (operand_at self.now node 1) ≡ Ok number) }
     {
-        let left = self.quick_operand(node, 0)?;
+        let depth = depth.checked_sub(1)?;
+        let left = self.quick_operand(node, 0, depth)?;
         if let Some(number) = deciding_value(operator, left) {
             return Some(number);
         }
-        let right = self.quick_operand(node, 1)?;
+        let right = self.quick_operand(node, 1, depth)?;
         match binary_result(operator, left, right) {
             Ok(result) => Some(result),
             Err(_) => None,
@@ -327,15 +335,57 @@ impl<'a> Scope<'a> {
         }
     }
 
-    /// The right operand isn't looked at where the left one decides.
+    /// The number of an operator. Its left operands are a chain, which may be as long as the text.
     #[cycle(values)]
-    #[inline(always)]
+    #[tactic(auto, using(crate::proofs::Values::value_is, crate::proofs::LeftOperands::chain_left, crate::proofs::LeftOperands::below_left))]
     fn binary(&self, operator: BinaryOp, node: u32) -> Result<i32, u8>
         requires node { node < length self.now.tree.now.trees }
         requires view { HasNumbers self.now.view }
-        ensures { result ≡ binary_value operator (operand_at self.now node 0) (operand_at self.now node 1) }
+        requires kind { kind_of (tree_at self.now.tree.now.trees node) ≡ NodeKind.Binary operator }
+        ensures { result ≡ value (scope_of self.now) (tree_at self.now.tree.now.trees node) }
     {
-        match self.operand(node, 0) {
+        match self.tree.child(node, 0) {
+            None => self.joined(operator, node, Ok(0)),
+            Some(left) => {
+                let chain = chain_from(self.tree, left);
+                let lowest = self.node_value(chain.lowest);
+                self.chain_value(node, chain.levels + 1, lowest)
+            }
+        }
+    }
+
+    /// The number of a node with a chain of so many operators, by that of the operand below them. The lower half is found before the upper
+    /// one, so that calls stand in one another no deeper than the number of operators has binary digits.
+    #[cycle(values)]
+    #[tactic(auto, using(crate::proofs::LeftOperands::lower_half, crate::proofs::LeftOperands::upper_half, crate::proofs::LeftOperands::lower_below, crate::proofs::LeftOperands::one_joined))]
+    fn chain_value(&self, node: u32, levels: u32, lowest: Result<i32, u8>) -> Result<i32, u8>
+        requires node { node < length self.now.tree.now.trees }
+        requires view { HasNumbers self.now.view }
+        requires some { 0 < levels }
+        requires chain { IsChain levels (tree_at self.now.tree.now.trees node) }
+        requires lowest { lowest ≡ value (scope_of self.now) (left_below levels (tree_at self.now.tree.now.trees node)) }
+        ensures { result ≡ value (scope_of self.now) (tree_at self.now.tree.now.trees node) }
+    {
+        if levels == 1 {
+            return match self.tree.kind(node) {
+                NodeKind::Binary(operator) => self.joined(operator, node, lowest),
+                _ => unreachable!(),
+            };
+        }
+        let upper = levels / 2;
+        let middle = operand_below(self.tree, node, upper);
+        let number = self.chain_value(middle, levels - upper, lowest);
+        self.chain_value(node, upper, number)
+    }
+
+    /// The number of an operator by that of its left operand. The right one isn't looked at where the left one decides.
+    #[cycle(values)]
+    fn joined(&self, operator: BinaryOp, node: u32, left: Result<i32, u8>) -> Result<i32, u8>
+        requires node { node < length self.now.tree.now.trees }
+        requires view { HasNumbers self.now.view }
+        ensures { result ≡ binary_value operator left (operand_at self.now node 1) }
+    {
+        match left {
             Err(trap) => Err(trap),
             Ok(left) => match deciding_value(operator, left) {
                 Some(number) => Ok(number),

@@ -1,8 +1,9 @@
 -- How the tasks are kept: the control of each one that has code, controls without code, and room.
-use Rattle.std.specs.Prelude.{ℕ, ◌+◌, ◌<◌, ◌≤◌, ◌^◌, List, Option, None, IfSome, length, map, slice_index_or}
+use Rattle.std.specs.Prelude.{ℕ, ◌≡◌, ◌+◌, ◌<◌, ◌≤◌, ◌^◌, List, [], ◌∷◌, Option, Some, None, IfSome, length, map, slice_index_or}
 use Rattle.std.specs.List.{All}
 use Rattle.c_syntax.specs.language.Numbered.{TreeView}
-use Rattle.c_steps.specs.Held.{Held}
+use Rattle.c_model.specs.Begin.{main_task}
+use Rattle.c_steps.specs.Held.{Held, task_at}
 use Rattle.c_steps.specs.Made.{IsMadeFor}
 use Rattle.omp_model.specs.State.{Task as Seen}
 use Rattle.omp_board.specs.declared.task.Task.{Task}
@@ -19,6 +20,13 @@ seen_tasks program tasks = map (seen_task program) tasks
 -- a task without code
 abbrev pub kept_nothing : Task
 kept_nothing = record { control = None; thread = 0; forked = 0; word = 0 }
+
+-- a task without code, and behind it the initial one, before its first step
+pub record AreFirst (program : TreeView) (tasks : List Task) : Type 0 where
+  pub main : Held
+  pub made : IsMadeFor program main
+  pub stands : task_at program main ≡ main_task program
+  pub tasks_are : tasks ≡ kept_nothing ∷ record kept_nothing { control = Some main } ∷ []
 
 abbrev pub control_at : List Task → ℕ → Option Held
 control_at tasks k = (slice_index_or tasks k kept_nothing).control

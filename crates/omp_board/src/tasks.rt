@@ -1,11 +1,11 @@
 //! The tasks of a run with their code, and what all code shares.
 
-ghost use Rattle.std.specs.Prelude.{◌≡◌, ◌<◌, ◌≤◌, IfNone, IfOk, IfSome, OnErr, OnOk, length, slice_get, slice_index_or};
+ghost use Rattle.std.specs.Prelude.{◌≡◌, ◌<◌, ◌≤◌, IfNone, IfOk, IfSome, OnErr, OnOk, [], length, slice_get, slice_index_or};
 ghost use Rattle.c_syntax.specs.language.Tree.{nothing};
 ghost use Rattle.c_syntax.specs.language.Numbered.{tree_at};
 ghost use Rattle.c_model.specs.Answers.{AnswersFirst};
 ghost use Rattle.c_model.specs.Asked.{count_asked, sections_asked};
-ghost use Rattle.c_model.specs.Begin.{blank_task};
+ghost use Rattle.c_model.specs.Begin.{blank_task, first_store};
 ghost use Rattle.c_model.specs.Clauses.{statements_among};
 ghost use Rattle.c_model.specs.Going.{settled_after_answer, settled_after_event};
 ghost use Rattle.c_model.specs.Parts.{parts};
@@ -20,6 +20,7 @@ ghost use Rattle.c_steps.specs.Passing.{IsEventOfNext};
 ghost use Rattle.c_steps.specs.Ready.{FitsProgram};
 ghost use Rattle.c_steps.specs.Scopes.{HasNumbers};
 ghost use Rattle.omp_model.specs.Going.{member_code};
+ghost use Rattle.omp_board.specs.Keeping.{AreFirst};
 ghost use Rattle.omp_board.specs.Tasks.{HasCells, HasPass, HasSteps, HasStepsFor, HaveSteppedIn, IsNamedIn, IsStill, code_in, created_by, first_tasks, gone_in, moment_in, one_pass_less, one_step_less, room_after, task_in, turn_room, with_code_in, with_one_more, with_task_in};
 
 use crate::controls::{
@@ -46,6 +47,14 @@ struct Room {
     steps: u32,
     passes: u32,
     tasks: usize,
+}
+
+/// What the tasks of a run begin with, beside the program.
+#[derive(Drop)]
+struct First {
+    cells: Cells,
+    list: Vec<Task>,
+    blanks: Vec<Control>,
 }
 
 /// The tasks of a run with their code, and the cells and the text that all code shares. Contracts see the program, the tasks by identity, at 0 one
@@ -94,12 +103,11 @@ impl Tasks {
         ensures { IfOk result (λ tasks. tasks ≡ first_tasks program) }
     {
         let code = Code::new(alloc, program)?;
-        let cells = Cells::new(alloc, &code)?;
-        let main = Control::main(alloc, &code)?;
-        let mut list = Vec::new(alloc);
-        list.push(task_with(None))?;
-        list.push(task_with(Some(main)))?;
-        let blanks = Vec::with_capacity(alloc, BLANKS)?;
+        let First {
+            cells,
+            list,
+            blanks,
+        } = first_parts(alloc, &code)?;
         Ok(Tasks {
             alloc,
             code,
@@ -448,4 +456,32 @@ impl Tasks {
     {
         self.cells.into_text()
     }
+}
+
+/// What the tasks of this program begin with: the cells of its file, at 0 a task without code and behind it the initial one, and no controls for tasks
+/// to come.
+fn first_parts(alloc: Global, code: &Code) -> Result<First, AllocError>
+    ensures cells { IfOk result (λ first. first.cells ≡ first_store code.now) }
+    ensures list { IfOk result (λ first. AreFirst code.now first.list.items) }
+    ensures blanks { IfOk result (λ first. first.blanks.items ≡ []) }
+{
+    let cells = Cells::new(alloc, code)?;
+    let list = first_list(alloc, code)?;
+    let blanks = Vec::with_capacity(alloc, BLANKS)?;
+    Ok(First {
+        cells,
+        list,
+        blanks,
+    })
+}
+
+/// A task without code, and the initial one.
+fn first_list(alloc: Global, code: &Code) -> Result<Vec<Task>, AllocError>
+    ensures { IfOk result (λ list. AreFirst code.now list.items) }
+{
+    let main = Control::main(alloc, code)?;
+    let mut list = Vec::new(alloc);
+    list.push(task_with(None))?;
+    list.push(task_with(Some(main)))?;
+    Ok(list)
 }
