@@ -1,4 +1,4 @@
-use Rattle.std.proofs.Common.{◌≡◌, List, ◌++◌, ◌∷◌, [], Some, ap, refl, ◌∙◌}
+use Rattle.std.proofs.Common.{List, ◌++◌, ◌∷◌, [], ap, refl, ◌∙◌}
 use Rattle.omp_board.specs.declared.task.Task.{Task}
 use Rattle.omp_board.proofs.tasks.first_list.Goals as goal
 
