@@ -12,3 +12,4 @@ pub mod Telling
 pub mod Recorded
 pub mod Traced
 pub mod NestedRuns
+pub mod Carrying

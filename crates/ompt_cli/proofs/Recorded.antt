@@ -1,6 +1,5 @@
 -- What a recording writes, and that it is a trace.
-use Rattle.std.proofs.Common.{◌≡◌, ◌≢◌, ℕ, ◌≤◌, ◌+◌, List, [], ◌∷◌, ◌++◌, length, length-append, map, refl, subst, sym, ◌∙◌, ap, arith}
-use Rattle.std.proofs.lemmas.List.{length-map}
+use Rattle.std.proofs.Common.{◌≡◌, ◌≢◌, ℕ, ◌≤◌, List, refl, subst}
 use Rattle.ompt_calls.specs.declared.event.EventRecord.{EventRecord}
 use Rattle.omp_model.specs.declared.cause.Cause.{Cause}
 use Rattle.omp_model.specs.declared.cause.Cause.TheVariants as cause
@@ -23,9 +22,21 @@ unless-found cause.Deadlock lines found = refl
 unless-found (cause.Limit number) lines found = refl
 unless-found cause.Memory lines found = absurd (found refl)
 
+memory-end : (told : End) → EndsAs cause.Memory told → told ≡ end.Memory
+memory-end end.Memory ends = refl
+memory-end end.WriteFault ends = absurd (ends refl)
+memory-end (end.Ended why) ends = absurd (ends.1 refl)
+memory-end end.Shown ends = absurd ends
+memory-end end.Read ends = absurd ends
+memory-end end.Usage ends = absurd ends
+memory-end (end.Refused why) ends = absurd ends
+memory-end (end.TraceRefused refusal) ends = absurd ends
+memory-end (end.Broken breach) ends = absurd ends
+memory-end end.ReadFault ends = absurd ends
+
 -- an end that isn't want of memory tells of a run that found memory
 pub ends-found : (of : Cause) (told : End) → EndsAs of told → told ≢ end.Memory → of ≢ cause.Memory
-ends-found of told ends other none = other (subst (λ (found : Cause). EndsAs found told) none ends)
+ends-found of told ends other none = other (memory-end told (subst (λ (found : Cause). EndsAs found told) none ends))
 
 -- the records of a run are few enough
 pub shared-few : (run : Run) (H : List Entry) (parts : List (List EventRecord)) → 1 ≤ run.threads → Legal run H → AreShared (records_of run H) parts → IsSharedFew parts

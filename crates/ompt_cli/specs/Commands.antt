@@ -1,6 +1,8 @@
 -- What a command does: what its words and its text decide, what it reports of its run, and what it writes.
 use Rattle.std.specs.Prelude.{ℕ, ◌≤◌, length, ◌≡◌, ◌≢◌, ◌⊎◌, ⊤, IsSome, IsSomeAnd, List, [], Option, Some, None, string_bytes}
+use Rattle.std.specs.Io.KnownBytes.{Appends, Keeps}
 use Rattle.std.specs.declared.string.String.{String}
+use Rattle.run_edges.specs.Edges.{AppendsFront, Rose}
 use Rattle.std.specs.declared.alloc.Global.{Global}
 use Rattle.omp_model.specs.declared.cause.Cause.{Cause}
 use Rattle.omp_model.specs.declared.cause.Cause.TheVariants as cause
@@ -22,7 +24,7 @@ use Rattle.ompt_words.specs.declared.settings.Command.TheVariants.{Generate as G
 use Rattle.ompt_words.specs.declared.settings.Settings.{Settings}
 use Rattle.ompt_cli.specs.declared.end.Refusal.{Refusal}
 use Rattle.ompt_cli.specs.declared.end.End.{End}
-use Rattle.ompt_cli.specs.declared.end.End.TheVariants.{Done, Returned, Shown, Read, TraceRefused, Broken, Usage, Refused, Trapped, Deadlock, Limit, ReadFault, WriteFault, Memory}
+use Rattle.ompt_cli.specs.declared.end.End.TheVariants.{Ended, Shown, Read, TraceRefused, Broken, Usage, Refused, ReadFault, WriteFault, Memory}
 use Rattle.ompt_cli.specs.declared.report.Report.{Report}
 
 -- the run that a report is of. A guest is a box of a vtable and what lies behind it
@@ -31,12 +33,8 @@ run_of report = run_of_program report.program.tree report.mask report.threads re
 
 -- nothing is written of a run that found no memory
 abbrev pub unless_memory : Cause → List ℕ → List ℕ
-unless_memory cause.Done lines = lines
-unless_memory (cause.Returned value) lines = lines
-unless_memory (cause.Trapped number) lines = lines
-unless_memory cause.Deadlock lines = lines
-unless_memory (cause.Limit number) lines = lines
 unless_memory cause.Memory lines = []
+unless_memory other lines = lines
 
 -- recorders have events between them that are few enough for a trace
 abbrev pub IsSharedFew : List (List EventRecord) → Type 0
@@ -72,162 +70,73 @@ settings_in report = record { command = report.command; threads = report.threads
 
 -- the end of a command whose text is refused for this: that refusal, or what comes before it
 abbrev pub MayRefuse : Refusal → End → Type 0
-MayRefuse why Done = ⊥
-MayRefuse why (Returned value) = ⊥
-MayRefuse why Shown = ⊥
-MayRefuse why Read = ⊥
-MayRefuse why Usage = ⊥
 MayRefuse why (Refused other) = other ≡ why
-MayRefuse why (Trapped number) = ⊥
-MayRefuse why Deadlock = ⊥
-MayRefuse why (Limit number) = ⊥
-MayRefuse why (TraceRefused refusal) = ⊥
-MayRefuse why (Broken breach) = ⊥
 MayRefuse why ReadFault = ⊤
-MayRefuse why WriteFault = ⊥
 MayRefuse why Memory = ⊤
+MayRefuse why other = ⊥
 
 -- the end of a command whose text is the program: none for its words or its text
 abbrev pub MayRun : End → Type 0
-MayRun Done = ⊤
-MayRun (Returned value) = ⊤
-MayRun Shown = ⊥
-MayRun Read = ⊥
-MayRun Usage = ⊥
-MayRun (Refused why) = ⊥
-MayRun (Trapped number) = ⊤
-MayRun Deadlock = ⊤
-MayRun (Limit number) = ⊤
-MayRun (TraceRefused refusal) = ⊥
-MayRun (Broken breach) = ⊥
+MayRun (Ended why) = ⊤
 MayRun ReadFault = ⊤
 MayRun WriteFault = ⊤
 MayRun Memory = ⊤
+MayRun other = ⊥
 
 -- the end of a command whose words ask for no run: they are refused, or a text is shown
 abbrev pub IsUnread : End → Type 0
-IsUnread Done = ⊥
-IsUnread (Returned value) = ⊥
 IsUnread Shown = ⊤
-IsUnread Read = ⊥
 IsUnread Usage = ⊤
-IsUnread (Refused why) = ⊥
-IsUnread (Trapped number) = ⊥
-IsUnread Deadlock = ⊥
-IsUnread (Limit number) = ⊥
-IsUnread (TraceRefused refusal) = ⊥
-IsUnread (Broken breach) = ⊥
-IsUnread ReadFault = ⊥
 IsUnread WriteFault = ⊤
 IsUnread Memory = ⊤
+IsUnread other = ⊥
 
 -- the end of a command whose words ask for a text: it is shown, unless a write or memory fails
 abbrev pub IsShowing : End → Type 0
-IsShowing Done = ⊥
-IsShowing (Returned value) = ⊥
 IsShowing Shown = ⊤
-IsShowing Read = ⊥
-IsShowing Usage = ⊥
-IsShowing (Refused why) = ⊥
-IsShowing (Trapped number) = ⊥
-IsShowing Deadlock = ⊥
-IsShowing (Limit number) = ⊥
-IsShowing (TraceRefused refusal) = ⊥
-IsShowing (Broken breach) = ⊥
-IsShowing ReadFault = ⊥
 IsShowing WriteFault = ⊤
 IsShowing Memory = ⊤
+IsShowing other = ⊥
 
 -- the end of a command that reads a trace
 abbrev pub IsReading : End → Type 0
-IsReading Done = ⊥
-IsReading (Returned value) = ⊥
-IsReading Shown = ⊥
 IsReading Read = ⊤
-IsReading Usage = ⊥
-IsReading (Refused why) = ⊥
-IsReading (Trapped number) = ⊥
-IsReading Deadlock = ⊥
-IsReading (Limit number) = ⊥
 IsReading (TraceRefused refusal) = ⊤
 IsReading (Broken breach) = ⊤
 IsReading ReadFault = ⊤
 IsReading WriteFault = ⊤
 IsReading Memory = ⊤
+IsReading other = ⊥
 
 -- the end of a command that comes before its run
 abbrev pub IsBeforeRun : End → Type 0
-IsBeforeRun Done = ⊥
-IsBeforeRun (Returned value) = ⊥
-IsBeforeRun Shown = ⊥
-IsBeforeRun Read = ⊥
-IsBeforeRun Usage = ⊥
 IsBeforeRun (Refused why) = ⊤
-IsBeforeRun (Trapped number) = ⊥
-IsBeforeRun Deadlock = ⊥
-IsBeforeRun (Limit number) = ⊥
-IsBeforeRun (TraceRefused refusal) = ⊥
-IsBeforeRun (Broken breach) = ⊥
 IsBeforeRun ReadFault = ⊤
-IsBeforeRun WriteFault = ⊥
 IsBeforeRun Memory = ⊤
+IsBeforeRun other = ⊥
+
+-- the end of a command whose run ended in this cause: the cause is told, unless a write or memory fails
+abbrev pub EndsAs : Cause → End → Type 0
+EndsAs why (Ended told) = (told ≡ why) × (why ≢ cause.Memory)
+EndsAs why WriteFault = why ≢ cause.Memory
+EndsAs why Memory = ⊤
+EndsAs why other = ⊥
 
 -- the end of a command that has run
 abbrev pub IsAfterRun : End → Type 0
-IsAfterRun Done = ⊤
-IsAfterRun (Returned value) = ⊤
-IsAfterRun Shown = ⊥
-IsAfterRun Read = ⊥
-IsAfterRun Usage = ⊥
-IsAfterRun (Refused why) = ⊥
-IsAfterRun (Trapped number) = ⊤
-IsAfterRun Deadlock = ⊤
-IsAfterRun (Limit number) = ⊤
-IsAfterRun (TraceRefused refusal) = ⊥
-IsAfterRun (Broken breach) = ⊥
-IsAfterRun ReadFault = ⊥
+IsAfterRun (Ended why) = ⊤
 IsAfterRun WriteFault = ⊤
 IsAfterRun Memory = ⊤
+IsAfterRun other = ⊥
 
--- the end that tells how a run ended
-abbrev pub TellsRun : End → Type 0
-TellsRun Done = ⊤
-TellsRun (Returned value) = ⊤
-TellsRun Shown = ⊥
-TellsRun Read = ⊥
-TellsRun Usage = ⊥
-TellsRun (Refused why) = ⊥
-TellsRun (Trapped number) = ⊤
-TellsRun Deadlock = ⊤
-TellsRun (Limit number) = ⊤
-TellsRun (TraceRefused refusal) = ⊥
-TellsRun (Broken breach) = ⊥
-TellsRun ReadFault = ⊥
-TellsRun WriteFault = ⊥
-TellsRun Memory = ⊥
+-- What a command has written of this text, by how it ended: all of it, a front of it where a write failed, and nothing where memory failed. Over what the
+-- output holds before and after.
+pub record HasWritten (end : End) (text : List ℕ) (old new : Option (List ℕ)) : Type 0 where
+  pub listed : end ≢ WriteFault → end ≢ Memory → Appends old new text
+  pub part : end ≡ WriteFault → AppendsFront old new text
+  pub kept : end ≡ Memory → Keeps old new
 
--- this end, unless a write or memory fails
-abbrev pub EndsWith : End → End → Type 0
-EndsWith whole Done = whole ≡ Done
-EndsWith whole (Returned value) = whole ≡ Returned value
-EndsWith whole Shown = ⊥
-EndsWith whole Read = ⊥
-EndsWith whole Usage = ⊥
-EndsWith whole (Refused why) = ⊥
-EndsWith whole (Trapped number) = whole ≡ Trapped number
-EndsWith whole Deadlock = whole ≡ Deadlock
-EndsWith whole (Limit number) = whole ≡ Limit number
-EndsWith whole (TraceRefused refusal) = ⊥
-EndsWith whole (Broken breach) = ⊥
-EndsWith whole ReadFault = ⊥
-EndsWith whole WriteFault = ⊤
-EndsWith whole Memory = ⊤
-
--- the end of a command whose run ended in this cause: the cause is told so unless a write or memory fails
-abbrev pub EndsAs : Cause → End → Type 0
-EndsAs cause.Done end = EndsWith Done end
-EndsAs (cause.Returned value) end = EndsWith (Returned value) end
-EndsAs (cause.Trapped number) end = EndsWith (Trapped number) end
-EndsAs cause.Deadlock end = EndsWith Deadlock end
-EndsAs (cause.Limit number) end = EndsWith (Limit number) end
-EndsAs cause.Memory end = end ≡ Memory
+-- a count of faults rose where the command ended for them, and else is as it was
+pub record CountsFaults (end faulty : End) (before now : ℕ) : Type 0 where
+  pub rose : end ≡ faulty → Rose before now
+  pub steady : end ≢ faulty → now ≡ before

@@ -1,7 +1,10 @@
 -- The status and the line of each end of a command.
-use Rattle.std.specs.Prelude.{ℕ, ◌⊎◌, if◌then◌else◌, ◌==◌, ◌≡◌, List, [], ◌∷◌, ◌++◌, codes, Option}
+use Rattle.std.specs.Prelude.{ℕ, ◌⊎◌, ◌↔◌, ◌<◌, if◌then◌else◌, ◌==◌, ◌≡◌, List, [], ◌∷◌, ◌++◌, codes, Option}
 use Rattle.std.specs.Io.KnownBytes.{Appends}
 use Rattle.run_edges.specs.Edges.{Rose, AppendsFront}
+use Rattle.omp_model.specs.declared.cause.Cause.{Cause}
+use Rattle.omp_model.specs.declared.cause.Cause.TheVariants as cause
+use Rattle.run_trace.specs.TraceOf.{status_of as status_of_cause}
 use Rattle.ompt_cli.specs.declared.end.Refusal.{Refusal}
 use Rattle.ompt_cli.specs.declared.end.Refusal.TheVariants.{Tokens, Syntax, Rule, TooLong}
 use Rattle.c_tokens.specs.declared.token.Spot.{Spot}
@@ -19,18 +22,14 @@ use Rattle.trace_format.specs.declared.refusal.Refusal.{Refusal as TraceRefusal}
 use Rattle.trace_format.specs.Refusing.{number_of_reason}
 use Rattle.trace_check.specs.declared.breach.Breach.{Breach}
 use Rattle.ompt_cli.specs.declared.end.End.{End}
-use Rattle.ompt_cli.specs.declared.end.End.TheVariants.{Done, Returned, Shown, Read, TraceRefused, Broken, Usage, Refused, Trapped, Deadlock, Limit, ReadFault, WriteFault, Memory}
+use Rattle.ompt_cli.specs.declared.end.End.TheVariants.{Ended, Shown, Read, TraceRefused, Broken, Usage, Refused, ReadFault, WriteFault, Memory}
 
 abbrev pub status_of : End → ℕ
-status_of Done = 0
-status_of (Returned value) = 1
+status_of (Ended why) = status_of_cause why
 status_of Shown = 0
 status_of Read = 0
 status_of Usage = 2
 status_of (Refused why) = 3
-status_of (Trapped number) = 4
-status_of Deadlock = 5
-status_of (Limit number) = 6
 status_of (TraceRefused refusal) = 7
 status_of (Broken breach) = 7
 status_of ReadFault = 8
@@ -84,17 +83,22 @@ abbrev pub limit_text : ℕ → List ℕ
 limit_text number =
     if number == 1 then codes "limit steps" else if number == 2 then codes "limit turns" else if number == 3 then codes "limit cells" else if number == 4 then codes "limit tasks" else if number == 5 then codes "limit stack" else if number == 6 then codes "limit depth" else codes "limit text"
 
+-- the line on standard error that tells the cause in which a run ended
+abbrev pub line_of_cause : Cause → List ℕ
+line_of_cause cause.Done = []
+line_of_cause (cause.Returned value) = codes "returned " ++ signed_decimal value ++ 10 ∷ []
+line_of_cause (cause.Trapped number) = codes "trapped " ++ decimal number ++ 10 ∷ []
+line_of_cause cause.Deadlock = codes "deadlock" ++ 10 ∷ []
+line_of_cause (cause.Limit number) = limit_text number ++ 10 ∷ []
+line_of_cause cause.Memory = codes "memory" ++ 10 ∷ []
+
 -- the line on standard error, which is empty at status 0
 abbrev pub line_of_end : End → List ℕ
-line_of_end Done = []
-line_of_end (Returned value) = codes "returned " ++ signed_decimal value ++ 10 ∷ []
+line_of_end (Ended why) = line_of_cause why
 line_of_end Shown = []
 line_of_end Read = []
 line_of_end Usage = codes "usage: ompt run, list, record, profile, timeline, show, check, gen, migrate, rerun or tasks" ++ 10 ∷ []
 line_of_end (Refused why) = refusal_text why ++ 10 ∷ []
-line_of_end (Trapped number) = codes "trapped " ++ decimal number ++ 10 ∷ []
-line_of_end Deadlock = codes "deadlock" ++ 10 ∷ []
-line_of_end (Limit number) = limit_text number ++ 10 ∷ []
 line_of_end (TraceRefused refusal) = trace_refusal_text refusal ++ 10 ∷ []
 line_of_end (Broken breach) = breach_text breach ++ 10 ∷ []
 line_of_end ReadFault = codes "read fault" ++ 10 ∷ []
@@ -103,26 +107,14 @@ line_of_end Memory = codes "memory" ++ 10 ∷ []
 
 -- the end has status 0, and no line: the run is whole and main returned 0, or a text was shown, or a trace was read
 abbrev pub IsQuiet : End → Type 0
-IsQuiet end = (end ≡ Done) ⊎ ((end ≡ Shown) ⊎ (end ≡ Read))
+IsQuiet end = (end ≡ Ended cause.Done) ⊎ ((end ≡ Shown) ⊎ (end ≡ Read))
 
 -- the status where the line of an end was lost: a write fault, but want of memory stays
 abbrev pub status_of_lost : End → ℕ
-status_of_lost Done = 9
-status_of_lost (Returned value) = 9
-status_of_lost Shown = 9
-status_of_lost Read = 9
-status_of_lost Usage = 9
-status_of_lost (Refused why) = 9
-status_of_lost (Trapped number) = 9
-status_of_lost Deadlock = 9
-status_of_lost (Limit number) = 9
-status_of_lost (TraceRefused refusal) = 9
-status_of_lost (Broken breach) = 9
-status_of_lost ReadFault = 9
-status_of_lost WriteFault = 9
 status_of_lost Memory = 10
+status_of_lost other = 9
 
--- the line of an end was told whole, and the status is the end's
+-- The line of an end was told whole, and the status is the end's.
 pub record IsTold (status : ℕ) (end : End) (old new : Option (List ℕ)) : Type 0 where
   pub status_is : status ≡ status_of end
   pub line : Appends old new (line_of_end end)
@@ -132,3 +124,11 @@ pub record IsLost (status : ℕ) (end : End) (old new : Option (List ℕ)) (befo
   pub status_is : status ≡ status_of_lost end
   pub counted : Rose before now
   pub part : AppendsFront old new (line_of_end end)
+
+-- The line of the end is told and the status is the end's, unless a write of the line failed. At status 0 there is no line, and nothing is touched. Over
+-- what a sink for lines holds, and its count of faults.
+pub record TellsEnd {E : Type 0} (held : E → Option (List ℕ)) (faults : E → ℕ) (status : ℕ) (end : End) (old new : E) : Type 0 where
+  pub told : IsTold status end (held old) (held new) ⊎ IsLost status end (held old) (held new) (faults old) (faults new)
+  pub zero : (status ≡ 0) ↔ IsQuiet end
+  pub silent : IsQuiet end → new ≡ old
+  pub untold : faults old < faults new → status ≡ status_of_lost end

@@ -7,3 +7,4 @@ pub mod Job
 pub mod Commands
 pub mod Reports
 pub mod Traces
+pub mod Top

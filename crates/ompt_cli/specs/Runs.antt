@@ -1,17 +1,21 @@
 -- What a run gives, whether one thread has all turns in the serial order or each thread number has a thread of its own.
-use Rattle.std.specs.Prelude.{ℕ, ⊤, ◌≡◌, ◌≢◌, ◌<◌, ◌==◌, Bool, true, false, List, length, Option, Some, None}
+use Rattle.std.specs.Prelude.{ℕ, ⊤, ◌≡◌, ◌≢◌, ◌<◌, ◌==◌, Bool, true, false, List, [], length, Option, Some, None}
 use Rattle.tool_api.specs.Record.{Record}
 use Rattle.omp_model.specs.declared.cause.Cause.{Cause}
 use Rattle.omp_model.specs.declared.cause.Cause.TheVariants as causes
 use Rattle.omp_model.specs.declared.history.Entry.{Entry}
 use Rattle.omp_model.specs.State.{Run, pending_at}
-use Rattle.omp_model.specs.Cause.{threads_over}
+use Rattle.omp_model.specs.Cause.{cause_of, threads_over}
 use Rattle.omp_model.specs.Gates.{main_returned}
 use Rattle.omp_model.specs.Heard.{heard_of}
-use Rattle.omp_model.specs.Legal.{after}
-use Rattle.team_run.specs.Serving.{Becomes}
-use Rattle.tool_api.specs.Registering.{mask_of}
+use Rattle.omp_model.specs.Legal.{Legal, after}
+use Rattle.omp_model.specs.Serial.{Serial, serial}
+use Rattle.team_run.specs.Program.{run_of_program}
+use Rattle.team_run.specs.Serving.{AreSame, Becomes}
+use Rattle.team_run.specs.Standing.{HearsOwn, HearsSilent}
+use Rattle.tool_api.specs.Registering.{AreAlways, mask_of}
 use Rattle.team_run.specs.Unheard.{IsUnheard}
+use Rattle.ompt_cli.specs.Job.{JobView}
 use Rattle.thread_run.specs.Driving.{LeftAt, called_for, record_of_first}
 
 -- every thread that was made has ended, and main has returned
@@ -60,3 +64,22 @@ pub record RunsParts {P : Type 0} (stands_for : P → Record → Type 0) (serial
   pub all_heard : cause ≢ causes.Memory → (k : ℕ) → k < run.threads → missed k ≡ false
   pub first : Becomes stands_for parts others 0 (record_of_first answer registered (heard_of run history 0) (missed 0))
   pub each : (k : ℕ) → 0 < k → k < length parts → Becomes stands_for parts others k (called_for (heard_of run history k) (missed k))
+
+-- the run of a job where these callbacks are registered
+abbrev pub run_of_job : JobView → ℕ → Run
+run_of_job job mask = run_of_program job.program mask job.threads job.steps
+
+-- A run of the job with these parts: a legal one that ends in its cause, serially where the job says so. Where nothing is stored, a serial run is the one that
+-- there is. Each callback that was registered is one that is called always, and the parts that come back are those that were given
+pub record RunsJob {P : Type 0} (stands_for : P → Record → Type 0) (Same : P → P → Type 0) (job : JobView) (mask : ℕ) (cause : Cause) (history : List Entry) (text : List ℕ) (parts others : List P) : Type 0 where
+  pub legal : Legal (run_of_job job mask) history
+  pub runs : RunsParts stands_for job.serial (run_of_job job mask) cause history parts others
+  pub same : AreSame Same parts others
+  pub always : AreAlways mask
+  pub own : HearsOwn (run_of_job job mask) history
+  pub ends : cause ≢ causes.Memory → cause_of (run_of_job job mask) history ≡ Some cause
+  pub outside : cause ≢ causes.Memory → AreOutside (run_of_job job mask) history
+  pub in_order : job.serial ≡ true → Serial (run_of_job job mask) history
+  pub whole : job.serial ≡ true → cause ≢ causes.Memory → HearsSilent (run_of_job job mask) history → history ≡ serial (run_of_job job mask)
+  pub printed : text ≡ (after (run_of_job job mask) history).world.store.text
+  pub begun : cause ≡ causes.Memory → history ≢ []

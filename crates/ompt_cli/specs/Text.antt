@@ -8,7 +8,6 @@ use Rattle.c_tokens.specs.declared.token.TokenFault.{TokenFault}
 use Rattle.c_tokens.specs.language.Places.{beginning}
 use Rattle.c_tokens.specs.language.Pieces.{Reads}
 use Rattle.c_tokens.specs.language.Ending.{EndsIn}
-use Rattle.c_syntax.specs.declared.fault.SyntaxFault.{SyntaxFault}
 use Rattle.c_syntax.specs.language.Words.{main_of}
 use Rattle.c_syntax.specs.language.Tree.{Tree}
 use Rattle.c_syntax.specs.language.Numbered.{TreeView, root_tree}

@@ -1,9 +1,12 @@
 -- What a command that reads a trace has read and written, by how it ended.
-use Rattle.std.specs.Prelude.{ℕ, List, [], ◌∷◌, ◌++◌, Option, codes}
+use Rattle.std.specs.Prelude.{ℕ, ◌≡◌, ◌≢◌, IsSomeAnd, List, [], ◌∷◌, ◌++◌, Option, codes}
 use Rattle.std.specs.Io.KnownBytes.{Appends, Keeps}
 use Rattle.run_edges.specs.Edges.{AppendsFront}
 use Rattle.trace_check.specs.declared.checked.Checked.TheVariants as checked
+use Rattle.trace_format.specs.Validity.{Writes}
+use Rattle.trace_format.specs.declared.refusal.Refusal.{Refusal}
 use Rattle.trace_format.specs.declared.trace.Trace.{Trace}
+use Rattle.trace_check.specs.declared.breach.Breach.{Breach}
 use Rattle.trace_check.specs.Answering.{HasChecked}
 use Rattle.trace_check.specs.Nested.{Nested}
 use Rattle.trace_copy.specs.declared.copied.Copied.TheVariants as copied
@@ -13,7 +16,7 @@ use Rattle.trace_copy.specs.Copying.{HasCopied}
 use Rattle.ompt_words.specs.declared.settings.TraceCommand.{TraceCommand}
 use Rattle.ompt_words.specs.declared.settings.TraceCommand.TheVariants.{Check, Migrate, Show}
 use Rattle.ompt_cli.specs.declared.end.End.{End}
-use Rattle.ompt_cli.specs.declared.end.End.TheVariants.{Done, Returned, Shown, Read, TraceRefused, Broken, Usage, Refused, Trapped, Deadlock, Limit, ReadFault, WriteFault, Memory}
+use Rattle.ompt_cli.specs.declared.end.End.TheVariants.{Read, TraceRefused, Broken, ReadFault, WriteFault, Memory}
 
 -- the trace breaks no rule of the checker
 abbrev pub IsNested : Trace → Type 0
@@ -22,21 +25,13 @@ IsNested trace = Nested trace.header trace.events trace.end
 -- Over what the source has left before and after, and what the output holds before and after.
 
 -- a trace was copied in this form
-abbrev pub HasWritten : Form → End → (left rest held after : Option (List ℕ)) → Type 0
-HasWritten form Done left rest held after = ⊥
-HasWritten form (Returned value) left rest held after = ⊥
-HasWritten form Shown left rest held after = ⊥
-HasWritten form Read left rest held after = HasCopied form copied.Whole left rest held after
-HasWritten form Usage left rest held after = ⊥
-HasWritten form (Refused why) left rest held after = ⊥
-HasWritten form (Trapped number) left rest held after = ⊥
-HasWritten form Deadlock left rest held after = ⊥
-HasWritten form (Limit number) left rest held after = ⊥
-HasWritten form (TraceRefused refusal) left rest held after = HasCopied form (copied.Refused refusal) left rest held after
-HasWritten form (Broken breach) left rest held after = ⊥
-HasWritten form ReadFault left rest held after = HasCopied form copied.ReadFault left rest held after
-HasWritten form WriteFault left rest held after = HasCopied form copied.WriteFault left rest held after
-HasWritten form Memory left rest held after = HasCopied form copied.Memory left rest held after
+abbrev pub HasCopy : Form → End → (left rest held after : Option (List ℕ)) → Type 0
+HasCopy form Read left rest held after = HasCopied form copied.Whole left rest held after
+HasCopy form (TraceRefused refusal) left rest held after = HasCopied form (copied.Refused refusal) left rest held after
+HasCopy form ReadFault left rest held after = HasCopied form copied.ReadFault left rest held after
+HasCopy form WriteFault left rest held after = HasCopied form copied.WriteFault left rest held after
+HasCopy form Memory left rest held after = HasCopied form copied.Memory left rest held after
+HasCopy form other left rest held after = ⊥
 
 -- what is written of a trace that is nested
 abbrev pub ok_text : List ℕ
@@ -44,23 +39,24 @@ ok_text = codes "ok" ++ 10 ∷ []
 
 -- a trace was checked, and nothing is written but where it is nested
 abbrev pub HasJudged : End → (left rest held after : Option (List ℕ)) → Type 0
-HasJudged Done left rest held after = ⊥
-HasJudged (Returned value) left rest held after = ⊥
-HasJudged Shown left rest held after = ⊥
 HasJudged Read left rest held after = HasChecked checked.Nested left rest × Appends held after ok_text
-HasJudged Usage left rest held after = ⊥
-HasJudged (Refused why) left rest held after = ⊥
-HasJudged (Trapped number) left rest held after = ⊥
-HasJudged Deadlock left rest held after = ⊥
-HasJudged (Limit number) left rest held after = ⊥
 HasJudged (TraceRefused refusal) left rest held after = HasChecked (checked.Refused refusal) left rest × Keeps held after
 HasJudged (Broken breach) left rest held after = HasChecked (checked.Broken breach) left rest × Keeps held after
 HasJudged ReadFault left rest held after = HasChecked checked.ReadFault left rest × Keeps held after
 HasJudged WriteFault left rest held after = HasChecked checked.Nested left rest × AppendsFront held after ok_text
 HasJudged Memory left rest held after = HasChecked checked.Memory left rest × Keeps held after
+HasJudged other left rest held after = ⊥
 
 -- what the command has read and written
 abbrev pub HasRead : TraceCommand → End → (left rest held after : Option (List ℕ)) → Type 0
-HasRead Show end left rest held after = HasWritten Lines end left rest held after
-HasRead Migrate end left rest held after = HasWritten SecondVersion end left rest held after
+HasRead Show end left rest held after = HasCopy Lines end left rest held after
+HasRead Migrate end left rest held after = HasCopy SecondVersion end left rest held after
 HasRead Check end left rest held after = HasJudged end left rest held after
+
+-- What a command that has read a trace has read and written, by how it ended: the trace was read to its end, or it is refused or isn't nested, or a read,
+-- a write or memory failed. No trace is refused, no nested one has a breach, and `migrate` takes no memory.
+pub record HasReadTrace (command : TraceCommand) (end : End) (left rest held after : Option (List ℕ)) : Type 0 where
+  pub copied : HasRead command end left rest held after
+  pub unrefused : (trace : Trace) → IsSomeAnd left (Writes trace) → (refusal : Refusal) → end ≢ TraceRefused refusal
+  pub unbroken : (trace : Trace) → IsSomeAnd left (Writes trace) → IsNested trace → (breach : Breach) → end ≢ Broken breach
+  pub migrated : command ≡ Migrate → end ≢ Memory

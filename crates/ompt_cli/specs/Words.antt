@@ -1,12 +1,15 @@
 -- What the words ask for.
-use Rattle.std.specs.Prelude.{ℕ, ◌≡◌, ◌⊎◌, List, map, string_bytes}
+use Rattle.std.specs.Prelude.{ℕ, ◌≡◌, ◌≤◌, ◌⊎◌, List, map, string_bytes}
 use Rattle.std.specs.declared.string.String.{String}
 use Rattle.std.specs.declared.alloc.Global.{Global}
 use Rattle.ompt_words.specs.declared.settings.Request.TheVariants as request
 use Rattle.ompt_words.specs.declared.settings.Settings.{Settings}
 use Rattle.ompt_words.specs.declared.settings.TraceCommand.{TraceCommand}
-use Rattle.ompt_words.specs.Answers.{AreReadAs}
-use Rattle.ompt_words.specs.Form.{InForm, ReadInForm, own_settings}
+use Rattle.ompt_words.specs.declared.fault.WordsFault.{WordsFault}
+use Rattle.ompt_words.specs.declared.fault.WordsFault.TheVariants as fault
+use Rattle.ompt_words.specs.declared.settings.Request.{Request}
+use Rattle.ompt_words.specs.Answers.{AreReadAs, AreWrong, AskForText, IsTextOrMemory}
+use Rattle.ompt_words.specs.Form.{AskInForm, InForm, ReadInForm, own_settings}
 
 -- the bytes of each word
 abbrev pub texts : List (String Global) → List (List ℕ)
@@ -23,3 +26,27 @@ AskForRun words = (settings : Settings) × AskFor words settings
 -- the words ask that a trace is read, by this command
 abbrev pub AskToRead : List (List ℕ) → TraceCommand → Type 0
 AskToRead words command = ReadInForm words command ⊎ AreReadAs words (request.Read command)
+
+-- the words were read as this request: whatever they ask for is this
+pub record AreTakenAs (words : List (List ℕ)) (found : Request) : Type 0 where
+  pub read : AreReadAs words found
+  pub exact : (other : Request) → AreReadAs words other → found ≡ other
+  pub form : (form : InForm words) → found ≡ request.Run (own_settings form)
+  pub read_form : (command : TraceCommand) → ReadInForm words command → found ≡ request.Read command
+  pub no_help : ¬ AskInForm words
+
+-- the words were read as no request, for this: those that ask for one have no other fault than want of memory
+pub record AreFaulty (words : List (List ℕ)) (found : WordsFault) : Type 0 where
+  pub usage : found ≡ fault.Usage → AreWrong words
+  pub shown : (text : String Global) → found ≡ fault.Shown text → AskForText words
+  pub exact : (other : Request) → AreReadAs words other → found ≡ fault.Memory
+  pub form : InForm words → found ≡ fault.Memory
+  pub read_form : (command : TraceCommand) → ReadInForm words command → found ≡ fault.Memory
+  pub help : AskInForm words → IsTextOrMemory found
+
+-- how many threads and silent steps a run may have
+pub record AreInRange (settings : Settings) : Type 0 where
+  pub some : 1 ≤ settings.threads
+  pub few : settings.threads ≤ 16
+  pub steps : 1 ≤ settings.steps
+  pub bounded : settings.steps ≤ 30000000

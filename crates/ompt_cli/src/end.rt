@@ -3,13 +3,15 @@
 ghost use Rattle.std.specs.Prelude.{◌≡◌, ◌≤◌, ◌+◌, ◌∷◌, ◌++◌, [], codes, length};
 ghost use Rattle.std.specs.Fmt.{decimal, signed_decimal};
 ghost use Rattle.arrayvec.specs.ArrayString.{array_string_len};
-ghost use Rattle.ompt_cli.specs.Ends.{breach_text, end_of_check_fault, end_of_fault, end_of_syntax_fault, line_of_end, refusal_number, refusal_spot, refusal_text, status_of, trace_refusal_text};
+ghost use Rattle.run_trace.specs.TraceOf.{status_of as status_of_cause};
+ghost use Rattle.ompt_cli.specs.Ends.{breach_text, end_of_check_fault, end_of_fault, end_of_syntax_fault, line_of_cause, line_of_end, refusal_number, refusal_spot, refusal_text, status_of, trace_refusal_text};
 
 use arrayvec::ArrayString;
 use c_check::CheckFault;
 use c_syntax::SyntaxFault;
 use c_tokens::{NOWHERE, Spot, TokenFault};
 use itoa::Buffer;
+use omp_model::Cause;
 use trace_check::Breach;
 
 /// Why a text is refused.
@@ -28,10 +30,8 @@ pub enum Refusal {
 /// How a command ended.
 #[derive(Clone, Copy, PartialEq, Eq)]
 pub enum End {
-    /// The run is whole, and main returned 0.
-    Done,
-    /// The run is whole, and main returned this other number.
-    Returned(i32),
+    /// There was a run, and it ended in this cause, which isn't want of memory.
+    Ended(Cause),
     /// The words ask for help or for the version, which was shown. Nothing ran.
     Shown,
     /// The trace was read to its end, and what was asked of it was written.
@@ -40,13 +40,6 @@ pub enum End {
     Usage,
     /// The text is refused.
     Refused(Refusal),
-    /// The run met the trap with this number.
-    Trapped(u8),
-    /// No thread can go on, and the run isn't whole.
-    Deadlock,
-    /// The run met the limit with this number: 1 of silent steps, 2 of turns, 3 of cells, 4 of tasks, 5 of the tasks on a
-    /// thread's stack, 6 of the depth of calls, 7 of printed text.
-    Limit(u8),
     /// The trace is refused.
     TraceRefused(trace_format::Refusal),
     /// The trace isn't nested, and this is its first breach.
@@ -65,13 +58,10 @@ impl End {
         ensures { result ≡ status_of self }
     {
         match self {
-            End::Done | End::Shown | End::Read => 0,
-            End::Returned(_) => 1,
+            End::Ended(cause) => status_of_cause(cause),
+            End::Shown | End::Read => 0,
             End::Usage => 2,
             End::Refused(_) => 3,
-            End::Trapped(_) => 4,
-            End::Deadlock => 5,
-            End::Limit(_) => 6,
             End::TraceRefused(_) | End::Broken(_) => 7,
             End::ReadFault => 8,
             End::WriteFault => 9,
@@ -84,21 +74,12 @@ impl End {
         ensures { result.bytes ≡ line_of_end self }
     {
         match self {
-            End::Done | End::Shown | End::Read => line_of(""),
-            End::Returned(value) => line_of_returned(value),
+            End::Ended(cause) => line_of_cause(cause),
+            End::Shown | End::Read => line_of(""),
             End::Usage => line_of(
                 "usage: ompt run, list, record, profile, timeline, show, check, gen, migrate, rerun or tasks\n",
             ),
             End::Refused(why) => why.line(),
-            End::Trapped(number) => line_of_trapped(number),
-            End::Deadlock => line_of("deadlock\n"),
-            End::Limit(1) => line_of("limit steps\n"),
-            End::Limit(2) => line_of("limit turns\n"),
-            End::Limit(3) => line_of("limit cells\n"),
-            End::Limit(4) => line_of("limit tasks\n"),
-            End::Limit(5) => line_of("limit stack\n"),
-            End::Limit(6) => line_of("limit depth\n"),
-            End::Limit(_) => line_of("limit text\n"),
             End::TraceRefused(refusal) => line_of_trace_refused(refusal),
             End::Broken(breach) => line_of_breach(breach),
             End::ReadFault => line_of("read fault\n"),
@@ -147,6 +128,41 @@ impl Refusal {
         push_number(&mut line, spot.column);
         line.push_str("\n");
         line
+    }
+}
+
+/// The exit status of a run that ended in this cause.
+fn status_of_cause(cause: Cause) -> u8
+    ensures { result ≡ status_of_cause cause }
+{
+    match cause {
+        Cause::Done => 0,
+        Cause::Returned(_) => 1,
+        Cause::Trapped(_) => 4,
+        Cause::Deadlock => 5,
+        Cause::Limit(_) => 6,
+        Cause::Memory => 10,
+    }
+}
+
+/// The line that tells the cause in which a run ended, with its newline. A limit has a number: 1 of silent steps, 2 of turns, 3 of cells, 4 of
+/// tasks, 5 of the tasks on a thread's stack, 6 of the depth of calls, 7 of printed text.
+fn line_of_cause(cause: Cause) -> ArrayString<160>
+    ensures { result.bytes ≡ line_of_cause cause }
+{
+    match cause {
+        Cause::Done => line_of(""),
+        Cause::Returned(value) => line_of_returned(value),
+        Cause::Trapped(number) => line_of_trapped(number),
+        Cause::Deadlock => line_of("deadlock\n"),
+        Cause::Limit(1) => line_of("limit steps\n"),
+        Cause::Limit(2) => line_of("limit turns\n"),
+        Cause::Limit(3) => line_of("limit cells\n"),
+        Cause::Limit(4) => line_of("limit tasks\n"),
+        Cause::Limit(5) => line_of("limit stack\n"),
+        Cause::Limit(6) => line_of("limit depth\n"),
+        Cause::Limit(_) => line_of("limit text\n"),
+        Cause::Memory => line_of("memory\n"),
     }
 }
 

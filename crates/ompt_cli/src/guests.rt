@@ -7,8 +7,46 @@ use crate::guest_part::GuestPart;
 use std::alloc::{AllocError, Global};
 use tool_api::{GuestTool, Handed, Quiet};
 
+/// The parts of the threads, and the guests that are left, the next one last. There is room for all the guests to wait again.
+#[derive(Drop)]
+pub(crate) struct Handing {
+    pub parts: Vec<Handed<GuestPart>>,
+    pub waiting: Vec<Box<dyn GuestTool>>,
+}
+
+/// A part for each thread: guest t for thread t, and none for threads past the guests.
+pub(crate) fn hand_out_all(
+    alloc: Global,
+    threads: u8,
+    guests: Vec<Box<dyn GuestTool>>,
+) -> Result<Handing, AllocError>
+    ensures handed { IfOk result (λ handing. HandOut (λ guest. guest.0) guests.items handing.parts.items (reverse handing.waiting.items)) }
+    ensures each { IfOk result (λ handing. length handing.parts.items ≡ threads) }
+    ensures room { IfOk result (λ handing. vec_len handing.waiting + threads ≤ vec_capacity handing.waiting) }
+{
+    let mut waiting = guests;
+    waiting.reverse();
+    let parts = hand_out(alloc, threads, &mut waiting)?;
+    waiting.reserve(threads as usize)?;
+    Ok(Handing { parts, waiting })
+}
+
+/// The guests that these parts hold, and behind them those that are left.
+pub(crate) fn take_back_all(
+    parts: Vec<Handed<GuestPart>>,
+    waiting: Vec<Box<dyn GuestTool>>,
+) -> Vec<Box<dyn GuestTool>>
+    requires { vec_len waiting + length parts.items ≤ vec_capacity waiting }
+    ensures { result.items ≡ guests_of (λ guest. guest.0) parts.items ++ reverse waiting.items }
+{
+    let (mut parts, mut waiting) = (parts, waiting);
+    take_back(&mut parts, &mut waiting);
+    waiting.reverse();
+    waiting
+}
+
 /// A part for each thread: the guest that waits next, which is the last one of the list, or none where no more wait.
-pub(crate) fn hand_out(
+fn hand_out(
     alloc: Global,
     threads: u8,
     waiting: &mut Vec<Box<dyn GuestTool>>,
@@ -34,7 +72,7 @@ fn next_part(waiting: &mut Vec<Box<dyn GuestTool>>) -> Handed<GuestPart>
 }
 
 /// The guests that these parts hold wait again, the first one last.
-pub(crate) fn take_back(parts: &mut Vec<Handed<GuestPart>>, waiting: &mut Vec<Box<dyn GuestTool>>)
+fn take_back(parts: &mut Vec<Handed<GuestPart>>, waiting: &mut Vec<Box<dyn GuestTool>>)
     requires { vec_len waiting.old + length parts.old.items ≤ vec_capacity waiting.old }
     ensures { reverse waiting.new.items ≡ guests_of (λ guest. guest.0) parts.old.items ++ reverse waiting.old.items }
 {

@@ -29,27 +29,29 @@
 
 mod commands;
 mod end;
-mod ended;
-mod generating;
 mod guest_part;
 mod guests;
 mod job;
+mod keepers;
 mod observing;
+mod outcome;
 mod program_tree;
 mod program_words;
 mod recording;
 mod report;
 mod reporting;
 mod run;
+mod runner;
 mod running;
+mod settings_run;
 mod text;
 mod top_call;
 mod trace_commands;
 mod writing;
 
 pub use end::{End, Refusal};
-pub use ompt_words::{Command, TraceCommand};
+pub use ompt_words::{Command, Settings, TraceCommand};
 pub use program_tree::ProgramTree;
 pub use program_words::own_words;
-pub use report::{Report, Top};
-pub use top_call::top;
+pub use report::{ByThreads, Report, Top};
+pub use top_call::{top, top_alone};

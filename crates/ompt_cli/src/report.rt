@@ -3,7 +3,7 @@
 use crate::end::End;
 use crate::program_tree::ProgramTree;
 use omp_model::{Cause, History};
-use ompt_words::{Command, TraceCommand};
+use ompt_words::{Command, Settings, TraceCommand};
 use tool_api::GuestTool;
 
 /// What a command reports of its run.
@@ -25,7 +25,16 @@ pub struct Report {
     pub serial: bool,
     /// The run's entries.
     pub history: History,
-    /// The guests that were handed in, in their order.
+    /// The guests, in their order. Each is of the type of tool that was handed in at its place, and for all commands but `run` it is that guest.
+    pub guests: Vec<Box<dyn GuestTool>>,
+}
+
+/// What words ask for that want a run by threads: the settings, which aren't serial, and the guests that were handed in with them.
+#[derive(Drop)]
+pub struct ByThreads {
+    /// The settings of the run.
+    pub settings: Settings,
+    /// The guests, in their order.
     pub guests: Vec<Box<dyn GuestTool>>,
 }
 
@@ -36,7 +45,7 @@ pub struct Top {
     pub status: u8,
     /// How the command ended, before its line was told.
     pub end: End,
-    /// The report of the run. It is there at the ends `Done`, `Returned`, `Trapped`, `Deadlock`, `Limit` and `WriteFault`, and
+    /// The report of the run. It is there at the ends `Ended` and `WriteFault`, and
     /// isn't at `Usage`, `Shown`, `Read`, `Refused`, `TraceRefused`, `Broken` and `ReadFault`, nor at a `WriteFault` where a text was to be
     /// shown or a trace was read. At `Memory` it may be there; where its cause is want of memory, its history has an entry.
     pub ran: Option<Report>,

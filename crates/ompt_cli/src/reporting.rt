@@ -1,154 +1,139 @@
-//! The commands that run the program and write a report of its events: a list of them, their counts, and the states of the threads.
+//! The commands that run the program and write a report of its events: a list of them, their counts, the states of the threads, and of a generated
+//! program a summary.
 
-ghost use Rattle.std.specs.Prelude.{◌≡◌, ◌≢◌, IfOk, IfSome, IsNone, [], replicate};
-ghost use Rattle.std.specs.Io.KnownBytes.{Appends, Keeps};
-ghost use Rattle.run_edges.specs.Edges.{Rose, AppendsFront};
-ghost use Rattle.ompt_cli.specs.Commands.{EndsAs, IsAfterRun, run_text};
-ghost use Rattle.ompt_cli.specs.Reports.{Observes, StaysSilent};
-ghost use Rattle.tool_report.specs.Counts.{counts_of};
+ghost use Rattle.std.specs.Prelude.{◌≡◌, ◌≢◌, IfOk, IfSome, List};
+ghost use Rattle.ompt_calls.specs.declared.event.EventRecord.{EventRecord};
+ghost use Rattle.tool_report.specs.Generator.{generated, summary_of};
+ghost use Rattle.tool_report.specs.Order.{AreShared};
+ghost use Rattle.ompt_words.specs.declared.settings.Command.{Command as SeenCommand};
+ghost use Rattle.ompt_cli.specs.Commands.{CountsFaults, HasWritten, run_of, run_text, written_by};
+ghost use Rattle.ompt_cli.specs.Job.{JobView};
+ghost use Rattle.ompt_cli.specs.Reports.{HasRun, Observes, StaysSilent};
 
 use crate::end::End;
-use crate::ended::{Ended, having_run, without_run};
 use crate::job::Job;
-use crate::observing::observe;
+use crate::outcome::{Outcome, having_run, without_run};
+use crate::report::Report;
+use crate::runner::Runner;
 use crate::writing::write_made;
 use ompt_words::Command;
 use run_edges::Sink;
 use std::alloc::{AllocError, Global};
-use std::sync::Wait;
-use std::thread::Threads;
 use tool_api::GuestTool;
-use tool_report::{Profile, Recorder, Timeline, lines_text, profile_text, timeline_text};
+use tool_report::{
+    Recorder, generated_text, lines_text, merge, profile_text, summary_text, timeline_text,
+};
 
 /// Runs the job, and writes a line for each event. The guests come back as they were.
-pub(crate) fn list<R: Threads + Wait + Sync, O: Sink>(
-    rt: &R,
+pub(crate) fn list<X: Runner, O: Sink>(
+    runner: &X,
     alloc: Global,
     job: Job,
     guests: Vec<Box<dyn GuestTool>>,
     out: &mut O,
-) -> Ended
-    ensures end { IsAfterRun result.end }
-    ensures alone { IsNone result.shown × IsNone result.read }
-    ensures report { IfSome result.ran (λ report. Observes Command.List job report × StaysSilent report) }
+) -> Outcome
+    requires { X.may_run runner.now job.serial }
+    ensures ran { HasRun Command.List job result.end result.shown result.read result.ran }
     ensures guests { IfSome result.ran (λ report. report.guests ≡ guests) }
-    ensures ended { IfSome result.ran (λ report. EndsAs report.cause result.end) }
-    ensures missing { IsNone result.ran → result.end ≡ End.Memory }
-    ensures listed { result.end ≢ End.WriteFault → result.end ≢ End.Memory →
-        Appends (O.held out.old) (O.held out.new) (run_text result.ran) }
-    ensures part { result.end ≡ End.WriteFault →
-        AppendsFront (O.held out.old) (O.held out.new) (run_text result.ran) }
-    ensures kept { result.end ≡ End.Memory → Keeps (O.held out.old) (O.held out.new) }
-    ensures write { result.end ≡ End.WriteFault → Rose (O.faults out.old) (O.faults out.new) }
-    ensures steady { result.end ≢ End.WriteFault → O.faults out.new ≡ O.faults out.old }
+    ensures written { HasWritten result.end (run_text result.ran) (O.held out.old) (O.held out.new) }
+    ensures faults { CountsFaults result.end End.WriteFault (O.faults out.old) (O.faults out.new) }
 {
-    let Ok(parts) = recorders(alloc, job.threads) else {
-        return without_run(End::Memory);
-    };
-    let Ok(observed) = observe(rt, alloc, Command::List, job, parts, guests) else {
+    let Ok(observed) = runner.run_recorders(alloc, Command::List, job, guests) else {
         return without_run(End::Memory);
     };
     let made = lines_text(alloc, &observed.parts);
-    let end = write_made(observed.report.cause, made, out);
-    having_run(end, observed.report)
+    report_made(observed.report, made, out)
 }
 
 /// Runs the job, and writes how many calls of each callback there were. The guests come back as they were.
-pub(crate) fn profile<R: Threads + Wait + Sync, O: Sink>(
-    rt: &R,
+pub(crate) fn profile<X: Runner, O: Sink>(
+    runner: &X,
     alloc: Global,
     job: Job,
     guests: Vec<Box<dyn GuestTool>>,
     out: &mut O,
-) -> Ended
-    ensures end { IsAfterRun result.end }
-    ensures alone { IsNone result.shown × IsNone result.read }
-    ensures report { IfSome result.ran (λ report. Observes Command.Profile job report × StaysSilent report) }
+) -> Outcome
+    requires { X.may_run runner.now job.serial }
+    ensures ran { HasRun Command.Profile job result.end result.shown result.read result.ran }
     ensures guests { IfSome result.ran (λ report. report.guests ≡ guests) }
-    ensures ended { IfSome result.ran (λ report. EndsAs report.cause result.end) }
-    ensures missing { IsNone result.ran → result.end ≡ End.Memory }
-    ensures listed { result.end ≢ End.WriteFault → result.end ≢ End.Memory →
-        Appends (O.held out.old) (O.held out.new) (run_text result.ran) }
-    ensures part { result.end ≡ End.WriteFault →
-        AppendsFront (O.held out.old) (O.held out.new) (run_text result.ran) }
-    ensures kept { result.end ≡ End.Memory → Keeps (O.held out.old) (O.held out.new) }
-    ensures write { result.end ≡ End.WriteFault → Rose (O.faults out.old) (O.faults out.new) }
-    ensures steady { result.end ≢ End.WriteFault → O.faults out.new ≡ O.faults out.old }
+    ensures written { HasWritten result.end (run_text result.ran) (O.held out.old) (O.held out.new) }
+    ensures faults { CountsFaults result.end End.WriteFault (O.faults out.old) (O.faults out.new) }
 {
-    let Ok(parts) = profiles(alloc, job.threads) else {
-        return without_run(End::Memory);
-    };
-    let Ok(observed) = observe(rt, alloc, Command::Profile, job, parts, guests) else {
+    let Ok(observed) = runner.run_profiles(alloc, Command::Profile, job, guests) else {
         return without_run(End::Memory);
     };
     let made = profile_text(alloc, &observed.parts);
-    let end = write_made(observed.report.cause, made, out);
-    having_run(end, observed.report)
+    report_made(observed.report, made, out)
 }
 
 /// Runs the job, and writes the states of its threads in so many columns. The guests come back as they were.
-pub(crate) fn timeline<R: Threads + Wait + Sync, O: Sink>(
-    rt: &R,
+pub(crate) fn timeline<X: Runner, O: Sink>(
+    runner: &X,
     alloc: Global,
     columns: u8,
     job: Job,
     guests: Vec<Box<dyn GuestTool>>,
     out: &mut O,
-) -> Ended
-    ensures end { IsAfterRun result.end }
-    ensures alone { IsNone result.shown × IsNone result.read }
-    ensures report { IfSome result.ran (λ report. Observes (Command.Timeline columns) job report × StaysSilent report) }
+) -> Outcome
+    requires { X.may_run runner.now job.serial }
+    ensures ran { HasRun (Command.Timeline columns) job result.end result.shown result.read result.ran }
     ensures guests { IfSome result.ran (λ report. report.guests ≡ guests) }
-    ensures ended { IfSome result.ran (λ report. EndsAs report.cause result.end) }
-    ensures missing { IsNone result.ran → result.end ≡ End.Memory }
-    ensures listed { result.end ≢ End.WriteFault → result.end ≢ End.Memory →
-        Appends (O.held out.old) (O.held out.new) (run_text result.ran) }
-    ensures part { result.end ≡ End.WriteFault →
-        AppendsFront (O.held out.old) (O.held out.new) (run_text result.ran) }
-    ensures kept { result.end ≡ End.Memory → Keeps (O.held out.old) (O.held out.new) }
-    ensures write { result.end ≡ End.WriteFault → Rose (O.faults out.old) (O.faults out.new) }
-    ensures steady { result.end ≢ End.WriteFault → O.faults out.new ≡ O.faults out.old }
+    ensures written { HasWritten result.end (run_text result.ran) (O.held out.old) (O.held out.new) }
+    ensures faults { CountsFaults result.end End.WriteFault (O.faults out.old) (O.faults out.new) }
 {
-    let Ok(parts) = timelines(alloc, job.threads) else {
-        return without_run(End::Memory);
-    };
-    let Ok(observed) = observe(rt, alloc, Command::Timeline(columns), job, parts, guests) else {
+    let Ok(observed) = runner.run_timelines(alloc, Command::Timeline(columns), job, guests) else {
         return without_run(End::Memory);
     };
     let made = timeline_text(alloc, &observed.parts, columns);
-    let end = write_made(observed.report.cause, made, out);
-    having_run(end, observed.report)
+    report_made(observed.report, made, out)
 }
 
-/// A recorder for each of so many threads.
-pub(crate) fn recorders(alloc: Global, threads: u8) -> Result<Vec<Recorder>, AllocError>
-    ensures { IfOk result (λ parts. parts.items ≡ replicate threads []) }
+/// Runs the job, whose program has so many generated blocks, and writes the summary. The guests come back as they were.
+pub(crate) fn generate<X: Runner, O: Sink>(
+    runner: &X,
+    alloc: Global,
+    blocks: u16,
+    job: Job,
+    guests: Vec<Box<dyn GuestTool>>,
+    out: &mut O,
+) -> Outcome
+    requires { X.may_run runner.now job.serial }
+    ensures ran { HasRun (Command.Generate blocks) job result.end result.shown result.read result.ran }
+    ensures guests { IfSome result.ran (λ report. report.guests ≡ guests) }
+    ensures written { HasWritten result.end (run_text result.ran) (O.held out.old) (O.held out.new) }
+    ensures faults { CountsFaults result.end End.WriteFault (O.faults out.old) (O.faults out.new) }
 {
-    let mut parts = Vec::new(alloc);
-    for _thread in 0..threads {
-        parts.push(Recorder::new(alloc))?;
-    }
-    Ok(parts)
+    let Ok(observed) = runner.run_recorders(alloc, Command::Generate(blocks), job, guests) else {
+        return without_run(End::Memory);
+    };
+    let made = summary(alloc, blocks, &observed.parts, &observed.text);
+    report_made(observed.report, made, out)
 }
 
-/// A profile for each of so many threads.
-fn profiles(alloc: Global, threads: u8) -> Result<Vec<Profile>, AllocError>
-    ensures { IfOk result (λ parts. parts.items ≡ replicate threads (counts_of [])) }
+/// Writes what was made of a run, and reports the run.
+fn report_made<O: Sink>(report: Report, made: Result<Vec<u8>, AllocError>, out: &mut O) -> Outcome
+    ensures ran { (command : SeenCommand) (job : JobView) → Observes command job report → StaysSilent report → command ≢ Command.Run → command ≢ Command.Record →
+        HasRun command job result.end result.shown result.read result.ran }
+    ensures guests { IfSome result.ran (λ other. other.guests ≡ report.guests) }
+    ensures written { IfOk made (λ text. text.items ≡ written_by report.command (run_of report) report.cause report.history) →
+        HasWritten result.end (run_text result.ran) (O.held out.old) (O.held out.new) }
+    ensures faults { CountsFaults result.end End.WriteFault (O.faults out.old) (O.faults out.new) }
 {
-    let mut parts = Vec::new(alloc);
-    for _thread in 0..threads {
-        parts.push(Profile::new())?;
-    }
-    Ok(parts)
+    let end = write_made(report.cause, made, out);
+    having_run(end, report)
 }
 
-/// A timeline for each of so many threads.
-fn timelines(alloc: Global, threads: u8) -> Result<Vec<Timeline>, AllocError>
-    ensures { IfOk result (λ parts. parts.items ≡ replicate threads []) }
+/// The summary of a run of the program with so many blocks, of which these recorders were told, and which printed this text.
+fn summary(
+    alloc: Global,
+    blocks: u16,
+    parts: &[Recorder],
+    printed: &[u8],
+) -> Result<Vec<u8>, AllocError>
+    ensures { IfOk result (λ text. (events : List EventRecord) → AreShared events parts.now →
+        text.items ≡ summary_of (generated blocks) events printed.now) }
 {
-    let mut parts = Vec::new(alloc);
-    for _thread in 0..threads {
-        parts.push(Timeline::new(alloc))?;
-    }
-    Ok(parts)
+    let program = generated_text(alloc, blocks)?;
+    let events = merge(alloc, parts)?;
+    summary_text(alloc, &program, &events, printed)
 }

@@ -1,38 +1,21 @@
 //! The call that does all: a command from bytes to bytes.
 
-ghost use Rattle.std.specs.Prelude.{ℕ, ℤ, ◌≡◌, ◌≢◌, ◌<◌, IfSome, IsSome, IsSomeAnd, IsNone, Some, ◌↔◌, ◌⊎◌, [], true};
-ghost use Rattle.std.specs.Io.KnownBytes.{Appends, Keeps};
-ghost use Rattle.omp_model.specs.Serial.{Serial, serial};
-ghost use Rattle.omp_model.specs.Cause.{cause_of};
-ghost use Rattle.omp_model.specs.Legal.{Legal};
-ghost use Rattle.run_edges.specs.Edges.{Rose, AppendsFront};
-ghost use Rattle.ompt_words.specs.Answers.{AreReadAs, AreWrong, AskForText};
-ghost use Rattle.ompt_words.specs.Form.{AskInForm, InForm, own_settings};
-ghost use Rattle.ompt_cli.specs.Traces.{HasRead, IsNested};
-ghost use Rattle.ompt_cli.specs.Words.{AskFor, AskForRun, AskToRead, texts};
-ghost use Rattle.run_trace.specs.TraceOf.{trace_of};
-ghost use Rattle.trace_check.specs.declared.breach.Breach.{Breach};
-ghost use Rattle.trace_format.specs.Validity.{IsTrace, Writes};
-ghost use Rattle.trace_format.specs.declared.refusal.Refusal.{Refusal as TraceRefusal};
-ghost use Rattle.trace_format.specs.declared.trace.Trace.{Trace};
-ghost use Rattle.ompt_cli.specs.Text.{IsProgram, IsRefused, Spells, text_for};
-ghost use Rattle.ompt_cli.specs.Ends.{IsLost, IsQuiet, IsTold, status_of_lost};
-ghost use Rattle.tool_api.specs.Registering.{AreAlways};
-ghost use Rattle.team_run.specs.Standing.{HearsSilent};
-ghost use Rattle.ompt_cli.specs.Commands.{EndsAs, HasOutput, IsReading, IsShowing, IsUnread, MayRefuse, MayRun, out_of, run_of, settings_in};
+ghost use Rattle.std.specs.Prelude.{ℕ, ◌≡◌, false, IfErr, IfOk, IfSome, IsNone, List, ◌⊎◌};
+ghost use Rattle.ompt_words.specs.declared.settings.Request.TheVariants as request;
+ghost use Rattle.ompt_cli.specs.Commands.{CountsFaults, HasWritten, out_of, run_of};
+ghost use Rattle.ompt_cli.specs.Ends.{TellsEnd};
 ghost use Rattle.ompt_cli.specs.Guests.{GuestsAfter};
-ghost use Rattle.ompt_cli.specs.Runs.{AreOutside, IsReturn, IsWhole};
+ghost use Rattle.ompt_cli.specs.Top.{CarriesOut, FollowsWords, HasTrace, IsRunOf, JudgesText, ShowsFaults, StaysUntouched};
+ghost use Rattle.ompt_cli.specs.Traces.{HasReadTrace};
+ghost use Rattle.ompt_cli.specs.Words.{AreFaulty, AreInRange, AreTakenAs, texts};
 
-use crate::commands::run_command;
-use crate::end::{End, Refusal};
-use crate::ended::{Ended, having_read, having_shown, without_run};
-use crate::job::Job;
-use crate::report::Top;
-use crate::text::program_for;
+use crate::end::End;
+use crate::outcome::{Outcome, having_read, having_shown, without_run};
+use crate::report::{ByThreads, Top};
+use crate::runner::{Alone, WithThreads};
+use crate::settings_run::run_settings;
 use crate::trace_commands::read_trace;
-use omp_codes::PROFILE_MASK;
-use omp_model::Cause;
-use ompt_words::{Command, Request, Settings, TraceCommand, WordsFault, request_of};
+use ompt_words::{Request, TraceCommand, WordsFault, request_of};
 use run_edges::{Sink, Source, write_all};
 use std::alloc::Global;
 use std::sync::Wait;
@@ -44,9 +27,9 @@ use tool_api::GuestTool;
 /// the guests come back as they were. `show` and `migrate` read a trace from `source`, and write it to `out` as it comes; `check` reads one,
 /// and writes `ok` where it is nested. Where the words ask for help or for the version, that text is written to `out`, and nothing is read.
 ///
-/// `words` don't contain the program's own name. With `--serial` one thread has all turns, and nothing is taken of `rt`; else each
-/// thread number has a thread of its own, the first one the caller's, which drives those too that can't be started. No clause says that a
-/// run by threads comes back.
+/// `words` don't contain the program's own name. With `--serial` one thread has all turns; else each thread number has a thread of its own,
+/// the first one the caller's, which drives those too that can't be started. No clause says that a run by threads comes back; all else is done
+/// by [`top_alone`], which does.
 /// Where nothing ran the guests are dropped.
 pub fn top<R: Threads + Wait + Sync, S: Source, O: Sink, E: Sink>(
     rt: &R,
@@ -57,156 +40,156 @@ pub fn top<R: Threads + Wait + Sync, S: Source, O: Sink, E: Sink>(
     err: &mut E,
     guests: Vec<Box<dyn GuestTool>>,
 ) -> Top
-    // The line of the end is told and the status is the end's number, unless a write of the line failed.
-    ensures told { IsTold result.status result.end (E.held err.old) (E.held err.new)
-        ⊎ IsLost result.status result.end (E.held err.old) (E.held err.new) (E.faults err.old) (E.faults err.new) }
-    ensures zero { (result.status ≡ 0) ↔ IsQuiet result.end }
-    ensures silent { IsQuiet result.end → err.new ≡ err.old }
-
-    // Words are refused only where clap may find a mistake in them. Nothing is touched then. Words that ask for a run aren't refused,
-    // and a text is read only for them.
-    ensures usage { result.end ≡ End.Usage → AreWrong (texts words.now) }
-    ensures formed { AskForRun (texts words.now) →
-        (result.end ≢ End.Usage) × (result.end ≢ End.Shown) × IsNone result.shown × IsNone result.read }
-    ensures untouched { result.end ≡ End.Usage →
-        (source.new ≡ source.old) × (out.new ≡ out.old) × IsNone result.ran × IsNone result.shown × IsNone result.read }
-    ensures other { ¬ AskForRun (texts words.now) → ((command : TraceCommand) → ¬ AskToRead (texts words.now) command) →
-        IsUnread result.end × (source.new ≡ source.old) × IsNone result.ran × IsNone result.read }
-
-    // A text is shown only where clap may say so, and then nothing is read. Words of the form up to `--help` or `--version` have
-    // theirs shown.
-    ensures shown { IfSome result.shown (λ text.
-        AskForText (texts words.now) × (source.new ≡ source.old) × IsNone result.ran × IsNone result.read × IsShowing result.end) }
-    ensures displayed { result.end ≡ End.Shown → IsSome result.shown }
-    ensures help { AskInForm (texts words.now) → IsShowing result.end }
-
-    // A trace is read only where the words ask for it, and for no others. What was read and written is defined for each end: the trace was read to
-    // its end, or it is refused or isn't nested, or a read, a write or memory failed. `migrate` takes no memory.
-    ensures reads { (command : TraceCommand) → AskToRead (texts words.now) command →
-        (result.read ≡ Some command) ⊎ ((result.end ≡ End.Memory) × (source.new ≡ source.old) × (out.new ≡ out.old)
-        × IsNone result.ran × IsNone result.shown × IsNone result.read) }
-    ensures read_alone { IfSome result.read (λ command. AreReadAs (texts words.now) (Request.Read command)
-        × IsReading result.end × IsNone result.ran × IsNone result.shown) }
-    ensures copied { IfSome result.read (λ command.
-        HasRead command result.end (S.left source.old) (S.left source.new) (O.held out.old) (O.held out.new)) }
-    ensures unrefused { IfSome result.read (λ command. (trace : Trace) → IsSomeAnd (S.left source.old) (Writes trace) → (refusal : TraceRefusal) →
-        result.end ≢ End.TraceRefused refusal) }
-    ensures unbroken { IfSome result.read (λ command. (trace : Trace) → IsSomeAnd (S.left source.old) (Writes trace) →
-        IsNested trace → (breach : Breach) → result.end ≢ End.Broken breach) }
-    ensures migrated { result.read ≡ Some TraceCommand.Migrate → result.end ≢ End.Memory }
-
-    // A text is refused for what it is: what the source has left, or the program that is generated.
-    ensures refused { (why : Refusal) → result.end ≡ End.Refused why → (settings : Settings) × AreReadAs (texts words.now) (Request.Run settings)
-        × IfSome (text_for settings.command (S.left source.old)) (IsRefused why) }
-    ensures accepted { (settings : Settings) → AskFor (texts words.now) settings → (why : Refusal) →
-        IsSomeAnd (text_for settings.command (S.left source.old)) (IsRefused why) → MayRefuse why result.end }
-
-    // Each fault was counted, and a count that is greater than before shows in how the command ended.
-    ensures read { result.end ≡ End.ReadFault → Rose (S.faults source.old) (S.faults source.new) }
-    ensures write { result.end ≡ End.WriteFault → Rose (O.faults out.old) (O.faults out.new) }
-    ensures unread { S.faults source.old < S.faults source.new → result.end ≡ End.ReadFault }
-    ensures lost { O.faults out.old < O.faults out.new → result.end ≡ End.WriteFault }
-    ensures untold { E.faults err.old < E.faults err.new → result.status ≡ status_of_lost result.end }
-
-    // What ran is the program, with the command, the threads and the steps that the words ask for, and serially where they do: where
-    // they are in the form, their own with the defaults.
-    ensures asked { IfSome result.ran (λ report. AreReadAs (texts words.now) (Request.Run (settings_in report))) }
-    ensures own { (form : InForm (texts words.now)) →
-        IfSome result.ran (λ report. settings_in report ≡ own_settings form) }
-    ensures spelled { IfSome result.ran (λ report.
-        IfSome (text_for report.command (S.left source.old)) (λ text. Spells text report.program.tree)) }
-    ensures generates { (settings : Settings) → AskFor (texts words.now) settings → (blocks : ℕ) → settings.command ≡ Command.Generate blocks →
-        source.new ≡ source.old }
-    ensures mask { IfSome result.ran (λ report. report.command ≢ Command.Run → report.mask ≡ PROFILE_MASK) }
-    ensures always { IfSome result.ran (λ report. AreAlways report.mask) }
-
-    // Its history is legal, and ends in the cause that is reported: whole exactly at Done or Returned. No thread is inside a callback then.
-    // With `--serial` it is in the serial order.
-    ensures legal { IfSome result.ran (λ report. Legal (run_of report) report.history) }
-    ensures cause { IfSome result.ran (λ report. report.cause ≢ Cause.Memory →
-        cause_of (run_of report) report.history ≡ Some report.cause) }
-    ensures finished { IfSome result.ran (λ report. report.cause ≢ Cause.Memory →
-        IsReturn report.cause ↔ IsWhole (run_of report) report.history) }
-    ensures outside { IfSome result.ran (λ report. report.cause ≢ Cause.Memory → AreOutside (run_of report) report.history) }
-    ensures serial { IfSome result.ran (λ report. report.serial ≡ true → Serial (run_of report) report.history) }
-
-    // A serial history is the one in which nothing is stored: for all commands but `run`, and where no tool stored anything.
-    ensures whole { IfSome result.ran (λ report. report.serial ≡ true → report.command ≢ Command.Run → report.cause ≢ Cause.Memory →
-        report.history ≡ serial (run_of report)) }
-    ensures silent_run { IfSome result.ran (λ report. report.serial ≡ true → report.cause ≢ Cause.Memory →
-        HearsSilent (run_of report) report.history → report.history ≡ serial (run_of report)) }
-
-    // Guest t was called for what thread t heard, in its order, and for nothing else but a call that found no memory, which ends the
-    // run. Threads without a guest stored nothing.
+    // The line of the end is told and the status is the end's, unless a write of the line failed.
+    ensures told { TellsEnd E.held E.faults result.status result.end err.old err.new }
+    // The words decide which of a run, a text that is shown and a trace that is read is there.
+    ensures words { FollowsWords (texts words.now) result.end result.shown result.read result.ran }
+    // What ran is the program that the words and the source say, in one legal run that ends in the cause that is reported.
+    ensures ran { IfSome result.ran (IsRunOf (texts words.now) (S.left source.old) result.end) }
+    // Guest t was called for what thread t heard, in its order, and for nothing else but a call that found no memory, which ends the run.
     ensures guests { IfSome result.ran (λ report.
         GuestsAfter (λ guest h. (GuestTool-box guest).stands_for guest.value h) (λ guest other. guest.vtable ≡ other.vtable)
         report.command report.serial (run_of report)
         report.cause report.history guests.items report.guests.items) }
-
-    // The end is the run's, unless a write or memory fails.
-    ensures done { result.end ≡ End.Done → IsSomeAnd result.ran (λ report. report.cause ≡ Cause.Done) }
-    ensures returned { (value : ℤ) → result.end ≡ End.Returned value →
-        IsSomeAnd result.ran (λ report. report.cause ≡ Cause.Returned value) }
-    ensures trapped { (number : ℕ) → result.end ≡ End.Trapped number →
-        IsSomeAnd result.ran (λ report. report.cause ≡ Cause.Trapped number) }
-    ensures stuck { result.end ≡ End.Deadlock → IsSomeAnd result.ran (λ report. report.cause ≡ Cause.Deadlock) }
-    ensures limit { (number : ℕ) → result.end ≡ End.Limit number →
-        IsSomeAnd result.ran (λ report. report.cause ≡ Cause.Limit number) }
-    ensures unwritten { result.end ≡ End.WriteFault → IsNone result.read → HasOutput result.shown result.ran }
-    ensures ended { IfSome result.ran (λ report. EndsAs report.cause result.end) }
-    ensures memory { IfSome result.ran (λ report. report.command ≡ Command.Run → report.cause ≢ Cause.Memory →
-        result.end ≢ End.Memory) }
-    ensures begun { IfSome result.ran (λ report. report.cause ≡ Cause.Memory → report.history ≢ []) }
-    ensures runs { (settings : Settings) → AskFor (texts words.now) settings →
-        IsSomeAnd (text_for settings.command (S.left source.old)) IsProgram → MayRun result.end }
-
-    // Where no trace is read, what is written is the text that was asked for, or what the command writes of its run. What is recorded is a
-    // trace of the format.
-    ensures listed { IsNone result.read → result.end ≢ End.WriteFault → result.end ≢ End.Memory →
-        Appends (O.held out.old) (O.held out.new) (out_of result.shown result.ran) }
-    ensures part { IsNone result.read → result.end ≡ End.WriteFault →
-        AppendsFront (O.held out.old) (O.held out.new) (out_of result.shown result.ran) }
-    ensures kept { IsNone result.read → result.end ≡ End.Memory → Keeps (O.held out.old) (O.held out.new) }
-    ensures traced { result.end ≢ End.WriteFault → result.end ≢ End.Memory → IfSome result.ran (λ report. report.command ≡ Command.Record →
-        IsTrace (trace_of (run_of report) report.cause report.history)) }
-    // Where the parts are no guests, the trace of the run, written or not, breaks no rule of the checker.
-    ensures nested { IfSome result.ran (λ report. report.command ≢ Command.Run → report.cause ≢ Cause.Memory →
-        IsNested (trace_of (run_of report) report.cause report.history)) }
+    // Where a trace was read, its end says what was read and written of it.
+    ensures read { IfSome result.read (λ command.
+        HasReadTrace command result.end (S.left source.old) (S.left source.new) (O.held out.old) (O.held out.new)) }
+    // A text is refused exactly for a reason that it has.
+    ensures text { JudgesText (texts words.now) (S.left source.old) result.end }
+    // Where no trace is read, what is written is the text that was asked for, or what the command writes of its run.
+    ensures written { IsNone result.read → HasWritten result.end (out_of result.shown result.ran) (O.held out.old) (O.held out.new) }
+    // A recording is a trace, and the trace of each run of the shipped parts is nested.
+    ensures recorded { IfSome result.ran (HasTrace result.end) }
+    // Each fault of a read or a write was counted, and shows in the end.
+    ensures faults { ShowsFaults result.end (S.faults source.old) (S.faults source.new) (O.faults out.old) (O.faults out.new) }
+    // Nothing is read that the words don't ask for, and nothing is touched where they are refused.
+    ensures untouched { StaysUntouched (texts words.now) result.end result.shown result.read source.old source.new out.old out.new }
 {
-    let settings = match request_of(alloc, words) {
-        Ok(Request::Run(settings)) => settings,
-        Ok(Request::Read(command)) => {
-            let end = read_trace(alloc, command, source, out);
-            return tell(having_read(end, command), err);
+    match top_alone(alloc, words, source, out, err, guests) {
+        Ok(top) => top,
+        Err(asked) => top_by_threads(rt, alloc, asked, source, out, err),
+    }
+}
+
+/// Does what [`top`] does for all words that don't ask for a run by threads: for `gen`, the commands that read a trace, help and wrong words, and for
+/// a run with `--serial`. It waits for nobody, and so it comes back. Where the words ask for a run by threads, that is answered as the error, and
+/// nothing was touched.
+pub fn top_alone<S: Source, O: Sink, E: Sink>(
+    alloc: Global,
+    words: &[String],
+    source: &mut S,
+    out: &mut O,
+    err: &mut E,
+    guests: Vec<Box<dyn GuestTool>>,
+) -> Result<Top, ByThreads>
+    ensures told { IfOk result (λ top. TellsEnd E.held E.faults top.status top.end err.old err.new) }
+    ensures carried { IfOk result (λ top.
+        CarriesOut S.left S.faults O.held O.faults (texts words.now) top.end top.shown top.read top.ran source.old source.new out.old out.new) }
+    ensures guests { IfOk result (λ top. IfSome top.ran (λ report.
+        GuestsAfter (λ guest h. (GuestTool-box guest).stands_for guest.value h) (λ guest other. guest.vtable ≡ other.vtable)
+        report.command report.serial (run_of report)
+        report.cause report.history guests.items report.guests.items)) }
+    // Only words that ask for a run by threads are given back, with the guests, and nothing was touched then.
+    ensures asked { IfErr result (λ asked. AreTakenAs (texts words.now) (request.Run asked.settings) × AreInRange asked.settings × (asked.settings.serial ≡ false)) }
+    ensures kept { IfErr result (λ asked. asked.guests ≡ guests) }
+    ensures untouched { IfErr result (λ _. (source.new ≡ source.old) × (out.new ≡ out.old) × (err.new ≡ err.old)) }
+{
+    match outcome_alone(alloc, words, source, out, guests) {
+        Ok(outcome) => Ok(tell(outcome, err)),
+        Err(asked) => Err(asked),
+    }
+}
+
+/// Does what [`top_alone`] does, but for the line of the end.
+fn outcome_alone<S: Source, O: Sink>(
+    alloc: Global,
+    words: &[String],
+    source: &mut S,
+    out: &mut O,
+    guests: Vec<Box<dyn GuestTool>>,
+) -> Result<Outcome, ByThreads>
+    ensures carried { IfOk result (λ outcome.
+        CarriesOut S.left S.faults O.held O.faults (texts words.now) outcome.end outcome.shown outcome.read outcome.ran source.old source.new out.old out.new) }
+    ensures guests { IfOk result (λ outcome. IfSome outcome.ran (λ report.
+        GuestsAfter (λ guest h. (GuestTool-box guest).stands_for guest.value h) (λ guest other. guest.vtable ≡ other.vtable)
+        report.command report.serial (run_of report)
+        report.cause report.history guests.items report.guests.items)) }
+    ensures asked { IfErr result (λ asked. AreTakenAs (texts words.now) (request.Run asked.settings) × AreInRange asked.settings × (asked.settings.serial ≡ false)) }
+    ensures kept { IfErr result (λ asked. asked.guests ≡ guests) }
+    ensures untouched { IfErr result (λ _. (source.new ≡ source.old) × (out.new ≡ out.old)) }
+{
+    match request_of(alloc, words) {
+        Ok(Request::Run(settings)) => {
+            if !settings.serial {
+                return Err(ByThreads { settings, guests });
+            }
+            Ok(run_settings(&Alone, alloc, settings, source, out, guests))
         }
-        Err(WordsFault::Usage) => return tell(without_run(End::Usage), err),
-        Err(WordsFault::Memory) => return tell(without_run(End::Memory), err),
-        Err(WordsFault::Shown(text)) => {
+        Ok(Request::Read(command)) => Ok(read_as(alloc, command, source, out)),
+        Err(fault) => Ok(without_request(fault, source, out)),
+    }
+}
+
+/// Runs a program by threads, as the words ask.
+fn top_by_threads<R: Threads + Wait + Sync, S: Source, O: Sink, E: Sink>(
+    rt: &R,
+    alloc: Global,
+    asked: ByThreads,
+    source: &mut S,
+    out: &mut O,
+    err: &mut E,
+) -> Top
+    requires range { AreInRange asked.settings }
+    ensures told { TellsEnd E.held E.faults result.status result.end err.old err.new }
+    ensures carried { (words : List (List ℕ)) → AreTakenAs words (request.Run asked.settings) →
+        CarriesOut S.left S.faults O.held O.faults words result.end result.shown result.read result.ran source.old source.new out.old out.new }
+    ensures guests { IfSome result.ran (λ report.
+        GuestsAfter (λ guest h. (GuestTool-box guest).stands_for guest.value h) (λ guest other. guest.vtable ≡ other.vtable)
+        report.command report.serial (run_of report)
+        report.cause report.history asked.guests.items report.guests.items) }
+{
+    let ByThreads { settings, guests } = asked;
+    tell(
+        run_settings(&WithThreads(rt), alloc, settings, source, out, guests),
+        err,
+    )
+}
+
+/// Reads a trace from the source, as the words ask.
+fn read_as<S: Source, O: Sink>(
+    alloc: Global,
+    command: TraceCommand,
+    source: &mut S,
+    out: &mut O,
+) -> Outcome
+    ensures carried { (words : List (List ℕ)) → AreTakenAs words (request.Read command) →
+        CarriesOut S.left S.faults O.held O.faults words result.end result.shown result.read result.ran source.old source.new out.old out.new }
+    ensures no_run { IsNone result.ran }
+{
+    having_read(read_trace(alloc, command, source, out), command)
+}
+
+/// Shows the text that the words ask for, or refuses them. Nothing is read.
+fn without_request<S: Source, O: Sink>(fault: WordsFault, _source: &S, out: &mut O) -> Outcome
+    ensures carried { (words : List (List ℕ)) → AreFaulty words fault →
+        CarriesOut S.left S.faults O.held O.faults words result.end result.shown result.read result.ran _source.now _source.now out.old out.new }
+    ensures no_run { IsNone result.ran }
+{
+    match fault {
+        WordsFault::Usage => without_run(End::Usage),
+        WordsFault::Memory => without_run(End::Memory),
+        WordsFault::Shown(text) => {
             let end = show(&text, out);
-            return tell(having_shown(end, text), err);
+            having_shown(end, text)
         }
-    };
-    let Settings {
-        command,
-        threads,
-        steps,
-        serial,
-    } = settings;
-    let program = match program_for(alloc, command, source) {
-        Ok(program) => program,
-        Err(end) => return tell(without_run(end), err),
-    };
-    let job = Job::new(program, threads, steps, serial);
-    tell(run_command(rt, alloc, command, job, guests, out), err)
+    }
 }
 
 /// Writes the text that the words ask for.
 fn show<O: Sink>(text: &str, out: &mut O) -> End
     ensures end { (result ≡ End.Shown) ⊎ (result ≡ End.WriteFault) }
-    ensures listed { result ≢ End.WriteFault → Appends (O.held out.old) (O.held out.new) text.now }
-    ensures part { result ≡ End.WriteFault → AppendsFront (O.held out.old) (O.held out.new) text.now }
-    ensures write { result ≡ End.WriteFault → Rose (O.faults out.old) (O.faults out.new) }
-    ensures steady { result ≢ End.WriteFault → O.faults out.new ≡ O.faults out.old }
+    ensures written { HasWritten result text.now (O.held out.old) (O.held out.new) }
+    ensures faults { CountsFaults result End.WriteFault (O.faults out.old) (O.faults out.new) }
 {
     match write_all(out, text.as_bytes()) {
         Ok(()) => End::Shown,
@@ -215,23 +198,19 @@ fn show<O: Sink>(text: &str, out: &mut O) -> End
 }
 
 /// Writes the line of the end.
-fn tell<E: Sink>(ended: Ended, err: &mut E) -> Top
-    ensures end { result.end ≡ ended.end }
-    ensures ran { result.ran ≡ ended.ran }
-    ensures shown { result.shown ≡ ended.shown }
-    ensures read { result.read ≡ ended.read }
-    ensures told { IsTold result.status ended.end (E.held err.old) (E.held err.new)
-        ⊎ IsLost result.status ended.end (E.held err.old) (E.held err.new) (E.faults err.old) (E.faults err.new) }
-    ensures untold { E.faults err.old < E.faults err.new → result.status ≡ status_of_lost ended.end }
-    ensures zero { (result.status ≡ 0) ↔ IsQuiet ended.end }
-    ensures silent { IsQuiet ended.end → err.new ≡ err.old }
+fn tell<E: Sink>(outcome: Outcome, err: &mut E) -> Top
+    ensures end { result.end ≡ outcome.end }
+    ensures ran { result.ran ≡ outcome.ran }
+    ensures shown { result.shown ≡ outcome.shown }
+    ensures read { result.read ≡ outcome.read }
+    ensures told { TellsEnd E.held E.faults result.status outcome.end err.old err.new }
 {
-    let Ended {
+    let Outcome {
         end,
         ran,
         shown,
         read,
-    } = ended;
+    } = outcome;
     let line = end.line();
     let status = match write_all(err, line.as_str().as_bytes()) {
         Ok(()) => end.status(),

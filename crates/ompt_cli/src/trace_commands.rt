@@ -2,9 +2,9 @@
 
 ghost use Rattle.std.specs.Prelude.{◌≡◌, ◌≢◌, ◌⊎◌};
 ghost use Rattle.std.specs.Io.KnownBytes.{Appends};
-ghost use Rattle.run_edges.specs.Edges.{AppendsFront, Rose};
-ghost use Rattle.ompt_cli.specs.Commands.{IsReading};
-ghost use Rattle.ompt_cli.specs.Traces.{HasJudged, HasRead, HasWritten, ok_text};
+ghost use Rattle.run_edges.specs.Edges.{AppendsFront};
+ghost use Rattle.ompt_cli.specs.Commands.{CountsFaults, IsReading};
+ghost use Rattle.ompt_cli.specs.Traces.{HasJudged, HasRead, HasCopy, ok_text};
 
 use crate::end::End;
 use ompt_words::TraceCommand;
@@ -23,10 +23,8 @@ pub(crate) fn read_trace<S: Source, O: Sink>(
     ensures end { IsReading result }
     ensures copied { HasRead command result (S.left source.old) (S.left source.new) (O.held out.old) (O.held out.new) }
     ensures memory { command ≡ TraceCommand.Migrate → result ≢ End.Memory }
-    ensures read { result ≡ End.ReadFault → Rose (S.faults source.old) (S.faults source.new) }
-    ensures write { result ≡ End.WriteFault → Rose (O.faults out.old) (O.faults out.new) }
-    ensures unread { result ≢ End.ReadFault → S.faults source.new ≡ S.faults source.old }
-    ensures steady { result ≢ End.WriteFault → O.faults out.new ≡ O.faults out.old }
+    ensures reads { CountsFaults result End.ReadFault (S.faults source.old) (S.faults source.new) }
+    ensures writes { CountsFaults result End.WriteFault (O.faults out.old) (O.faults out.new) }
 {
     match command {
         TraceCommand::Show => copy(alloc, Form::Lines, source, out),
@@ -38,12 +36,10 @@ pub(crate) fn read_trace<S: Source, O: Sink>(
 /// Reads a trace, and writes it in this form.
 fn copy<S: Source, O: Sink>(alloc: Global, form: Form, source: &mut S, out: &mut O) -> End
     ensures end { IsReading result }
-    ensures copied { HasWritten form result (S.left source.old) (S.left source.new) (O.held out.old) (O.held out.new) }
+    ensures copied { HasCopy form result (S.left source.old) (S.left source.new) (O.held out.old) (O.held out.new) }
     ensures memory { form ≡ Form.SecondVersion → result ≢ End.Memory }
-    ensures read { result ≡ End.ReadFault → Rose (S.faults source.old) (S.faults source.new) }
-    ensures write { result ≡ End.WriteFault → Rose (O.faults out.old) (O.faults out.new) }
-    ensures unread { result ≢ End.ReadFault → S.faults source.new ≡ S.faults source.old }
-    ensures steady { result ≢ End.WriteFault → O.faults out.new ≡ O.faults out.old }
+    ensures reads { CountsFaults result End.ReadFault (S.faults source.old) (S.faults source.new) }
+    ensures writes { CountsFaults result End.WriteFault (O.faults out.old) (O.faults out.new) }
 {
     match copy_trace(alloc, form, source, out) {
         Copied::Whole => End::Read,
@@ -58,10 +54,8 @@ fn copy<S: Source, O: Sink>(alloc: Global, form: Form, source: &mut S, out: &mut
 fn check<S: Source, O: Sink>(alloc: Global, source: &mut S, out: &mut O) -> End
     ensures end { IsReading result }
     ensures judged { HasJudged result (S.left source.old) (S.left source.new) (O.held out.old) (O.held out.new) }
-    ensures read { result ≡ End.ReadFault → Rose (S.faults source.old) (S.faults source.new) }
-    ensures write { result ≡ End.WriteFault → Rose (O.faults out.old) (O.faults out.new) }
-    ensures unread { result ≢ End.ReadFault → S.faults source.new ≡ S.faults source.old }
-    ensures steady { result ≢ End.WriteFault → O.faults out.new ≡ O.faults out.old }
+    ensures reads { CountsFaults result End.ReadFault (S.faults source.old) (S.faults source.new) }
+    ensures writes { CountsFaults result End.WriteFault (O.faults out.old) (O.faults out.new) }
 {
     match check_trace(alloc, source) {
         Checked::Nested => write_ok(out),
@@ -77,8 +71,7 @@ fn write_ok<O: Sink>(out: &mut O) -> End
     ensures end { (result ≡ End.Read) ⊎ (result ≡ End.WriteFault) }
     ensures whole { result ≢ End.WriteFault → Appends (O.held out.old) (O.held out.new) ok_text }
     ensures part { result ≡ End.WriteFault → AppendsFront (O.held out.old) (O.held out.new) ok_text }
-    ensures write { result ≡ End.WriteFault → Rose (O.faults out.old) (O.faults out.new) }
-    ensures steady { result ≢ End.WriteFault → O.faults out.new ≡ O.faults out.old }
+    ensures writes { CountsFaults result End.WriteFault (O.faults out.old) (O.faults out.new) }
 {
     match write_all(out, b"ok\n") {
         Ok(()) => End::Read,

@@ -1,10 +1,7 @@
 //! What is written of a run, as one text.
 
-ghost use Rattle.std.specs.Prelude.{◌≡◌, ◌≢◌};
-ghost use Rattle.std.specs.Result.{IsOkAnd};
-ghost use Rattle.std.specs.Io.KnownBytes.{Appends, Keeps};
-ghost use Rattle.run_edges.specs.Edges.{Rose, AppendsFront};
-ghost use Rattle.ompt_cli.specs.Commands.{EndsAs, EndsWith, TellsRun, unless_memory};
+ghost use Rattle.std.specs.Prelude.{ℕ, ◌≡◌, ◌≢◌, List, IfOk};
+ghost use Rattle.ompt_cli.specs.Commands.{CountsFaults, EndsAs, HasWritten, unless_memory};
 
 use crate::end::End;
 use omp_model::Cause;
@@ -19,13 +16,8 @@ pub(crate) fn write_made<O: Sink>(
     out: &mut O,
 ) -> End
     ensures end { EndsAs cause result }
-    ensures listed { result ≢ End.WriteFault → result ≢ End.Memory →
-        IsOkAnd made (λ text. Appends (O.held out.old) (O.held out.new) (unless_memory cause text.items)) }
-    ensures part { result ≡ End.WriteFault →
-        IsOkAnd made (λ text. AppendsFront (O.held out.old) (O.held out.new) (unless_memory cause text.items)) }
-    ensures write { result ≡ End.WriteFault → Rose (O.faults out.old) (O.faults out.new) }
-    ensures steady { result ≢ End.WriteFault → O.faults out.new ≡ O.faults out.old }
-    ensures kept { result ≡ End.Memory → Keeps (O.held out.old) (O.held out.new) }
+    ensures written { (text : List ℕ) → IfOk made (λ lines. lines.items ≡ text) → HasWritten result (unless_memory cause text) (O.held out.old) (O.held out.new) }
+    ensures faults { CountsFaults result End.WriteFault (O.faults out.old) (O.faults out.new) }
 {
     match made {
         Ok(text) => write_run(cause, &text, out),
@@ -37,36 +29,14 @@ pub(crate) fn write_made<O: Sink>(
 pub(crate) fn write_run<O: Sink>(cause: Cause, text: &[u8], out: &mut O) -> End
     ensures end { EndsAs cause result }
     ensures memory { cause ≢ Cause.Memory → result ≢ End.Memory }
-    ensures listed { result ≢ End.WriteFault → result ≢ End.Memory →
-        Appends (O.held out.old) (O.held out.new) (unless_memory cause text.now) }
-    ensures part { result ≡ End.WriteFault →
-        AppendsFront (O.held out.old) (O.held out.new) (unless_memory cause text.now) }
-    ensures write { result ≡ End.WriteFault → Rose (O.faults out.old) (O.faults out.new) }
-    ensures steady { result ≢ End.WriteFault → O.faults out.new ≡ O.faults out.old }
-    ensures kept { result ≡ End.Memory → Keeps (O.held out.old) (O.held out.new) }
+    ensures written { HasWritten result (unless_memory cause text.now) (O.held out.old) (O.held out.new) }
+    ensures faults { CountsFaults result End.WriteFault (O.faults out.old) (O.faults out.new) }
 {
-    match cause {
-        Cause::Done => write_text(End::Done, text, out),
-        Cause::Returned(value) => write_text(End::Returned(value), text, out),
-        Cause::Trapped(number) => write_text(End::Trapped(number), text, out),
-        Cause::Deadlock => write_text(End::Deadlock, text, out),
-        Cause::Limit(number) => write_text(End::Limit(number), text, out),
-        Cause::Memory => End::Memory,
+    if cause == Cause::Memory {
+        return End::Memory;
     }
-}
-
-/// Writes the text. It answers this end, unless a write failed.
-fn write_text<O: Sink>(whole: End, text: &[u8], out: &mut O) -> End
-    requires { TellsRun whole }
-    ensures end { EndsWith whole result }
-    ensures memory { result ≢ End.Memory }
-    ensures listed { result ≢ End.WriteFault → Appends (O.held out.old) (O.held out.new) text.now }
-    ensures part { result ≡ End.WriteFault → AppendsFront (O.held out.old) (O.held out.new) text.now }
-    ensures write { result ≡ End.WriteFault → Rose (O.faults out.old) (O.faults out.new) }
-    ensures steady { result ≢ End.WriteFault → O.faults out.new ≡ O.faults out.old }
-{
     match write_all(out, text) {
-        Ok(()) => whole,
+        Ok(()) => End::Ended(cause),
         Err(_) => End::WriteFault,
     }
 }

@@ -52,7 +52,7 @@ pub(crate) struct Ran {
 impl Told {
     /// Whether what was asked for is done.
     pub fn is_done(&self) -> bool {
-        matches!(self.end, End::Done)
+        matches!(self.end, End::Ended(Cause::Done))
     }
 
     /// Whether a trace was read to its end.

@@ -1,48 +1,20 @@
-use Rattle.std.proofs.Common.{◌≡◌, ℕ, ◌≤◌, ◌∙◌, List, [], refl, sym, subst, ap}
-use Rattle.std.specs.Io.KnownBytes.{Appends}
+use Rattle.std.proofs.Common.{◌∙◌, ap, sym}
 use Rattle.std.proofs.lemmas.Result.{IfOk-weaker}
-use Rattle.run_edges.specs.Edges.{AppendsFront}
-use Rattle.ompt_calls.specs.declared.event.EventRecord.{EventRecord}
 use Rattle.omp_model.specs.Records.{records_of}
-use Rattle.tool_report.specs.Order.{AreKept}
-use Rattle.tool_report.specs.Moments.{moments_of}
-use Rattle.tool_report.specs.Timeline.{timeline_of}
 use Rattle.ompt_words.specs.declared.settings.Command.{Command}
 use Rattle.ompt_words.specs.declared.settings.Command.TheVariants.{Timeline as Timelining}
-use Rattle.ompt_cli.specs.Commands.{run_of, unless_memory, written_by}
-use Rattle.ompt_cli.proofs.Observed.{observed_kept, observed_stays, written_as}
+use Rattle.ompt_cli.specs.Commands.{run_of, written_by}
 use Rattle.ompt_cli.proofs.reporting.timeline.Goals as goal
 
-pub returns-clause-report : goal.returns-clause-report
-returns-clause-report g c =
-    let report = c.in-Ok-observe.observed.report in
-    let runs = rw c.in-Ok.ensures at c.in-Ok-observe.ensures.parts in
-    let same : c.args.job.threads ≡ c.job.inside.threads = rw (← c.job.view_is) refl in
-    rw c.having_run.ensures
-    (c.in-Ok-observe.ensures.report, observed_stays moments_of (Timelining c.args.columns) c.args.job report c.in-Ok-observe.observed.parts.items c.job.inside.threads same c.job.invariant.0 c.in-Ok-observe.ensures.report runs)
+pub returns-clause-ran : goal.returns-clause-ran
+returns-clause-ran g c =
+    let has = c.in-Ok.ensures.kept in
+    c.report_made.ensures.ran (Timelining c.args.columns) c.args.job has.observes has.stays (λ is. cc) (λ is. cc)
 
-pub returns-clause-listed : goal.returns-clause-listed
-returns-clause-listed g c =
-    let report = c.in-Ok-observe.observed.report in
-    let runs = rw c.in-Ok.ensures at c.in-Ok-observe.ensures.parts in
-    let same : c.args.job.threads ≡ c.job.inside.threads = rw (← c.job.view_is) refl in
-    let kept : AreKept moments_of (records_of (run_of report) report.history) c.in-Ok-observe.observed.parts.items =
-    observed_kept moments_of (Timelining c.args.columns) c.args.job report c.in-Ok-observe.observed.parts.items c.job.inside.threads same c.job.invariant.0 c.in-Ok-observe.ensures.report runs c.in-Ok-observe.ensures.own in
-    rw c.having_run.ensures
-    (λ whole memory. written_as c.timeline_text-made.result (λ text. text.items) (written_by report.command (run_of report) report.cause report.history)
-    (λ (bytes : List ℕ). Appends (g.O.Sink.held c.args.out.now) (g.O.Sink.held c.write_made-end.new.out) (unless_memory report.cause bytes))
-    (c.write_made-end.ensures.listed whole memory)
-    (IfOk-weaker c.timeline_text-made.result _ _ (λ text is. is (records_of (run_of report) report.history) (rw c.deref.ensures.value kept) ∙ sym (ap (λ (command : Command). written_by command (run_of report) report.cause report.history) c.in-Ok-observe.ensures.report.command_is)) c.timeline_text-made.ensures))
-
-pub returns-clause-part : goal.returns-clause-part
-returns-clause-part g c =
-    let report = c.in-Ok-observe.observed.report in
-    let runs = rw c.in-Ok.ensures at c.in-Ok-observe.ensures.parts in
-    let same : c.args.job.threads ≡ c.job.inside.threads = rw (← c.job.view_is) refl in
-    let kept : AreKept moments_of (records_of (run_of report) report.history) c.in-Ok-observe.observed.parts.items =
-    observed_kept moments_of (Timelining c.args.columns) c.args.job report c.in-Ok-observe.observed.parts.items c.job.inside.threads same c.job.invariant.0 c.in-Ok-observe.ensures.report runs c.in-Ok-observe.ensures.own in
-    rw c.having_run.ensures
-    (λ cut. written_as c.timeline_text-made.result (λ text. text.items) (written_by report.command (run_of report) report.cause report.history)
-    (λ (bytes : List ℕ). AppendsFront (g.O.Sink.held c.args.out.now) (g.O.Sink.held c.write_made-end.new.out) (unless_memory report.cause bytes))
-    (c.write_made-end.ensures.part cut)
-    (IfOk-weaker c.timeline_text-made.result _ _ (λ text is. is (records_of (run_of report) report.history) (rw c.deref.ensures.value kept) ∙ sym (ap (λ (command : Command). written_by command (run_of report) report.cause report.history) c.in-Ok-observe.ensures.report.command_is)) c.timeline_text-made.ensures))
+pub returns-clause-written : goal.returns-clause-written
+returns-clause-written g c =
+    let report = c.in-Ok.observed.report in
+    let has = c.in-Ok.ensures.kept in
+    c.report_made.ensures.written
+    (IfOk-weaker c.timeline_text-made.result _ _ (λ text is. is (records_of (run_of report) report.history) (rw c.deref.ensures.value has.kept)
+    ∙ sym (ap (λ (command : Command). written_by command (run_of report) report.cause report.history) has.observes.command_is)) c.timeline_text-made.ensures)

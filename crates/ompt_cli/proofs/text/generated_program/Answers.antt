@@ -1,7 +1,4 @@
-use Rattle.std.proofs.Common.{◌∙◌, sym, subst, List, ℕ}
-use Rattle.std.specs.Prelude.{IsErrAnd}
-use Rattle.tool_report.specs.Generator.{generated}
-use Rattle.ompt_cli.specs.Commands.{MayRefuse}
+use Rattle.std.proofs.Common.{◌∙◌, sym, subst}
 use Rattle.ompt_cli.specs.Text.{IsRefused}
 use Rattle.ompt_cli.proofs.text.generated_program.Goals as goal
 

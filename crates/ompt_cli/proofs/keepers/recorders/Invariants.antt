@@ -1,5 +1,5 @@
 use Rattle.std.proofs.Common.{◌≡◌, [], replicate}
-use Rattle.ompt_cli.proofs.reporting.recorders.Given as goal
+use Rattle.ompt_cli.proofs.keepers.recorders.Given as goal
 
 -- as many as turns were made
 abbrev pub invariant-loop-thread : goal.invariant-loop-thread

@@ -9,7 +9,7 @@ use ompt_words::TraceCommand;
 /// How a command ended, what it reports of its run, if there was one, the text that it was to show, if there was one, and the command that has read a
 /// trace, if one has.
 #[derive(Drop)]
-pub(crate) struct Ended {
+pub(crate) struct Outcome {
     pub end: End,
     pub ran: Option<Report>,
     pub shown: Option<String>,
@@ -17,10 +17,10 @@ pub(crate) struct Ended {
 }
 
 /// A command that ended before its run.
-pub(crate) fn without_run(end: End) -> Ended
+pub(crate) fn without_run(end: End) -> Outcome
     ensures { result ≡ record { end = end; ran = None; shown = None; read = None } }
 {
-    Ended {
+    Outcome {
         end,
         ran: None,
         shown: None,
@@ -29,10 +29,10 @@ pub(crate) fn without_run(end: End) -> Ended
 }
 
 /// A command that has run.
-pub(crate) fn having_run(end: End, report: Report) -> Ended
+pub(crate) fn having_run(end: End, report: Report) -> Outcome
     ensures { result ≡ record { end = end; ran = Some report; shown = None; read = None } }
 {
-    Ended {
+    Outcome {
         end,
         ran: Some(report),
         shown: None,
@@ -41,10 +41,10 @@ pub(crate) fn having_run(end: End, report: Report) -> Ended
 }
 
 /// A command that was to show this text.
-pub(crate) fn having_shown(end: End, text: String) -> Ended
+pub(crate) fn having_shown(end: End, text: String) -> Outcome
     ensures { result ≡ record { end = end; ran = None; shown = Some text; read = None } }
 {
-    Ended {
+    Outcome {
         end,
         ran: None,
         shown: Some(text),
@@ -53,10 +53,10 @@ pub(crate) fn having_shown(end: End, text: String) -> Ended
 }
 
 /// A command that has read a trace.
-pub(crate) fn having_read(end: End, command: TraceCommand) -> Ended
+pub(crate) fn having_read(end: End, command: TraceCommand) -> Outcome
     ensures { result ≡ record { end = end; ran = None; shown = None; read = Some command } }
 {
-    Ended {
+    Outcome {
         end,
         ran: None,
         shown: None,

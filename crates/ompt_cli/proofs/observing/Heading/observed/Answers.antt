@@ -1,0 +1,27 @@
+use Rattle.std.proofs.Common.{refl}
+use Rattle.ompt_cli.proofs.observing.Heading.observed.Goals as goal
+
+pub returns-clause-observed : goal.returns-clause-observed
+returns-clause-observed g c = λ job is parts runs.
+    rw (is.program_is, is.threads_are, is.steps_are, is.serial_is)
+    (record {
+      observes =
+          record {
+            command_is = refl;
+            program_is = refl;
+            threads_are = refl;
+            steps_are = refl;
+            serial_is = refl;
+            legal = runs.legal;
+            ends = runs.ends;
+            outside = runs.outside;
+            in_order = runs.in_order;
+            whole = runs.whole;
+            begun = runs.begun;
+            always = runs.always;
+          };
+      runs = runs.runs;
+      same = runs.same;
+      own = runs.own;
+      printed = runs.printed;
+    })

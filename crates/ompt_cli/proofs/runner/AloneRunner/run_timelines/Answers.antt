@@ -1,0 +1,10 @@
+use Rattle.std.proofs.lemmas.Result.{IfOk-weaker}
+use Rattle.tool_report.specs.Moments.{moments_of}
+use Rattle.ompt_cli.proofs.Observed.{has_kept}
+use Rattle.ompt_cli.proofs.runner.AloneRunner.run_timelines.Goals as goal
+
+pub returns-clause-kept : goal.returns-clause-kept
+returns-clause-kept g c =
+    rw (← c.job.view_is)
+    (IfOk-weaker c.observe_alone.result _ _ (λ observed has. has_kept moments_of _ c.args.command _ observed.report observed.parts.items observed.text.items c.job.invariant.0 c.job.invariant.1 (rw c.in_ok-parts.ensures at has))
+    (rw (← c.job.view_is) at c.observe_alone.ensures.observed))

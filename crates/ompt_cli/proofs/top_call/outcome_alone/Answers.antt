@@ -1,0 +1,35 @@
+use Rattle.std.proofs.Common.{Err, ap}
+use Rattle.ompt_words.specs.declared.fault.WordsFault.{WordsFault}
+use Rattle.ompt_cli.proofs.Carrying.{in-range, not-serial, taken-as}
+use Rattle.ompt_words.specs.declared.settings.Request.TheVariants as request
+use Rattle.ompt_cli.specs.Words.{texts}
+use Rattle.ompt_cli.proofs.top_call.outcome_alone.Goals as goal
+
+pub returns-then-not-settings-clause-asked : goal.returns-then-not-settings-clause-asked
+returns-then-not-settings-clause-asked g c =
+    let of = c.in-Ok-Run.ensures in
+    let taken = taken-as (texts c.args.words.now) c.in-Ok-Run.field-0 (request.Run c.in-Ok-Run.settings) c.in-Ok-Run.field-0-is of.read of.exact of.form of.read_form of.asked in
+    (taken, in-range (texts c.args.words.now) c.in-Ok-Run.settings taken, not-serial _ c.if-not-settings.true)
+
+pub returns-else-not-settings-clause-carried : goal.returns-else-not-settings-clause-carried
+returns-else-not-settings-clause-carried g c =
+    let of = c.in-Ok-Run.ensures in
+    c.run_settings.ensures.carried (texts c.args.words.now) (taken-as (texts c.args.words.now) c.in-Ok-Run.field-0 (request.Run c.in-Ok-Run.settings) c.in-Ok-Run.field-0-is of.read of.exact of.form of.read_form of.asked)
+
+pub returns-in-Ok-Read-clause-carried : goal.returns-in-Ok-Read-clause-carried
+returns-in-Ok-Read-clause-carried g c =
+    let of = c.in-Ok-Read.ensures in
+    c.read_as.ensures.carried (texts c.args.words.now) (taken-as (texts c.args.words.now) c.in-Ok-Read.field-0 (request.Read c.in-Ok-Read.command) c.in-Ok-Read.field-0-is of.read of.exact of.form of.read_form of.asked)
+
+pub returns-in-Err-clause-carried : goal.returns-in-Err-clause-carried
+returns-in-Err-clause-carried g c =
+    let of = c.in-Err.ensures in
+    c.without_request.ensures.carried (texts c.args.words.now)
+    (record {
+      usage = λ is. of.usage (ap (λ (found : WordsFault). Err found) is);
+      shown = λ text is. of.shown text (ap (λ (found : WordsFault). Err found) is);
+      exact = of.exact;
+      form = of.form;
+      read_form = of.read_form;
+      help = of.asked;
+    })

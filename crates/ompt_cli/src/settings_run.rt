@@ -1,0 +1,50 @@
+//! The commands that run a program, from their settings.
+
+ghost use Rattle.std.specs.Prelude.{ℕ, ◌≡◌, IfSome, List};
+ghost use Rattle.ompt_words.specs.declared.settings.Request.TheVariants as request;
+ghost use Rattle.ompt_cli.specs.Commands.{run_of};
+ghost use Rattle.ompt_cli.specs.Guests.{GuestsAfter};
+ghost use Rattle.ompt_cli.specs.Top.{CarriesOut};
+ghost use Rattle.ompt_cli.specs.Words.{AreInRange, AreTakenAs};
+
+use crate::commands::run_command;
+use crate::job::Job;
+use crate::outcome::{Outcome, without_run};
+use crate::runner::Runner;
+use crate::text::program_for;
+use ompt_words::Settings;
+use run_edges::{Sink, Source};
+use std::alloc::Global;
+use tool_api::GuestTool;
+
+/// Reads the program, or makes it for `gen`, runs it with these settings, and writes what the command writes.
+pub(crate) fn run_settings<X: Runner, S: Source, O: Sink>(
+    runner: &X,
+    alloc: Global,
+    settings: Settings,
+    source: &mut S,
+    out: &mut O,
+    guests: Vec<Box<dyn GuestTool>>,
+) -> Outcome
+    requires kind { X.may_run runner.now settings.serial }
+    requires range { AreInRange settings }
+    ensures carried { (words : List (List ℕ)) → AreTakenAs words (request.Run settings) →
+        CarriesOut S.left S.faults O.held O.faults words result.end result.shown result.read result.ran source.old source.new out.old out.new }
+    ensures guests { IfSome result.ran (λ report.
+        GuestsAfter (λ guest h. (GuestTool-box guest).stands_for guest.value h) (λ guest other. guest.vtable ≡ other.vtable)
+        report.command report.serial (run_of report)
+        report.cause report.history guests.items report.guests.items) }
+{
+    let Settings {
+        command,
+        threads,
+        steps,
+        serial,
+    } = settings;
+    let program = match program_for(alloc, command, source) {
+        Ok(program) => program,
+        Err(end) => return without_run(end),
+    };
+    let job = Job::new(program, threads, steps, serial);
+    run_command(runner, alloc, command, job, guests, out)
+}
