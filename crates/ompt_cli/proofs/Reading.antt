@@ -1,23 +1,25 @@
 -- A text spells a program, or is refused for one thing, and not both.
-use Rattle.std.proofs.Common.{◌≡◌, ◌≢◌, ℕ, ◌≤◌, List, [], ◌∷◌, ◌++◌, length, Option, Some, None, Ok, refl, sym, ap, subst, ◌∙◌, arith}
+use Rattle.std.proofs.Common.{◌≡◌, ◌≢◌, ℕ, ◌≤◌, ◌⊎◌, Bool, true, false, ltb, inl, inr, List, [], ◌∷◌, ◌++◌, length, Option, Some, None, Ok, refl, sym, ap, subst, ◌∙◌, arith}
+use Rattle.std.proofs.lemmas.Bool.{ltb-false, ltb-true}
 use Rattle.c_tokens.specs.declared.token.Spot.{Spot}
 use Rattle.c_tokens.specs.declared.token.Token.{Token}
 use Rattle.c_tokens.specs.declared.token.TokenFault.{TokenFault}
 use Rattle.c_tokens.specs.declared.token.TokenFault.TheVariants as fault
 use Rattle.c_tokens.specs.workings.Tokens.{tokens_of}
+use Rattle.c_tokens.specs.language.Pieces.{Reads}
 use Rattle.c_tokens.specs.language.Places.{beginning}
 use Rattle.c_tokens.specs.language.Ending.{EndsIn}
 use Rattle.c_syntax.specs.declared.fault.SyntaxFault.{SyntaxFault}
 use Rattle.c_syntax.specs.declared.fault.SyntaxFault.TheVariants as syntax
 use Rattle.c_syntax.specs.language.Words.{main_of}
 use Rattle.c_syntax.specs.language.Tree.{Tree}
-use Rattle.c_syntax.specs.language.Texts.{HasSyntaxFault}
-use Rattle.c_tokens.proofs.Ending.{ends-one, reads-no_end}
+use Rattle.c_syntax.specs.language.Texts.{HasSyntaxFault, Spells as IsTreeOf}
+use Rattle.c_tokens.proofs.Ending.{ends-one, read-or-ended, reads-no_end}
 use Rattle.c_tokens.proofs.Law.{reads-one}
 use Rattle.c_tokens.proofs.Spans.{tokens-end}
 use Rattle.c_syntax.specs.language.Numbered.{TreeView, root_tree}
 use Rattle.c_check.specs.Checked.{rule_fault, rule_fault_in}
-use Rattle.c_syntax.proofs.OneAnswer.{fault_one, not_both, tree_one}
+use Rattle.c_syntax.proofs.OneAnswer.{fault_one, not_both, tree_one, tree_or_fault}
 use Rattle.c_check.specs.declared.fault.CheckFault.{CheckFault}
 use Rattle.c_check.specs.declared.fault.CheckFault.TheVariants as rule
 use Rattle.ompt_cli.specs.declared.end.Refusal.{Refusal}
@@ -147,3 +149,27 @@ end-is text tokens end are at_last =
     let ended = tokens-end text tokens are in
     at_last ended.front ended.last ended.parts
     ∙ sym (ap (λ list. end_of list) ended.parts ∙ end_at-last (record { line = 1; column = 1 }) ended.front ended.last)
+
+-- a text that isn't too long runs or is refused
+module _ (text : List ℕ) (short : length text ≤ 65536) where
+  by-rule : (tokens : List Token) (tree : Tree) → HasTree text tokens tree → (known : Option CheckFault) → rule_broken text tokens tree ≡ known → IsProgram text ⊎ ((why : Refusal) × IsRefused why text)
+  by-rule tokens tree has None is =
+      let program : TreeView = record { trees = tree ∷ []; root = 0; end = end_of tokens; main = main_of text tokens } in
+      inl (program, record { short = short; read = record { tokens = tokens; has = has; end_is = refl; main_is = refl }; keeps = is })
+  by-rule tokens tree has (Some found) is = inr (Rule found, (short, (tokens, tree, has, is)))
+
+  by-tree : (tokens : List Token) → Reads beginning text tokens → ((tree : Tree) × IsTreeOf text tree) ⊎ ((found : SyntaxFault) × HasSyntaxFault text found) → IsProgram text ⊎ ((why : Refusal) × IsRefused why text)
+  by-tree tokens read (inl (tree, is)) = by-rule tokens tree (record { read = read; tree_is = is }) (rule_broken text tokens tree) refl
+  by-tree tokens read (inr (found, has)) = inr (Syntax found, (short, has))
+
+  by-tokens : ((tokens : List Token) × Reads beginning text tokens) ⊎ ((found : TokenFault) × EndsIn beginning text found) → IsProgram text ⊎ ((why : Refusal) × IsRefused why text)
+  by-tokens (inl (tokens, read)) = by-tree tokens read (tree_or_fault text tokens read)
+  by-tokens (inr (found, ends)) = inr (Tokens found, (short, ends))
+
+-- and each other text is refused as too long
+pub text-judged : (text : List ℕ) → IsProgram text ⊎ ((why : Refusal) × IsRefused why text)
+text-judged text = by (ltb 65536 (length text)) refl
+  where
+    by : (long : Bool) → ltb 65536 (length text) ≡ long → IsProgram text ⊎ ((why : Refusal) × IsRefused why text)
+    by true is = inr (TooLong, ltb-true 65536 (length text) is)
+    by false is = by-tokens text (ltb-false 65536 (length text) is) (read-or-ended text)

@@ -17,9 +17,12 @@
 //!
 //! The definitions stand in `specs/`: which words ask for a run or for a trace to be read (`Words`), the texts that run, with their
 //! programs, and why others are refused (`Text`), the status and the line of each end (`Ends`), what a run of either kind gives (`Runs`),
-//! what a command writes (`Commands`) and reports (`Reports`), what one that reads a trace has read and written (`Traces`), and what
-//! guests stand for after a command (`Guests`). The runs are those of `omp_model`, the traces those of `trace_format` and `run_trace`,
+//! what a command writes (`Commands`) and reports (`Reports`), what one that reads a trace has read and written (`Traces`), what guests stand
+//! for after a command (`Guests`), and the records of [`top`]'s contract (`Top`). The runs are those of `omp_model`, the traces those of `trace_format` and `run_trace`,
 //! and the rules on them those of `trace_check`. A report holds the tree of its program for contracts alone ([`ProgramTree`]).
+//!
+//! [`top_alone`] does the same for all words that don't ask for a run by threads, without the handles for threads and for waiting. By
+//! [`each_text_is_judged`], a law, each text runs or is refused, for one reason.
 //!
 //! [`own_words`] gathers the words for a program's `main`. No clause says which they are, since none can.
 //!
@@ -33,6 +36,7 @@ mod guest_part;
 mod guests;
 mod job;
 mod keepers;
+mod laws;
 mod observing;
 mod outcome;
 mod program_tree;
@@ -50,6 +54,7 @@ mod trace_commands;
 mod writing;
 
 pub use end::{End, Refusal};
+pub use laws::each_text_is_judged;
 pub use ompt_words::{Command, Settings, TraceCommand};
 pub use program_tree::ProgramTree;
 pub use program_words::own_words;

@@ -28,8 +28,8 @@ use tool_api::GuestTool;
 /// and writes `ok` where it is nested. Where the words ask for help or for the version, that text is written to `out`, and nothing is read.
 ///
 /// `words` don't contain the program's own name. With `--serial` one thread has all turns; else each thread number has a thread of its own,
-/// the first one the caller's, which drives those too that can't be started. No clause says that a run by threads comes back; all else is done
-/// by [`top_alone`], which does.
+/// the first one the caller's, which drives those too that can't be started. No clause says that a run by threads comes back. All else is
+/// done by [`top_alone`].
 /// Where nothing ran the guests are dropped.
 pub fn top<R: Threads + Wait + Sync, S: Source, O: Sink, E: Sink>(
     rt: &R,
@@ -72,8 +72,8 @@ pub fn top<R: Threads + Wait + Sync, S: Source, O: Sink, E: Sink>(
 }
 
 /// Does what [`top`] does for all words that don't ask for a run by threads: for `gen`, the commands that read a trace, help and wrong words, and for
-/// a run with `--serial`. It waits for nobody, and so it comes back. Where the words ask for a run by threads, that is answered as the error, and
-/// nothing was touched.
+/// a run with `--serial`. It has no handle by which it could wait, so it comes back where the guests, the source and the sinks do. Where the
+/// words ask for a run by threads, that is answered as the error, and nothing was touched.
 pub fn top_alone<S: Source, O: Sink, E: Sink>(
     alloc: Global,
     words: &[String],
