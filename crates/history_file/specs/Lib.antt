@@ -1,0 +1,5 @@
+pub mod Fields
+pub mod Validity
+pub mod Refusing
+pub mod Fitting
+pub mod Paging
