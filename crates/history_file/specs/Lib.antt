@@ -3,3 +3,4 @@ pub mod Validity
 pub mod Refusing
 pub mod Fitting
 pub mod Paging
+pub mod Reading

@@ -107,3 +107,49 @@ fn writes_each_store(rt: HostRuntime) -> Result<(), Fail> {
     assert_eq!(rt; sink.bytes().get(23..68), Some(stores.as_slice()));
     Ok(())
 }
+
+/// The smallest run's bytes with one of them changed.
+fn changed(alloc: Global, at: usize, byte: u8) -> Result<Vec<u8>, AllocError> {
+    let mut bytes = Vec::from_slice(alloc, BYTES)?;
+    if let Some(place) = bytes.get_mut(at) {
+        *place = byte;
+    }
+    Ok(bytes)
+}
+
+#[test]
+fn reads_the_smallest_run(rt: HostRuntime) -> Result<(), Fail> {
+    let file = read_history(rt.alloc(), BYTES)?;
+    assert_eq!(rt; file.threads, 1);
+    assert_eq!(rt; file.steps, 1_000_000);
+    assert_eq!(rt; file.text.bytes(), TEXT);
+    assert_eq!(rt; file.history.entries().len(), 8);
+    Ok(())
+}
+
+#[test]
+fn refuses_each_change(rt: HostRuntime) -> Result<(), Fail> {
+    let rows = [
+        (0, 0, 1, 0),
+        (5, 2, 2, 4),
+        (6, 0, 3, 6),
+        (6, 17, 3, 6),
+        (12, 4, 3, 7),
+        (20, 2, 3, 19),
+        (52, 4, 4, 52),
+        (53, 1, 5, 53),
+        (69, 2, 5, 69),
+        (73, 1, 5, 70),
+        (77, 9, 8, 74),
+    ];
+    for (at, byte, number, offset) in rows {
+        let bytes = changed(rt.alloc(), at, byte)?;
+        let refused = read_history(rt.alloc(), &bytes).err();
+        let told = match refused {
+            Some(HistoryFault::Refused(reason, place)) => Some((reason.number(), place)),
+            _ => None,
+        };
+        assert_eq!(rt; told, Some((number, offset)), "byte {at}");
+    }
+    Ok(())
+}
