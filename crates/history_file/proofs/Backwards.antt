@@ -204,7 +204,7 @@ none_back threads limit n rest fields entries none all leads =
     subst (λ (it : List Entry). AreBack threads limit fields it) last.1
     (record { fields_are = all ∙ ap₂ (λ (k : ℕ) (fs : List Spelt). number Kind 1 k ∷ fs) none last.0; short = omega arith; each = λ k d less. absurd (omega arith) })
 
-each_more : (threads : ℕ) (e : Entry) (es : List Entry) → IsEntry threads e → All (IsEntry threads) es → All (IsEntry threads) (e ∷ es)
+pub each_more : (threads : ℕ) (e : Entry) (es : List Entry) → IsEntry threads e → All (IsEntry threads) es → All (IsEntry threads) (e ∷ es)
 each_more threads e es is are zero d less = is
 each_more threads e es is are (suc k) d less = are k d (omega arith)
 

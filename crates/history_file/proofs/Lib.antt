@@ -13,3 +13,5 @@ pub mod Lengths
 pub mod Refusals
 pub mod OneRefusal
 pub mod Verdicts
+pub mod Endings
+pub mod OfRuns

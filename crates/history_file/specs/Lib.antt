@@ -4,3 +4,4 @@ pub mod Refusing
 pub mod Fitting
 pub mod Paging
 pub mod Reading
+pub mod Certificates
