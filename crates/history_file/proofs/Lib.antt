@@ -1,0 +1,17 @@
+pub mod Paged
+pub mod Masks
+pub mod Runs
+pub mod Loops
+pub mod Leading
+pub mod Fronts
+pub mod Stops
+pub mod Details
+pub mod Files
+pub mod Backwards
+pub mod Going
+pub mod Lengths
+pub mod Refusals
+pub mod OneRefusal
+pub mod Verdicts
+pub mod Endings
+pub mod OfRuns
