@@ -21,7 +21,7 @@ use Rattle.ompt_cli.specs.declared.end.End.{End}
 use Rattle.ompt_cli.specs.declared.end.End.TheVariants as end
 use Rattle.ompt_cli.specs.declared.end.Refusal.{Refusal}
 use Rattle.ompt_cli.specs.declared.report.Report.{Report}
-use Rattle.ompt_cli.specs.Commands.{CountsFaults, EndsAs, HasWritten, IsAfterRun, IsBeforeRun, IsReading, IsShowing, IsUnread, MayRefuse, MayRun, out_of, run_of, run_text}
+use Rattle.ompt_cli.specs.Commands.{CountsFaults, EndsAs, HasWritten, IsAfterRun, IsBeforeRun, IsReading, IsShowing, IsUnread, MayRefuse, MayRun, out_of, run_of, run_text, settings_in}
 use Rattle.ompt_cli.specs.Job.{JobView}
 use Rattle.omp_model.specs.declared.cause.Cause.TheVariants as causes
 use Rattle.run_trace.specs.TraceOf.{trace_of}
@@ -77,17 +77,17 @@ module _ {S O : Type 0} (left : S → Option (List ℕ)) (reads_failed : S → �
             spelled = subst (λ (command : Command). IfSome (text_for command (left source)) (λ text. Spells text report.program.tree)) (sym r.observes.command_is) (spells-as _ _ report.program.tree spelled r.observes.program_is);
             accepted = subst IsSpelled (sym r.observes.program_is) accepted;
             mask = λ other. (r.stays (λ is. other (r.observes.command_is ∙ is))).mask_is;
-            always = r.observes.always;
-            legal = r.observes.legal;
-            cause = r.observes.ends;
-            finished = λ found. finished (run_of report) report.history report.cause r.observes.legal (r.observes.ends found);
-            outside = r.observes.outside;
-            serial = r.observes.in_order;
-            whole = λ serial other found. r.observes.whole serial found (r.stays (λ is. other (r.observes.command_is ∙ is))).silent;
-            silent_run = r.observes.whole;
+            always = r.observes.to.always;
+            legal = r.observes.to.legal;
+            cause = r.observes.to.ends;
+            finished = λ found. finished (run_of report) report.history report.cause r.observes.to.legal (r.observes.to.ends found);
+            outside = r.observes.to.outside;
+            serial = r.observes.to.in_order;
+            whole = λ serial other found. r.observes.to.whole serial found (r.stays (λ is. other (r.observes.command_is ∙ is))).silent;
+            silent_run = r.observes.to.whole;
             ended = ends;
             memory = λ is. memory (sym r.observes.command_is ∙ is);
-            begun = r.observes.begun;
+            begun = r.observes.to.begun;
           }
 
       trace-of : (told : End) (report : Report Table Behind) → Reports settings.command job report → (told ≢ end.WriteFault → told ≢ end.Memory → settings.command ≡ Recording → IsTrace (trace_of (run_of report) report.cause report.history)) → HasTrace told report
@@ -97,7 +97,7 @@ module _ {S O : Type 0} (left : S → Option (List ℕ)) (reads_failed : S → �
             traced = λ whole memory is. traced whole memory (sym r.observes.command_is ∙ is);
             nested = λ other found.
                 nested-run (run_of report) report.history report.cause (subst (λ (n : ℕ). 1 ≤ n) (sym threads) some) (subst (λ (n : ℕ). n ≤ 16) (sym threads) few) (r.stays (λ is. other (r.observes.command_is ∙ is))).mask_is
-                (subst IsSpelled (sym r.observes.program_is) accepted) r.observes.legal (r.observes.ends found) (r.observes.outside found);
+                (subst IsSpelled (sym r.observes.program_is) accepted) r.observes.to.legal (r.observes.to.ends found) (r.observes.to.outside found);
           }
 
       runs-of : (told : End) (ran : Option (Report Table Behind)) → IfSome ran (Reports settings.command job) → IfSome ran (λ report. EndsAs report.cause told) → (settings.command ≡ Running → IfSome ran (λ report. report.cause ≢ causes.Memory → told ≢ end.Memory)) → IfSome ran (IsRunOf words (left source) told)
@@ -426,3 +426,14 @@ in-range words settings taken =
 pub not-serial : (serial : Bool) → not serial ≡ true → serial ≡ false
 not-serial true is = cc
 not-serial false is = refl
+
+pub is-serial : (serial : Bool) → not serial ≡ false → serial ≡ true
+is-serial true is = refl
+is-serial false is = cc
+
+-- what is reported of a run is serial where the words ask for a serial one
+pub serial-reported : {Table : Type 0} {Behind : Table → Type 0} (words : List (List ℕ)) (settings : Settings) → AreTakenAs words (request.Run settings) → settings.serial ≡ true → (left : Option (List ℕ)) (told : End) (ran : Option (Report Table Behind))
+    → IfSome ran (IsRunOf words left told) → IfSome ran (λ report. report.serial ≡ true)
+serial-reported words settings taken serial left told None is = tt
+serial-reported words settings taken serial left told (Some report) is =
+    ap (λ (one : Settings). one.serial) (sym (same-settings (request.Run settings) settings (settings_in report) refl (taken.exact (request.Run (settings_in report)) is.asked))) ∙ serial

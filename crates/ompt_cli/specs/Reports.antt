@@ -24,23 +24,16 @@ use Rattle.ompt_cli.specs.declared.end.End.{End}
 use Rattle.ompt_cli.specs.declared.end.End.TheVariants.{Memory, WriteFault}
 use Rattle.ompt_cli.specs.Commands.{EndsAs, run_of}
 use Rattle.ompt_cli.specs.Job.{JobView}
-use Rattle.ompt_cli.specs.Runs.{AreOutside, RunsParts}
+use Rattle.ompt_cli.specs.Runs.{RunsParts, RunsTo}
 
--- the report is of a run of this job by this command: a legal one that ends in its cause, serially where the job says so. Where nothing is stored a
--- serial run is the one that there is. Each callback that was registered is one that is called always
+-- the report is of a run of this job by this command
 pub record Observes {Table : Type 0} {Behind : Table → Type 0} (command : Command) (job : JobView) (report : Report Table Behind) : Type 0 where
   pub command_is : report.command ≡ command
   pub program_is : report.program.tree ≡ job.program
   pub threads_are : report.threads ≡ job.threads
   pub steps_are : report.steps ≡ job.steps
   pub serial_is : report.serial ≡ job.serial
-  pub legal : Legal (run_of report) report.history
-  pub ends : report.cause ≢ cause.Memory → cause_of (run_of report) report.history ≡ Some report.cause
-  pub outside : report.cause ≢ cause.Memory → AreOutside (run_of report) report.history
-  pub in_order : report.serial ≡ true → Serial (run_of report) report.history
-  pub whole : report.serial ≡ true → report.cause ≢ cause.Memory → HearsSilent (run_of report) report.history → report.history ≡ serial (run_of report)
-  pub begun : report.cause ≡ cause.Memory → report.history ≢ []
-  pub always : AreAlways report.mask
+  pub to : RunsTo (run_of report) report.serial report.cause report.history
 
 -- where the parts are no guests, all callbacks of the profile are registered, and nothing is stored
 pub record StaysSilent {Table : Type 0} {Behind : Table → Type 0} (report : Report Table Behind) : Type 0 where

@@ -69,17 +69,21 @@ pub record RunsParts {P : Type 0} (stands_for : P → Record → Type 0) (serial
 abbrev pub run_of_job : JobView → ℕ → Run
 run_of_job job mask = run_of_program job.program mask job.threads job.steps
 
--- A run of the job with these parts: a legal one that ends in its cause, serially where the job says so. Where nothing is stored, a serial run is the one that
--- there is. Each callback that was registered is one that is called always, and the parts that come back are those that were given
+-- A run that ended in this cause with this history: a legal one that ends in its cause, with no thread inside a callback, and serially where it is to be. Where
+-- nothing is stored, a serial run is the one that there is. Each callback that was registered is one that is called always
+pub record RunsTo (run : Run) (is_serial : Bool) (cause : Cause) (history : List Entry) : Type 0 where
+  pub legal : Legal run history
+  pub ends : cause ≢ causes.Memory → cause_of run history ≡ Some cause
+  pub outside : cause ≢ causes.Memory → AreOutside run history
+  pub in_order : is_serial ≡ true → Serial run history
+  pub whole : is_serial ≡ true → cause ≢ causes.Memory → HearsSilent run history → history ≡ serial run
+  pub begun : cause ≡ causes.Memory → history ≢ []
+  pub always : AreAlways run.mask
+
+-- a run of the job with these parts, which printed this text. The parts that come back are those that were given
 pub record RunsJob {P : Type 0} (stands_for : P → Record → Type 0) (Same : P → P → Type 0) (job : JobView) (mask : ℕ) (cause : Cause) (history : List Entry) (text : List ℕ) (parts others : List P) : Type 0 where
-  pub legal : Legal (run_of_job job mask) history
+  pub to : RunsTo (run_of_job job mask) job.serial cause history
   pub runs : RunsParts stands_for job.serial (run_of_job job mask) cause history parts others
   pub same : AreSame Same parts others
-  pub always : AreAlways mask
   pub own : HearsOwn (run_of_job job mask) history
-  pub ends : cause ≢ causes.Memory → cause_of (run_of_job job mask) history ≡ Some cause
-  pub outside : cause ≢ causes.Memory → AreOutside (run_of_job job mask) history
-  pub in_order : job.serial ≡ true → Serial (run_of_job job mask) history
-  pub whole : job.serial ≡ true → cause ≢ causes.Memory → HearsSilent (run_of_job job mask) history → history ≡ serial (run_of_job job mask)
   pub printed : text ≡ (after (run_of_job job mask) history).world.store.text
-  pub begun : cause ≡ causes.Memory → history ≢ []

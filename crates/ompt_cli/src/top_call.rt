@@ -1,6 +1,6 @@
 //! The call that does all: a command from bytes to bytes.
 
-ghost use Rattle.std.specs.Prelude.{ℕ, ◌≡◌, false, IfErr, IfOk, IfSome, IsNone, List, ◌⊎◌};
+ghost use Rattle.std.specs.Prelude.{ℕ, ◌≡◌, false, true, IfErr, IfOk, IfSome, IsNone, List, ◌⊎◌};
 ghost use Rattle.ompt_words.specs.declared.settings.Request.TheVariants as request;
 ghost use Rattle.ompt_cli.specs.Commands.{CountsFaults, HasWritten, out_of, run_of};
 ghost use Rattle.ompt_cli.specs.Ends.{TellsEnd};
@@ -89,6 +89,8 @@ pub fn top_alone<S: Source, O: Sink, E: Sink>(
         GuestsAfter (λ guest h. (GuestTool-box guest).stands_for guest.value h) (λ guest other. guest.vtable ≡ other.vtable)
         report.command report.serial (run_of report)
         report.cause report.history guests.items report.guests.items)) }
+    // The run that it reports is a serial one.
+    ensures serial { IfOk result (λ top. IfSome top.ran (λ report. report.serial ≡ true)) }
     // Only words that ask for a run by threads are given back, with the guests, and nothing was touched then.
     ensures asked { IfErr result (λ asked. AreTakenAs (texts words.now) (request.Run asked.settings) × AreInRange asked.settings × (asked.settings.serial ≡ false)) }
     ensures kept { IfErr result (λ asked. asked.guests ≡ guests) }
@@ -114,6 +116,7 @@ fn outcome_alone<S: Source, O: Sink>(
         GuestsAfter (λ guest h. (GuestTool-box guest).stands_for guest.value h) (λ guest other. guest.vtable ≡ other.vtable)
         report.command report.serial (run_of report)
         report.cause report.history guests.items report.guests.items)) }
+    ensures serial { IfOk result (λ outcome. IfSome outcome.ran (λ report. report.serial ≡ true)) }
     ensures asked { IfErr result (λ asked. AreTakenAs (texts words.now) (request.Run asked.settings) × AreInRange asked.settings × (asked.settings.serial ≡ false)) }
     ensures kept { IfErr result (λ asked. asked.guests ≡ guests) }
     ensures untouched { IfErr result (λ _. (source.new ≡ source.old) × (out.new ≡ out.old)) }

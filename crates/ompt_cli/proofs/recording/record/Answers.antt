@@ -15,7 +15,7 @@ write_trace_of_run-end-requires g c =
     let report = c.in-Ok.observed.report in
     let has = c.in-Ok.ensures.kept in
     let shared : AreShared (records_of (run_of report) report.history) c.deref.result.now = rw c.deref.ensures.value (kept-shared _ _ has.kept) in
-    record { shared = shared-few (run_of report) report.history _ has.some has.observes.legal shared }
+    record { shared = shared-few (run_of report) report.history _ has.some has.observes.to.legal shared }
 
 pub returns-clause-ran : goal.returns-clause-ran
 returns-clause-ran g c =
@@ -33,8 +33,8 @@ returns-clause-ran g c =
       traced = λ whole memory is.
           let found = ends-found report.cause c.write_trace_of_run-end.result c.write_trace_of_run-end.ensures.end memory in
           let fits = c.write_trace_of_run-end.ensures.fits (records_of (run_of report) report.history) shared whole memory in
-          traces_of_runs (run_of report) report.history report.cause has.some has.few has.stays.mask_is has.observes.legal
-          (has.observes.ends found) fits.1 fits.0;
+          traces_of_runs (run_of report) report.history report.cause has.some has.few has.stays.mask_is has.observes.to.legal
+          (has.observes.to.ends found) fits.1 fits.0;
     })
 
 pub returns-clause-written : goal.returns-clause-written

@@ -19,13 +19,7 @@ returns-clause-ran g c =
                   threads_are = observes.threads_are;
                   steps_are = observes.steps_are;
                   serial_is = observes.serial_is;
-                  legal = observes.legal;
-                  ends = observes.ends;
-                  outside = observes.outside;
-                  in_order = observes.in_order;
-                  whole = observes.whole;
-                  begun = observes.begun;
-                  always = observes.always;
+                  to = observes.to;
                 };
             stays = λ other. absurd (other refl);
           };

@@ -10,15 +10,18 @@ returns g c =
     let run = run_of_job c.args.job ran.mask in
     rw (← c.job.view_is)
     (record {
-      legal = of.serial.legal;
+      to =
+          record {
+            legal = of.serial.legal;
+            ends = of.cause;
+            outside = λ found. serial-outside g.P.ToolPart.stands_for _ ran.cause ran.history c.args.parts.items ran.parts.items found of.parts;
+            in_order = λ serial. of.serial;
+            whole = λ serial. of.whole;
+            begun = of.begun;
+            always = of.always;
+          };
       runs = serial-parts g.P.ToolPart.stands_for _ ran.cause ran.history c.args.parts.items ran.parts.items c.job.inside.serial (rw (← c.job.view_is) at c.requires.serial) of.parts;
       same = of.same;
-      always = of.always;
       own = of.own;
-      ends = of.cause;
-      outside = λ found. serial-outside g.P.ToolPart.stands_for _ ran.cause ran.history c.args.parts.items ran.parts.items found of.parts;
-      in_order = λ serial. of.serial;
-      whole = λ serial. of.whole;
       printed = of.text;
-      begun = of.begun;
     })

@@ -9,15 +9,18 @@ returns g c =
     let not_serial = c.if-job.false in
     rw (c.in_ok-begun.ensures.run, ← c.job.view_is)
     (record {
-      legal = of.legal;
+      to =
+          record {
+            legal = of.legal;
+            ends = of.cause;
+            outside = λ found. threads-outside g.P.ToolPart.stands_for _ ran.cause ran.history c.args.parts.items ran.parts.items found of.parts;
+            in_order = λ serial. absurd cc;
+            whole = λ serial. absurd cc;
+            begun = rw c.in_ok-begun.ensures.run at c.in_ok-begun.ensures.begun;
+            always = of.always;
+          };
       runs = thread-parts g.P.ToolPart.stands_for _ ran.cause ran.history c.args.parts.items ran.parts.items c.job.inside.serial not_serial of.parts;
       same = of.same;
-      always = of.always;
       own = of.own;
-      ends = of.cause;
-      outside = λ found. threads-outside g.P.ToolPart.stands_for _ ran.cause ran.history c.args.parts.items ran.parts.items found of.parts;
-      in_order = λ serial. absurd cc;
-      whole = λ serial. absurd cc;
       printed = of.text;
-      begun = rw c.in_ok-begun.ensures.run at c.in_ok-begun.ensures.begun;
     })

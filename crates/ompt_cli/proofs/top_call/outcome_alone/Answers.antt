@@ -1,6 +1,6 @@
 use Rattle.std.proofs.Common.{Err, ap}
 use Rattle.ompt_words.specs.declared.fault.WordsFault.{WordsFault}
-use Rattle.ompt_cli.proofs.Carrying.{in-range, not-serial, taken-as}
+use Rattle.ompt_cli.proofs.Carrying.{in-range, is-serial, not-serial, serial-reported, taken-as}
 use Rattle.ompt_words.specs.declared.settings.Request.TheVariants as request
 use Rattle.ompt_cli.specs.Words.{texts}
 use Rattle.ompt_cli.proofs.top_call.outcome_alone.Goals as goal
@@ -33,3 +33,9 @@ returns-in-Err-clause-carried g c =
       read_form = of.read_form;
       help = of.asked;
     })
+
+pub returns-else-not-settings-clause-serial : goal.returns-else-not-settings-clause-serial
+returns-else-not-settings-clause-serial g c =
+    let of = c.in-Ok-Run.ensures in
+    let taken = taken-as (texts c.args.words.now) c.in-Ok-Run.field-0 (request.Run c.in-Ok-Run.settings) c.in-Ok-Run.field-0-is of.read of.exact of.form of.read_form of.asked in
+    serial-reported (texts c.args.words.now) c.in-Ok-Run.settings taken (is-serial _ c.if-not-settings.false) _ _ c.run_settings.result.ran (c.run_settings.ensures.carried (texts c.args.words.now) taken).ran

@@ -12,13 +12,7 @@ returns-clause-observed g c = λ job is parts runs.
             threads_are = refl;
             steps_are = refl;
             serial_is = refl;
-            legal = runs.legal;
-            ends = runs.ends;
-            outside = runs.outside;
-            in_order = runs.in_order;
-            whole = runs.whole;
-            begun = runs.begun;
-            always = runs.always;
+            to = runs.to;
           };
       runs = runs.runs;
       same = runs.same;
