@@ -5,3 +5,4 @@ pub mod Fitting
 pub mod Paging
 pub mod Reading
 pub mod Certificates
+pub mod Verdicts

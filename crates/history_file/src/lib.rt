@@ -31,7 +31,9 @@ mod laws;
 mod page;
 mod reading;
 mod reason;
+mod rerunning;
 mod values;
+mod verdict;
 mod writing;
 
 pub use ending::end_of;
@@ -39,6 +41,8 @@ pub use file::{ENTRY_LIMIT, FileText, HISTORY_LIMIT, HistoryFile, VERSION};
 pub use laws::{longest, never_refused, one_refusal, one_spelling, runs_have_files};
 pub use reading::read_history;
 pub use reason::{HistoryFault, HistoryReason};
+pub use rerunning::rerun;
+pub use verdict::{HeardCall, HeardCalls, Verdict};
 pub use writing::write_history;
 
 #[cfg(test)]
