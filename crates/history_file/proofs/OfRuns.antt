@@ -25,7 +25,7 @@ use Rattle.run_trace.proofs.Counted.{few-entries}
 use Rattle.run_trace.proofs.Halts.{halts-known}
 use Rattle.history_file.specs.declared.file.TheConstants.{STEP_LIMIT, TEXT_LIMIT, THREAD_LIMIT}
 use Rattle.history_file.specs.Certificates.{IsCertificate, file_of}
-use Rattle.history_file.specs.Fitting.{FitsEntry, FitsFile, FitsWhat}
+use Rattle.history_file.specs.Fitting.{FitsEntry, FitsFile, FitsWhat, HasThread, HasThreadIn, HasThreadOf}
 use Rattle.history_file.specs.Validity.{IsEntry, IsHistoryFile, IsTarget, IsWhat}
 use Rattle.history_file.proofs.Backwards.{each_more}
 use Rattle.history_file.proofs.Endings.{AnyStands, cause_stands}
@@ -103,3 +103,27 @@ files_of_runs run text history cause some few steps bounded always short legal e
       },
       record { cause = cause; legal = legal; ends = ends; status_is = refl; detail_is = refl },
     )
+
+-- a store into the word of a thread names one that a run can have, since it was made
+target_named : (run : Run) (S : State) (place : Target) → run.threads ≤ THREAD_LIMIT → IsMadeState run S → is_made S.world place ≡ true → HasThreadOf place
+target_named run S (target.Thread t) few made is = let below = made_below S.world t is in let count = made.threads in omega arith
+target_named run S (target.Parallel r) few made is = tt
+target_named run S (target.Task k) few made is = tt
+
+entry_named : (run : Run) (S : State) (t : ℕ) (what : What) → run.threads ≤ THREAD_LIMIT → IsMadeState run S → may run S t what ≡ true → HasThreadIn what
+entry_named run S t Go few made is = tt
+entry_named run S t (Put place word) few made is = target_named run S place few made (put_parts run S place (pending_at S t) is).1
+entry_named run S t Back few made is = tt
+
+entries_named : (run : Run) (S : State) (history : List Entry) → run.threads ≤ THREAD_LIMIT → IsMadeState run S → AllowsFrom run S history → All HasThread history
+entries_named run S [] few made allows = λ k d less. absurd (omega arith)
+entries_named run S (entry ∷ rest) few made allows =
+    each_named entry rest (entry_named run S entry.thread entry.what few made allows.0) (entries_named run (entered run S entry) rest few (state-does run S made entry.thread entry.what) allows.1)
+  where
+    each_named : (entry : Entry) (rest : List Entry) → HasThread entry → All HasThread rest → All HasThread (entry ∷ rest)
+    each_named entry rest one more zero d less = one
+    each_named entry rest one more (suc k) d less = more k d (omega (arith, less))
+
+-- the stores of a legal history name threads that a run can have
+pub threads_named : (run : Run) (history : List Entry) → 1 ≤ run.threads → run.threads ≤ THREAD_LIMIT → Legal run history → All HasThread history
+threads_named run history some few legal = entries_named run (first run) history few (made-after run [] some) legal

@@ -13,27 +13,35 @@ use Rattle.ompt_words.specs.declared.settings.Command.TheVariants.{Generate as G
 use Rattle.ompt_words.specs.declared.settings.Request.{Request}
 use Rattle.ompt_words.specs.declared.settings.Request.TheVariants as request
 use Rattle.ompt_words.specs.declared.settings.Settings.{Settings}
-use Rattle.ompt_words.specs.declared.settings.TraceCommand.{TraceCommand}
-use Rattle.ompt_words.specs.declared.settings.TraceCommand.TheVariants as traces
+use Rattle.ompt_words.specs.declared.settings.ReadCommand.{ReadCommand}
+use Rattle.ompt_words.specs.declared.settings.ReadCommand.TheVariants as reads
 use Rattle.ompt_words.specs.Answers.{AreReadAs, IsTextOrMemory}
 use Rattle.ompt_words.specs.Form.{AskInForm, InForm, ReadInForm, own_settings}
 use Rattle.ompt_cli.specs.declared.end.End.{End}
 use Rattle.ompt_cli.specs.declared.end.End.TheVariants as end
 use Rattle.ompt_cli.specs.declared.end.Refusal.{Refusal}
 use Rattle.ompt_cli.specs.declared.report.Report.{Report}
-use Rattle.ompt_cli.specs.Commands.{CountsFaults, EndsAs, HasWritten, IsAfterRun, IsBeforeRun, IsReading, IsShowing, IsUnread, MayRefuse, MayRun, out_of, run_of, run_text, settings_in}
+use Rattle.ompt_cli.specs.Commands.{CountsFaults, EndsAs, HasGuests, HasWritten, IsAfterRun, IsBeforeRun, IsReading, IsShowing, IsUnread, MayRefuse, MayRun, out_of, run_of, run_text, settings_in, written_by}
 use Rattle.ompt_cli.specs.Job.{JobView}
 use Rattle.omp_model.specs.declared.cause.Cause.TheVariants as causes
 use Rattle.run_trace.specs.TraceOf.{trace_of}
 use Rattle.trace_format.specs.Validity.{IsTrace}
-use Rattle.ompt_cli.specs.Reports.{HasRun, Reports}
-use Rattle.ompt_cli.specs.Text.{IsProgram, IsRefused, IsSpelled, Spells, text_for}
+use Rattle.c_syntax.specs.language.Numbered.{TreeView}
+use Rattle.history_file.specs.declared.file.HistoryFile.{HistoryFile}
+use Rattle.history_file.specs.Certificates.{IsCertificate, run_of_file}
+use Rattle.history_file.specs.Fields.{fields_of as history_fields, spelling as history_spelling}
+use Rattle.history_file.specs.Validity.{WritesHistory}
+use Rattle.ompt_words.specs.declared.settings.RunOutput.TheVariants as output
+use Rattle.ompt_cli.specs.Histories.{MayCertify, file_of_report}
+use Rattle.ompt_cli.specs.Reports.{HasCertificate, HasRun, Reports}
+use Rattle.ompt_cli.specs.Text.{IsProgram, IsRefused, Spells, text_for}
 use Rattle.ompt_cli.specs.Top.{CarriesOut, HasTrace, IsRunOf}
 use Rattle.ompt_cli.specs.Traces.{HasRead}
 use Rattle.ompt_cli.specs.Words.{AreFaulty, AreInRange, AreTakenAs, AskFor, AskForRun, AskToRead}
 use Rattle.ompt_cli.proofs.Finishing.{finished}
 use Rattle.ompt_cli.proofs.NestedRuns.{nested-run}
-use Rattle.ompt_cli.proofs.Telling.{after-may, after-run, ends-found, ends-told, is-none, lost-read, lost-write, none-if, same-settings, settings-as, spells-as}
+use Rattle.ompt_cli.proofs.Telling.{after-may, after-run, ends-found, ends-told, is-none, lost-read, lost-write, none-if, same-settings, settings-as, spelled-as, text-as}
+use Rattle.ompt_cli.proofs.Recorded.{ends-found as found-of, unless-found}
 use Rattle.ompt_cli.proofs.Traced.{trace_unbroken, trace_unrefused}
 
 -- nothing is appended where nothing changed, and nothing is written
@@ -49,6 +57,11 @@ nothing-written : (told : End) (held : Option (List ℕ)) → told ≢ end.Write
 nothing-written told held other =
     record { listed = λ whole memory. nothing-appended held; part = λ is. absurd (other is); kept = λ is. nothing-kept held }
 
+-- what is written of a run that ended so is its history file
+file-written : {Table : Type 0} {Behind : Table → Type 0} (report : Report Table Behind) (told : End) → EndsAs report.cause told → told ≢ end.Memory → report.command ≡ Running output.History → run_text (Some report) ≡ history_spelling (history_fields (file_of_report report))
+file-written report told ends memory is =
+    unless-found report.cause _ (found-of report.cause told ends memory) ∙ ap (λ (command : Command). written_by command report.program.text (run_of report) report.cause report.history) is
+
 module _ {S O : Type 0} (left : S → Option (List ℕ)) (reads_failed : S → ℕ) (held : O → Option (List ℕ)) (writes_failed : O → ℕ) (words : List (List ℕ)) where
   -- words that are read as settings ask for no others, and for no trace to be read
   module _ (settings : Settings) (taken : AreTakenAs words (request.Run settings)) where
@@ -56,7 +69,7 @@ module _ {S O : Type 0} (left : S → Option (List ℕ)) (reads_failed : S → �
     asked-is other (inl form) = same-settings (request.Run settings) settings (own_settings form.0) refl (taken.form form.0) ∙ sym form.1
     asked-is other (inr read) = same-settings (request.Run settings) settings other refl (taken.exact (request.Run other) read)
 
-    not-read : (command : TraceCommand) → AskToRead words command → ⊥
+    not-read : (command : ReadCommand) → AskToRead words command → ⊥
     not-read command (inl form) = let same = taken.read_form command form in cc
     not-read command (inr read) = let same = taken.exact (request.Read command) read in cc
 
@@ -67,48 +80,53 @@ module _ {S O : Type 0} (left : S → Option (List ℕ)) (reads_failed : S → �
     text-of other ask P source so = subst (λ (of : Settings). P (text_for of.command (left source))) (sym (asked-is other ask)) so
 
     -- a program was read and run
-    module _ {Table : Type 0} {Behind : Table → Type 0} (some : 1 ≤ settings.threads) (few : settings.threads ≤ 16) (source source_now : S) (out out_now : O) (job : JobView) (threads_are : job.threads ≡ settings.threads) (steps_are : job.steps ≡ settings.steps) (serial_is : job.serial ≡ settings.serial) (spelled : IfSome (text_for settings.command (left source)) (λ text. Spells text job.program)) (accepted : IsSpelled job.program) (unrefused : (why : Refusal) → IsSomeAnd (text_for settings.command (left source)) (IsRefused why) → ⊥) (unread : (blocks : ℕ) → settings.command ≡ Generating blocks → source_now ≡ source) (steady : reads_failed source_now ≡ reads_failed source) where
-      run-of : (told : End) (report : Report Table Behind) → Reports settings.command job report → EndsAs report.cause told → (settings.command ≡ Running → report.cause ≢ causes.Memory → told ≢ end.Memory) → IsRunOf words (left source) told report
+    module _ {Table : Type 0} {Behind : Table → Type 0} (some : 1 ≤ settings.threads) (few : settings.threads ≤ 16) (source source_now : S) (out out_now : O) (job : JobView) (threads_are : job.threads ≡ settings.threads) (steps_are : job.steps ≡ settings.steps) (serial_is : job.serial ≡ settings.serial) (sourced : IfSome (text_for settings.command (left source)) (λ text. text ≡ job.text)) (spelled : Spells job.text job.program) (unrefused : (why : Refusal) → IsSomeAnd (text_for settings.command (left source)) (IsRefused why) → ⊥) (unread : (blocks : ℕ) → settings.command ≡ Generating blocks → source_now ≡ source) (steady : reads_failed source_now ≡ reads_failed source) where
+      run-of : (told : End) (report : Report Table Behind) → Reports settings.command job report → EndsAs report.cause told → (HasGuests settings.command → report.cause ≢ causes.Memory → told ≢ end.Memory) → IsRunOf words (left source) told report
       run-of told report r ends memory =
           let is = settings-as report settings r.observes.command_is (r.observes.threads_are ∙ threads_are) (r.observes.steps_are ∙ steps_are) (r.observes.serial_is ∙ serial_is) in
           record {
             asked = subst (λ (one : Settings). AreReadAs words (request.Run one)) (sym is) taken.read;
             own = λ form. is ∙ same-settings (request.Run settings) settings (own_settings form) refl (taken.form form);
-            spelled = subst (λ (command : Command). IfSome (text_for command (left source)) (λ text. Spells text report.program.tree)) (sym r.observes.command_is) (spells-as _ _ report.program.tree spelled r.observes.program_is);
-            accepted = subst IsSpelled (sym r.observes.program_is) accepted;
-            mask = λ other. (r.stays (λ is. other (r.observes.command_is ∙ is))).mask_is;
+            text = subst (λ (command : Command). IfSome (text_for command (left source)) (λ text. text ≡ report.program.text)) (sym r.observes.command_is) (text-as _ _ report.program.text sourced r.observes.text_is);
+            spelled = spelled-as job.text report.program.text job.program report.program.tree spelled r.observes.text_is r.observes.program_is;
+            mask = λ other. (r.stays (λ guests. other (subst HasGuests (sym r.observes.command_is) guests))).mask_is;
             always = r.observes.to.always;
             legal = r.observes.to.legal;
             cause = r.observes.to.ends;
             finished = λ found. finished (run_of report) report.history report.cause r.observes.to.legal (r.observes.to.ends found);
             outside = r.observes.to.outside;
             serial = r.observes.to.in_order;
-            whole = λ serial other found. r.observes.to.whole serial found (r.stays (λ is. other (r.observes.command_is ∙ is))).silent;
+            whole = λ serial other found. r.observes.to.whole serial found (r.stays (λ guests. other (subst HasGuests (sym r.observes.command_is) guests))).silent;
             silent_run = r.observes.to.whole;
             ended = ends;
-            memory = λ is. memory (sym r.observes.command_is ∙ is);
+            memory = λ guests. memory (subst HasGuests r.observes.command_is guests);
             begun = r.observes.to.begun;
           }
 
-      trace-of : (told : End) (report : Report Table Behind) → Reports settings.command job report → (told ≢ end.WriteFault → told ≢ end.Memory → settings.command ≡ Recording → IsTrace (trace_of (run_of report) report.cause report.history)) → HasTrace told report
-      trace-of told report r traced =
+      trace-of : (told : End) (report : Report Table Behind) → Reports settings.command job report → (told ≢ end.WriteFault → told ≢ end.Memory → settings.command ≡ Recording → IsTrace (trace_of (run_of report) report.cause report.history))
+          → (told ≢ end.WriteFault → told ≢ end.Memory → settings.command ≡ Running output.History → HasCertificate report) → EndsAs report.cause told → HasTrace told report
+      trace-of told report r traced filed ends =
           let threads = r.observes.threads_are ∙ threads_are in
           record {
             traced = λ whole memory is. traced whole memory (sym r.observes.command_is ∙ is);
             nested = λ other found.
-                nested-run (run_of report) report.history report.cause (subst (λ (n : ℕ). 1 ≤ n) (sym threads) some) (subst (λ (n : ℕ). n ≤ 16) (sym threads) few) (r.stays (λ is. other (r.observes.command_is ∙ is))).mask_is
-                (subst IsSpelled (sym r.observes.program_is) accepted) r.observes.to.legal (r.observes.to.ends found) (r.observes.to.outside found);
+                nested-run (run_of report) report.history report.cause (subst (λ (n : ℕ). 1 ≤ n) (sym threads) some) (subst (λ (n : ℕ). n ≤ 16) (sym threads) few) (r.stays (λ guests. other (subst HasGuests (sym r.observes.command_is) guests))).mask_is
+                (job.text, subst (λ (tree : TreeView). Spells job.text tree) (sym r.observes.program_is) spelled) r.observes.to.legal (r.observes.to.ends found) (r.observes.to.outside found);
+            history_file = λ whole memory is.
+                record { is_file = (filed whole memory (sym r.observes.command_is ∙ is)).is_file; bytes_are = file-written report told ends memory is };
+            certificate = λ whole memory is. (filed whole memory (sym r.observes.command_is ∙ is)).certificate;
           }
 
-      runs-of : (told : End) (ran : Option (Report Table Behind)) → IfSome ran (Reports settings.command job) → IfSome ran (λ report. EndsAs report.cause told) → (settings.command ≡ Running → IfSome ran (λ report. report.cause ≢ causes.Memory → told ≢ end.Memory)) → IfSome ran (IsRunOf words (left source) told)
+      runs-of : (told : End) (ran : Option (Report Table Behind)) → IfSome ran (Reports settings.command job) → IfSome ran (λ report. EndsAs report.cause told) → (HasGuests settings.command → IfSome ran (λ report. report.cause ≢ causes.Memory → told ≢ end.Memory)) → IfSome ran (IsRunOf words (left source) told)
       runs-of told None r ends memory = tt
       runs-of told (Some report) r ends memory = run-of told report r ends memory
 
-      traces-of : (told : End) (ran : Option (Report Table Behind)) → IfSome ran (Reports settings.command job) → (told ≢ end.WriteFault → told ≢ end.Memory → settings.command ≡ Recording → IfSome ran (λ report. IsTrace (trace_of (run_of report) report.cause report.history))) → IfSome ran (HasTrace told)
-      traces-of told None r traced = tt
-      traces-of told (Some report) r traced = trace-of told report r traced
+      traces-of : (told : End) (ran : Option (Report Table Behind)) → IfSome ran (Reports settings.command job) → (told ≢ end.WriteFault → told ≢ end.Memory → settings.command ≡ Recording → IfSome ran (λ report. IsTrace (trace_of (run_of report) report.cause report.history)))
+          → (told ≢ end.WriteFault → told ≢ end.Memory → settings.command ≡ Running output.History → IfSome ran HasCertificate) → IfSome ran (λ report. EndsAs report.cause told) → IfSome ran (HasTrace told)
+      traces-of told None r traced filed ends = tt
+      traces-of told (Some report) r traced filed ends = trace-of told report r traced filed ends
 
-      pub run_carried : (told : End) (shown : Option (String Global)) (read : Option TraceCommand) (ran : Option (Report Table Behind)) → HasRun settings.command job told shown read ran → HasWritten told (run_text ran) (held out) (held out_now) → CountsFaults told end.WriteFault (writes_failed out) (writes_failed out_now)
+      pub run_carried : (told : End) (shown : Option (String Global)) (read : Option ReadCommand) (ran : Option (Report Table Behind)) → HasRun settings.command job told shown read ran → HasWritten told (run_text ran) (held out) (held out_now) → CountsFaults told end.WriteFault (writes_failed out) (writes_failed out_now)
           → CarriesOut left reads_failed held writes_failed words told shown read ran source source_now out out_now
       run_carried told shown read ran has written faults =
           let after = after-run ran told has.ended has.missing in
@@ -130,12 +148,12 @@ module _ {S O : Type 0} (left : S → Option (List ℕ)) (reads_failed : S → �
             read = none-if _ read has.nothing_read;
             text =
                 record {
-                  refused = λ why is. absurd (subst IsAfterRun is after);
+                  refused = λ none why is. absurd (subst IsAfterRun is after);
                   accepted = λ other ask why refused. absurd (unrefused why (text-of other ask (λ text. IsSomeAnd text (IsRefused why)) source refused));
                   runs = λ other ask program. after-may told after;
                 };
             written = λ none. subst (λ (text : Option (String Global)). HasWritten told (out_of text ran) (held out) (held out_now)) (sym (is-none shown has.nothing_shown)) written;
-            recorded = traces-of told ran has.report has.traced;
+            recorded = traces-of told ran has.report has.traced has.certified has.ended;
             faults =
                 record {
                   read = λ is. absurd (subst IsAfterRun is after);
@@ -177,7 +195,7 @@ module _ {S O : Type 0} (left : S → Option (List ℕ)) (reads_failed : S → �
           read = tt;
           text =
               record {
-                refused = λ why is. (settings, taken.read, refused why is);
+                refused = λ none why is. (settings, taken.read, refused why is);
                 accepted = λ other ask why so. accepted why (text-of other ask (λ text. IsSomeAnd text (IsRefused why)) source so);
                 runs = λ other ask so. runs (text-of other ask (λ text. IsSomeAnd text IsProgram) source so);
               };
@@ -201,19 +219,20 @@ module _ {S O : Type 0} (left : S → Option (List ℕ)) (reads_failed : S → �
         }
 
   -- a trace was read
-  module _ (command : TraceCommand) (taken : AreTakenAs words (request.Read command)) where
+  module _ (command : ReadCommand) (taken : AreTakenAs words (request.Read command)) where
     not-run : AskForRun words → ⊥
     not-run (settings, inl form) = let same = taken.form form.0 in cc
     not-run (settings, inr other) = let same = taken.exact (request.Run settings) other in cc
 
-    command-is : (other : TraceCommand) → AskToRead words other → command ≡ other
+    command-is : (other : ReadCommand) → AskToRead words other → command ≡ other
     command-is other (inl form) = let same = taken.read_form other form in cc
     command-is other (inr read) = let same = taken.exact (request.Read other) read in cc
 
-    pub read_carried : {Table : Type 0} {Behind : Table → Type 0} (told : End) (source source_now : S) (out out_now : O) → IsReading told → HasRead command told (left source) (left source_now) (held out) (held out_now) → (command ≡ traces.Migrate → told ≢ end.Memory)
+    pub read_carried : {Table : Type 0} {Behind : Table → Type 0} (told : End) (source source_now : S) (out out_now : O) → IsReading told → HasRead command told (left source) (left source_now) (held out) (held out_now) → (command ≡ reads.Migrate → told ≢ end.Memory)
+        → (command ≡ reads.Rerun → (file : HistoryFile) (program : TreeView) → IsSomeAnd (left source) (WritesHistory file) → Spells file.text program → IsCertificate (run_of_file program file) file → MayCertify told)
         → CountsFaults told end.ReadFault (reads_failed source) (reads_failed source_now) → CountsFaults told end.WriteFault (writes_failed out) (writes_failed out_now)
         → CarriesOut {Table = Table} {Behind = Behind} left reads_failed held writes_failed words told None (Some command) None source source_now out out_now
-    read_carried told source source_now out out_now reading copied memory reads writes =
+    read_carried told source source_now out out_now reading copied memory certified read_faults write_faults =
         record {
           words =
               record {
@@ -223,7 +242,7 @@ module _ {S O : Type 0} (left : S → Option (List ℕ)) (reads_failed : S → �
                 shown_alone = tt;
                 displayed = λ is. absurd (subst IsReading is reading);
                 help = λ ask. absurd (taken.no_help ask);
-                reads = λ other ask. inl (ap (λ (one : TraceCommand). Some one) (command-is other ask));
+                reads = λ other ask. inl (ap (λ (one : ReadCommand). Some one) (command-is other ask));
                 read_alone = (taken.read, reading, refl, refl);
                 ended = λ why is. absurd (subst IsReading is reading);
                 unwritten = λ is none. absurd cc;
@@ -235,10 +254,11 @@ module _ {S O : Type 0} (left : S → Option (List ℕ)) (reads_failed : S → �
                 unrefused = λ trace is refusal same. trace_unrefused command _ _ _ _ told trace refusal is copied same;
                 unbroken = λ trace is nested breach same. trace_unbroken command _ _ _ _ told trace breach is nested copied same;
                 migrated = memory;
+                certified = certified;
               };
           text =
               record {
-                refused = λ why is. absurd (subst IsReading is reading);
+                refused = λ none. absurd cc;
                 accepted = λ settings ask. absurd (not-run (settings, ask));
                 runs = λ settings ask. absurd (not-run (settings, ask));
               };
@@ -246,10 +266,10 @@ module _ {S O : Type 0} (left : S → Option (List ℕ)) (reads_failed : S → �
           recorded = tt;
           faults =
               record {
-                read = reads.rose;
-                write = writes.rose;
-                unread = lost-read told _ _ reads.steady;
-                lost = lost-write told _ _ writes.steady;
+                read = read_faults.rose;
+                write = write_faults.rose;
+                unread = lost-read told _ _ read_faults.steady;
+                lost = lost-write told _ _ write_faults.steady;
               };
           untouched =
               record {
@@ -267,7 +287,7 @@ module _ {S O : Type 0} (left : S → Option (List ℕ)) (reads_failed : S → �
     no-memory (settings, inl form) = faulty.form form.0
     no-memory (settings, inr asked) = faulty.exact (request.Run settings) asked
 
-    no-memory_read : (command : TraceCommand) → AskToRead words command → found ≡ fault.Memory
+    no-memory_read : (command : ReadCommand) → AskToRead words command → found ≡ fault.Memory
     no-memory_read command (inl form) = faulty.read_form command form
     no-memory_read command (inr asked) = faulty.exact (request.Read command) asked
 
@@ -292,7 +312,7 @@ module _ {S O : Type 0} (left : S → Option (List ℕ)) (reads_failed : S → �
           read = tt;
           text =
               record {
-                refused = λ why same. absurd cc;
+                refused = λ none why same. absurd cc;
                 accepted = λ settings ask. absurd (never (no-memory (settings, ask)));
                 runs = λ settings ask. absurd (never (no-memory (settings, ask)));
               };
@@ -335,7 +355,7 @@ module _ {S O : Type 0} (left : S → Option (List ℕ)) (reads_failed : S → �
           read = tt;
           text =
               record {
-                refused = λ why same. absurd cc;
+                refused = λ none why same. absurd cc;
                 accepted = λ settings ask why so. tt;
                 runs = λ settings ask so. tt;
               };
@@ -381,7 +401,7 @@ module _ {S O : Type 0} (left : S → Option (List ℕ)) (reads_failed : S → �
           read = tt;
           text =
               record {
-                refused = λ why same. absurd (subst IsShowing same shows);
+                refused = λ none why same. absurd (subst IsShowing same shows);
                 accepted = λ settings ask. absurd (never (no-memory (settings, ask)));
                 runs = λ settings ask. absurd (never (no-memory (settings, ask)));
               };
@@ -414,7 +434,7 @@ module _ {S O : Type 0} (left : S → Option (List ℕ)) (reads_failed : S → �
 
 -- what was read of the words is what is asked of them
 pub taken-as : (words : List (List ℕ)) (found given : Request) → found ≡ given → AreReadAs words found → ((other : Request) → AreReadAs words other → found ≡ other) → ((form : InForm words) → found ≡ request.Run (own_settings form))
-    → ((command : TraceCommand) → ReadInForm words command → found ≡ request.Read command) → (AskInForm words → ⊥) → AreTakenAs words given
+    → ((command : ReadCommand) → ReadInForm words command → found ≡ request.Read command) → (AskInForm words → ⊥) → AreTakenAs words given
 taken-as words found given is read exact form read_form no_help =
     subst (AreTakenAs words) is (record { read = read; exact = exact; form = form; read_form = read_form; no_help = no_help })
 

@@ -31,7 +31,9 @@ memory-end end.Read ends = absurd ends
 memory-end end.Usage ends = absurd ends
 memory-end (end.Refused why) ends = absurd ends
 memory-end (end.TraceRefused refusal) ends = absurd ends
+memory-end (end.HistoryRefused reason offset) ends = absurd ends
 memory-end (end.Broken breach) ends = absurd ends
+memory-end (end.Illegal place) ends = absurd ends
 memory-end end.ReadFault ends = absurd ends
 
 -- an end that isn't want of memory tells of a run that found memory

@@ -24,9 +24,14 @@ pub settings-as : {Table : Type 0} {Behind : Table → Type 0} (report : Report 
     → report.steps ≡ settings.steps → report.serial ≡ settings.serial → settings_in report ≡ settings
 settings-as report settings command threads steps serial = rw (command, threads, steps, serial) refl
 
--- the program of a report is the one that was read
-pub spells-as : (left : Option (List ℕ)) (program other : TreeView) → IfSome left (λ text. Spells text program) → other ≡ program → IfSome left (λ text. Spells text other)
-spells-as left program other spelled same = subst (λ (one : TreeView). IfSome left (λ text. Spells text one)) (sym same) spelled
+-- the text of a report's program is the one that was read
+pub text-as : (left : Option (List ℕ)) (text other : List ℕ) → IfSome left (λ one. one ≡ text) → other ≡ text → IfSome left (λ one. one ≡ other)
+text-as left text other sourced same = subst (λ (of : List ℕ). IfSome left (λ one. one ≡ of)) (sym same) sourced
+
+-- .. and spells it
+pub spelled-as : (text other : List ℕ) (program tree : TreeView) → Spells text program → other ≡ text → tree ≡ program → Spells other tree
+spelled-as text other program tree spelled text_is program_is =
+    subst (λ (of : List ℕ). Spells of tree) (sym text_is) (subst (λ (of : TreeView). Spells text of) (sym program_is) spelled)
 
 -- the settings of the same request
 abbrev settings_asked : Request → Settings → Settings
@@ -54,7 +59,9 @@ lost-write end.Read before now steady rose = absurd (omega (arith, steady (λ is
 lost-write end.Usage before now steady rose = absurd (omega (arith, steady (λ is. cc), rose))
 lost-write (end.Refused why) before now steady rose = absurd (omega (arith, steady (λ is. cc), rose))
 lost-write (end.TraceRefused refusal) before now steady rose = absurd (omega (arith, steady (λ is. cc), rose))
+lost-write (end.HistoryRefused reason offset) before now steady rose = absurd (omega (arith, steady (λ is. cc), rose))
 lost-write (end.Broken breach) before now steady rose = absurd (omega (arith, steady (λ is. cc), rose))
+lost-write (end.Illegal place) before now steady rose = absurd (omega (arith, steady (λ is. cc), rose))
 lost-write end.ReadFault before now steady rose = absurd (omega (arith, steady (λ is. cc), rose))
 lost-write end.Memory before now steady rose = absurd (omega (arith, steady (λ is. cc), rose))
 
@@ -67,7 +74,9 @@ lost-read end.Read before now steady rose = absurd (omega (arith, steady (λ is.
 lost-read end.Usage before now steady rose = absurd (omega (arith, steady (λ is. cc), rose))
 lost-read (end.Refused why) before now steady rose = absurd (omega (arith, steady (λ is. cc), rose))
 lost-read (end.TraceRefused refusal) before now steady rose = absurd (omega (arith, steady (λ is. cc), rose))
+lost-read (end.HistoryRefused reason offset) before now steady rose = absurd (omega (arith, steady (λ is. cc), rose))
 lost-read (end.Broken breach) before now steady rose = absurd (omega (arith, steady (λ is. cc), rose))
+lost-read (end.Illegal place) before now steady rose = absurd (omega (arith, steady (λ is. cc), rose))
 lost-read end.WriteFault before now steady rose = absurd (omega (arith, steady (λ is. cc), rose))
 lost-read end.Memory before now steady rose = absurd (omega (arith, steady (λ is. cc), rose))
 
@@ -81,7 +90,9 @@ ends-after why end.Read ends = ends
 ends-after why end.Usage ends = ends
 ends-after why (end.Refused other) ends = ends
 ends-after why (end.TraceRefused refusal) ends = ends
+ends-after why (end.HistoryRefused reason offset) ends = ends
 ends-after why (end.Broken breach) ends = ends
+ends-after why (end.Illegal place) ends = ends
 ends-after why end.ReadFault ends = ends
 
 pub after-run : {Table : Type 0} {Behind : Table → Type 0} (ran : Option (Report Table Behind)) (told : End) → IfSome ran (λ report. EndsAs report.cause told) → (IsNone ran → told ≡ end.Memory) → IsAfterRun told
@@ -98,7 +109,9 @@ after-may end.Read after = after
 after-may end.Usage after = after
 after-may (end.Refused other) after = after
 after-may (end.TraceRefused refusal) after = after
+after-may (end.HistoryRefused reason offset) after = after
 after-may (end.Broken breach) after = after
+after-may (end.Illegal place) after = after
 after-may end.ReadFault after = tt
 
 -- an end that tells of a run is that of the run that is reported

@@ -18,13 +18,16 @@ use Rattle.tool_report.specs.Timeline.{timeline_of}
 use Rattle.trace_format.specs.declared.trace.TheConstants.{SEQ_LIMIT}
 use Rattle.trace_format.specs.Fields.{fields_of, spelling}
 use Rattle.run_trace.specs.TraceOf.{trace_of}
+use Rattle.history_file.specs.Certificates.{file_of}
+use Rattle.history_file.specs.Fields.{fields_of as history_fields, spelling as history_spelling}
 use Rattle.omp_model.specs.declared.history.Entry.{Entry}
 use Rattle.ompt_words.specs.declared.settings.Command.{Command}
 use Rattle.ompt_words.specs.declared.settings.Command.TheVariants.{Generate as Generating, List as Listing, Profile as Profiling, Record as Recording, Run as Running, Timeline as Timelining}
+use Rattle.ompt_words.specs.declared.settings.RunOutput.TheVariants as output
 use Rattle.ompt_words.specs.declared.settings.Settings.{Settings}
 use Rattle.ompt_cli.specs.declared.end.Refusal.{Refusal}
 use Rattle.ompt_cli.specs.declared.end.End.{End}
-use Rattle.ompt_cli.specs.declared.end.End.TheVariants.{Ended, Shown, Read, TraceRefused, Broken, Usage, Refused, ReadFault, WriteFault, Memory}
+use Rattle.ompt_cli.specs.declared.end.End.TheVariants.{Ended, Shown, Read, TraceRefused, HistoryRefused, Broken, Illegal, Usage, Refused, ReadFault, WriteFault, Memory}
 use Rattle.ompt_cli.specs.declared.report.Report.{Report}
 
 -- the run that a report is of. A guest is a box of a vtable and what lies behind it
@@ -40,20 +43,30 @@ unless_memory other lines = lines
 abbrev pub IsSharedFew : List (List EventRecord) → Type 0
 IsSharedFew parts = (events : List EventRecord) × AreShared events parts × (length events ≤ SEQ_LIMIT)
 
--- what a command writes of its run, which ended in this cause: a listing a line for each record, a recording the trace, a profile the counts, a timeline
--- the states, `run` what the program printed, and `gen` the summary
-abbrev pub written_by : Command → Run → Cause → List Entry → List ℕ
-written_by Listing run cause history = lines_of (records_of run history)
-written_by Recording run cause history = spelling (fields_of (trace_of run cause history))
-written_by Profiling run cause history = profile_of (records_of run history)
-written_by (Timelining columns) run cause history = timeline_of columns (records_of run history)
-written_by Running run cause history = (after run history).world.store.text
-written_by (Generating blocks) run cause history = summary_of (generated blocks) (records_of run history) (after run history).world.store.text
+-- the command runs the guests, and not the parts that this program has itself
+abbrev pub HasGuests : Command → Type 0
+HasGuests Listing = ⊥
+HasGuests Recording = ⊥
+HasGuests Profiling = ⊥
+HasGuests (Timelining columns) = ⊥
+HasGuests (Running what) = ⊤
+HasGuests (Generating blocks) = ⊥
+
+-- what a command writes of its run of the program of this text, which ended in this cause: a listing a line for each record, a recording the trace, a
+-- profile the counts, a timeline the states, `run` what the program printed or the history file, and `gen` the summary
+abbrev pub written_by : Command → List ℕ → Run → Cause → List Entry → List ℕ
+written_by Listing text run cause history = lines_of (records_of run history)
+written_by Recording text run cause history = spelling (fields_of (trace_of run cause history))
+written_by Profiling text run cause history = profile_of (records_of run history)
+written_by (Timelining columns) text run cause history = timeline_of columns (records_of run history)
+written_by (Running output.Printed) text run cause history = (after run history).world.store.text
+written_by (Running output.History) text run cause history = history_spelling (history_fields (file_of text run cause history))
+written_by (Generating blocks) text run cause history = summary_of (generated blocks) (records_of run history) (after run history).world.store.text
 
 -- what a command writes of its run, if there was one
 abbrev pub run_text : {Table : Type 0} {Behind : Table → Type 0} → Option (Report Table Behind) → List ℕ
 run_text None = []
-run_text (Some report) = unless_memory report.cause (written_by report.command (run_of report) report.cause report.history)
+run_text (Some report) = unless_memory report.cause (written_by report.command report.program.text (run_of report) report.cause report.history)
 
 -- what a command writes: the text that its words ask for, or else what it writes of its run
 abbrev pub out_of : {Table : Type 0} {Behind : Table → Type 0} → Option (String Global) → Option (Report Table Behind) → List ℕ
@@ -98,11 +111,14 @@ IsShowing WriteFault = ⊤
 IsShowing Memory = ⊤
 IsShowing other = ⊥
 
--- the end of a command that reads a trace
+-- the end of a command that reads a trace or a history file
 abbrev pub IsReading : End → Type 0
 IsReading Read = ⊤
+IsReading (Refused why) = ⊤
 IsReading (TraceRefused refusal) = ⊤
+IsReading (HistoryRefused reason offset) = ⊤
 IsReading (Broken breach) = ⊤
+IsReading (Illegal place) = ⊤
 IsReading ReadFault = ⊤
 IsReading WriteFault = ⊤
 IsReading Memory = ⊤

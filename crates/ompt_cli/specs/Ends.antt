@@ -20,9 +20,11 @@ use Rattle.c_check.specs.Faults.{fault_number as rule_number, fault_spot as rule
 use Rattle.std.specs.Fmt.{decimal, signed_decimal}
 use Rattle.trace_format.specs.declared.refusal.Refusal.{Refusal as TraceRefusal}
 use Rattle.trace_format.specs.Refusing.{number_of_reason}
+use Rattle.history_file.specs.declared.reason.HistoryReason.{HistoryReason}
+use Rattle.history_file.specs.Refusing.{number_of_reason as number_of_history_reason}
 use Rattle.trace_check.specs.declared.breach.Breach.{Breach}
 use Rattle.ompt_cli.specs.declared.end.End.{End}
-use Rattle.ompt_cli.specs.declared.end.End.TheVariants.{Ended, Shown, Read, TraceRefused, Broken, Usage, Refused, ReadFault, WriteFault, Memory}
+use Rattle.ompt_cli.specs.declared.end.End.TheVariants.{Ended, Shown, Read, TraceRefused, HistoryRefused, Broken, Illegal, Usage, Refused, ReadFault, WriteFault, Memory}
 
 abbrev pub status_of : End → ℕ
 status_of (Ended why) = status_of_cause why
@@ -31,7 +33,9 @@ status_of Read = 0
 status_of Usage = 2
 status_of (Refused why) = 3
 status_of (TraceRefused refusal) = 7
+status_of (HistoryRefused reason offset) = 7
 status_of (Broken breach) = 7
+status_of (Illegal place) = 7
 status_of ReadFault = 8
 status_of WriteFault = 9
 status_of Memory = 10
@@ -74,6 +78,14 @@ refusal_text why = refusal_at (refusal_number why) (refusal_spot why)
 abbrev pub trace_refusal_text : TraceRefusal → List ℕ
 trace_refusal_text refusal = codes "trace refused " ++ decimal (number_of_reason refusal.reason) ++ codes " at " ++ decimal refusal.offset
 
+-- the line that tells refused bytes of a history file, without its newline
+abbrev pub history_refusal_text : HistoryReason → ℕ → List ℕ
+history_refusal_text reason offset = codes "history refused " ++ decimal (number_of_history_reason reason) ++ codes " at " ++ decimal offset
+
+-- the line that tells the first entry of a file behind which its history is illegal, without its newline
+abbrev pub illegal_text : ℕ → List ℕ
+illegal_text place = codes "illegal at " ++ decimal place
+
 -- the line that tells the first breach of a trace, without its newline
 abbrev pub breach_text : Breach → List ℕ
 breach_text breach = codes "breach " ++ decimal breach.rule ++ codes " at " ++ decimal breach.seq
@@ -100,12 +112,14 @@ line_of_end Read = []
 line_of_end Usage = codes "usage: ompt run, list, record, profile, timeline, show, check, gen, migrate, rerun or tasks" ++ 10 ∷ []
 line_of_end (Refused why) = refusal_text why ++ 10 ∷ []
 line_of_end (TraceRefused refusal) = trace_refusal_text refusal ++ 10 ∷ []
+line_of_end (HistoryRefused reason offset) = history_refusal_text reason offset ++ 10 ∷ []
 line_of_end (Broken breach) = breach_text breach ++ 10 ∷ []
+line_of_end (Illegal place) = illegal_text place ++ 10 ∷ []
 line_of_end ReadFault = codes "read fault" ++ 10 ∷ []
 line_of_end WriteFault = codes "write fault" ++ 10 ∷ []
 line_of_end Memory = codes "memory" ++ 10 ∷ []
 
--- the end has status 0, and no line: the run is whole and main returned 0, or a text was shown, or a trace was read
+-- the end has status 0, and no line: the run is whole and main returned 0, or a text was shown, or a trace or a certificate was read
 abbrev pub IsQuiet : End → Type 0
 IsQuiet end = (end ≡ Ended cause.Done) ⊎ ((end ≡ Shown) ⊎ (end ≡ Read))
 

@@ -42,7 +42,7 @@ GuestsAfter stands_for Same Recording serial run cause history guests after = af
 GuestsAfter stands_for Same Profiling serial run cause history guests after = after ≡ guests
 GuestsAfter stands_for Same (Timelining columns) serial run cause history guests after = after ≡ guests
 GuestsAfter stands_for Same (Generating blocks) serial run cause history guests after = after ≡ guests
-GuestsAfter stands_for Same Running serial run cause history guests after = GuestsServe stands_for Same serial run cause history guests after
+GuestsAfter stands_for Same (Running output) serial run cause history guests after = GuestsServe stands_for Same serial run cause history guests after
 
 -- the guests that these parts hold, in order
 abbrev pub guests_of : {G : Type 0} {B : Type 0} → (G → B) → List (Handed G) → List B

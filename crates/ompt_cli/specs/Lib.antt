@@ -6,5 +6,6 @@ pub mod Guests
 pub mod Job
 pub mod Commands
 pub mod Reports
+pub mod Histories
 pub mod Traces
 pub mod Top

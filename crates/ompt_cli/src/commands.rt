@@ -36,7 +36,7 @@ pub(crate) fn run_command<X: Runner, O: Sink>(
     ensures faults { CountsFaults result.end End.WriteFault (O.faults out.old) (O.faults out.new) }
 {
     match command {
-        Command::Run => run(runner, alloc, job, guests, out),
+        Command::Run(output) => run(runner, alloc, output, job, guests, out),
         Command::List => list(runner, alloc, job, guests, out),
         Command::Record => record(runner, alloc, job, guests, out),
         Command::Profile => profile(runner, alloc, job, guests, out),

@@ -4,12 +4,13 @@ ghost use Rattle.std.specs.Prelude.{◌≡◌, ◌≤◌, ◌+◌, ◌∷◌, �
 ghost use Rattle.std.specs.Fmt.{decimal, signed_decimal};
 ghost use Rattle.arrayvec.specs.ArrayString.{array_string_len};
 ghost use Rattle.run_trace.specs.TraceOf.{status_of as status_of_cause};
-ghost use Rattle.ompt_cli.specs.Ends.{breach_text, end_of_check_fault, end_of_fault, end_of_syntax_fault, line_of_cause, line_of_end, refusal_number, refusal_spot, refusal_text, status_of, trace_refusal_text};
+ghost use Rattle.ompt_cli.specs.Ends.{breach_text, end_of_check_fault, end_of_fault, end_of_syntax_fault, history_refusal_text, illegal_text, line_of_cause, line_of_end, refusal_number, refusal_spot, refusal_text, status_of, trace_refusal_text};
 
 use arrayvec::ArrayString;
 use c_check::CheckFault;
 use c_syntax::SyntaxFault;
 use c_tokens::{NOWHERE, Spot, TokenFault};
+use history_file::HistoryReason;
 use itoa::Buffer;
 use omp_model::Cause;
 use trace_check::Breach;
@@ -34,7 +35,7 @@ pub enum End {
     Ended(Cause),
     /// The words ask for help or for the version, which was shown. Nothing ran.
     Shown,
-    /// The trace was read to its end, and what was asked of it was written.
+    /// The trace was read to its end, or the history file is a certificate, and what was asked of it was written.
     Read,
     /// The words are refused.
     Usage,
@@ -42,8 +43,12 @@ pub enum End {
     Refused(Refusal),
     /// The trace is refused.
     TraceRefused(trace_format::Refusal),
+    /// The bytes are no history file, for this reason at this offset, counted from 0.
+    HistoryRefused(HistoryReason, u64),
     /// The trace isn't nested, and this is its first breach.
     Broken(Breach),
+    /// The history of the file isn't a legal run of its program that ends as the file says. This is how many of its first entries are legal together.
+    Illegal(u32),
     /// A read failed.
     ReadFault,
     /// A write failed.
@@ -62,7 +67,10 @@ impl End {
             End::Shown | End::Read => 0,
             End::Usage => 2,
             End::Refused(_) => 3,
-            End::TraceRefused(_) | End::Broken(_) => 7,
+            End::TraceRefused(_)
+            | End::HistoryRefused(..)
+            | End::Broken(_)
+            | End::Illegal(_) => 7,
             End::ReadFault => 8,
             End::WriteFault => 9,
             End::Memory => 10,
@@ -81,7 +89,9 @@ impl End {
             ),
             End::Refused(why) => why.line(),
             End::TraceRefused(refusal) => line_of_trace_refused(refusal),
+            End::HistoryRefused(reason, offset) => line_of_history_refused(reason, offset),
             End::Broken(breach) => line_of_breach(breach),
+            End::Illegal(place) => line_of_illegal(place),
             End::ReadFault => line_of("read fault\n"),
             End::WriteFault => line_of("write fault\n"),
             End::Memory => line_of("memory\n"),
@@ -226,6 +236,29 @@ fn line_of_trace_refused(refusal: trace_format::Refusal) -> ArrayString<160>
     push_number(&mut line, u32::from(refusal.reason.number()));
     line.push_str(" at ");
     line.push_str(digits.format(refusal.offset));
+    line.push_str("\n");
+    line
+}
+
+/// The line that tells refused bytes of a history file.
+fn line_of_history_refused(reason: HistoryReason, offset: u64) -> ArrayString<160>
+    ensures { result.bytes ≡ history_refusal_text reason offset ++ 10 ∷ [] }
+{
+    let mut digits = Buffer::new();
+    let mut line = line_of("history refused ");
+    push_number(&mut line, u32::from(reason.number()));
+    line.push_str(" at ");
+    line.push_str(digits.format(offset));
+    line.push_str("\n");
+    line
+}
+
+/// The line that tells an illegal history.
+fn line_of_illegal(place: u32) -> ArrayString<160>
+    ensures { result.bytes ≡ illegal_text place ++ 10 ∷ [] }
+{
+    let mut line = line_of("illegal at ");
+    push_number(&mut line, place);
     line.push_str("\n");
     line
 }

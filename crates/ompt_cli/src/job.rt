@@ -1,15 +1,16 @@
 //! What is to run.
 
-ghost use Rattle.std.specs.Prelude.{◌≡◌, ◌≤◌};
+ghost use Rattle.std.specs.Prelude.{◌≡◌, ◌≤◌, IfOk, length};
 
-use c_check::Program;
+use crate::loaded::Loaded;
+use std::alloc::{AllocError, Global};
 use std::marker::Model;
 
-/// What is to run: a program, with 1 to 16 threads and 1 to 30,000,000 silent steps, serially or by threads.
+/// What is to run: a program with its text, with 1 to 16 threads and 1 to 30,000,000 silent steps, serially or by threads.
 #[derive(Drop)]
 pub(crate) struct Job {
-    /// The program.
-    pub program: Program,
+    /// The program, and its text.
+    pub loaded: Loaded,
     /// How many threads there may be.
     pub threads: u8,
     /// How many silent steps there may be.
@@ -19,32 +20,42 @@ pub(crate) struct Job {
 }
 
 impl Model for Job {
-    ghost use Rattle.std.specs.Prelude.{◌≤◌};
+    ghost use Rattle.std.specs.Prelude.{◌≤◌, length};
     ghost use Rattle.ompt_cli.specs.Job.{JobView, job_view_code};
 
     ghost Value = { JobView };
 
     ghost coded = { job_view_code };
 
-    ghost view = { λ job. record { program = job.program; threads = job.threads; steps = job.steps; serial = job.serial } };
+    ghost view = { λ job. record { program = job.loaded.program; text = job.loaded.text.items; threads = job.threads; steps = job.steps; serial = job.serial } };
 
-    ghost invariant = { λ job. (1 ≤ job.threads) × (job.threads ≤ 16) × (1 ≤ job.steps) × (job.steps ≤ 30000000) };
+    ghost invariant = { λ job. (1 ≤ job.threads) × (job.threads ≤ 16) × (1 ≤ job.steps) × (job.steps ≤ 30000000) × (length job.loaded.text.items ≤ 65536) };
 }
 
 impl Job {
-    /// The program with so many threads and silent steps, serially or by threads.
-    pub fn new(program: Program, threads: u8, steps: u32, serial: bool) -> Job
+    /// The program, whose text isn't too long, with so many threads and silent steps, serially or by threads.
+    pub fn new(loaded: Loaded, threads: u8, steps: u32, serial: bool) -> Job
         requires some { 1 ≤ threads }
         requires few { threads ≤ 16 }
         requires steps { 1 ≤ steps }
         requires bounded { steps ≤ 30000000 }
-        ensures { result ≡ record { program = program; threads = threads; steps = steps; serial = serial } }
+        requires short { length loaded.text.items ≤ 65536 }
+        ensures { result ≡ record { program = loaded.program; text = loaded.text.items; threads = threads; steps = steps; serial = serial } }
     {
         Job {
-            program,
+            loaded,
             threads,
             steps,
             serial,
         }
+    }
+
+    /// The program's text once more.
+    pub fn copied_text(&self, alloc: Global) -> Result<Vec<u8>, AllocError>
+        ensures { IfOk result (λ text. text.items ≡ self.now.text) }
+    {
+        let mut text = Vec::new(alloc);
+        text.extend_from_slice(self.loaded.text.as_slice())?;
+        Ok(text)
     }
 }

@@ -3,9 +3,10 @@
 //! [`top`] does what the words say, as `ompt_words` reads them. Five commands read a program from a source and run it: `list` writes a
 //! line for each event to an output; `record` writes the trace of the run; `profile` writes how many calls of each callback there were;
 //! `timeline` writes the states of the threads; `run` calls guests, which are tools, at the events of their threads, and writes what the
-//! program printed. `gen` makes a program, runs it, and writes a summary. Three commands read a trace from the source: `show` writes a
-//! line for each event and one for the end, `migrate` writes the trace in the second version of the format, and `check` says whether it
-//! is nested. Where the end isn't a good one, one line goes to standard error. Its contract says, over any source and any sinks, what
+//! program printed, or with `--history` the run's history (`history_file`). `gen` makes a program, runs it, and writes a summary. Three
+//! commands read a trace from the source: `show` writes a line for each event and one for the end, `migrate` writes the trace in the second
+//! version of the format, and `check` says whether it is nested. `rerun` reads a history, and says whether it is a legal run of its program
+//! that ends as it says. Where the end isn't a good one, one line goes to standard error. Its contract says, over any source and any sinks, what
 //! each end comes with, that what ran is one legal run of the program, what the outputs gain, and what the guests were called for. Words
 //! that ask for help or the version have a text written to the output in its place.
 //!
@@ -17,7 +18,7 @@
 //!
 //! The definitions stand in `specs/`: which words ask for a run or for a trace to be read (`Words`), the texts that run, with their
 //! programs, and why others are refused (`Text`), the status and the line of each end (`Ends`), what a run of either kind gives (`Runs`),
-//! what a command writes (`Commands`) and reports (`Reports`), what one that reads a trace has read and written (`Traces`), what guests stand
+//! what a command writes (`Commands`) and reports (`Reports`), what one that reads a trace (`Traces`) or a history file (`Histories`) has read and written, what guests stand
 //! for after a command (`Guests`), and the records of [`top`]'s contract (`Top`). The runs are those of `omp_model`, the traces those of `trace_format` and `run_trace`,
 //! and the rules on them those of `trace_check`. A report holds the tree of its program for contracts alone ([`ProgramTree`]).
 //!
@@ -34,9 +35,11 @@ mod commands;
 mod end;
 mod guest_part;
 mod guests;
+mod history_writing;
 mod job;
 mod keepers;
 mod laws;
+mod loaded;
 mod observing;
 mod outcome;
 mod program_tree;
@@ -44,6 +47,7 @@ mod program_words;
 mod recording;
 mod report;
 mod reporting;
+mod rerunning;
 mod run;
 mod runner;
 mod running;
@@ -55,7 +59,7 @@ mod writing;
 
 pub use end::{End, Refusal};
 pub use laws::each_text_is_judged;
-pub use ompt_words::{Command, Settings, TraceCommand};
+pub use ompt_words::{Command, ReadCommand, RunOutput, Settings};
 pub use program_tree::ProgramTree;
 pub use program_words::own_words;
 pub use report::{ByThreads, Report, Top};

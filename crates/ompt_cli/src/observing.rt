@@ -77,13 +77,14 @@ impl Heading {
     fn of(command: Command, job: &Job) -> Heading
         ensures command { result.command ≡ command }
         ensures program { result.program.tree ≡ job.now.program }
+        ensures text { result.program.text ≡ job.now.text }
         ensures threads { result.threads ≡ job.now.threads }
         ensures steps { result.steps ≡ job.now.steps }
         ensures serial { result.serial ≡ job.now.serial }
     {
         Heading {
             command,
-            program: ProgramTree::of(&job.program),
+            program: ProgramTree::of(&job.loaded),
             threads: job.threads,
             steps: job.steps,
             serial: job.serial,
@@ -92,7 +93,7 @@ impl Heading {
 
     /// What the run gave, with these guests in its report.
     fn observed<P: ToolPart>(self, ran: Ran<P>, guests: Vec<Box<dyn GuestTool>>) -> Observed<P>
-        ensures observed { (job : JobView) → IsHeading job self.program.tree self.threads self.steps self.serial → (parts : List P) →
+        ensures observed { (job : JobView) → IsHeading job self.program.tree self.program.text self.threads self.steps self.serial → (parts : List P) →
             RunsJob P.stands_for P.same job ran.mask ran.cause ran.history ran.text.items parts ran.parts.items →
             HasObserved P.stands_for P.same self.command job result.report parts result.parts.items result.text.items }
         ensures guests { result.report.guests ≡ guests }

@@ -1,18 +1,20 @@
-//! The tree of a program that ran, as contracts see it.
+//! The tree of a program that ran and its text, as contracts see them.
 
-ghost use Rattle.std.specs.Prelude.{◌≡◌};
+ghost use Rattle.std.specs.Prelude.{ℕ, ◌≡◌, List};
+ghost use Rattle.std.specs.Coded.{coded_list, coded_ℕ};
 ghost use base.Fml.{ftrue};
 ghost use Rattle.c_syntax.specs.language.Numbered.{TreeView};
 ghost use Rattle.c_syntax.specs.workings.Codes.{tree_view_code};
 
-use c_check::Program;
+use crate::loaded::Loaded;
 use std::marker::Model;
 
-/// The tree of a program that ran. A run consumes its program, so that nothing of it is left to hold: this takes no memory, and
-/// contracts alone see the tree.
+/// The tree of a program that ran, and its text. A run consumes its program, so that nothing of it is left to hold: this takes no memory, and
+/// contracts alone see the two.
 #[derive(Drop)]
 pub struct ProgramTree {
     pub ghost tree: { TreeView } by { tree_view_code },
+    pub ghost text: { List ℕ } by { coded_list coded_ℕ },
 }
 
 impl Model for ProgramTree {
@@ -20,9 +22,10 @@ impl Model for ProgramTree {
 }
 
 impl ProgramTree {
-    /// The tree of the program.
-    pub(crate) fn of(_program: &Program) -> ProgramTree
-        ensures { result.tree ≡ _program.now }
+    /// The tree of the program, with its text.
+    pub(crate) fn of(_loaded: &Loaded) -> ProgramTree
+        ensures tree { result.tree ≡ _loaded.now.program }
+        ensures text { result.text ≡ _loaded.now.text.items }
     {
         ProgramTree {}
     }

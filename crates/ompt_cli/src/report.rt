@@ -3,7 +3,7 @@
 use crate::end::End;
 use crate::program_tree::ProgramTree;
 use omp_model::{Cause, History};
-use ompt_words::{Command, Settings, TraceCommand};
+use ompt_words::{Command, Settings, ReadCommand};
 use tool_api::GuestTool;
 
 /// What a command reports of its run.
@@ -13,7 +13,7 @@ pub struct Report {
     pub command: Command,
     /// Why the run ended.
     pub cause: Cause,
-    /// The tree of the program that ran, for contracts.
+    /// The tree of the program that ran and its text, for contracts.
     pub program: ProgramTree,
     /// The callbacks that were registered, bit n for number n: for all commands but `run` [`PROFILE_MASK`](omp_codes::PROFILE_MASK).
     pub mask: u64,
@@ -46,12 +46,12 @@ pub struct Top {
     /// How the command ended, before its line was told.
     pub end: End,
     /// The report of the run. It is there at the ends `Ended` and `WriteFault`, and
-    /// isn't at `Usage`, `Shown`, `Read`, `Refused`, `TraceRefused`, `Broken` and `ReadFault`, nor at a `WriteFault` where a text was to be
+    /// isn't at `Usage`, `Shown`, `Read`, `Refused`, `TraceRefused`, `HistoryRefused`, `Broken`, `Illegal` and `ReadFault`, nor at a `WriteFault` where a text was to be
     /// shown or a trace was read. At `Memory` it may be there; where its cause is want of memory, its history has an entry.
     pub ran: Option<Report>,
     /// The text that the words asked for: help or the version. It is there at the end `Shown`, and at a `WriteFault` where it
     /// couldn't be written whole.
     pub shown: Option<String>,
-    /// The command that has read a trace, where the words ask for one. Then nothing ran.
-    pub read: Option<TraceCommand>,
+    /// The command that has read a trace or a history file, where the words ask for one. Then nothing ran.
+    pub read: Option<ReadCommand>,
 }

@@ -6,7 +6,7 @@ ghost use Rattle.ompt_calls.specs.declared.event.EventRecord.{EventRecord};
 ghost use Rattle.tool_report.specs.Generator.{generated, summary_of};
 ghost use Rattle.tool_report.specs.Order.{AreShared};
 ghost use Rattle.ompt_words.specs.declared.settings.Command.{Command as SeenCommand};
-ghost use Rattle.ompt_cli.specs.Commands.{CountsFaults, HasWritten, run_of, run_text, written_by};
+ghost use Rattle.ompt_cli.specs.Commands.{CountsFaults, HasGuests, HasWritten, run_of, run_text, written_by};
 ghost use Rattle.ompt_cli.specs.Job.{JobView};
 ghost use Rattle.ompt_cli.specs.Reports.{HasRun, Observes, StaysSilent};
 
@@ -112,10 +112,10 @@ pub(crate) fn generate<X: Runner, O: Sink>(
 
 /// Writes what was made of a run, and reports the run.
 fn report_made<O: Sink>(report: Report, made: Result<Vec<u8>, AllocError>, out: &mut O) -> Outcome
-    ensures ran { (command : SeenCommand) (job : JobView) → Observes command job report → StaysSilent report → command ≢ Command.Run → command ≢ Command.Record →
+    ensures ran { (command : SeenCommand) (job : JobView) → Observes command job report → StaysSilent report → ¬ HasGuests command → command ≢ Command.Record →
         HasRun command job result.end result.shown result.read result.ran }
     ensures guests { IfSome result.ran (λ other. other.guests ≡ report.guests) }
-    ensures written { IfOk made (λ text. text.items ≡ written_by report.command (run_of report) report.cause report.history) →
+    ensures written { IfOk made (λ text. text.items ≡ written_by report.command report.program.text (run_of report) report.cause report.history) →
         HasWritten result.end (run_text result.ran) (O.held out.old) (O.held out.new) }
     ensures faults { CountsFaults result.end End.WriteFault (O.faults out.old) (O.faults out.new) }
 {

@@ -10,7 +10,7 @@ use crate::guest_part::GuestPart;
 use crate::job::Job;
 use crate::keepers::{profiles, recorders, timelines};
 use crate::observing::{Observed, observe, observe_alone};
-use ompt_words::Command;
+use ompt_words::{Command, RunOutput};
 use std::alloc::{AllocError, Global};
 use std::sync::Wait;
 use std::thread::Threads;
@@ -63,6 +63,7 @@ pub(crate) trait Runner {
     fn run_guests(
         &self,
         alloc: Global,
+        output: RunOutput,
         job: Job,
         parts: Vec<Handed<GuestPart>>,
     ) -> Result<Observed<Handed<GuestPart>>, AllocError>
@@ -70,7 +71,7 @@ pub(crate) trait Runner {
         requires parts { length parts.items ≡ job.threads }
         ensures { IfOk result (λ observed. HasObserved
             (HandedFor (λ guest h. (GuestTool-box guest.0).stands_for guest.0.value h)) (SameHanded (λ guest other. guest.0.vtable ≡ other.0.vtable))
-            Command.Run job observed.report parts.items observed.parts.items observed.text.items) };
+            (Command.Run output) job observed.report parts.items observed.parts.items observed.text.items) };
 }
 
 /// It makes serial runs, and waits for nobody.
@@ -118,10 +119,11 @@ impl Runner for Alone {
     fn run_guests(
         &self,
         alloc: Global,
+        output: RunOutput,
         job: Job,
         parts: Vec<Handed<GuestPart>>,
     ) -> Result<Observed<Handed<GuestPart>>, AllocError> {
-        observe_alone(alloc, Command::Run, job, parts, Vec::new(alloc))
+        observe_alone(alloc, Command::Run(output), job, parts, Vec::new(alloc))
     }
 }
 
@@ -170,9 +172,10 @@ impl<'a, R: Threads + Wait + Sync> Runner for WithThreads<'a, R> {
     fn run_guests(
         &self,
         alloc: Global,
+        output: RunOutput,
         job: Job,
         parts: Vec<Handed<GuestPart>>,
     ) -> Result<Observed<Handed<GuestPart>>, AllocError> {
-        observe(self.0, alloc, Command::Run, job, parts, Vec::new(alloc))
+        observe(self.0, alloc, Command::Run(output), job, parts, Vec::new(alloc))
     }
 }

@@ -23,12 +23,12 @@ pub(crate) fn run_alone<P: ToolPart>(
     ensures { IfOk result (λ ran. RunsJob P.stands_for P.same job ran.mask ran.cause ran.history ran.text.items parts.items ran.parts.items) }
 {
     let Job {
-        program,
+        loaded,
         threads,
         steps,
         ..
     } = job;
-    let ran = run_serial(alloc, program, threads, steps, parts)?;
+    let ran = run_serial(alloc, loaded.program, threads, steps, parts)?;
     Ok(ran)
 }
 
@@ -46,12 +46,12 @@ pub(crate) fn run_job<R: Threads + Wait + Sync, P: ToolPart>(
         return run_alone(alloc, job, parts);
     }
     let Job {
-        program,
+        loaded,
         threads,
         steps,
         ..
     } = job;
-    let ran = run_threads(rt, alloc, program, threads, steps, parts)?;
+    let ran = run_threads(rt, alloc, loaded.program, threads, steps, parts)?;
     let begun = begun_run(ran)?;
     Ok(begun)
 }

@@ -41,10 +41,10 @@ pub(crate) fn run_settings<X: Runner, S: Source, O: Sink>(
         steps,
         serial,
     } = settings;
-    let program = match program_for(alloc, command, source) {
-        Ok(program) => program,
+    let loaded = match program_for(alloc, command, source) {
+        Ok(loaded) => loaded,
         Err(end) => return without_run(end),
     };
-    let job = Job::new(program, threads, steps, serial);
+    let job = Job::new(loaded, threads, steps, serial);
     run_command(runner, alloc, command, job, guests, out)
 }

@@ -2,11 +2,12 @@
 
 ghost use Rattle.std.specs.Prelude.{ℕ, ◌≡◌, ◌≢◌, ◌≤◌, List, IfSome, IsSomeAnd, IfOk, IfErr, IsErrAnd, length};
 ghost use Rattle.run_edges.specs.Edges.{Rose};
-ghost use Rattle.ompt_cli.specs.Text.{IsProgram, IsReadAs, IsRefused, IsSpelled, Spells, text_for};
+ghost use Rattle.ompt_cli.specs.Text.{IsProgram, IsReadAs, IsRefused, Spells, text_for};
 ghost use Rattle.tool_report.specs.Generator.{generated};
 ghost use Rattle.ompt_cli.specs.Commands.{IsBeforeRun, MayRefuse, MayRun};
 
 use crate::end::{End, Refusal, end_of_check_fault, end_of_fault, end_of_syntax_fault};
+use crate::loaded::Loaded;
 use c_check::{Program, check};
 use c_syntax::{Tree, read_program};
 use c_tokens::tokens;
@@ -18,14 +19,14 @@ use tool_report::generated_text;
 /// The length in bytes of the longest text that is read.
 const TEXT_LIMIT: u32 = 65_536;
 
-/// The program that the command runs: of `gen` the generated one, and nothing is read; of all others the one that the source has left.
+/// The program that the command runs, with its text: of `gen` the generated one, and nothing is read; of all others the one that the source has left.
 pub(crate) fn program_for<S: Source>(
     alloc: Global,
     command: Command,
     source: &mut S,
-) -> Result<Program, End>
-    ensures program { IfOk result (λ program. IfSome (text_for command (S.left source.old)) (λ text. Spells text program)) }
-    ensures spelled { IfOk result IsSpelled }
+) -> Result<Loaded, End>
+    ensures program { IfOk result (λ loaded. Spells loaded.text.items loaded.program) }
+    ensures text { IfOk result (λ loaded. IfSome (text_for command (S.left source.old)) (λ text. text ≡ loaded.text.items)) }
     ensures before { IfErr result IsBeforeRun }
     ensures refused { (why : Refusal) → result ≡ Err (End.Refused why) →
         IfSome (text_for command (S.left source.old)) (IsRefused why) }
@@ -43,9 +44,9 @@ pub(crate) fn program_for<S: Source>(
 }
 
 /// The program with so many generated blocks.
-fn generated_program(alloc: Global, blocks: u16) -> Result<Program, End>
-    ensures program { IfOk result (Spells (generated blocks)) }
-    ensures spelled { IfOk result IsSpelled }
+fn generated_program(alloc: Global, blocks: u16) -> Result<Loaded, End>
+    ensures program { IfOk result (λ loaded. Spells loaded.text.items loaded.program) }
+    ensures text { IfOk result (λ loaded. generated blocks ≡ loaded.text.items) }
     ensures before { IfErr result IsBeforeRun }
     ensures refused { (why : Refusal) → result ≡ Err (End.Refused why) → IsRefused why (generated blocks) }
     ensures accepted { (why : Refusal) → IsRefused why (generated blocks) → IsErrAnd result (MayRefuse why) }
@@ -58,13 +59,13 @@ fn generated_program(alloc: Global, blocks: u16) -> Result<Program, End>
     if text.len() > TEXT_LIMIT as usize {
         return Err(End::Refused(Refusal::TooLong));
     }
-    program_of(alloc, &text)
+    load(alloc, text)
 }
 
 /// Reads the text to its end. It spells the program, or the command ends for want of a program that runs.
-fn read_program_of<S: Source>(alloc: Global, source: &mut S) -> Result<Program, End>
-    ensures program { IfOk result (λ program. IfSome (S.left source.old) (λ text. Spells text program)) }
-    ensures spelled { IfOk result IsSpelled }
+fn read_program_of<S: Source>(alloc: Global, source: &mut S) -> Result<Loaded, End>
+    ensures program { IfOk result (λ loaded. Spells loaded.text.items loaded.program) }
+    ensures text { IfOk result (λ loaded. IfSome (S.left source.old) (λ text. text ≡ loaded.text.items)) }
     ensures before { IfErr result IsBeforeRun }
     ensures refused { (why : Refusal) → result ≡ Err (End.Refused why) →
         IfSome (S.left source.old) (IsRefused why) }
@@ -75,18 +76,34 @@ fn read_program_of<S: Source>(alloc: Global, source: &mut S) -> Result<Program, 
     ensures steady { result ≢ Err End.ReadFault → S.faults source.new ≡ S.faults source.old }
 {
     match read_all(alloc, source, TEXT_LIMIT) {
-        Ok(text) => program_of(alloc, &text),
+        Ok(text) => load(alloc, text),
         Err(ReadAllFault::TooLong) => Err(End::Refused(Refusal::TooLong)),
         Err(ReadAllFault::ReadFault) => Err(End::ReadFault),
         Err(ReadAllFault::Memory) => Err(End::Memory),
     }
 }
 
+/// The program that the text spells, with the text.
+fn load(alloc: Global, text: Vec<u8>) -> Result<Loaded, End>
+    requires { length text.items ≤ 65536 }
+    ensures program { IfOk result (λ loaded. Spells loaded.text.items loaded.program) }
+    ensures text { IfOk result (λ loaded. loaded.text ≡ text) }
+    ensures before { IfErr result IsBeforeRun }
+    ensures refused { (why : Refusal) → result ≡ Err (End.Refused why) → IsRefused why text.items }
+    ensures accepted { (why : Refusal) → IsRefused why text.items → IsErrAnd result (MayRefuse why) }
+    ensures runs { IsProgram text.items → IfErr result MayRun }
+    ensures read { result ≢ Err End.ReadFault }
+{
+    match program_of(alloc, &text) {
+        Ok(program) => Ok(Loaded { program, text }),
+        Err(end) => Err(end),
+    }
+}
+
 /// The program that the text spells. All its tokens are tried before the grammar, and then the rules.
-fn program_of(alloc: Global, text: &[u8]) -> Result<Program, End>
+pub(crate) fn program_of(alloc: Global, text: &[u8]) -> Result<Program, End>
     requires { length text.now ≤ 65536 }
     ensures program { IfOk result (Spells text.now) }
-    ensures spelled { IfOk result IsSpelled }
     ensures before { IfErr result IsBeforeRun }
     ensures refused { (why : Refusal) → result ≡ Err (End.Refused why) → IsRefused why text.now }
     ensures accepted { (why : Refusal) → IsRefused why text.now → IsErrAnd result (MayRefuse why) }

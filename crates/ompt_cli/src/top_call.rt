@@ -14,8 +14,8 @@ use crate::outcome::{Outcome, having_read, having_shown, without_run};
 use crate::report::{ByThreads, Top};
 use crate::runner::{Alone, WithThreads};
 use crate::settings_run::run_settings;
-use crate::trace_commands::read_trace;
-use ompt_words::{Request, TraceCommand, WordsFault, request_of};
+use crate::trace_commands::read_input;
+use ompt_words::{Request, ReadCommand, WordsFault, request_of};
 use run_edges::{Sink, Source, write_all};
 use std::alloc::Global;
 use std::sync::Wait;
@@ -24,8 +24,9 @@ use tool_api::GuestTool;
 
 /// Does what the words say: it reads the program from `source`, or makes it for `gen`, runs it, writes what is defined to `out`, and one
 /// line to `err` where the status isn't 0. For `run`, guest t is the part of thread t, and guest 0 is initialized; for all other commands
-/// the guests come back as they were. `show` and `migrate` read a trace from `source`, and write it to `out` as it comes; `check` reads one,
-/// and writes `ok` where it is nested. Where the words ask for help or for the version, that text is written to `out`, and nothing is read.
+/// the guests come back as they were. `run --history` writes the run's history to `out`, and `rerun` reads one from `source` and says whether it is
+/// a legal run of its program that ends as it says. `show` and `migrate` read a trace from `source`, and write it to `out` as it comes; `check`
+/// reads one, and writes `ok` where it is nested. Where the words ask for help or for the version, that text is written to `out`, and nothing is read.
 ///
 /// `words` don't contain the program's own name. With `--serial` one thread has all turns; else each thread number has a thread of its own,
 /// the first one the caller's, which drives those too that can't be started. No clause says that a run by threads comes back. All else is
@@ -42,7 +43,7 @@ pub fn top<R: Threads + Wait + Sync, S: Source, O: Sink, E: Sink>(
 ) -> Top
     // The line of the end is told and the status is the end's, unless a write of the line failed.
     ensures told { TellsEnd E.held E.faults result.status result.end err.old err.new }
-    // The words decide which of a run, a text that is shown and a trace that is read is there.
+    // The words decide which of a run, a text that is shown and a trace or a history that is read is there.
     ensures words { FollowsWords (texts words.now) result.end result.shown result.read result.ran }
     // What ran is the program that the words and the source say, in one legal run that ends in the cause that is reported.
     ensures ran { IfSome result.ran (IsRunOf (texts words.now) (S.left source.old) result.end) }
@@ -51,14 +52,14 @@ pub fn top<R: Threads + Wait + Sync, S: Source, O: Sink, E: Sink>(
         GuestsAfter (λ guest h. (GuestTool-box guest).stands_for guest.value h) (λ guest other. guest.vtable ≡ other.vtable)
         report.command report.serial (run_of report)
         report.cause report.history guests.items report.guests.items) }
-    // Where a trace was read, its end says what was read and written of it.
+    // Where a trace or a history file was read, the end says what was read and written of it.
     ensures read { IfSome result.read (λ command.
         HasReadTrace command result.end (S.left source.old) (S.left source.new) (O.held out.old) (O.held out.new)) }
-    // A text is refused exactly for a reason that it has.
-    ensures text { JudgesText (texts words.now) (S.left source.old) result.end }
-    // Where no trace is read, what is written is the text that was asked for, or what the command writes of its run.
+    // A text that was to run is refused exactly for a reason that it has.
+    ensures text { JudgesText (texts words.now) (S.left source.old) result.end result.read }
+    // Where neither is read, what is written is the text that was asked for, or what the command writes of its run.
     ensures written { IsNone result.read → HasWritten result.end (out_of result.shown result.ran) (O.held out.old) (O.held out.new) }
-    // A recording is a trace, and the trace of each run of the shipped parts is nested.
+    // A recording is a trace, the trace of each run of the shipped parts is nested, and a history that is written is a certificate.
     ensures recorded { IfSome result.ran (HasTrace result.end) }
     // Each fault of a read or a write was counted, and shows in the end.
     ensures faults { ShowsFaults result.end (S.faults source.old) (S.faults source.new) (O.faults out.old) (O.faults out.new) }
@@ -158,10 +159,10 @@ fn top_by_threads<R: Threads + Wait + Sync, S: Source, O: Sink, E: Sink>(
     )
 }
 
-/// Reads a trace from the source, as the words ask.
+/// Reads a trace or a history file from the source, as the words ask.
 fn read_as<S: Source, O: Sink>(
     alloc: Global,
-    command: TraceCommand,
+    command: ReadCommand,
     source: &mut S,
     out: &mut O,
 ) -> Outcome
@@ -169,7 +170,7 @@ fn read_as<S: Source, O: Sink>(
         CarriesOut S.left S.faults O.held O.faults words result.end result.shown result.read result.ran source.old source.new out.old out.new }
     ensures no_run { IsNone result.ran }
 {
-    having_read(read_trace(alloc, command, source, out), command)
+    having_read(read_input(alloc, command, source, out), command)
 }
 
 /// Shows the text that the words ask for, or refuses them. Nothing is read.

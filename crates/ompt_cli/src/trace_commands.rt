@@ -1,35 +1,45 @@
-//! The commands that read a trace: `show`, `migrate` and `check`.
+//! The commands that read: a trace for `show`, `migrate` and `check`, and a history file for `rerun`.
 
-ghost use Rattle.std.specs.Prelude.{◌≡◌, ◌≢◌, ◌⊎◌};
+ghost use Rattle.std.specs.Prelude.{◌≡◌, ◌≢◌, ◌⊎◌, IsSomeAnd};
 ghost use Rattle.std.specs.Io.KnownBytes.{Appends};
 ghost use Rattle.run_edges.specs.Edges.{AppendsFront};
 ghost use Rattle.ompt_cli.specs.Commands.{CountsFaults, IsReading};
+ghost use Rattle.c_syntax.specs.language.Numbered.{TreeView};
+ghost use Rattle.history_file.specs.declared.file.HistoryFile.{HistoryFile as SeenFile};
+ghost use Rattle.history_file.specs.Certificates.{IsCertificate, run_of_file};
+ghost use Rattle.history_file.specs.Validity.{WritesHistory};
+ghost use Rattle.ompt_cli.specs.Histories.{MayCertify};
+ghost use Rattle.ompt_cli.specs.Text.{Spells};
 ghost use Rattle.ompt_cli.specs.Traces.{HasJudged, HasRead, HasCopy, ok_text};
 
 use crate::end::End;
-use ompt_words::TraceCommand;
+use crate::rerunning::rerun_history;
+use ompt_words::ReadCommand;
 use run_edges::{Sink, Source, write_all};
 use std::alloc::Global;
 use trace_check::{Checked, check_trace};
 use trace_copy::{Copied, Form, copy_trace};
 
-/// Reads a trace from the source, and writes what the command says of it.
-pub(crate) fn read_trace<S: Source, O: Sink>(
+/// Reads a trace or a history file from the source, and writes what the command says of it.
+pub(crate) fn read_input<S: Source, O: Sink>(
     alloc: Global,
-    command: TraceCommand,
+    command: ReadCommand,
     source: &mut S,
     out: &mut O,
 ) -> End
     ensures end { IsReading result }
     ensures copied { HasRead command result (S.left source.old) (S.left source.new) (O.held out.old) (O.held out.new) }
-    ensures memory { command ≡ TraceCommand.Migrate → result ≢ End.Memory }
+    ensures memory { command ≡ ReadCommand.Migrate → result ≢ End.Memory }
+    ensures certified { command ≡ ReadCommand.Rerun → (file : SeenFile) (program : TreeView) → IsSomeAnd (S.left source.old) (WritesHistory file) →
+        Spells file.text program → IsCertificate (run_of_file program file) file → MayCertify result }
     ensures reads { CountsFaults result End.ReadFault (S.faults source.old) (S.faults source.new) }
     ensures writes { CountsFaults result End.WriteFault (O.faults out.old) (O.faults out.new) }
 {
     match command {
-        TraceCommand::Show => copy(alloc, Form::Lines, source, out),
-        TraceCommand::Migrate => copy(alloc, Form::SecondVersion, source, out),
-        TraceCommand::Check => check(alloc, source, out),
+        ReadCommand::Show => copy(alloc, Form::Lines, source, out),
+        ReadCommand::Migrate => copy(alloc, Form::SecondVersion, source, out),
+        ReadCommand::Check => check(alloc, source, out),
+        ReadCommand::Rerun => rerun_history(alloc, source, out),
     }
 }
 

@@ -26,3 +26,4 @@ mod put;
 pub use copied::Copied;
 pub use copy::copy_trace;
 pub use form::Form;
+pub use put::line_of_end;

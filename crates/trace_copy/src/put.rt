@@ -96,7 +96,7 @@ fn migrated_header(header: Header) -> Header
 }
 
 /// The line of the end mark, with its newline.
-fn line_of_end(end: EndMark) -> ArrayString<160>
+pub fn line_of_end(end: EndMark) -> ArrayString<160>
     ensures { result.bytes ≡ line_of_end end }
 {
     let mut line = ArrayString::new();

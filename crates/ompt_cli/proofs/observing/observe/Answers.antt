@@ -4,5 +4,5 @@ pub returns-clause-observed : goal.returns-clause-observed
 returns-clause-observed g c =
     let of = c.of-heading.ensures in
     rw of.command at
-    (c.observed.ensures.observed c.args.job (record { program_is = of.program; threads_are = of.threads; steps_are = of.steps; serial_is = of.serial }) c.args.parts.items
+    (c.observed.ensures.observed c.args.job (record { program_is = of.program; text_is = of.text; threads_are = of.threads; steps_are = of.steps; serial_is = of.serial }) c.args.parts.items
     c.in_ok-ran.ensures)

@@ -29,7 +29,8 @@ returns-clause-ran g c =
       report = record { observes = has.observes; stays = λ other. has.stays };
       ended = c.write_trace_of_run-end.ensures.end;
       missing = λ none. absurd cc;
-      memory = λ is. absurd cc;
+      memory = λ guests. absurd guests;
+      certified = λ whole memory is. absurd cc;
       traced = λ whole memory is.
           let found = ends-found report.cause c.write_trace_of_run-end.result c.write_trace_of_run-end.ensures.end memory in
           let fits = c.write_trace_of_run-end.ensures.fits (records_of (run_of report) report.history) shared whole memory in
@@ -45,5 +46,5 @@ returns-clause-written g c =
     rw c.having_run.ensures
     (subst (λ (bytes : List ℕ). HasWritten c.write_trace_of_run-end.result (unless_memory report.cause bytes) (g.O.Sink.held c.args.out.now) (g.O.Sink.held c.write_trace_of_run-end.new.out))
     (ap (λ (callbacks : ℕ). spelling (fields_of (trace_with report.threads callbacks report.cause (records_of (run_of report) report.history)))) (sym has.stays.mask_is)
-    ∙ sym (ap (λ (command : Command). written_by command (run_of report) report.cause report.history) has.observes.command_is))
+    ∙ sym (ap (λ (command : Command). written_by command report.program.text (run_of report) report.cause report.history) has.observes.command_is))
     (c.write_trace_of_run-end.ensures.written (records_of (run_of report) report.history) shared))

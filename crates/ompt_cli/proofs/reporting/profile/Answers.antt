@@ -9,7 +9,7 @@ use Rattle.ompt_cli.proofs.reporting.profile.Goals as goal
 pub returns-clause-ran : goal.returns-clause-ran
 returns-clause-ran g c =
     let has = c.in-Ok.ensures.kept in
-    c.report_made.ensures.ran Profiling c.args.job has.observes has.stays (λ is. cc) (λ is. cc)
+    c.report_made.ensures.ran Profiling c.args.job has.observes has.stays (λ guests. guests) (λ is. cc)
 
 pub returns-clause-written : goal.returns-clause-written
 returns-clause-written g c =
@@ -17,4 +17,4 @@ returns-clause-written g c =
     let has = c.in-Ok.ensures.kept in
     c.report_made.ensures.written
     (IfOk-weaker c.profile_text-made.result _ _ (λ text is. is (records_of (run_of report) report.history) (rw c.deref.ensures.value has.kept)
-    ∙ sym (ap (λ (command : Command). written_by command (run_of report) report.cause report.history) has.observes.command_is)) c.profile_text-made.ensures)
+    ∙ sym (ap (λ (command : Command). written_by command report.program.text (run_of report) report.cause report.history) has.observes.command_is)) c.profile_text-made.ensures)

@@ -1,4 +1,5 @@
-use Rattle.std.proofs.Common.{refl}
+use Rattle.std.proofs.Common.{refl, subst, sym}
+use Rattle.ompt_cli.specs.Commands.{HasGuests}
 use Rattle.ompt_cli.proofs.reporting.report_made.Goals as goal
 
 pub returns-clause-ran : goal.returns-clause-ran
@@ -10,8 +11,9 @@ returns-clause-ran g c = λ command job observes stays not_run not_record.
       report = record { observes = observes; stays = λ other. stays };
       ended = c.write_made-end.ensures.end;
       missing = λ none. absurd cc;
-      memory = λ is. absurd (not_run is);
+      memory = λ guests. absurd (not_run guests);
       traced = λ whole memory is. absurd (not_record is);
+      certified = λ whole memory is. absurd (not_run (subst HasGuests (sym is) tt));
     })
 
 pub returns-clause-written : goal.returns-clause-written

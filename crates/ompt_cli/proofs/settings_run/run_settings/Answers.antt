@@ -2,9 +2,8 @@ use Rattle.std.proofs.Common.{◌∙◌, Err, ap, subst, sym}
 use Rattle.ompt_cli.specs.declared.end.End.{End}
 use Rattle.ompt_cli.specs.declared.end.End.TheVariants.{ReadFault}
 use Rattle.ompt_cli.specs.Job.{JobView}
-use Rattle.ompt_cli.specs.Text.{IsSpelled}
 use Rattle.ompt_cli.proofs.Carrying.{end_carried, run_carried}
-use Rattle.ompt_cli.proofs.Telling.{err-end, ok-not-refused, spells-as}
+use Rattle.ompt_cli.proofs.Telling.{err-end, ok-not-refused, spelled-as, text-as}
 use Rattle.ompt_cli.proofs.settings_run.run_settings.Goals as goal
 
 pub returns-clause-carried : goal.returns-clause-carried
@@ -12,9 +11,9 @@ returns-clause-carried g c = λ words taken.
     let program = ap (λ (job : JobView). job.program) c.new-job.ensures in
     run_carried g.S.Source.left g.S.Source.faults g.O.Sink.held g.O.Sink.faults words c.args.settings taken c.requires.range.some c.requires.range.few c.args.source.now c.program_for.new.source c.args.out.now c.run_command.new.out c.new-job.result
     (ap (λ (job : JobView). job.threads) c.new-job.ensures) (ap (λ (job : JobView). job.steps) c.new-job.ensures) (ap (λ (job : JobView). job.serial) c.new-job.ensures)
-    (spells-as _ _ c.new-job.result.program c.in-Ok.ensures.program program)
-    (subst IsSpelled (sym program) c.in-Ok.ensures.spelled)
-    (λ why refused. ok-not-refused why c.in-Ok.program c.program_for.result c.in-Ok.is (c.program_for.ensures.accepted why refused))
+    (text-as _ _ c.new-job.result.text c.in-Ok.ensures.text (ap (λ (job : JobView). job.text) c.new-job.ensures))
+    (spelled-as _ c.new-job.result.text _ c.new-job.result.program c.in-Ok.ensures.program (ap (λ (job : JobView). job.text) c.new-job.ensures) program)
+    (λ why refused. ok-not-refused why c.in-Ok.loaded c.program_for.result c.in-Ok.is (c.program_for.ensures.accepted why refused))
     c.in-Ok.ensures.unread
     (c.program_for.ensures.steady (λ is. let same = sym c.in-Ok.is ∙ is in cc))
     _ _ _ _ c.run_command.ensures.ran c.run_command.ensures.written c.run_command.ensures.faults

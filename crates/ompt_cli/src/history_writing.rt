@@ -1,0 +1,56 @@
+//! The history of a run, as a file that others can check.
+
+ghost use Rattle.std.specs.Prelude.{◌≡◌, ◌≢◌, ◌≤◌, None, Some, length};
+ghost use Rattle.ompt_cli.specs.Commands.{CountsFaults, EndsAs, HasWritten, run_of, run_text};
+ghost use Rattle.ompt_cli.specs.Reports.{HasCertificate};
+ghost use Rattle.ompt_cli.specs.Runs.{RunsTo};
+
+use crate::end::End;
+use crate::outcome::{Outcome, having_run};
+use crate::report::Report;
+use history_file::{FileText, HistoryFile, end_of, write_history};
+use omp_model::Cause;
+use ompt_words::{Command, RunOutput};
+use run_edges::Sink;
+
+/// Writes the history file of the run that is reported, whose program has this text, unless the run found no memory. It takes no memory.
+pub(crate) fn write_history_of_run<O: Sink>(report: Report, text: Vec<u8>, out: &mut O) -> Outcome
+    requires command { report.command ≡ Command.Run RunOutput.History }
+    requires some { 1 ≤ report.threads }
+    requires few { report.threads ≤ 16 }
+    requires steps { 1 ≤ report.steps }
+    requires bounded { report.steps ≤ 30000000 }
+    requires short { length text.items ≤ 65536 }
+    requires text { report.program.text ≡ text.items }
+    requires to { RunsTo (run_of report) report.serial report.cause report.history }
+    ensures ran { result ≡ record { end = result.end; ran = Some report; shown = None; read = None } }
+    ensures end { EndsAs report.cause result.end }
+    ensures memory { report.cause ≢ Cause.Memory → result.end ≢ End.Memory }
+    ensures written { HasWritten result.end (run_text (Some report)) (O.held out.old) (O.held out.new) }
+    ensures certified { result.end ≢ End.WriteFault → result.end ≢ End.Memory → HasCertificate report }
+    ensures faults { CountsFaults result.end End.WriteFault (O.faults out.old) (O.faults out.new) }
+{
+    let Some((status, detail)) = end_of(report.cause) else {
+        return having_run(End::Memory, report);
+    };
+    let file = HistoryFile {
+        threads: report.threads,
+        mask: report.mask,
+        steps: report.steps,
+        text: FileText(text),
+        history: report.history,
+        status,
+        detail,
+    };
+    let end = match write_history(out, &file) {
+        Ok(()) => End::Ended(report.cause),
+        Err(_) => End::WriteFault,
+    };
+    having_run(
+        end,
+        Report {
+            history: file.history,
+            ..report
+        },
+    )
+}
