@@ -13,8 +13,8 @@ use Rattle.ompt_words.specs.declared.settings.Command.TheVariants.{Generate as G
 use Rattle.ompt_words.specs.declared.settings.Request.{Request}
 use Rattle.ompt_words.specs.declared.settings.Request.TheVariants as request
 use Rattle.ompt_words.specs.declared.settings.Settings.{Settings}
-use Rattle.ompt_words.specs.declared.settings.TraceCommand.{TraceCommand}
-use Rattle.ompt_words.specs.declared.settings.TraceCommand.TheVariants as traces
+use Rattle.ompt_words.specs.declared.settings.ReadCommand.{ReadCommand}
+use Rattle.ompt_words.specs.declared.settings.ReadCommand.TheVariants as traces
 use Rattle.ompt_words.specs.Answers.{AreReadAs, IsTextOrMemory}
 use Rattle.ompt_words.specs.Form.{AskInForm, InForm, ReadInForm, own_settings}
 use Rattle.ompt_cli.specs.declared.end.End.{End}
@@ -56,7 +56,7 @@ module _ {S O : Type 0} (left : S → Option (List ℕ)) (reads_failed : S → �
     asked-is other (inl form) = same-settings (request.Run settings) settings (own_settings form.0) refl (taken.form form.0) ∙ sym form.1
     asked-is other (inr read) = same-settings (request.Run settings) settings other refl (taken.exact (request.Run other) read)
 
-    not-read : (command : TraceCommand) → AskToRead words command → ⊥
+    not-read : (command : ReadCommand) → AskToRead words command → ⊥
     not-read command (inl form) = let same = taken.read_form command form in cc
     not-read command (inr read) = let same = taken.exact (request.Read command) read in cc
 
@@ -108,7 +108,7 @@ module _ {S O : Type 0} (left : S → Option (List ℕ)) (reads_failed : S → �
       traces-of told None r traced = tt
       traces-of told (Some report) r traced = trace-of told report r traced
 
-      pub run_carried : (told : End) (shown : Option (String Global)) (read : Option TraceCommand) (ran : Option (Report Table Behind)) → HasRun settings.command job told shown read ran → HasWritten told (run_text ran) (held out) (held out_now) → CountsFaults told end.WriteFault (writes_failed out) (writes_failed out_now)
+      pub run_carried : (told : End) (shown : Option (String Global)) (read : Option ReadCommand) (ran : Option (Report Table Behind)) → HasRun settings.command job told shown read ran → HasWritten told (run_text ran) (held out) (held out_now) → CountsFaults told end.WriteFault (writes_failed out) (writes_failed out_now)
           → CarriesOut left reads_failed held writes_failed words told shown read ran source source_now out out_now
       run_carried told shown read ran has written faults =
           let after = after-run ran told has.ended has.missing in
@@ -201,12 +201,12 @@ module _ {S O : Type 0} (left : S → Option (List ℕ)) (reads_failed : S → �
         }
 
   -- a trace was read
-  module _ (command : TraceCommand) (taken : AreTakenAs words (request.Read command)) where
+  module _ (command : ReadCommand) (taken : AreTakenAs words (request.Read command)) where
     not-run : AskForRun words → ⊥
     not-run (settings, inl form) = let same = taken.form form.0 in cc
     not-run (settings, inr other) = let same = taken.exact (request.Run settings) other in cc
 
-    command-is : (other : TraceCommand) → AskToRead words other → command ≡ other
+    command-is : (other : ReadCommand) → AskToRead words other → command ≡ other
     command-is other (inl form) = let same = taken.read_form other form in cc
     command-is other (inr read) = let same = taken.exact (request.Read other) read in cc
 
@@ -223,7 +223,7 @@ module _ {S O : Type 0} (left : S → Option (List ℕ)) (reads_failed : S → �
                 shown_alone = tt;
                 displayed = λ is. absurd (subst IsReading is reading);
                 help = λ ask. absurd (taken.no_help ask);
-                reads = λ other ask. inl (ap (λ (one : TraceCommand). Some one) (command-is other ask));
+                reads = λ other ask. inl (ap (λ (one : ReadCommand). Some one) (command-is other ask));
                 read_alone = (taken.read, reading, refl, refl);
                 ended = λ why is. absurd (subst IsReading is reading);
                 unwritten = λ is none. absurd cc;
@@ -267,7 +267,7 @@ module _ {S O : Type 0} (left : S → Option (List ℕ)) (reads_failed : S → �
     no-memory (settings, inl form) = faulty.form form.0
     no-memory (settings, inr asked) = faulty.exact (request.Run settings) asked
 
-    no-memory_read : (command : TraceCommand) → AskToRead words command → found ≡ fault.Memory
+    no-memory_read : (command : ReadCommand) → AskToRead words command → found ≡ fault.Memory
     no-memory_read command (inl form) = faulty.read_form command form
     no-memory_read command (inr asked) = faulty.exact (request.Read command) asked
 
@@ -414,7 +414,7 @@ module _ {S O : Type 0} (left : S → Option (List ℕ)) (reads_failed : S → �
 
 -- what was read of the words is what is asked of them
 pub taken-as : (words : List (List ℕ)) (found given : Request) → found ≡ given → AreReadAs words found → ((other : Request) → AreReadAs words other → found ≡ other) → ((form : InForm words) → found ≡ request.Run (own_settings form))
-    → ((command : TraceCommand) → ReadInForm words command → found ≡ request.Read command) → (AskInForm words → ⊥) → AreTakenAs words given
+    → ((command : ReadCommand) → ReadInForm words command → found ≡ request.Read command) → (AskInForm words → ⊥) → AreTakenAs words given
 taken-as words found given is read exact form read_form no_help =
     subst (AreTakenAs words) is (record { read = read; exact = exact; form = form; read_form = read_form; no_help = no_help })
 

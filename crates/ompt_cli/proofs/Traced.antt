@@ -11,10 +11,10 @@ use Rattle.trace_check.specs.declared.breach.Breach.{Breach}
 use Rattle.trace_check.specs.declared.checked.Checked.TheVariants as checks
 use Rattle.trace_check.specs.Answering.{HasChecked}
 use Rattle.trace_check.specs.Nested.{Broken as BreaksRule, Nested}
-use Rattle.ompt_words.specs.declared.settings.TraceCommand.{TraceCommand}
+use Rattle.ompt_words.specs.declared.settings.ReadCommand.{ReadCommand}
 use Rattle.ompt_cli.specs.declared.end.End.{End}
 use Rattle.ompt_cli.specs.declared.end.End.TheVariants.{Broken, TraceRefused}
-use Rattle.ompt_words.specs.declared.settings.TraceCommand.TheVariants.{Check, Migrate, Show}
+use Rattle.ompt_words.specs.declared.settings.ReadCommand.TheVariants.{Check, Migrate, Show}
 use Rattle.ompt_cli.specs.Traces.{HasRead}
 
 -- neither a front of it nor the whole
@@ -31,11 +31,11 @@ refused-input (Some text) taken trace refusal is refused = never-refused text ta
 
 -- so no command that reads it ends so
 pub trace_unrefused :
-    (command : TraceCommand) (left rest held after : Option (List ℕ)) (told : End) (trace : Trace) (refusal : Refusal) → IsSomeAnd left (Writes trace)
+    (command : ReadCommand) (left rest held after : Option (List ℕ)) (told : End) (trace : Trace) (refusal : Refusal) → IsSomeAnd left (Writes trace)
     → HasRead command told left rest held after → told ≡ TraceRefused refusal → ⊥
 trace_unrefused command left rest held after told trace refusal is read same = by command (subst (λ (told : End). HasRead command told left rest held after) same read)
   where
-    by : (command : TraceCommand) → HasRead command (TraceRefused refusal) left rest held after → ⊥
+    by : (command : ReadCommand) → HasRead command (TraceRefused refusal) left rest held after → ⊥
     by Show read = refused-input left read.0 trace refusal is read.2
     by Migrate read = refused-input left read.0 trace refusal is read.2
     by Check (checked, kept) = refused-input left checked.0 trace refusal is checked.1
@@ -51,11 +51,11 @@ nested-unbroken (Some text) rest trace breach is nested (taken, other, input, wr
 
 -- so no command ends with a breach of it
 pub trace_unbroken :
-    (command : TraceCommand) (left rest held after : Option (List ℕ)) (told : End) (trace : Trace) (breach : Breach) → IsSomeAnd left (Writes trace)
+    (command : ReadCommand) (left rest held after : Option (List ℕ)) (told : End) (trace : Trace) (breach : Breach) → IsSomeAnd left (Writes trace)
     → Nested trace.header trace.events trace.end → HasRead command told left rest held after → told ≡ Broken breach → ⊥
 trace_unbroken command left rest held after told trace breach is nested read same = by command (subst (λ (told : End). HasRead command told left rest held after) same read)
   where
-    by : (command : TraceCommand) → HasRead command (Broken breach) left rest held after → ⊥
+    by : (command : ReadCommand) → HasRead command (Broken breach) left rest held after → ⊥
     by Show read = read
     by Migrate read = read
     by Check (checked, kept) = nested-unbroken left rest trace breach is nested checked

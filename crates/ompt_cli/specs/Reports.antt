@@ -14,7 +14,7 @@ use Rattle.team_run.specs.Serving.{AreSame}
 use Rattle.team_run.specs.Standing.{HearsOwn, HearsSilent}
 use Rattle.ompt_words.specs.declared.settings.Command.{Command}
 use Rattle.ompt_words.specs.declared.settings.Command.TheVariants.{Record as Recording, Run as Running}
-use Rattle.ompt_words.specs.declared.settings.TraceCommand.{TraceCommand}
+use Rattle.ompt_words.specs.declared.settings.ReadCommand.{ReadCommand}
 use Rattle.ompt_cli.specs.declared.report.Report.{Report}
 use Rattle.std.specs.declared.string.String.{String}
 use Rattle.std.specs.declared.alloc.Global.{Global}
@@ -54,7 +54,7 @@ pub record Reports {Table : Type 0} {Behind : Table → Type 0} (command : Comma
 
 -- a command has run this job, and says nothing else: its run is reported, unless memory failed before, and its end is the run's, unless a write or memory
 -- fails. `run` needs no memory after its run, and what is recorded is a trace
-pub record HasRun {Table : Type 0} {Behind : Table → Type 0} (command : Command) (job : JobView) (end : End) (shown : Option (String Global)) (read : Option TraceCommand) (ran : Option (Report Table Behind)) : Type 0 where
+pub record HasRun {Table : Type 0} {Behind : Table → Type 0} (command : Command) (job : JobView) (end : End) (shown : Option (String Global)) (read : Option ReadCommand) (ran : Option (Report Table Behind)) : Type 0 where
   pub nothing_shown : IsNone shown
   pub nothing_read : IsNone read
   pub report : IfSome ran (Reports command job)

@@ -18,7 +18,7 @@ use Rattle.ompt_words.specs.Form.{AskInForm, InForm, own_settings}
 use Rattle.ompt_words.specs.declared.settings.Command.TheVariants.{Generate as Generating, Record as Recording, Run as Running}
 use Rattle.ompt_words.specs.declared.settings.Request.TheVariants as request
 use Rattle.ompt_words.specs.declared.settings.Settings.{Settings}
-use Rattle.ompt_words.specs.declared.settings.TraceCommand.{TraceCommand}
+use Rattle.ompt_words.specs.declared.settings.ReadCommand.{ReadCommand}
 use Rattle.ompt_cli.specs.Commands.{EndsAs, HasOutput, HasWritten, IsReading, IsShowing, IsUnread, MayRefuse, MayRun, out_of, run_of, settings_in}
 use Rattle.ompt_cli.specs.Runs.{AreOutside, IsReturn, IsWhole}
 use Rattle.ompt_cli.specs.Text.{IsProgram, IsRefused, IsSpelled, Spells, text_for}
@@ -33,14 +33,14 @@ use Rattle.ompt_cli.specs.declared.report.Report.{Report}
 -- refused only where clap may find a mistake in them; words that ask for a run aren't, and a text is read only for them. A text is shown only where clap
 -- may say so, and words of the form up to `--help` or `--version` have theirs shown. A trace is read only where the words ask for it, and for no others.
 -- An end that tells of a run comes with that run.
-pub record FollowsWords {Table : Type 0} {Behind : Table → Type 0} (words : List (List ℕ)) (end : End) (shown : Option (String Global)) (read : Option TraceCommand) (ran : Option (Report Table Behind)) : Type 0 where
+pub record FollowsWords {Table : Type 0} {Behind : Table → Type 0} (words : List (List ℕ)) (end : End) (shown : Option (String Global)) (read : Option ReadCommand) (ran : Option (Report Table Behind)) : Type 0 where
   pub usage : end ≡ Usage → AreWrong words × IsNone ran × IsNone shown × IsNone read
   pub formed : AskForRun words → (end ≢ Usage) × (end ≢ Shown) × IsNone shown × IsNone read
-  pub other : ¬ AskForRun words → ((command : TraceCommand) → ¬ AskToRead words command) → IsUnread end × IsNone ran × IsNone read
+  pub other : ¬ AskForRun words → ((command : ReadCommand) → ¬ AskToRead words command) → IsUnread end × IsNone ran × IsNone read
   pub shown_alone : IfSome shown (λ text. AskForText words × IsShowing end × IsNone ran × IsNone read)
   pub displayed : end ≡ Shown → IsSome shown
   pub help : AskInForm words → IsShowing end
-  pub reads : (command : TraceCommand) → AskToRead words command → (read ≡ Some command) ⊎ ((end ≡ Memory) × IsNone ran × IsNone shown × IsNone read)
+  pub reads : (command : ReadCommand) → AskToRead words command → (read ≡ Some command) ⊎ ((end ≡ Memory) × IsNone ran × IsNone shown × IsNone read)
   pub read_alone : IfSome read (λ command. AreReadAs words (request.Read command) × IsReading end × IsNone ran × IsNone shown)
   pub ended : (why : Cause) → end ≡ Ended why → IsSomeAnd ran (λ report. report.cause ≡ why)
   pub unwritten : end ≡ WriteFault → IsNone read → HasOutput shown ran
@@ -89,16 +89,16 @@ pub record ShowsFaults (end : End) (source_before source_now out_before out_now 
 
 -- What stays untouched: the source where the words ask for no text of it, and the output too where they are refused, or where they ask that a trace is read
 -- and there was no memory for them.
-pub record StaysUntouched {S O : Type 0} (words : List (List ℕ)) (end : End) (shown : Option (String Global)) (read : Option TraceCommand) (source source_now : S) (out out_now : O) : Type 0 where
+pub record StaysUntouched {S O : Type 0} (words : List (List ℕ)) (end : End) (shown : Option (String Global)) (read : Option ReadCommand) (source source_now : S) (out out_now : O) : Type 0 where
   pub untouched : end ≡ Usage → (source_now ≡ source) × (out_now ≡ out)
-  pub unasked : ¬ AskForRun words → ((command : TraceCommand) → ¬ AskToRead words command) → source_now ≡ source
+  pub unasked : ¬ AskForRun words → ((command : ReadCommand) → ¬ AskToRead words command) → source_now ≡ source
   pub unread : IfSome shown (λ text. source_now ≡ source)
-  pub unread_trace : (command : TraceCommand) → AskToRead words command → IsNone read → (source_now ≡ source) × (out_now ≡ out)
+  pub unread_trace : (command : ReadCommand) → AskToRead words command → IsNone read → (source_now ≡ source) × (out_now ≡ out)
   pub generates : (settings : Settings) → AskFor words settings → (blocks : ℕ) → settings.command ≡ Generating blocks → source_now ≡ source
 
 -- All that a command says but the line of its end and the guests, as `top` has it, clause by clause. Over what the source has left, what the output holds, and
 -- their counts of faults.
-pub record CarriesOut {S O Table : Type 0} {Behind : Table → Type 0} (left : S → Option (List ℕ)) (reads_failed : S → ℕ) (held : O → Option (List ℕ)) (writes_failed : O → ℕ) (typed : List (List ℕ)) (end : End) (shown : Option (String Global)) (read_by : Option TraceCommand) (ran_as : Option (Report Table Behind)) (source source_now : S) (out out_now : O) : Type 0 where
+pub record CarriesOut {S O Table : Type 0} {Behind : Table → Type 0} (left : S → Option (List ℕ)) (reads_failed : S → ℕ) (held : O → Option (List ℕ)) (writes_failed : O → ℕ) (typed : List (List ℕ)) (end : End) (shown : Option (String Global)) (read_by : Option ReadCommand) (ran_as : Option (Report Table Behind)) (source source_now : S) (out out_now : O) : Type 0 where
   pub words : FollowsWords typed end shown read_by ran_as
   pub ran : IfSome ran_as (IsRunOf typed (left source) end)
   pub read : IfSome read_by (λ command. HasReadTrace command end (left source) (left source_now) (held out) (held out_now))

@@ -13,8 +13,8 @@ use Rattle.trace_copy.specs.declared.copied.Copied.TheVariants as copied
 use Rattle.trace_copy.specs.declared.form.Form.{Form}
 use Rattle.trace_copy.specs.declared.form.Form.TheVariants.{Lines, SecondVersion}
 use Rattle.trace_copy.specs.Copying.{HasCopied}
-use Rattle.ompt_words.specs.declared.settings.TraceCommand.{TraceCommand}
-use Rattle.ompt_words.specs.declared.settings.TraceCommand.TheVariants.{Check, Migrate, Show}
+use Rattle.ompt_words.specs.declared.settings.ReadCommand.{ReadCommand}
+use Rattle.ompt_words.specs.declared.settings.ReadCommand.TheVariants.{Check, Migrate, Show}
 use Rattle.ompt_cli.specs.declared.end.End.{End}
 use Rattle.ompt_cli.specs.declared.end.End.TheVariants.{Read, TraceRefused, Broken, ReadFault, WriteFault, Memory}
 
@@ -48,14 +48,14 @@ HasJudged Memory left rest held after = HasChecked checked.Memory left rest × K
 HasJudged other left rest held after = ⊥
 
 -- what the command has read and written
-abbrev pub HasRead : TraceCommand → End → (left rest held after : Option (List ℕ)) → Type 0
+abbrev pub HasRead : ReadCommand → End → (left rest held after : Option (List ℕ)) → Type 0
 HasRead Show end left rest held after = HasCopy Lines end left rest held after
 HasRead Migrate end left rest held after = HasCopy SecondVersion end left rest held after
 HasRead Check end left rest held after = HasJudged end left rest held after
 
 -- What a command that has read a trace has read and written, by how it ended: the trace was read to its end, or it is refused or isn't nested, or a read,
 -- a write or memory failed. No trace is refused, no nested one has a breach, and `migrate` takes no memory.
-pub record HasReadTrace (command : TraceCommand) (end : End) (left rest held after : Option (List ℕ)) : Type 0 where
+pub record HasReadTrace (command : ReadCommand) (end : End) (left rest held after : Option (List ℕ)) : Type 0 where
   pub copied : HasRead command end left rest held after
   pub unrefused : (trace : Trace) → IsSomeAnd left (Writes trace) → (refusal : Refusal) → end ≢ TraceRefused refusal
   pub unbroken : (trace : Trace) → IsSomeAnd left (Writes trace) → IsNested trace → (breach : Breach) → end ≢ Broken breach

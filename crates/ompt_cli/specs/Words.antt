@@ -4,7 +4,7 @@ use Rattle.std.specs.declared.string.String.{String}
 use Rattle.std.specs.declared.alloc.Global.{Global}
 use Rattle.ompt_words.specs.declared.settings.Request.TheVariants as request
 use Rattle.ompt_words.specs.declared.settings.Settings.{Settings}
-use Rattle.ompt_words.specs.declared.settings.TraceCommand.{TraceCommand}
+use Rattle.ompt_words.specs.declared.settings.ReadCommand.{ReadCommand}
 use Rattle.ompt_words.specs.declared.fault.WordsFault.{WordsFault}
 use Rattle.ompt_words.specs.declared.fault.WordsFault.TheVariants as fault
 use Rattle.ompt_words.specs.declared.settings.Request.{Request}
@@ -24,7 +24,7 @@ abbrev pub AskForRun : List (List ℕ) → Type 0
 AskForRun words = (settings : Settings) × AskFor words settings
 
 -- the words ask that a trace is read, by this command
-abbrev pub AskToRead : List (List ℕ) → TraceCommand → Type 0
+abbrev pub AskToRead : List (List ℕ) → ReadCommand → Type 0
 AskToRead words command = ReadInForm words command ⊎ AreReadAs words (request.Read command)
 
 -- the words were read as this request: whatever they ask for is this
@@ -32,7 +32,7 @@ pub record AreTakenAs (words : List (List ℕ)) (found : Request) : Type 0 where
   pub read : AreReadAs words found
   pub exact : (other : Request) → AreReadAs words other → found ≡ other
   pub form : (form : InForm words) → found ≡ request.Run (own_settings form)
-  pub read_form : (command : TraceCommand) → ReadInForm words command → found ≡ request.Read command
+  pub read_form : (command : ReadCommand) → ReadInForm words command → found ≡ request.Read command
   pub no_help : ¬ AskInForm words
 
 -- the words were read as no request, for this: those that ask for one have no other fault than want of memory
@@ -41,7 +41,7 @@ pub record AreFaulty (words : List (List ℕ)) (found : WordsFault) : Type 0 whe
   pub shown : (text : String Global) → found ≡ fault.Shown text → AskForText words
   pub exact : (other : Request) → AreReadAs words other → found ≡ fault.Memory
   pub form : InForm words → found ≡ fault.Memory
-  pub read_form : (command : TraceCommand) → ReadInForm words command → found ≡ fault.Memory
+  pub read_form : (command : ReadCommand) → ReadInForm words command → found ≡ fault.Memory
   pub help : AskInForm words → IsTextOrMemory found
 
 -- how many threads and silent steps a run may have

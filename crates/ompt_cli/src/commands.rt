@@ -7,12 +7,12 @@ ghost use Rattle.ompt_cli.specs.Reports.{HasRun};
 
 use crate::end::End;
 use crate::job::Job;
-use crate::outcome::Outcome;
+use crate::outcome::{Outcome, without_run};
 use crate::recording::record;
 use crate::reporting::{generate, list, profile, timeline};
 use crate::run::run;
 use crate::runner::Runner;
-use ompt_words::Command;
+use ompt_words::{Command, RunOutput};
 use run_edges::Sink;
 use std::alloc::Global;
 use tool_api::GuestTool;
@@ -36,7 +36,8 @@ pub(crate) fn run_command<X: Runner, O: Sink>(
     ensures faults { CountsFaults result.end End.WriteFault (O.faults out.old) (O.faults out.new) }
 {
     match command {
-        Command::Run => run(runner, alloc, job, guests, out),
+        Command::Run(RunOutput::Printed) => run(runner, alloc, job, guests, out),
+        Command::Run(RunOutput::History) => without_run(End::Usage),
         Command::List => list(runner, alloc, job, guests, out),
         Command::Record => record(runner, alloc, job, guests, out),
         Command::Profile => profile(runner, alloc, job, guests, out),

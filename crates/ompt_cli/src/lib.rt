@@ -55,7 +55,7 @@ mod writing;
 
 pub use end::{End, Refusal};
 pub use laws::each_text_is_judged;
-pub use ompt_words::{Command, Settings, TraceCommand};
+pub use ompt_words::{Command, ReadCommand, RunOutput, Settings};
 pub use program_tree::ProgramTree;
 pub use program_words::own_words;
 pub use report::{ByThreads, Report, Top};

@@ -4,7 +4,7 @@ ghost use Rattle.std.specs.Prelude.{◌≡◌, None, Some};
 
 use crate::end::End;
 use crate::report::Report;
-use ompt_words::TraceCommand;
+use ompt_words::ReadCommand;
 
 /// How a command ended, what it reports of its run, if there was one, the text that it was to show, if there was one, and the command that has read a
 /// trace, if one has.
@@ -13,7 +13,7 @@ pub(crate) struct Outcome {
     pub end: End,
     pub ran: Option<Report>,
     pub shown: Option<String>,
-    pub read: Option<TraceCommand>,
+    pub read: Option<ReadCommand>,
 }
 
 /// A command that ended before its run.
@@ -53,7 +53,7 @@ pub(crate) fn having_shown(end: End, text: String) -> Outcome
 }
 
 /// A command that has read a trace.
-pub(crate) fn having_read(end: End, command: TraceCommand) -> Outcome
+pub(crate) fn having_read(end: End, command: ReadCommand) -> Outcome
     ensures { result ≡ record { end = end; ran = None; shown = None; read = Some command } }
 {
     Outcome {

@@ -3,7 +3,7 @@
 use crate::end::End;
 use crate::program_tree::ProgramTree;
 use omp_model::{Cause, History};
-use ompt_words::{Command, Settings, TraceCommand};
+use ompt_words::{Command, ReadCommand, Settings};
 use tool_api::GuestTool;
 
 /// What a command reports of its run.
@@ -53,5 +53,5 @@ pub struct Top {
     /// couldn't be written whole.
     pub shown: Option<String>,
     /// The command that has read a trace, where the words ask for one. Then nothing ran.
-    pub read: Option<TraceCommand>,
+    pub read: Option<ReadCommand>,
 }

@@ -10,7 +10,7 @@ use crate::guest_part::GuestPart;
 use crate::job::Job;
 use crate::keepers::{profiles, recorders, timelines};
 use crate::observing::{Observed, observe, observe_alone};
-use ompt_words::Command;
+use ompt_words::{Command, RunOutput};
 use std::alloc::{AllocError, Global};
 use std::sync::Wait;
 use std::thread::Threads;
@@ -70,7 +70,7 @@ pub(crate) trait Runner {
         requires parts { length parts.items ≡ job.threads }
         ensures { IfOk result (λ observed. HasObserved
             (HandedFor (λ guest h. (GuestTool-box guest.0).stands_for guest.0.value h)) (SameHanded (λ guest other. guest.0.vtable ≡ other.0.vtable))
-            Command.Run job observed.report parts.items observed.parts.items observed.text.items) };
+            (Command.Run RunOutput.Printed) job observed.report parts.items observed.parts.items observed.text.items) };
 }
 
 /// It makes serial runs, and waits for nobody.
@@ -121,7 +121,7 @@ impl Runner for Alone {
         job: Job,
         parts: Vec<Handed<GuestPart>>,
     ) -> Result<Observed<Handed<GuestPart>>, AllocError> {
-        observe_alone(alloc, Command::Run, job, parts, Vec::new(alloc))
+        observe_alone(alloc, Command::Run(RunOutput::Printed), job, parts, Vec::new(alloc))
     }
 }
 
@@ -173,6 +173,6 @@ impl<'a, R: Threads + Wait + Sync> Runner for WithThreads<'a, R> {
         job: Job,
         parts: Vec<Handed<GuestPart>>,
     ) -> Result<Observed<Handed<GuestPart>>, AllocError> {
-        observe(self.0, alloc, Command::Run, job, parts, Vec::new(alloc))
+        observe(self.0, alloc, Command::Run(RunOutput::Printed), job, parts, Vec::new(alloc))
     }
 }

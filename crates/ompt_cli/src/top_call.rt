@@ -15,7 +15,7 @@ use crate::report::{ByThreads, Top};
 use crate::runner::{Alone, WithThreads};
 use crate::settings_run::run_settings;
 use crate::trace_commands::read_trace;
-use ompt_words::{Request, TraceCommand, WordsFault, request_of};
+use ompt_words::{ReadCommand, Request, WordsFault, request_of};
 use run_edges::{Sink, Source, write_all};
 use std::alloc::Global;
 use std::sync::Wait;
@@ -158,7 +158,7 @@ fn top_by_threads<R: Threads + Wait + Sync, S: Source, O: Sink, E: Sink>(
 /// Reads a trace from the source, as the words ask.
 fn read_as<S: Source, O: Sink>(
     alloc: Global,
-    command: TraceCommand,
+    command: ReadCommand,
     source: &mut S,
     out: &mut O,
 ) -> Outcome

@@ -7,7 +7,7 @@ ghost use Rattle.ompt_cli.specs.Commands.{CountsFaults, IsReading};
 ghost use Rattle.ompt_cli.specs.Traces.{HasJudged, HasRead, HasCopy, ok_text};
 
 use crate::end::End;
-use ompt_words::TraceCommand;
+use ompt_words::ReadCommand;
 use run_edges::{Sink, Source, write_all};
 use std::alloc::Global;
 use trace_check::{Checked, check_trace};
@@ -16,20 +16,21 @@ use trace_copy::{Copied, Form, copy_trace};
 /// Reads a trace from the source, and writes what the command says of it.
 pub(crate) fn read_trace<S: Source, O: Sink>(
     alloc: Global,
-    command: TraceCommand,
+    command: ReadCommand,
     source: &mut S,
     out: &mut O,
 ) -> End
     ensures end { IsReading result }
     ensures copied { HasRead command result (S.left source.old) (S.left source.new) (O.held out.old) (O.held out.new) }
-    ensures memory { command ≡ TraceCommand.Migrate → result ≢ End.Memory }
+    ensures memory { command ≡ ReadCommand.Migrate → result ≢ End.Memory }
     ensures reads { CountsFaults result End.ReadFault (S.faults source.old) (S.faults source.new) }
     ensures writes { CountsFaults result End.WriteFault (O.faults out.old) (O.faults out.new) }
 {
     match command {
-        TraceCommand::Show => copy(alloc, Form::Lines, source, out),
-        TraceCommand::Migrate => copy(alloc, Form::SecondVersion, source, out),
-        TraceCommand::Check => check(alloc, source, out),
+        ReadCommand::Show => copy(alloc, Form::Lines, source, out),
+        ReadCommand::Migrate => copy(alloc, Form::SecondVersion, source, out),
+        ReadCommand::Check => check(alloc, source, out),
+        ReadCommand::Rerun => End::Usage,
     }
 }
 
