@@ -1,11 +1,11 @@
 //! What words ask for.
 
-use ompt_words::{Command, Request, Settings, TraceCommand, WordsFault, request_of};
+use ompt_words::{Command, ReadCommand, Request, RunOutput, Settings, WordsFault, request_of};
 use std::alloc::{AllocError, Global};
 
 /// What is asked for where only the command and `--serial` are said.
 const RUN: Settings = Settings {
-    command: Command::Run,
+    command: Command::Run(RunOutput::Printed),
     threads: 4,
     steps: 1_000_000,
     serial: true,
@@ -39,6 +39,22 @@ const REQUESTS: &[(&str, Request)] = &[
         }),
     ),
     ("run --threads=04 --serial", Request::Run(RUN)),
+    (
+        "run --history",
+        Request::Run(Settings {
+            command: Command::Run(RunOutput::History),
+            serial: false,
+            ..RUN
+        }),
+    ),
+    (
+        "run --history --serial --threads 3",
+        Request::Run(Settings {
+            command: Command::Run(RunOutput::History),
+            threads: 3,
+            ..RUN
+        }),
+    ),
     (
         "record --threads 2 --serial",
         Request::Run(Settings {
@@ -101,9 +117,10 @@ const REQUESTS: &[(&str, Request)] = &[
             ..RUN
         }),
     ),
-    ("show", Request::Read(TraceCommand::Show)),
-    ("migrate", Request::Read(TraceCommand::Migrate)),
-    ("check", Request::Read(TraceCommand::Check)),
+    ("show", Request::Read(ReadCommand::Show)),
+    ("migrate", Request::Read(ReadCommand::Migrate)),
+    ("check", Request::Read(ReadCommand::Check)),
+    ("rerun", Request::Read(ReadCommand::Rerun)),
 ];
 
 /// Words that are refused.
@@ -122,6 +139,11 @@ const WRONG: &[&str] = &[
     "run --steps 0",
     "run --steps 30000001",
     "run --step 2",
+    "run --history --history",
+    "run --history run.history",
+    "list --history",
+    "timeline --history",
+    "gen 5 --history",
     "record --threads 0",
     "show --serial",
     "show --threads 2",
@@ -130,6 +152,9 @@ const WRONG: &[&str] = &[
     "migrate --steps 2",
     "check run.trace",
     "check --serial",
+    "rerun --serial",
+    "rerun --history",
+    "rerun run.history",
     "profile --columns 20",
     "profile 4",
     "timeline --columns 9",
@@ -161,6 +186,10 @@ const SHOWN: &[(&str, &str)] = &[
         "Runs a program with the tools, and writes what it prints",
     ),
     (
+        "run --history --help",
+        "Runs a program with the tools, and writes what it prints",
+    ),
+    (
         "record --help",
         "Runs a program and writes the trace of the run",
     ),
@@ -177,6 +206,11 @@ const SHOWN: &[(&str, &str)] = &[
         "check --help",
         "Reads a trace and says whether it is nested",
     ),
+    (
+        "rerun --help",
+        "Reads a history and says whether it is a legal run that ends as it says",
+    ),
+    ("rerun -V", "ompt-rerun 0.1.0"),
     (
         "profile --help",
         "Runs a program and writes how many calls of each callback there were",

@@ -3,7 +3,7 @@
 use crate::listening::{Answers, Habits, answers_of, listener};
 use omp_model::{Cause, Entry, History, What};
 use ompt_calls::Call;
-use ompt_cli::{Command, End, Report, Top, TraceCommand, top};
+use ompt_cli::{Command, End, ReadCommand, Report, Top, top};
 use run_edges::{MemSink, MemSource, Memory, Script, Source};
 use std::alloc::Global;
 use std::process::Abort;
@@ -32,7 +32,7 @@ pub(crate) struct Told {
     pub end: End,
     pub ran: Option<Ran>,
     pub shown: Option<String>,
-    pub read: Option<TraceCommand>,
+    pub read: Option<ReadCommand>,
     pub out: MemSink,
     pub err: MemSink,
 }

@@ -5,7 +5,7 @@ use crate::listening::{ACTIVE, Habits, NULL, ONE, STORED, TWO};
 use omp_codes::PROFILE_MASK;
 use omp_model::{Cause, What};
 use ompt_calls::{Call, Frame, Target, Word};
-use ompt_cli::Command;
+use ompt_cli::{Command, RunOutput};
 use run_edges::Memory;
 use std::process::Abort;
 use std::sync::Wait;
@@ -49,7 +49,7 @@ const NO_GUESTS: Case = Case {
     habits: ACTIVE,
     status: 0,
     line: b"",
-    command: Command::Run,
+    command: Command::Run(RunOutput::Printed),
     cause: Cause::Done,
     mask: 0,
     entries: 41,

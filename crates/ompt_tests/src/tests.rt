@@ -3,7 +3,7 @@
 use crate::fixture::*;
 use omp_codes::PROFILE_MASK;
 use omp_model::{Cause, Entry, What};
-use ompt_cli::{Command, End};
+use ompt_cli::{Command, End, RunOutput};
 use run_edges::{
     MemSink, MemSource, Memory, PureSource, ReadAllFault, WriteFault, read_all, write_all,
 };
@@ -150,7 +150,7 @@ fn a_report_has_the_settings_of_its_words(rt: HostRuntime) -> Result<(), Fail> {
 
 /// What ran has the settings of the words.
 fn has_settings(rt: &impl Abort, ran: &Ran) {
-    assert!(rt; ran.command == Command::Run);
+    assert!(rt; ran.command == Command::Run(RunOutput::Printed));
     assert!(rt; ran.threads == 3);
     assert!(rt; ran.steps == 9);
 }

@@ -2,7 +2,7 @@
 //! that were recorded by threads.
 
 use crate::fixture::*;
-use ompt_cli::{Command, TraceCommand};
+use ompt_cli::{Command, ReadCommand};
 use run_edges::Memory;
 use std::process::Abort;
 use std::sync::Wait;
@@ -13,10 +13,10 @@ use std::thread::Threads;
 const RECORD: &[&str] = &["record", "--serial", "--threads", "1"];
 
 /// Words that read a trace, with their commands.
-const READINGS: &[(&str, TraceCommand)] = &[
-    ("show", TraceCommand::Show),
-    ("migrate", TraceCommand::Migrate),
-    ("check", TraceCommand::Check),
+const READINGS: &[(&str, ReadCommand)] = &[
+    ("show", ReadCommand::Show),
+    ("migrate", ReadCommand::Migrate),
+    ("check", ReadCommand::Check),
 ];
 
 /// What is recorded of the program that does nothing can be shown, migrated and checked. The report of a recording is that of a run; where a trace was
@@ -52,7 +52,7 @@ fn is_read<R: AllocGlobal + Threads + Wait + Sync + Abort>(
     rt: &R,
     bytes: &[u8],
     word: &str,
-    command: TraceCommand,
+    command: ReadCommand,
 ) -> Result<(), Memory> {
     let told = tell_text(rt, &[word], bytes)?;
     assert!(rt; was_read_for(&told, command), "{word}");
@@ -60,7 +60,7 @@ fn is_read<R: AllocGlobal + Threads + Wait + Sync + Abort>(
 }
 
 /// Whether a trace was read for this command, and nothing ran.
-fn was_read_for(told: &Told, command: TraceCommand) -> bool {
+fn was_read_for(told: &Told, command: ReadCommand) -> bool {
     told.has_read() && told.status == 0 && told.read == Some(command) && told.ran.is_none()
 }
 
@@ -69,7 +69,7 @@ fn was_read_for(told: &Told, command: TraceCommand) -> bool {
 fn what_threads_record_is_shown(rt: HostRuntime) -> Result<(), Fail> {
     let recorded = tell_text(&rt, &["record", "--threads", "2"], REGION_OF_TWO)?;
     assert!(rt; recorded.status == 0);
-    is_read(&rt, recorded.out.bytes(), "check", TraceCommand::Check)?;
+    is_read(&rt, recorded.out.bytes(), "check", ReadCommand::Check)?;
     is_shown(&rt, recorded.out.bytes())?;
     Ok(())
 }

@@ -17,7 +17,7 @@ use Rattle.ompt_words.specs.declared.settings.Request.TheVariants as request
 use Rattle.ompt_words.specs.CommandLine.{ompt}
 use Rattle.ompt_words.specs.declared.settings.Command.{Command}
 use Rattle.ompt_words.specs.declared.settings.Command.TheVariants.{Generate, List as Listing, Profile, Record, Run, Timeline}
-use Rattle.ompt_words.specs.Form.{command_word, default_columns, default_steps, default_threads, runs_serially, trace_word}
+use Rattle.ompt_words.specs.Form.{IsOutput, command_word, default_columns, default_steps, default_threads, read_word, runs_serially}
 
 -- the text of an option in clap's matches, if the command that the words name has one
 abbrev pub matched_text : List Text → Text → Option Text
@@ -39,10 +39,10 @@ pub record NamesCommand (words : List Text) (command : List ℕ) : Type 0 where
   pub taken : fault_of ompt words ≡ []
   pub command_is : option_map (λ found. found.0) (subcommand_of ompt words) ≡ Some command
 
--- the number of a command is that of the matches: its columns, or its blocks, which have to be given
+-- the number of a command is that of the matches: its columns, or its blocks, which have to be given. `run` writes what its flag says
 abbrev pub HasMatchedNumber : List Text → Command → Type 0
 HasMatchedNumber words Listing = ⊤
-HasMatchedNumber words Run = ⊤
+HasMatchedNumber words (Run output) = IsOutput output (flag_in (matched_text words (codes "history")))
 HasMatchedNumber words Record = ⊤
 HasMatchedNumber words Profile = ⊤
 HasMatchedNumber words (Timeline columns) = columns ≡ number_in 10 200 default_columns (matched_text words (codes "columns"))
@@ -63,7 +63,7 @@ pub record HaveSettings (words : List Text) (settings : Settings) : Type 0 where
 -- clap finds no fault in the words, and they ask for this
 abbrev pub AreReadAs : List Text → Request → Type 0
 AreReadAs words (request.Run settings) = HaveSettings words settings
-AreReadAs words (request.Read command) = NamesCommand words (trace_word command)
+AreReadAs words (request.Read command) = NamesCommand words (read_word command)
 
 -- clap's answer is help or the version
 abbrev pub IsWish : ErrorKind → Type 0

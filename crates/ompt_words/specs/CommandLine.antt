@@ -25,6 +25,10 @@ steps_rule = record (new_rule (codes "steps")) {
 abbrev pub serial_rule : Rule
 serial_rule = record (new_rule (codes "serial")) { long = Some (codes "serial"); action = Some SetTrue }
 
+-- `--history`
+abbrev pub history_rule : Rule
+history_rule = record (new_rule (codes "history")) { long = Some (codes "history"); action = Some SetTrue }
+
 -- `--columns N`, where N is from 10 to 200
 abbrev pub columns_rule : Rule
 columns_rule = record (new_rule (codes "columns")) {
@@ -45,7 +49,11 @@ blocks_rule = record (new_rule (codes "blocks")) {
 abbrev pub runner : Text → Shape
 runner name = record (new_shape name) { rules = threads_rule ∷ steps_rule ∷ serial_rule ∷ [] }
 
--- `timeline`, which has its columns beside the options of such a command, and `gen`, which has the number of blocks and the threads
+-- `run` and `timeline`, which have `--history` and the columns beside the options of such a command, and `gen`, which has the number of
+-- blocks and the threads
+abbrev pub run_command : Shape
+run_command = record (new_shape (codes "run")) { rules = threads_rule ∷ steps_rule ∷ serial_rule ∷ history_rule ∷ [] }
+
 abbrev pub timeline : Shape
 timeline = record (new_shape (codes "timeline")) { rules = threads_rule ∷ steps_rule ∷ serial_rule ∷ columns_rule ∷ [] }
 
@@ -64,16 +72,19 @@ program = record (new_app (codes "ompt")) {
   };
 }
 
--- a command that reads a trace, with this name. It has no options
+-- a command that reads what a run has left, with this name. It has no options
 abbrev pub reader : Text → Shape
 reader name = new_shape name
 
--- the program with the first commands that run a program, with all of these, and with all
+-- the program with the first commands that run a program, with all of these, with those that read a trace, and with all
 abbrev pub runners : App
-runners = with_subcommand (with_subcommand (with_subcommand program (runner (codes "run"))) (runner (codes "list"))) (runner (codes "record"))
+runners = with_subcommand (with_subcommand (with_subcommand program run_command) (runner (codes "list"))) (runner (codes "record"))
 
 abbrev pub reporters : App
 reporters = with_subcommand (with_subcommand (with_subcommand runners (runner (codes "profile"))) timeline) generator
 
+abbrev pub trace_readers : App
+trace_readers = with_subcommand (with_subcommand (with_subcommand reporters (reader (codes "show"))) (reader (codes "migrate"))) (reader (codes "check"))
+
 abbrev pub ompt : App
-ompt = with_subcommand (with_subcommand (with_subcommand reporters (reader (codes "show"))) (reader (codes "migrate"))) (reader (codes "check"))
+ompt = with_subcommand trace_readers (reader (codes "rerun"))

@@ -1,24 +1,28 @@
--- The form of the words: a command that runs a program, and then its options in any order, each at most once; or a command that reads a trace alone.
+-- The form of the words: a command that runs a program, and then its options in any order, each at most once; or a command that reads a
+-- trace or a history, alone.
 use Rattle.std.specs.Prelude.{ℕ, Bool, true, false, ⊤, ◌≡◌, ◌≢◌, ◌≤◌, ◌⊎◌, List, [], ◌∷◌, ◌++◌, codes}
 use Rattle.std.specs.List.{All}
 use Rattle.std.specs.Fmt.{decimal}
 use Rattle.ompt_words.specs.declared.settings.Command.{Command}
 use Rattle.ompt_words.specs.declared.settings.Command.TheVariants.{Generate, List as Listing, Profile, Record, Run, Timeline}
-use Rattle.ompt_words.specs.declared.settings.TraceCommand.{TraceCommand}
-use Rattle.ompt_words.specs.declared.settings.TraceCommand.TheVariants.{Check, Migrate, Show}
+use Rattle.ompt_words.specs.declared.settings.ReadCommand.{ReadCommand}
+use Rattle.ompt_words.specs.declared.settings.ReadCommand.TheVariants.{Check, Migrate, Rerun, Show}
+use Rattle.ompt_words.specs.declared.settings.RunOutput.{RunOutput}
+use Rattle.ompt_words.specs.declared.settings.RunOutput.TheVariants.{History, Printed}
 use Rattle.ompt_words.specs.declared.settings.Settings.{Settings}
 
--- an option: `--threads N`, `--steps N`, `--serial` or `--columns N`
+-- an option: `--threads N`, `--steps N`, `--serial`, `--history` or `--columns N`
 pub data Choice : Type 0 where
   Threads : ℕ → Choice
   Steps : ℕ → Choice
   Serial : Choice
+  WithHistory : Choice
   Columns : ℕ → Choice
 
 -- the name of a command that runs a program
 abbrev pub command_word : Command → List ℕ
 command_word Listing = codes "list"
-command_word Run = codes "run"
+command_word (Run output) = codes "run"
 command_word Record = codes "record"
 command_word Profile = codes "profile"
 command_word (Timeline columns) = codes "timeline"
@@ -27,31 +31,34 @@ command_word (Generate blocks) = codes "gen"
 -- its words before the options: the name, and directly behind `gen` the number of blocks
 abbrev pub command_words : Command → List (List ℕ)
 command_words Listing = codes "list" ∷ []
-command_words Run = codes "run" ∷ []
+command_words (Run output) = codes "run" ∷ []
 command_words Record = codes "record" ∷ []
 command_words Profile = codes "profile" ∷ []
 command_words (Timeline columns) = codes "timeline" ∷ []
 command_words (Generate blocks) = codes "gen" ∷ decimal blocks ∷ []
 
--- the name of a command that reads a trace
-abbrev pub trace_word : TraceCommand → List ℕ
-trace_word Show = codes "show"
-trace_word Migrate = codes "migrate"
-trace_word Check = codes "check"
+-- the name of a command that reads what a run has left
+abbrev pub read_word : ReadCommand → List ℕ
+read_word Show = codes "show"
+read_word Migrate = codes "migrate"
+read_word Check = codes "check"
+read_word Rerun = codes "rerun"
 
 -- the word of an option
 abbrev pub option_word : Choice → List ℕ
 option_word (Threads n) = codes "--threads"
 option_word (Steps n) = codes "--steps"
 option_word Serial = codes "--serial"
+option_word WithHistory = codes "--history"
 option_word (Columns n) = codes "--columns"
 
--- the words of options: the word of each, and behind it its number in decimal
+-- the words of options: the word of each, and behind it its number in decimal, if it has one
 abbrev pub option_words : List Choice → List (List ℕ)
 option_words [] = []
 option_words (Threads n ∷ rest) = codes "--threads" ∷ decimal n ∷ option_words rest
 option_words (Steps n ∷ rest) = codes "--steps" ∷ decimal n ∷ option_words rest
 option_words (Serial ∷ rest) = codes "--serial" ∷ option_words rest
+option_words (WithHistory ∷ rest) = codes "--history" ∷ option_words rest
 option_words (Columns n ∷ rest) = codes "--columns" ∷ decimal n ∷ option_words rest
 
 -- the number of an option is within the limits
@@ -59,27 +66,44 @@ abbrev pub IsInRange : Choice → Type 0
 IsInRange (Threads n) = (1 ≤ n) × (n ≤ 16)
 IsInRange (Steps n) = (1 ≤ n) × (n ≤ 30000000)
 IsInRange Serial = ⊤
+IsInRange WithHistory = ⊤
 IsInRange (Columns n) = (10 ≤ n) × (n ≤ 200)
 
--- a command that reads its program has the first three, `timeline` has all, and `gen` the threads alone
+-- a command that reads its program has the first three, `run` and `timeline` have one more each, and `gen` has the threads alone
 abbrev pub IsReaders : Choice → Type 0
 IsReaders (Threads n) = ⊤
 IsReaders (Steps n) = ⊤
 IsReaders Serial = ⊤
+IsReaders WithHistory = ⊥
 IsReaders (Columns n) = ⊥
+
+abbrev pub IsRunners : Choice → Type 0
+IsRunners (Threads n) = ⊤
+IsRunners (Steps n) = ⊤
+IsRunners Serial = ⊤
+IsRunners WithHistory = ⊤
+IsRunners (Columns n) = ⊥
+
+abbrev pub IsTimelines : Choice → Type 0
+IsTimelines (Threads n) = ⊤
+IsTimelines (Steps n) = ⊤
+IsTimelines Serial = ⊤
+IsTimelines WithHistory = ⊥
+IsTimelines (Columns n) = ⊤
 
 abbrev pub IsGenerators : Choice → Type 0
 IsGenerators (Threads n) = ⊤
 IsGenerators (Steps n) = ⊥
 IsGenerators Serial = ⊥
+IsGenerators WithHistory = ⊥
 IsGenerators (Columns n) = ⊥
 
 abbrev pub IsOptionOf : Command → Choice → Type 0
 IsOptionOf Listing choice = IsReaders choice
-IsOptionOf Run choice = IsReaders choice
+IsOptionOf (Run output) choice = IsRunners choice
 IsOptionOf Record choice = IsReaders choice
 IsOptionOf Profile choice = IsReaders choice
-IsOptionOf (Timeline columns) choice = ⊤
+IsOptionOf (Timeline columns) choice = IsTimelines choice
 IsOptionOf (Generate blocks) choice = IsGenerators choice
 
 -- no option stands twice
@@ -103,12 +127,28 @@ columns_of [] = default_columns
 columns_of (Threads n ∷ rest) = columns_of rest
 columns_of (Steps n ∷ rest) = columns_of rest
 columns_of (Serial ∷ rest) = columns_of rest
+columns_of (WithHistory ∷ rest) = columns_of rest
 columns_of (Columns n ∷ rest) = n
 
--- the number of a command: the columns of a timeline are those of its options, and a program is generated of 1 to 400 blocks
+-- whether the options have `--history`
+abbrev pub has_history : List Choice → Bool
+has_history [] = false
+has_history (Threads n ∷ rest) = has_history rest
+has_history (Steps n ∷ rest) = has_history rest
+has_history (Serial ∷ rest) = has_history rest
+has_history (WithHistory ∷ rest) = true
+has_history (Columns n ∷ rest) = has_history rest
+
+-- what `run` writes of its run, by whether `--history` is asked for
+abbrev pub IsOutput : RunOutput → Bool → Type 0
+IsOutput Printed history = history ≡ false
+IsOutput History history = history ≡ true
+
+-- the number of a command: the columns of a timeline are those of its options, and a program is generated of 1 to 400 blocks.
+-- `run` writes what its options say
 abbrev pub HasOwnNumber : Command → List Choice → Type 0
 HasOwnNumber Listing choices = ⊤
-HasOwnNumber Run choices = ⊤
+HasOwnNumber (Run output) choices = IsOutput output (has_history choices)
 HasOwnNumber Record choices = ⊤
 HasOwnNumber Profile choices = ⊤
 HasOwnNumber (Timeline columns) choices = columns ≡ columns_of choices
@@ -128,9 +168,9 @@ pub record InForm (words : List (List ℕ)) : Type 0 where
   pub choices : List Choice
   pub begin : BeginInForm words command choices []
 
--- the words are in the form, and ask that a trace is read
-abbrev pub ReadInForm : List (List ℕ) → TraceCommand → Type 0
-ReadInForm words command = words ≡ trace_word command ∷ []
+-- the words are in the form, and ask that a trace or a history is read
+abbrev pub ReadInForm : List (List ℕ) → ReadCommand → Type 0
+ReadInForm words command = words ≡ read_word command ∷ []
 
 -- how many threads the options ask for
 abbrev pub threads_of : List Choice → ℕ
@@ -138,6 +178,7 @@ threads_of [] = default_threads
 threads_of (Threads n ∷ rest) = n
 threads_of (Steps n ∷ rest) = threads_of rest
 threads_of (Serial ∷ rest) = threads_of rest
+threads_of (WithHistory ∷ rest) = threads_of rest
 threads_of (Columns n ∷ rest) = threads_of rest
 
 -- how many silent steps the options ask for
@@ -146,6 +187,7 @@ steps_of [] = default_steps
 steps_of (Threads n ∷ rest) = steps_of rest
 steps_of (Steps n ∷ rest) = n
 steps_of (Serial ∷ rest) = steps_of rest
+steps_of (WithHistory ∷ rest) = steps_of rest
 steps_of (Columns n ∷ rest) = steps_of rest
 
 -- whether the options have `--serial`
@@ -154,12 +196,13 @@ serial_of [] = false
 serial_of (Threads n ∷ rest) = serial_of rest
 serial_of (Steps n ∷ rest) = serial_of rest
 serial_of (Serial ∷ rest) = true
+serial_of (WithHistory ∷ rest) = serial_of rest
 serial_of (Columns n ∷ rest) = serial_of rest
 
 -- whether a command runs serially, where its options say so or not: a generated program always does
 abbrev pub runs_serially : Command → Bool → Bool
 runs_serially Listing asked = asked
-runs_serially Run asked = asked
+runs_serially (Run output) asked = asked
 runs_serially Record asked = asked
 runs_serially Profile asked = asked
 runs_serially (Timeline columns) asked = asked
@@ -192,13 +235,13 @@ pub record AskLater (words : List (List ℕ)) : Type 0 where
   pub request : IsRequest word
   pub begin : BeginInForm words command choices (word ∷ rest)
 
--- the words are a command that reads a trace, and then a word that asks so
-pub record AskOfTrace (words : List (List ℕ)) : Type 0 where
-  pub command : TraceCommand
+-- the words are a command that reads a trace or a history, and then a word that asks so
+pub record AskOfReader (words : List (List ℕ)) : Type 0 where
+  pub command : ReadCommand
   pub word : List ℕ
   pub rest : List (List ℕ)
   pub request : IsRequest word
-  pub words_are : words ≡ trace_word command ∷ word ∷ rest
+  pub words_are : words ≡ read_word command ∷ word ∷ rest
 
 -- the words are `gen` alone, and then a word that asks so
 pub record AskOfGenerator (words : List (List ℕ)) : Type 0 where
@@ -209,4 +252,4 @@ pub record AskOfGenerator (words : List (List ℕ)) : Type 0 where
 
 -- the words ask for help or for the version, with nothing before that isn't of the form
 abbrev pub AskInForm : List (List ℕ) → Type 0
-AskInForm words = AskFirst words ⊎ (AskLater words ⊎ (AskOfTrace words ⊎ AskOfGenerator words))
+AskInForm words = AskFirst words ⊎ (AskLater words ⊎ (AskOfReader words ⊎ AskOfGenerator words))

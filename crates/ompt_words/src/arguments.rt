@@ -2,7 +2,7 @@
 
 ghost use Rattle.std.specs.Prelude.{◌≡◌, false};
 ghost use Rattle.clap.specs.Words.{rule_of};
-ghost use Rattle.ompt_words.specs.CommandLine.{blocks_rule, columns_rule, serial_rule, steps_rule, threads_rule};
+ghost use Rattle.ompt_words.specs.CommandLine.{blocks_rule, columns_rule, history_rule, serial_rule, steps_rule, threads_rule};
 
 use clap::{Arg, ArgAction, value_parser};
 use std::alloc::Global;
@@ -42,6 +42,17 @@ pub(crate) fn serial<'a>(alloc: Global) -> Arg<'a>
         .long("serial")
         .action(ArgAction::SetTrue)
         .help("Takes the turns of all threads one after another")
+}
+
+/// `--history`.
+pub(crate) fn history<'a>(alloc: Global) -> Arg<'a>
+    ensures rule { rule_of result ≡ history_rule }
+    ensures local { result.global ≡ false }
+{
+    Arg::new(alloc, "history")
+        .long("history")
+        .action(ArgAction::SetTrue)
+        .help("Writes the run's history, which others can check, in place of what it prints")
 }
 
 /// `--columns N`.

@@ -4,9 +4,9 @@ ghost use Rattle.std.specs.Prelude.{◌≡◌, IfOk, false};
 ghost use Rattle.clap.specs.Simple.{with_subcommand};
 ghost use Rattle.clap.specs.Words.{app_of, shape_of};
 ghost use Rattle.clap.specs.declared.builder.command.Command.TheViews.{out-Command};
-ghost use Rattle.ompt_words.specs.CommandLine.{generator, ompt, program, reader, reporters, runner, runners, timeline};
+ghost use Rattle.ompt_words.specs.CommandLine.{generator, ompt, program, reader, reporters, run_command, runner, runners, timeline, trace_readers};
 
-use crate::arguments::{blocks, columns, serial, steps, threads};
+use crate::arguments::{blocks, columns, history, serial, steps, threads};
 use clap::Command;
 use std::alloc::{AllocError, Global};
 
@@ -16,6 +16,21 @@ const VERSION: &str = "0.1.0";
 /// The whole command line.
 pub(crate) fn ompt_command<'a>(alloc: Global) -> Result<Command<'a>, AllocError>
     ensures app { IfOk result (λ command. app_of command ≡ ompt) }
+    ensures local { IfOk result (λ command. (out-Command command).has_globals ≡ false) }
+{
+    let line = trace_readers(alloc)?;
+    with_reader(
+        alloc,
+        line,
+        "rerun",
+        "Reads a history and says whether it is a legal run that ends as it says",
+        "Example: ompt rerun < run.history",
+    )
+}
+
+/// The program with all commands that run a program, and those that read a trace.
+fn trace_readers<'a>(alloc: Global) -> Result<Command<'a>, AllocError>
+    ensures app { IfOk result (λ command. app_of command ≡ trace_readers) }
     ensures local { IfOk result (λ command. (out-Command command).has_globals ≡ false) }
 {
     let line = reporters(alloc)?;
@@ -65,13 +80,7 @@ fn runners<'a>(alloc: Global) -> Result<Command<'a>, AllocError>
     ensures local { IfOk result (λ command. (out-Command command).has_globals ≡ false) }
 {
     let line = program(alloc)?;
-    let line = with_runner(
-        alloc,
-        line,
-        "run",
-        "Runs a program with the tools, and writes what it prints",
-        "Example: ompt run --serial --threads 2 --steps 5000 < program.c",
-    )?;
+    let line = with_run(alloc, line)?;
     let line = with_runner(
         alloc,
         line,
@@ -104,7 +113,7 @@ fn with_runner<'a>(
     line.subcommand(more)
 }
 
-/// The command line with one more command that reads a trace.
+/// The command line with one more command that reads what a run has left.
 fn with_reader<'a>(
     alloc: Global,
     line: Command<'a>,
@@ -117,6 +126,16 @@ fn with_reader<'a>(
     ensures local { IfOk result (λ command. (out-Command command).has_globals ≡ false) }
 {
     let more = reader(alloc, name, about, example)?;
+    line.subcommand(more)
+}
+
+/// The command line with the command that runs a program with the tools.
+fn with_run<'a>(alloc: Global, line: Command<'a>) -> Result<Command<'a>, AllocError>
+    requires { (out-Command line).has_globals ≡ false }
+    ensures app { IfOk result (λ command. app_of command ≡ with_subcommand (app_of line.entry) run_command) }
+    ensures local { IfOk result (λ command. (out-Command command).has_globals ≡ false) }
+{
+    let more = run_command(alloc)?;
     line.subcommand(more)
 }
 
@@ -152,7 +171,7 @@ fn program<'a>(alloc: Global) -> Result<Command<'a>, AllocError>
         .no_binary_name(true)
         .disable_help_subcommand(true)
         .subcommand_required(true)
-        .after_help("The program, or the trace, is read from standard input.")
+        .after_help("The program, the trace or the history is read from standard input.")
         .bin_name("ompt")
 }
 
@@ -174,7 +193,21 @@ fn runner<'a>(
         .arg(serial(alloc))
 }
 
-/// The command that writes the states of threads: it has all options.
+/// The command that runs a program with the tools: it may write the history of its run.
+fn run_command<'a>(alloc: Global) -> Result<Command<'a>, AllocError>
+    ensures shape { IfOk result (λ command. shape_of command ≡ run_command) }
+    ensures local { IfOk result (λ command. (out-Command command).has_globals ≡ false) }
+{
+    runner(
+        alloc,
+        "run",
+        "Runs a program with the tools, and writes what it prints",
+        "Example: ompt run --serial --threads 2 --steps 5000 < program.c",
+    )?
+    .arg(history(alloc))
+}
+
+/// The command that writes the states of threads: it has its columns, too.
 fn timeline<'a>(alloc: Global) -> Result<Command<'a>, AllocError>
     ensures shape { IfOk result (λ command. shape_of command ≡ timeline) }
     ensures local { IfOk result (λ command. (out-Command command).has_globals ≡ false) }
@@ -200,7 +233,7 @@ fn generator<'a>(alloc: Global) -> Result<Command<'a>, AllocError>
         .arg(threads(alloc))
 }
 
-/// A command that reads a trace.
+/// A command that reads what a run has left.
 fn reader<'a>(
     alloc: Global,
     name: &'a str,

@@ -4,12 +4,13 @@ ghost use Rattle.std.specs.Prelude.{◌≡◌, ◌≤◌, true, IfOk, IsErrAnd, 
 ghost use Rattle.std.specs.declared.alloc.Global.{Global};
 ghost use Rattle.clap.specs.Words.{found_of, one_text};
 ghost use Rattle.ompt_words.specs.Answers.{AreReadAs, AreWrong, AskForText, IsTextOrMemory, flag_in, number_in};
-ghost use Rattle.ompt_words.specs.Form.{AskInForm, InForm, ReadInForm, default_columns, default_steps, default_threads, own_settings};
+ghost use Rattle.ompt_words.specs.Form.{AskInForm, InForm, IsOutput, ReadInForm, default_columns, default_steps, default_threads, own_settings};
 
 use crate::clap_command::ompt_command;
 use crate::fault::{WordsFault, fault_of};
 use crate::settings::{
-    Command, DEFAULT_COLUMNS, DEFAULT_STEPS, DEFAULT_THREADS, Request, Settings, TraceCommand,
+    Command, DEFAULT_COLUMNS, DEFAULT_STEPS, DEFAULT_THREADS, ReadCommand, Request, RunOutput,
+    Settings,
 };
 use clap::ArgMatches;
 use std::alloc::Global;
@@ -23,7 +24,7 @@ pub fn request_of(alloc: Global, words: &[String]) -> Result<Request, WordsFault
         MatchResult result (λ given. given ≡ request) (λ fault. fault ≡ WordsFault.Memory) }
     ensures form { (form : InForm (map string_bytes words.now)) →
         MatchResult result (λ given. given ≡ Request.Run (own_settings form)) (λ fault. fault ≡ WordsFault.Memory) }
-    ensures read_form { (command : TraceCommand) → ReadInForm (map string_bytes words.now) command →
+    ensures read_form { (command : ReadCommand) → ReadInForm (map string_bytes words.now) command →
         MatchResult result (λ given. given ≡ Request.Read command) (λ fault. fault ≡ WordsFault.Memory) }
     ensures asked { AskInForm (map string_bytes words.now) → IsErrAnd result IsTextOrMemory }
 {
@@ -35,11 +36,12 @@ pub fn request_of(alloc: Global, words: &[String]) -> Result<Request, WordsFault
         return Err(WordsFault::Usage);
     };
     Ok(match name {
-        "show" => Request::Read(TraceCommand::Show),
-        "migrate" => Request::Read(TraceCommand::Migrate),
-        "check" => Request::Read(TraceCommand::Check),
+        "show" => Request::Read(ReadCommand::Show),
+        "migrate" => Request::Read(ReadCommand::Migrate),
+        "check" => Request::Read(ReadCommand::Check),
+        "rerun" => Request::Read(ReadCommand::Rerun),
         "gen" => Request::Run(generator_settings(inner)),
-        "run" => Request::Run(settings_in(Command::Run, inner)),
+        "run" => Request::Run(settings_in(Command::Run(output_in(inner)), inner)),
         "record" => Request::Run(settings_in(Command::Record, inner)),
         "profile" => Request::Run(settings_in(Command::Profile, inner)),
         "timeline" => Request::Run(settings_in(Command::Timeline(columns_in(inner)), inner)),
@@ -79,7 +81,7 @@ fn settings_in(command: Command, matches: &ArgMatches<'_>) -> Settings
         command,
         threads: threads_in(matches),
         steps: steps_in(matches),
-        serial: serial_in(matches),
+        serial: has_flag(matches, "serial"),
     }
 }
 
@@ -127,9 +129,20 @@ fn blocks_in(matches: &ArgMatches<'_>) -> u16
     }
 }
 
-/// Whether the matches of a command have `--serial`.
-fn serial_in(matches: &ArgMatches<'_>) -> bool
-    ensures { result ≡ flag_in (one_text (found_of matches.now) (codes "serial")) }
+/// What the matches of `run` say that it writes.
+fn output_in(matches: &ArgMatches<'_>) -> RunOutput
+    ensures { IsOutput result (flag_in (one_text (found_of matches.now) (codes "history"))) }
 {
-    matches.get_one::<bool>("serial").unwrap_or(false)
+    if has_flag(matches, "history") {
+        RunOutput::History
+    } else {
+        RunOutput::Printed
+    }
+}
+
+/// Whether the matches of a command have the flag with this id.
+fn has_flag(matches: &ArgMatches<'_>, id: &str) -> bool
+    ensures { result ≡ flag_in (one_text (found_of matches.now) id.now) }
+{
+    matches.get_one::<bool>(id).unwrap_or(false)
 }

@@ -14,8 +14,8 @@ pub const DEFAULT_COLUMNS: u8 = 72;
 pub enum Command {
     /// It writes a line for each event.
     List,
-    /// It calls the guests for the events of their threads.
-    Run,
+    /// It calls the guests for the events of their threads, and writes this of its run.
+    Run(RunOutput),
     /// It writes the trace of the run.
     Record,
     /// It writes how many calls of each callback there were.
@@ -26,15 +26,26 @@ pub enum Command {
     Generate(u16),
 }
 
-/// A command that reads a trace.
+/// What the command `run` writes of its run.
 #[derive(Clone, Copy, PartialEq, Eq, Debug)]
-pub enum TraceCommand {
-    /// It writes a line for each event, and one for the end.
+pub enum RunOutput {
+    /// What the program prints.
+    Printed,
+    /// The history of the run, for `--history`.
+    History,
+}
+
+/// A command that reads what a run has left: a trace or a history.
+#[derive(Clone, Copy, PartialEq, Eq, Debug)]
+pub enum ReadCommand {
+    /// It writes a line for each event of a trace, and one for the end.
     Show,
-    /// It writes the trace in the second version of the format.
+    /// It writes a trace in the second version of the format.
     Migrate,
-    /// It says whether the trace is nested.
+    /// It says whether a trace is nested.
     Check,
+    /// It says whether a history is a legal run that ends as it says.
+    Rerun,
 }
 
 /// How a program is to run.
@@ -55,6 +66,6 @@ pub struct Settings {
 pub enum Request {
     /// A run of a program.
     Run(Settings),
-    /// That a trace is read.
-    Read(TraceCommand),
+    /// That a trace or a history is read.
+    Read(ReadCommand),
 }
