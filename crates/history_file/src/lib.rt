@@ -44,6 +44,3 @@ pub use reason::{HistoryFault, HistoryReason};
 pub use rerunning::rerun;
 pub use verdict::{HeardCall, HeardCalls, Verdict};
 pub use writing::write_history;
-
-#[cfg(test)]
-mod tests;

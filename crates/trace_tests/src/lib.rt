@@ -1,7 +1,9 @@
-//! Tests of the format of traces, by its public calls: a trace that was written out by hand is written and read so, at each cut, and what isn't one
-//! is refused where it was told by hand.
+//! Tests of the formats of traces and of histories, by their public calls: a trace or a history that was written out by hand is written and read so, at
+//! each cut, and what isn't one is refused where it was told by hand.
 #![tactic(auto)]
 
+#[cfg(test)]
+mod histories;
 #[cfg(test)]
 mod reading;
 #[cfg(test)]
