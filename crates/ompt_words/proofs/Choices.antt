@@ -1,5 +1,5 @@
 -- Words of the form: their options are uses that are taken, and their own settings are those of the matches.
-use Rattle.std.proofs.Common.{refl, ap, sym, subst, codes, false, Bool, List, Option, Some, [], ◌∷◌, ◌++◌, ◌≡◌, ◌≢◌, ◌∙◌, inl, inr, ℕ, arith, map, option_map}
+use Rattle.std.proofs.Common.{refl, ap, sym, subst, codes, true, false, Bool, List, Option, Some, [], ◌∷◌, ◌++◌, ◌≡◌, ◌≢◌, ◌∙◌, inl, inr, ℕ, arith, map, option_map}
 use Rattle.std.specs.Prelude.{decimal, option_and_then, ⊤, unwrap_or}
 use Rattle.std.specs.List.{All}
 use Rattle.std.specs.Str.{bytes_eq}
@@ -10,20 +10,22 @@ use Rattle.clap.specs.Walk.{Row, Rule, Text, has_row, one_of}
 use Rattle.clap.specs.Simple.{subcommand_of}
 use Rattle.clap.specs.Faults.{fault_of}
 use Rattle.ompt_words.specs.CommandLine.{ompt}
-use Rattle.ompt_words.specs.Form.{AreDistinct, AskInForm, BeginInForm, Choice, Columns, HasOwnNumber, InForm, IsGenerators, IsInRange, IsOptionOf, IsReaders, ReadInForm, Serial, Steps, Threads}
-use Rattle.ompt_words.specs.Form.{command_word, command_words, default_columns, default_steps, default_threads, option_word, option_words, own_settings, runs_serially, trace_word}
+use Rattle.ompt_words.specs.Form.{AreDistinct, AskInForm, BeginInForm, Choice, Columns, HasOwnNumber, InForm, IsGenerators, IsInRange, IsOptionOf, IsOutput, IsReaders, IsRunners, IsTimelines, ReadInForm, Serial, Steps, Threads, WithHistory}
+use Rattle.ompt_words.specs.Form.{command_word, command_words, default_columns, default_steps, default_threads, option_word, option_words, own_settings, read_word, runs_serially}
 use Rattle.ompt_words.specs.Answers.{AreReadAs, HasMatchedNumber, HaveSettings, NamesCommand, flag_in, matched_text, number_in}
 use Rattle.ompt_words.specs.declared.settings.Settings.{Settings}
 use Rattle.ompt_words.specs.declared.settings.Command.{Command}
 use Rattle.ompt_words.specs.declared.settings.Command.TheVariants.{Generate, List as Listing, Profile, Record, Run, Timeline}
-use Rattle.ompt_words.specs.declared.settings.TraceCommand.{TraceCommand}
-use Rattle.ompt_words.specs.declared.settings.TraceCommand.TheVariants.{Check, Migrate, Show}
+use Rattle.ompt_words.specs.declared.settings.ReadCommand.{ReadCommand}
+use Rattle.ompt_words.specs.declared.settings.ReadCommand.TheVariants.{Check, Migrate, Rerun, Show}
+use Rattle.ompt_words.specs.declared.settings.RunOutput.{RunOutput}
+use Rattle.ompt_words.specs.declared.settings.RunOutput.TheVariants.{History, Printed}
 use Rattle.ompt_words.specs.declared.settings.Request.{Request}
 use Rattle.ompt_words.specs.declared.settings.Request.TheVariants as request
 use Rattle.ompt_words.proofs.Uses.{AreTaken, Takes, Use, id_of, position_after, row_of, words_of}
-use Rattle.ompt_words.proofs.Options.{HasReaders, IsOneWish, blocks_taken, generator_rules, generator_threads, leaf, number_taken, readers_have, readers_rules, serial_taken, timeline_columns, timeline_has, timeline_rules, with_rules}
-use Rattle.ompt_words.proofs.Levels.{distinct, first_asked, rows_in, trace_asked, trace_clean, trace_matched, uses_asked, uses_clean, uses_matched}
-use Rattle.ompt_words.proofs.Readings.{blocks_read, blocks_row, columns_read, required_there, serial_read, steps_read, threads_read, use_of, uses_in}
+use Rattle.ompt_words.proofs.Options.{HasReaders, IsOneWish, blocks_taken, flag_taken, generator_rules, generator_threads, leaf, number_taken, readers_have, readers_rules, run_has, run_history, run_rules, timeline_columns, timeline_has, timeline_rules, with_rules}
+use Rattle.ompt_words.proofs.Levels.{distinct, alone_clean, alone_matched, first_asked, read_asked, rows_in, uses_asked, uses_clean, uses_matched}
+use Rattle.ompt_words.proofs.Readings.{blocks_read, blocks_row, columns_read, history_read, required_there, serial_read, steps_read, threads_read, use_of, uses_in}
 use Rattle.ompt_words.proofs.Numbers.{decimal_fits, decimal_value}
 
 -- ---- the options are taken
@@ -35,15 +37,25 @@ readers_taken name rules has position (Threads n) own range = number_taken name 
     (decimal_value n (omega arith) (omega arith)) (decimal_fits 1 16 n (omega arith) range.0 range.1 (omega arith))
 readers_taken name rules has position (Steps n) own range = number_taken name rules (codes "--steps") (codes "steps") (decimal n) 1 30000000 has.steps
     (decimal_value n (omega arith) (omega arith)) (decimal_fits 1 30000000 n (omega arith) range.0 range.1 (omega arith))
-readers_taken name rules has position Serial own range = serial_taken name rules has.serial
+readers_taken name rules has position Serial own range = flag_taken name rules (codes "--serial") (codes "serial") has.serial
+readers_taken name rules has position WithHistory own range = absurd own
 readers_taken name rules has position (Columns n) own range = absurd own
 
--- by the rules of `timeline`
-timeline_taken : (position : ℕ) (choice : Choice) → IsInRange choice → Takes (with_rules (codes "timeline") timeline_rules) position (use_of choice)
-timeline_taken position (Threads n) range = readers_taken (codes "timeline") timeline_rules timeline_has position (Threads n) tt range
-timeline_taken position (Steps n) range = readers_taken (codes "timeline") timeline_rules timeline_has position (Steps n) tt range
-timeline_taken position Serial range = readers_taken (codes "timeline") timeline_rules timeline_has position Serial tt tt
-timeline_taken position (Columns n) range = number_taken (codes "timeline") timeline_rules (codes "--columns") (codes "columns") (decimal n) 10 200 timeline_columns
+-- by the rules of `run`
+run_taken : (position : ℕ) (choice : Choice) → IsRunners choice → IsInRange choice → Takes (with_rules (codes "run") run_rules) position (use_of choice)
+run_taken position (Threads n) own range = readers_taken (codes "run") run_rules run_has position (Threads n) tt range
+run_taken position (Steps n) own range = readers_taken (codes "run") run_rules run_has position (Steps n) tt range
+run_taken position Serial own range = readers_taken (codes "run") run_rules run_has position Serial tt tt
+run_taken position WithHistory own range = flag_taken (codes "run") run_rules (codes "--history") (codes "history") run_history
+run_taken position (Columns n) own range = absurd own
+
+-- by those of `timeline`
+timeline_taken : (position : ℕ) (choice : Choice) → IsTimelines choice → IsInRange choice → Takes (with_rules (codes "timeline") timeline_rules) position (use_of choice)
+timeline_taken position (Threads n) own range = readers_taken (codes "timeline") timeline_rules timeline_has position (Threads n) tt range
+timeline_taken position (Steps n) own range = readers_taken (codes "timeline") timeline_rules timeline_has position (Steps n) tt range
+timeline_taken position Serial own range = readers_taken (codes "timeline") timeline_rules timeline_has position Serial tt tt
+timeline_taken position WithHistory own range = absurd own
+timeline_taken position (Columns n) own range = number_taken (codes "timeline") timeline_rules (codes "--columns") (codes "columns") (decimal n) 10 200 timeline_columns
     (decimal_value n (omega arith) (omega arith)) (decimal_fits 10 200 n (omega arith) range.0 range.1 (omega arith))
 
 -- and by those of `gen`
@@ -52,15 +64,16 @@ generator_taken position (Threads n) own range = number_taken (codes "gen") gene
     (decimal_value n (omega arith) (omega arith)) (decimal_fits 1 16 n (omega arith) range.0 range.1 (omega arith))
 generator_taken position (Steps n) own range = absurd own
 generator_taken position Serial own range = absurd own
+generator_taken position WithHistory own range = absurd own
 generator_taken position (Columns n) own range = absurd own
 
 -- a command takes each option of its own
 taken_alone : (command : Command) (position : ℕ) (choice : Choice) → IsOptionOf command choice → IsInRange choice → Takes (leaf command) position (use_of choice)
 taken_alone Listing position choice own range = readers_taken (codes "list") readers_rules readers_have position choice own range
-taken_alone Run position choice own range = readers_taken (codes "run") readers_rules readers_have position choice own range
+taken_alone (Run output) position choice own range = run_taken position choice own range
 taken_alone Record position choice own range = readers_taken (codes "record") readers_rules readers_have position choice own range
 taken_alone Profile position choice own range = readers_taken (codes "profile") readers_rules readers_have position choice own range
-taken_alone (Timeline columns) position choice own range = timeline_taken position choice range
+taken_alone (Timeline columns) position choice own range = timeline_taken position choice own range
 taken_alone (Generate blocks) position choice own range = generator_taken position choice own range
 
 -- the row of an option isn't that of one with another word
@@ -68,6 +81,7 @@ rows_differ : (choice other : Choice) → option_word other ≢ option_word choi
 rows_differ (Threads n) (Threads m) differ = absurd (differ refl)
 rows_differ (Steps n) (Steps m) differ = absurd (differ refl)
 rows_differ Serial Serial differ = absurd (differ refl)
+rows_differ WithHistory WithHistory differ = absurd (differ refl)
 rows_differ (Columns n) (Columns m) differ = absurd (differ refl)
 rows_differ choice other differ = refl
 
@@ -86,6 +100,7 @@ no_row_behind_blocks blocks [] = tt
 no_row_behind_blocks blocks (Threads n ∷ rest) = (refl, no_row_behind_blocks blocks rest)
 no_row_behind_blocks blocks (Steps n ∷ rest) = (refl, no_row_behind_blocks blocks rest)
 no_row_behind_blocks blocks (Serial ∷ rest) = (refl, no_row_behind_blocks blocks rest)
+no_row_behind_blocks blocks (WithHistory ∷ rest) = (refl, no_row_behind_blocks blocks rest)
 no_row_behind_blocks blocks (Columns n ∷ rest) = (refl, no_row_behind_blocks blocks rest)
 
 -- the row of an option is not that of a later one
@@ -104,6 +119,7 @@ position_stays : (choice : Choice) (position : ℕ) → position_after position 
 position_stays (Threads n) position = refl
 position_stays (Steps n) position = refl
 position_stays Serial position = refl
+position_stays WithHistory position = refl
 position_stays (Columns n) position = refl
 
 -- so options that are the own of a command and distinct are taken
@@ -124,7 +140,7 @@ taken_from command position rows (choice ∷ rest) none own range distinct =
 taken_of : (command : Command) (choices : List Choice) → HasOwnNumber command choices → All (IsOptionOf command) choices → All IsInRange choices → AreDistinct choices
     → AreTaken (leaf command) 1 [] (uses_in command choices)
 taken_of Listing choices number own range distinct = taken_from Listing 1 [] choices (no_row_at_first choices) own range distinct
-taken_of Run choices number own range distinct = taken_from Run 1 [] choices (no_row_at_first choices) own range distinct
+taken_of (Run output) choices number own range distinct = taken_from (Run output) 1 [] choices (no_row_at_first choices) own range distinct
 taken_of Record choices number own range distinct = taken_from Record 1 [] choices (no_row_at_first choices) own range distinct
 taken_of Profile choices number own range distinct = taken_from Profile 1 [] choices (no_row_at_first choices) own range distinct
 taken_of (Timeline columns) choices number own range distinct = taken_from (Timeline columns) 1 [] choices (no_row_at_first choices) own range distinct
@@ -145,13 +161,14 @@ same_words [] = refl
 same_words (Threads n ∷ rest) = ap (λ words. codes "--threads" ∷ decimal n ∷ words) (same_words rest)
 same_words (Steps n ∷ rest) = ap (λ words. codes "--steps" ∷ decimal n ∷ words) (same_words rest)
 same_words (Serial ∷ rest) = ap (λ words. codes "--serial" ∷ words) (same_words rest)
+same_words (WithHistory ∷ rest) = ap (λ words. codes "--history" ∷ words) (same_words rest)
 same_words (Columns n ∷ rest) = ap (λ words. codes "--columns" ∷ decimal n ∷ words) (same_words rest)
 
 -- and so with the words of a command
 words_as_uses : (command : Command) (choices : List Choice) (rest : List Text)
     → command_words command ++ option_words choices ++ rest ≡ command_word command ∷ words_of (uses_in command choices) ++ rest
 words_as_uses Listing choices rest = ap (λ front. codes "list" ∷ front ++ rest) (same_words choices)
-words_as_uses Run choices rest = ap (λ front. codes "run" ∷ front ++ rest) (same_words choices)
+words_as_uses (Run output) choices rest = ap (λ front. codes "run" ∷ front ++ rest) (same_words choices)
 words_as_uses Record choices rest = ap (λ front. codes "record" ∷ front ++ rest) (same_words choices)
 words_as_uses Profile choices rest = ap (λ front. codes "profile" ∷ front ++ rest) (same_words choices)
 words_as_uses (Timeline columns) choices rest = ap (λ front. codes "timeline" ∷ front ++ rest) (same_words choices)
@@ -175,8 +192,8 @@ whole words form = as_uses form.begin ∙ ap (λ rest. command_word form.command
 pub form_clean : (words : List Text) → InForm words → fault_of ompt words ≡ []
 form_clean words form = ap (fault_of ompt) (whole words form) ∙ uses_clean form.command (uses_of form) (taken form.begin) (required_there form.command form.choices)
 
-pub read_clean : (words : List Text) (command : TraceCommand) → ReadInForm words command → fault_of ompt words ≡ []
-read_clean words command is = ap (fault_of ompt) is ∙ trace_clean command
+pub read_clean : (words : List Text) (command : ReadCommand) → ReadInForm words command → fault_of ompt words ≡ []
+read_clean words command is = ap (fault_of ompt) is ∙ alone_clean command
 
 pub asked_wish : (words : List Text) → AskInForm words → IsOneWish (fault_of ompt words)
 asked_wish [] (inl asked) = absurd asked
@@ -184,7 +201,7 @@ asked_wish (word ∷ rest) (inl asked) = first_asked word rest asked
 asked_wish words (inr (inl asked)) =
     subst (λ all. IsOneWish (fault_of ompt all)) (sym (as_uses asked.begin)) (uses_asked asked.command (uses_in asked.command asked.choices) asked.word asked.rest (taken asked.begin) asked.request)
 asked_wish words (inr (inr (inl asked))) =
-    subst (λ all. IsOneWish (fault_of ompt all)) (sym asked.words_are) (trace_asked asked.command asked.word asked.rest asked.request)
+    subst (λ all. IsOneWish (fault_of ompt all)) (sym asked.words_are) (read_asked asked.command asked.word asked.rest asked.request)
 asked_wish words (inr (inr (inr asked))) =
     subst (λ all. IsOneWish (fault_of ompt all)) (sym asked.words_are) (uses_asked (Generate 1) [] asked.word asked.rest tt asked.request)
 
@@ -202,7 +219,8 @@ form_text words form id = ap (option_and_then (λ (found : Text × List Row). on
 number_of_form : (words : List Text) (command : Command) (choices : List Choice) → ((id : Text) → matched_text words id ≡ one_of id (rows_in command (uses_in command choices)))
     → HasOwnNumber command choices → All IsInRange choices → HasMatchedNumber words command
 number_of_form words Listing choices texts own range = tt
-number_of_form words Run choices texts own range = tt
+number_of_form words (Run output) choices texts own range =
+    subst (IsOutput output) (sym (ap flag_in (texts (codes "history")) ∙ history_read (Run output) choices)) own
 number_of_form words Record choices texts own range = tt
 number_of_form words Profile choices texts own range = tt
 number_of_form words (Timeline columns) choices texts own range =
@@ -214,29 +232,38 @@ number_of_form words (Generate blocks) choices texts own range =
 form_number : (words : List Text) (form : InForm words) → HasMatchedNumber words form.command
 form_number words form = number_of_form words form.command form.choices (form_text words form) form.begin.number form.begin.in_range
 
+-- what `run` writes is the one by its flag
+same_output : (a b : RunOutput) (history : Bool) → IsOutput a history → IsOutput b history → a ≡ b
+same_output Printed Printed history one other = refl
+same_output Printed History history one other = let wrong : true ≡ false = sym other ∙ one in cc
+same_output History Printed history one other = let wrong : true ≡ false = sym one ∙ other in cc
+same_output History History history one other = refl
+
 -- commands with one name and the numbers of the matches are the same
 same_command : (words : List Text) (a b : Command) → command_word a ≡ command_word b → HasMatchedNumber words a → HasMatchedNumber words b → a ≡ b
 same_command words Listing Listing same one other = refl
-same_command words Run Run same one other = refl
+same_command words (Run a) (Run b) same one other = ap Run (same_output a b (flag_in (matched_text words (codes "history"))) one other)
 same_command words Record Record same one other = refl
 same_command words Profile Profile same one other = refl
 same_command words (Timeline a) (Timeline b) same one other = ap Timeline (one ∙ sym other)
 same_command words (Generate a) (Generate b) same one other = ap Generate (one ∙ sym other)
 same_command words a b same one other = absurd (distinct (command_word a) (command_word b) refl refl same)
 
--- the same of the commands that read a trace
-same_reader : (a b : TraceCommand) → trace_word a ≡ trace_word b → a ≡ b
+-- the same of the commands that read what a run has left
+same_reader : (a b : ReadCommand) → read_word a ≡ read_word b → a ≡ b
 same_reader Show Show same = refl
 same_reader Migrate Migrate same = refl
 same_reader Check Check same = refl
-same_reader a b same = absurd (distinct (trace_word a) (trace_word b) refl refl same)
+same_reader Rerun Rerun same = refl
+same_reader a b same = absurd (distinct (read_word a) (read_word b) refl refl same)
 
 -- no command of the one kind has the word of one of the other
-words_differ : (other : TraceCommand) (command : Command) → command_word command ≡ trace_word other → ⊥
+words_differ : (other : ReadCommand) (command : Command) → command_word command ≡ read_word other → ⊥
 words_differ Show Listing same = distinct (codes "list") (codes "show") refl refl same
 words_differ Migrate Listing same = distinct (codes "list") (codes "migrate") refl refl same
 words_differ Check Listing same = distinct (codes "list") (codes "check") refl refl same
-words_differ other command same = distinct (command_word command) (trace_word other) refl refl same
+words_differ Rerun Listing same = distinct (codes "list") (codes "rerun") refl refl same
+words_differ other command same = distinct (command_word command) (read_word other) refl refl same
 
 -- the words name one command
 one_name : {words : List Text} {name other : Text} → NamesCommand words name → NamesCommand words other → name ≡ other
@@ -285,12 +312,12 @@ own_read words (request.Run settings) read form =
     (read.threads ∙ ap (number_in 1 16 default_threads) (form_text words form (codes "threads")) ∙ threads_read form.command form.choices form.begin.in_range)
     (read.steps ∙ ap (number_in 1 30000000 default_steps) (form_text words form (codes "steps")) ∙ steps_read form.command form.choices form.begin.in_range)
     (read.serial ∙ ap (λ command. runs_serially command (flag_in (matched_text words (codes "serial")))) same
-    ∙ ap (λ text. runs_serially form.command (flag_in text)) (form_text words form (codes "serial")) ∙ serial_read form.command form.choices))
+    ∙ ap (λ text. runs_serially form.command (flag_in text)) (form_text words form (codes "serial")) ∙ ap (runs_serially form.command) (serial_read form.command form.choices)))
 own_read words (request.Read command) read form = absurd (words_differ command form.command (one_name (form_name words form) read))
 
--- and so is one that is read of words that ask that a trace is read
-pub own_command : (words : List Text) (given : Request) → AreReadAs words given → (command : TraceCommand) → ReadInForm words command → given ≡ request.Read command
+-- and so is one that is read of words that ask that a trace or a history is read
+pub own_command : (words : List Text) (given : Request) → AreReadAs words given → (command : ReadCommand) → ReadInForm words command → given ≡ request.Read command
 own_command words given read command is = read_once words given (request.Read command) read (record {
   taken = read_clean words command is;
-  command_is = ap (λ all. option_map (λ (found : Text × List Row). found.0) (subcommand_of ompt all)) is ∙ trace_matched command;
+  command_is = ap (λ all. option_map (λ (found : Text × List Row). found.0) (subcommand_of ompt all)) is ∙ alone_matched command;
 })

@@ -14,7 +14,7 @@ use Rattle.clap.specs.declared.parser.matches.ArgMatches.{ArgMatches}
 use Rattle.clap.specs.declared.parser.matches.Found.{Found}
 use Rattle.clap.proofs.WalkLemmas.{one_text-rows}
 use Rattle.ompt_words.specs.CommandLine.{ompt}
-use Rattle.ompt_words.specs.Form.{command_word, default_columns, default_steps, default_threads, runs_serially}
+use Rattle.ompt_words.specs.Form.{IsOutput, command_word, default_columns, default_steps, default_threads, runs_serially}
 use Rattle.ompt_words.specs.Answers.{AreWrong, AskForText, HaveSettings, IsAnswerTo, IsMistake, IsTextOrMemory, IsWish, HasMatchedNumber, NamesCommand, flag_in, matched_text, number_in}
 use Rattle.ompt_words.specs.declared.fault.WordsFault.{WordsFault}
 use Rattle.ompt_words.specs.declared.fault.WordsFault.TheVariants.{Memory, Shown, Usage}
@@ -119,7 +119,7 @@ command_read words name rows other clean found is = record {
 -- the number of a command is that of its matches
 abbrev pub HasFoundNumber : Found → Command → Type 0
 HasFoundNumber found Listing = ⊤
-HasFoundNumber found Run = ⊤
+HasFoundNumber found (Run output) = IsOutput output (flag_in (one_text found (codes "history")))
 HasFoundNumber found Record = ⊤
 HasFoundNumber found Profile = ⊤
 HasFoundNumber found (Timeline columns) = columns ≡ number_in 10 200 default_columns (one_text found (codes "columns"))
@@ -128,7 +128,7 @@ HasFoundNumber found (Generate blocks) = blocks ≡ number_in 1 400 1 (one_text 
 -- it is that of the words
 number_matched : (words : List Text) (found : Found) (command : Command) → ((id : Text) → one_text found id ≡ matched_text words id) → HasFoundNumber found command → HasMatchedNumber words command
 number_matched words found Listing texts number = tt
-number_matched words found Run texts number = tt
+number_matched words found (Run output) texts number = subst (IsOutput output) (ap flag_in (texts (codes "history"))) number
 number_matched words found Record texts number = tt
 number_matched words found Profile texts number = tt
 number_matched words found (Timeline columns) texts number = number ∙ ap (number_in 10 200 default_columns) (texts (codes "columns"))

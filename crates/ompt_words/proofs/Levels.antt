@@ -17,11 +17,11 @@ use Rattle.clap.specs.declared.parser.matches.SubCommand.{SubCommand}
 use Rattle.clap.proofs.OnLiterals.{clap_on_literals}
 use Rattle.clap.proofs.FaultLemmas.{stopped_fault}
 use Rattle.ompt_words.specs.CommandLine.{ompt, program, reader}
-use Rattle.ompt_words.specs.Form.{IsRequest, command_word, trace_word}
+use Rattle.ompt_words.specs.Form.{IsRequest, command_word, read_word}
 use Rattle.ompt_words.specs.declared.settings.Command.{Command}
 use Rattle.ompt_words.specs.declared.settings.Command.TheVariants.{Generate, List as Listing, Profile, Record, Run, Timeline}
-use Rattle.ompt_words.specs.declared.settings.TraceCommand.{TraceCommand}
-use Rattle.ompt_words.specs.declared.settings.TraceCommand.TheVariants.{Check, Migrate, Show}
+use Rattle.ompt_words.specs.declared.settings.ReadCommand.{ReadCommand}
+use Rattle.ompt_words.specs.declared.settings.ReadCommand.TheVariants.{Check, Migrate, Rerun, Show}
 use Rattle.ompt_words.proofs.Uses.{AreTaken, IsBetween, Use, Walks, row_of, standing, walks, words_of}
 use Rattle.ompt_words.proofs.Options.{IsOneWish, asked_between, leaf, rules_of}
 use Rattle.clap.specs.declared.error.kind.ErrorKind.TheVariants.{DisplayHelp, DisplayVersion}
@@ -80,7 +80,7 @@ walk_of command uses taken = walks (leaf command) uses 1 nothing_held [] (begin 
 -- no default of a command is a fault
 all_pass : (command : Command) → AllPass (rules_of command)
 all_pass Listing = (refl, (refl, (refl, (refl, (refl, tt)))))
-all_pass Run = (refl, (refl, (refl, (refl, (refl, tt)))))
+all_pass (Run output) = (refl, (refl, (refl, (refl, (refl, (refl, tt))))))
 all_pass Record = (refl, (refl, (refl, (refl, (refl, tt)))))
 all_pass Profile = (refl, (refl, (refl, (refl, (refl, tt)))))
 all_pass (Timeline columns) = (refl, (refl, (refl, (refl, (refl, (refl, tt))))))
@@ -147,7 +147,7 @@ stopped_walk rules names held waiting position trailing name before (word ∷ wo
 top_walk : (command : Command) (words : List Text) → walk top.rules (names_of (built ompt)) nothing_held (command_word command ∷ words) ≡ entering (command_word command) words
 unfolding clap_on_literals
 top_walk Listing words = stopped_walk top.rules (names_of (built ompt)) nothing_held idle 1 false (codes "list") [] words
-top_walk Run words = stopped_walk top.rules (names_of (built ompt)) nothing_held idle 1 false (codes "run") [] words
+top_walk (Run output) words = stopped_walk top.rules (names_of (built ompt)) nothing_held idle 1 false (codes "run") [] words
 top_walk Record words = stopped_walk top.rules (names_of (built ompt)) nothing_held idle 1 false (codes "record") [] words
 top_walk Profile words = stopped_walk top.rules (names_of (built ompt)) nothing_held idle 1 false (codes "profile") [] words
 top_walk (Timeline columns) words = stopped_walk top.rules (names_of (built ompt)) nothing_held idle 1 false (codes "timeline") [] words
@@ -157,7 +157,7 @@ top_walk (Generate blocks) words = stopped_walk top.rules (names_of (built ompt)
 top_clean : (command : Command) (words : List Text) → walk_fault top (names_of (built ompt)) (walk_from nothing_held) (command_word command ∷ words) ≡ []
 unfolding clap_on_literals
 top_clean Listing words = stopped_fault top (names_of (built ompt)) (walk_from nothing_held) (codes "list", []) words
-top_clean Run words = stopped_fault top (names_of (built ompt)) (walk_from nothing_held) (codes "run", []) words
+top_clean (Run output) words = stopped_fault top (names_of (built ompt)) (walk_from nothing_held) (codes "run", []) words
 top_clean Record words = stopped_fault top (names_of (built ompt)) (walk_from nothing_held) (codes "record", []) words
 top_clean Profile words = stopped_fault top (names_of (built ompt)) (walk_from nothing_held) (codes "profile", []) words
 top_clean (Timeline columns) words = stopped_fault top (names_of (built ompt)) (walk_from nothing_held) (codes "timeline", []) words
@@ -181,7 +181,7 @@ built_asked a words w reaches walk' kinds one under = rw (reaches, walk', under,
 -- the level of a command is that of its rules
 entered_level : (command : Command) (words : List Text) → entered_fault (built ompt) (Some (command_word command, words)) ≡ level_fault (leaf command) [] nothing_held words false []
 entered_level Listing words = refl
-entered_level Run words = refl
+entered_level (Run output) words = refl
 entered_level Record words = refl
 entered_level Profile words = refl
 entered_level (Timeline columns) words = refl
@@ -190,7 +190,7 @@ entered_level (Generate blocks) words = refl
 -- and so are its matches
 entered_rows : (command : Command) (words : List Text) → entered (built ompt) (Some (command_word command, words)) ≡ Some (command_word command, rows_after (rules_of command) [] words)
 entered_rows Listing words = refl
-entered_rows Run words = refl
+entered_rows (Run output) words = refl
 entered_rows Record words = refl
 entered_rows Profile words = refl
 entered_rows (Timeline columns) words = refl
@@ -240,7 +240,7 @@ first_asked word rest (inl (inr is)) = record { wish = DisplayHelp; is = inl ref
 first_asked word rest (inr (inl is)) = record { wish = DisplayVersion; is = inr refl; alone = rw is (version_first rest) }
 first_asked word rest (inr (inr is)) = record { wish = DisplayVersion; is = inr refl; alone = rw is (short_version_first rest) }
 
--- ---- the commands that read a trace
+-- ---- the commands that read what a run has left
 
 -- such a command as clap builds it
 abbrev reader_leaf : Text → Shape
@@ -271,45 +271,50 @@ reader_asked name word rest (inr (inl is)) = record { wish = DisplayVersion; is 
 reader_asked name word rest (inr (inr is)) = record { wish = DisplayVersion; is = inr refl; alone = rw is (reader_short_version name rest) }
 
 -- its name enters it, too
-trace_walk : (command : TraceCommand) (words : List Text) → walk top.rules (names_of (built ompt)) nothing_held (trace_word command ∷ words) ≡ entering (trace_word command) words
+read_walk : (command : ReadCommand) (words : List Text) → walk top.rules (names_of (built ompt)) nothing_held (read_word command ∷ words) ≡ entering (read_word command) words
 unfolding clap_on_literals
-trace_walk Show words = stopped_walk top.rules (names_of (built ompt)) nothing_held idle 1 false (codes "show") [] words
-trace_walk Migrate words = stopped_walk top.rules (names_of (built ompt)) nothing_held idle 1 false (codes "migrate") [] words
-trace_walk Check words = stopped_walk top.rules (names_of (built ompt)) nothing_held idle 1 false (codes "check") [] words
+read_walk Show words = stopped_walk top.rules (names_of (built ompt)) nothing_held idle 1 false (codes "show") [] words
+read_walk Migrate words = stopped_walk top.rules (names_of (built ompt)) nothing_held idle 1 false (codes "migrate") [] words
+read_walk Check words = stopped_walk top.rules (names_of (built ompt)) nothing_held idle 1 false (codes "check") [] words
+read_walk Rerun words = stopped_walk top.rules (names_of (built ompt)) nothing_held idle 1 false (codes "rerun") [] words
 
 -- and is no fault
-trace_walk_clean : (command : TraceCommand) (words : List Text) → walk_fault top (names_of (built ompt)) (walk_from nothing_held) (trace_word command ∷ words) ≡ []
+read_walk_clean : (command : ReadCommand) (words : List Text) → walk_fault top (names_of (built ompt)) (walk_from nothing_held) (read_word command ∷ words) ≡ []
 unfolding clap_on_literals
-trace_walk_clean Show words = stopped_fault top (names_of (built ompt)) (walk_from nothing_held) (codes "show", []) words
-trace_walk_clean Migrate words = stopped_fault top (names_of (built ompt)) (walk_from nothing_held) (codes "migrate", []) words
-trace_walk_clean Check words = stopped_fault top (names_of (built ompt)) (walk_from nothing_held) (codes "check", []) words
+read_walk_clean Show words = stopped_fault top (names_of (built ompt)) (walk_from nothing_held) (codes "show", []) words
+read_walk_clean Migrate words = stopped_fault top (names_of (built ompt)) (walk_from nothing_held) (codes "migrate", []) words
+read_walk_clean Check words = stopped_fault top (names_of (built ompt)) (walk_from nothing_held) (codes "check", []) words
+read_walk_clean Rerun words = stopped_fault top (names_of (built ompt)) (walk_from nothing_held) (codes "rerun", []) words
 
 -- alone such a command has no fault
-pub trace_clean : (command : TraceCommand) → fault_of ompt (trace_word command ∷ []) ≡ []
+pub alone_clean : (command : ReadCommand) → fault_of ompt (read_word command ∷ []) ≡ []
 unfolding clap_on_literals
-trace_clean Show = refl
-trace_clean Migrate = refl
-trace_clean Check = refl
+alone_clean Show = refl
+alone_clean Migrate = refl
+alone_clean Check = refl
+alone_clean Rerun = refl
 
 -- and it is the command of the matches
-pub trace_matched : (command : TraceCommand) → option_map (λ found. found.0) (subcommand_of ompt (trace_word command ∷ [])) ≡ Some (trace_word command)
+pub alone_matched : (command : ReadCommand) → option_map (λ found. found.0) (subcommand_of ompt (read_word command ∷ [])) ≡ Some (read_word command)
 unfolding clap_on_literals
-trace_matched Show = refl
-trace_matched Migrate = refl
-trace_matched Check = refl
+alone_matched Show = refl
+alone_matched Migrate = refl
+alone_matched Check = refl
+alone_matched Rerun = refl
 
 -- its level is that of a command with its name and no options
-trace_level : (command : TraceCommand) (words : List Text) → entered_fault (built ompt) (Some (trace_word command, words)) ≡ level_fault (reader_leaf (trace_word command)) [] nothing_held words false []
-trace_level Show words = refl
-trace_level Migrate words = refl
-trace_level Check words = refl
+read_level : (command : ReadCommand) (words : List Text) → entered_fault (built ompt) (Some (read_word command, words)) ≡ level_fault (reader_leaf (read_word command)) [] nothing_held words false []
+read_level Show words = refl
+read_level Migrate words = refl
+read_level Check words = refl
+read_level Rerun words = refl
 
 -- one that is asked for help or the version has that one answer
-pub trace_asked : (command : TraceCommand) (word : Text) (rest : List Text) → IsRequest word → IsOneWish (fault_of ompt (trace_word command ∷ word ∷ rest))
-trace_asked command word rest request =
-    let one : IsOneWish (level_fault (reader_leaf (trace_word command)) [] nothing_held (word ∷ rest) false []) = reader_asked (trace_word command) word rest request in
-    subst IsOneWish (sym (built_asked (built ompt) (trace_word command ∷ word ∷ rest) (entering (trace_word command) (word ∷ rest))
-    (trace_walk command (word ∷ rest)) (trace_walk_clean command (word ∷ rest)) _ one (trace_level command (word ∷ rest)))) one
+pub read_asked : (command : ReadCommand) (word : Text) (rest : List Text) → IsRequest word → IsOneWish (fault_of ompt (read_word command ∷ word ∷ rest))
+read_asked command word rest request =
+    let one : IsOneWish (level_fault (reader_leaf (read_word command)) [] nothing_held (word ∷ rest) false []) = reader_asked (read_word command) word rest request in
+    subst IsOneWish (sym (built_asked (built ompt) (read_word command ∷ word ∷ rest) (entering (read_word command) (word ∷ rest))
+    (read_walk command (word ∷ rest)) (read_walk_clean command (word ∷ rest)) _ one (read_level command (word ∷ rest)))) one
 
 -- ---- what the matches are
 
@@ -378,15 +383,15 @@ entered_name : (a : App) (stop : Option (Text × List Text)) (name : Text) (rows
 entered_name a None name rows is = absurd (nothing-some is)
 entered_name a (Some at) name rows is = entered_in (λ s. answers_to at.0 (label_of s)) a.subs at.1 name rows is
 
--- the command of the matches is one of the nine
+-- the command of the matches is one of the ten
 pub matched_name : (words : List Text) (name : Text) (rows : List Row) → subcommand_of ompt words ≡ Some (name, rows) → IsEnteredIn name rows (built ompt).subs
 matched_name words name rows is = entered_name (built ompt) (stop_after top.rules (names_of (built ompt)) (argument_words ompt words)) name rows is
 
--- a name of one of the nine, and of no other than `list`, is that
+-- a name of one of the ten, and of no other than `list`, is that
 pub listing_left : (words : List Text) (name : Text) (rows : List Row) → subcommand_of ompt words ≡ Some (name, rows)
-    → name ≢ codes "show" → name ≢ codes "migrate" → name ≢ codes "check" → name ≢ codes "gen" → name ≢ codes "run" → name ≢ codes "record" → name ≢ codes "profile" → name ≢ codes "timeline"
+    → name ≢ codes "show" → name ≢ codes "migrate" → name ≢ codes "check" → name ≢ codes "rerun" → name ≢ codes "gen" → name ≢ codes "run" → name ≢ codes "record" → name ≢ codes "profile" → name ≢ codes "timeline"
     → name ≡ codes "list"
-listing_left words name rows is no_show no_migrate no_check no_gen no_run no_record no_profile no_timeline = by (matched_name words name rows is)
+listing_left words name rows is no_show no_migrate no_check no_rerun no_gen no_run no_record no_profile no_timeline = by (matched_name words name rows is)
   where
     by : IsEnteredIn name rows (built ompt).subs → name ≡ codes "list"
     by (inl run) = absurd (no_run run.is_name)
@@ -398,7 +403,8 @@ listing_left words name rows is no_show no_migrate no_check no_gen no_run no_rec
     by (inr (inr (inr (inr (inr (inr (inl show))))))) = absurd (no_show show.is_name)
     by (inr (inr (inr (inr (inr (inr (inr (inl migrate)))))))) = absurd (no_migrate migrate.is_name)
     by (inr (inr (inr (inr (inr (inr (inr (inr (inl check))))))))) = absurd (no_check check.is_name)
-    by (inr (inr (inr (inr (inr (inr (inr (inr (inr none))))))))) = absurd none
+    by (inr (inr (inr (inr (inr (inr (inr (inr (inr (inl rerun)))))))))) = absurd (no_rerun rerun.is_name)
+    by (inr (inr (inr (inr (inr (inr (inr (inr (inr (inr none)))))))))) = absurd none
 
 -- two texts of which the one isn't the other by a test
 pub distinct : (a b : Text) → bytes_eq a a ≡ true → bytes_eq a b ≡ false → a ≡ b → ⊥
@@ -422,7 +428,8 @@ generator_left words name rows is gen = by (matched_name words name rows is)
     by (inr (inr (inr (inr (inr (inr (inl show))))))) = absurd (other (codes "show") refl show.is_name)
     by (inr (inr (inr (inr (inr (inr (inr (inl migrate)))))))) = absurd (other (codes "migrate") refl migrate.is_name)
     by (inr (inr (inr (inr (inr (inr (inr (inr (inl check))))))))) = absurd (other (codes "check") refl check.is_name)
-    by (inr (inr (inr (inr (inr (inr (inr (inr (inr none))))))))) = absurd none
+    by (inr (inr (inr (inr (inr (inr (inr (inr (inr (inl rerun)))))))))) = absurd (other (codes "rerun") refl rerun.is_name)
+    by (inr (inr (inr (inr (inr (inr (inr (inr (inr (inr none)))))))))) = absurd none
 
 -- the name in the matches is that in their rows
 name_in_rows : {Z : Type 0} (found : Option (Box SubCommand Z)) → option_map (λ b. (out-SubCommand (box_value b)).name.now) found ≡ option_map (λ p. p.0) (subcommand_rows found)

@@ -9,12 +9,13 @@ use Rattle.clap.specs.Simple.{Shape, built_leaf, filled, help_rule, inherited, n
 use Rattle.clap.specs.Faults.{settle_fault, turn_fault}
 use Rattle.clap.specs.Kinds.{Kinds}
 use Rattle.clap.specs.ValueTests.{accepts}
+use Rattle.clap.specs.declared.builder.action.ArgAction.TheVariants.{SetTrue}
 use Rattle.clap.specs.declared.builder.value_parser.ValueParser.TheVariants.{Signed}
 use Rattle.clap.specs.declared.builder.value_parser.Reading.TheVariants.{AsWritten, WithoutMinus}
 use Rattle.clap.specs.declared.error.kind.ErrorKind.{ErrorKind}
 use Rattle.clap.specs.declared.error.kind.ErrorKind.TheVariants.{DisplayHelp, DisplayVersion}
 use Rattle.clap.proofs.OnLiterals.{clap_on_literals}
-use Rattle.ompt_words.specs.CommandLine.{generator, program, runner, serial_rule, timeline}
+use Rattle.ompt_words.specs.CommandLine.{generator, program, run_command, runner, timeline}
 use Rattle.ompt_words.specs.Form.{IsRequest, command_word}
 use Rattle.ompt_words.specs.Answers.{IsWish}
 use Rattle.ompt_words.specs.declared.settings.Command.{Command}
@@ -31,6 +32,9 @@ with_rules name rules = record (built_leaf (inherited program.top (new_shape nam
 abbrev pub readers_rules : List Rule
 readers_rules = (built_leaf (inherited program.top (runner []))).rules
 
+abbrev pub run_rules : List Rule
+run_rules = (built_leaf (inherited program.top run_command)).rules
+
 abbrev pub timeline_rules : List Rule
 timeline_rules = (built_leaf (inherited program.top timeline)).rules
 
@@ -40,7 +44,7 @@ generator_rules = (built_leaf (inherited program.top generator)).rules
 -- the rules of each command, and the command as clap builds it
 abbrev pub rules_of : Command → List Rule
 rules_of Listing = readers_rules
-rules_of Run = readers_rules
+rules_of (Run output) = run_rules
 rules_of Record = readers_rules
 rules_of Profile = readers_rules
 rules_of (Timeline columns) = timeline_rules
@@ -115,31 +119,34 @@ number_taken name rules word id value low high has is fits = record {
   };
 }
 
--- ---- the flag
+-- ---- a flag
 
--- its rule, as clap fills it in
-abbrev pub filled_serial : Rule
-filled_serial = with_index 1 (filled serial_rule)
+-- the rule of a flag, as clap fills it in
+abbrev pub filled_flag : Text → Rule
+filled_flag id = with_index 1 (filled (record (new_rule id) { long = Some id; action = Some SetTrue }))
+
+-- among these rules the word is that of a flag
+pub record HasFlag (rules : List Rule) (word id : Text) : Type 0 where
+  pub long : long_of word ≡ Some (id, None)
+  pub not_dashes : bytes_eq word (45 ∷ 45 ∷ []) ≡ false
+  pub by_long : arg_by_long rules id ≡ Some (filled_flag id)
 
 -- its row comes last
-serial_walk : (rules : List Rule) (position : ℕ) (held : Held) → arg_by_long rules (codes "serial") ≡ Some filled_serial
-    → has_row (codes "serial") (settled_rows rules held.pending held.rows) ≡ false
-    → walked rules [] (standing position held) (codes "--serial") ≡ standing position (after_flag rules held (codes "serial"))
-unfolding clap_on_literals
-serial_walk rules position held has none = rw has (ap (λ rows. standing position (record { rows = rows; pending = None; skip = held.skip }))
-    (new_row_last (codes "serial") AsWritten (codes "true") (settled_rows rules held.pending held.rows) none))
+flag_walk : (rules : List Rule) (word id : Text) (position : ℕ) (held : Held) → HasFlag rules word id → has_row id (settled_rows rules held.pending held.rows) ≡ false
+    → walked rules [] (standing position held) word ≡ standing position (after_flag rules held id)
+unfolding walked
+flag_walk rules word id position held has none = rw (has.not_dashes, has.long, has.by_long) (ap (λ rows. standing position (record { rows = rows; pending = None; skip = held.skip }))
+    (new_row_last id AsWritten (codes "true") (settled_rows rules held.pending held.rows) none))
 
 -- and it is no fault
-serial_clean : (name : Text) (rules : List Rule) (position : ℕ) (held : Held) → arg_by_long rules (codes "serial") ≡ Some filled_serial → settle_fault rules false held ≡ []
-    → has_row (codes "serial") (settled_rows rules held.pending held.rows) ≡ false → turn_fault (with_rules name rules) [] (standing position held) (codes "--serial") ≡ []
-unfolding clap_on_literals
-serial_clean name rules position held has clean none = rw (has, clean, none) refl
+flag_clean : (name : Text) (rules : List Rule) (word id : Text) (position : ℕ) (held : Held) → HasFlag rules word id → settle_fault rules false held ≡ []
+    → has_row id (settled_rows rules held.pending held.rows) ≡ false → turn_fault (with_rules name rules) [] (standing position held) word ≡ []
+flag_clean name rules word id position held has clean none = rw (has.not_dashes, has.long, has.by_long, clean, none) refl
 
-pub serial_taken : (name : Text) (rules : List Rule) → arg_by_long rules (codes "serial") ≡ Some filled_serial
-    → TakesFlag (with_rules name rules) (codes "--serial") (codes "serial")
-serial_taken name rules has = record {
-  walk = λ position held none. serial_walk rules position held has none;
-  clean = λ position held clean none. serial_clean name rules position held has clean none;
+pub flag_taken : (name : Text) (rules : List Rule) (word id : Text) → HasFlag rules word id → TakesFlag (with_rules name rules) word id
+flag_taken name rules word id has = record {
+  walk = λ position held none. flag_walk rules word id position held has none;
+  clean = λ position held clean none. flag_clean name rules word id position held has clean none;
 }
 
 -- ---- the number of blocks
@@ -173,20 +180,30 @@ blocks_taken value is fits = record {
 pub record HasReaders (rules : List Rule) : Type 0 where
   pub threads : HasNumber rules (codes "--threads") (codes "threads") 1 16
   pub steps : HasNumber rules (codes "--steps") (codes "steps") 1 30000000
-  pub serial : arg_by_long rules (codes "serial") ≡ Some filled_serial
+  pub serial : HasFlag rules (codes "--serial") (codes "serial")
 
 pub readers_have : HasReaders readers_rules
 readers_have = record {
   threads = record { long = refl; not_dashes = refl; same = refl; by_long = refl; by_id = refl };
   steps = record { long = refl; not_dashes = refl; same = refl; by_long = refl; by_id = refl };
-  serial = refl;
+  serial = record { long = refl; not_dashes = refl; by_long = refl };
 }
+
+pub run_has : HasReaders run_rules
+run_has = record {
+  threads = record { long = refl; not_dashes = refl; same = refl; by_long = refl; by_id = refl };
+  steps = record { long = refl; not_dashes = refl; same = refl; by_long = refl; by_id = refl };
+  serial = record { long = refl; not_dashes = refl; by_long = refl };
+}
+
+pub run_history : HasFlag run_rules (codes "--history") (codes "history")
+run_history = record { long = refl; not_dashes = refl; by_long = refl }
 
 pub timeline_has : HasReaders timeline_rules
 timeline_has = record {
   threads = record { long = refl; not_dashes = refl; same = refl; by_long = refl; by_id = refl };
   steps = record { long = refl; not_dashes = refl; same = refl; by_long = refl; by_id = refl };
-  serial = refl;
+  serial = record { long = refl; not_dashes = refl; by_long = refl };
 }
 
 pub timeline_columns : HasNumber timeline_rules (codes "--columns") (codes "columns") 10 200
@@ -213,7 +230,7 @@ record HasTexts (rules : List Rule) : Type 0 where
 -- each command has them
 has_texts : (command : Command) → HasTexts (rules_of command)
 has_texts Listing = record { help = refl; short_help = refl; version = refl; short_version = refl }
-has_texts Run = record { help = refl; short_help = refl; version = refl; short_version = refl }
+has_texts (Run output) = record { help = refl; short_help = refl; version = refl; short_version = refl }
 has_texts Record = record { help = refl; short_help = refl; version = refl; short_version = refl }
 has_texts Profile = record { help = refl; short_help = refl; version = refl; short_version = refl }
 has_texts (Timeline columns) = record { help = refl; short_help = refl; version = refl; short_version = refl }

@@ -1,24 +1,22 @@
--- What the matches of words of the form tell: the numbers and the flag of their options, with the defaults, and the number of blocks.
+-- What the matches of words of the form tell: the numbers and the flags of their options, with the defaults, and the number of blocks.
 use Rattle.std.proofs.Common.{refl, ap, codes, true, false, Bool, List, Option, Some, [], ◌∷◌, ◌++◌, ◌≡◌, ◌∙◌, ◌≤◌, ℕ, arith, map}
-use Rattle.std.specs.Prelude.{None, decimal, fold, find, not, option_and_then, ⊤, ◌&&◌}
+use Rattle.std.specs.Prelude.{None, decimal, filter, fold, find, not, option_and_then, ⊤, ◌&&◌}
 use Rattle.std.specs.List.{All, list_any}
 use Rattle.std.specs.Str.{bytes_eq}
 use Rattle.std.specs.Option.{option_or}
 use Rattle.std.proofs.lemmas.List.Folds.{find-append}
 use Rattle.std.proofs.lemmas.List.Elements.{All-drop, All-head}
 use Rattle.clap.specs.Walk.{Row, Rule, Text, has_row, more_values, one_of, row_text, with_default}
-use Rattle.clap.specs.Simple.{filled, help_rule, version_rule, with_index}
 use Rattle.clap.specs.Takes.{is_given}
 use Rattle.clap.specs.declared.builder.value_parser.Reading.TheVariants.{AsWritten, WithoutMinus}
 use Rattle.clap.specs.declared.parser.matches.ValueSource.TheVariants.{DefaultValue}
-use Rattle.ompt_words.specs.CommandLine.{blocks_rule, columns_rule, steps_rule, threads_rule}
-use Rattle.ompt_words.specs.Form.{Choice, Columns, IsInRange, Serial, Steps, Threads, columns_of, runs_serially, serial_of, steps_of, threads_of}
+use Rattle.ompt_words.specs.Form.{Choice, Columns, IsInRange, Serial, Steps, Threads, WithHistory, columns_of, has_history, serial_of, steps_of, threads_of}
 use Rattle.ompt_words.specs.Form.{default_columns, default_steps, default_threads}
 use Rattle.ompt_words.specs.Answers.{flag_in, number_in}
 use Rattle.ompt_words.specs.declared.settings.Command.{Command}
 use Rattle.ompt_words.specs.declared.settings.Command.TheVariants.{Generate, List as Listing, Profile, Record, Run, Timeline}
 use Rattle.ompt_words.proofs.Uses.{Use, at_missing_row, bare, new_row, placed, row_of, valued}
-use Rattle.ompt_words.proofs.Options.{filled_serial, generator_rules, readers_rules, timeline_rules}
+use Rattle.ompt_words.proofs.Options.{filled_flag, generator_rules, readers_rules, rules_of, run_rules, timeline_rules}
 use Rattle.ompt_words.proofs.Levels.{HasRequired, rows_in}
 use Rattle.ompt_words.proofs.Numbers.{decimal_number, decimal_without_minus}
 
@@ -27,12 +25,13 @@ abbrev pub use_of : Choice → Use
 use_of (Threads n) = valued (codes "--threads") (codes "threads") (decimal n)
 use_of (Steps n) = valued (codes "--steps") (codes "steps") (decimal n)
 use_of Serial = bare (codes "--serial") (codes "serial")
+use_of WithHistory = bare (codes "--history") (codes "history")
 use_of (Columns n) = valued (codes "--columns") (codes "columns") (decimal n)
 
 -- the uses of a command with these options: before those of the options the number of blocks stands, if it has one
 abbrev pub uses_in : Command → List Choice → List Use
 uses_in Listing choices = map use_of choices
-uses_in Run choices = map use_of choices
+uses_in (Run output) choices = map use_of choices
 uses_in Record choices = map use_of choices
 uses_in Profile choices = map use_of choices
 uses_in (Timeline columns) choices = map use_of choices
@@ -46,11 +45,7 @@ rows_of choices = map row_of (map use_of choices)
 abbrev pub blocks_row : ℕ → Row
 blocks_row blocks = row_of (placed (codes "blocks") (decimal blocks))
 
--- ---- defaults: the flag alone has one
-
--- the row of the default
-abbrev default_row : Row
-default_row = record { id = codes "serial"; values = codes "false" ∷ []; count = None; source = Some DefaultValue; reading = AsWritten }
+-- ---- defaults: the flags alone have one
 
 -- a rule with no default adds no row
 no_default : (rows : List Row) (rule : Rule) → rule.defaults ≡ [] → with_default rows rule ≡ rows
@@ -60,68 +55,132 @@ no_default rows rule none = by (has_row rule.id rows) refl
     by true is = rw is refl
     by false is = rw (is, none) refl
 
--- nor do rules with none
-abbrev HaveNoDefaults : List Rule → Type 0
-HaveNoDefaults [] = ⊤
-HaveNoDefaults (rule ∷ rules) = (rule.defaults ≡ []) × HaveNoDefaults rules
+-- so rules add what those of them with a default add
+abbrev has_text : List Text → Bool
+has_text [] = false
+has_text (text ∷ more) = true
 
-no_defaults : (rules : List Rule) (rows : List Row) → HaveNoDefaults rules → fold with_default rows rules ≡ rows
-no_defaults [] rows none = refl
-no_defaults (rule ∷ rules) rows none = ap (λ front. fold with_default front rules) (no_default rows rule none.0) ∙ no_defaults rules rows none.1
+abbrev has_default : Rule → Bool
+has_default rule = has_text rule.defaults
 
--- of rules of which the third alone has a default, that of the third comes
-third_default : (a b c : Rule) (rules : List Rule) (rows : List Row) → a.defaults ≡ [] → b.defaults ≡ [] → HaveNoDefaults rules
-    → fold with_default rows (a ∷ b ∷ c ∷ rules) ≡ with_default rows c
-third_default a b c rules rows none_a none_b none =
-    ap (λ front. fold with_default (with_default (with_default front b) c) rules) (no_default rows a none_a)
-    ∙ ap (λ front. fold with_default (with_default front c) rules) (no_default rows b none_b)
-    ∙ no_defaults rules (with_default rows c) none
+defaults_alone : (rules : List Rule) (rows : List Row) → fold with_default rows rules ≡ fold with_default rows (filter has_default rules)
+defaults_alone [] rows = refl
+defaults_alone (rule ∷ rules) rows = by rule.defaults refl (λ front. defaults_alone rules front)
+  where
+    by : (defaults : List Text) → rule.defaults ≡ defaults → ((front : List Row) → fold with_default front rules ≡ fold with_default front (filter has_default rules))
+        → fold with_default rows (rule ∷ rules) ≡ fold with_default rows (filter has_default (rule ∷ rules))
+    by [] is later = ap (λ front. fold with_default front rules) (no_default rows rule is) ∙ later rows ∙ rw is refl
+    by (v ∷ vs) is later = later (with_default rows rule) ∙ rw is refl
 
--- the rows of each kind of command, with the defaults
-readers_default : (rows : List Row) → fold with_default rows readers_rules ≡ with_default rows filled_serial
-readers_default rows =
-    third_default (with_index 1 (filled threads_rule)) (with_index 1 (filled steps_rule)) filled_serial
-    (with_index 1 (filled help_rule) ∷ with_index 1 (filled version_rule) ∷ []) rows refl refl (refl, (refl, tt))
+-- the flags, and those of each command
+abbrev all_flags : List Text
+all_flags = codes "serial" ∷ codes "history" ∷ []
 
-timeline_default : (rows : List Row) → fold with_default rows timeline_rules ≡ with_default rows filled_serial
-timeline_default rows =
-    third_default (with_index 1 (filled threads_rule)) (with_index 1 (filled steps_rule)) filled_serial
-    (with_index 1 (filled columns_rule) ∷ with_index 1 (filled help_rule) ∷ with_index 1 (filled version_rule) ∷ []) rows refl refl (refl, (refl, (refl, tt)))
+abbrev flags_of : Command → List Text
+flags_of Listing = codes "serial" ∷ []
+flags_of (Run output) = all_flags
+flags_of Record = codes "serial" ∷ []
+flags_of Profile = codes "serial" ∷ []
+flags_of (Timeline columns) = codes "serial" ∷ []
+flags_of (Generate blocks) = []
 
-generator_default : (rows : List Row) → fold with_default rows generator_rules ≡ rows
-generator_default rows =
-    no_defaults (with_index 1 (filled blocks_rule) ∷ with_index 2 (filled threads_rule) ∷ with_index 2 (filled help_rule) ∷ with_index 2 (filled version_rule) ∷ [])
-    rows (refl, (refl, (refl, (refl, tt))))
+-- the rows of a command, with its defaults
+defaults_of : (command : Command) (rows : List Row) → fold with_default rows (rules_of command) ≡ fold with_default rows (map filled_flag (flags_of command))
+defaults_of Listing rows = defaults_alone readers_rules rows
+defaults_of (Run output) rows = defaults_alone run_rules rows
+defaults_of Record rows = defaults_alone readers_rules rows
+defaults_of Profile rows = defaults_alone readers_rules rows
+defaults_of (Timeline columns) rows = defaults_alone timeline_rules rows
+defaults_of (Generate blocks) rows = defaults_alone generator_rules rows
+
+-- ---- the default of one flag
+
+-- its row
+abbrev default_row : Text → Row
+default_row flag = record { id = flag; values = codes "false" ∷ []; count = None; source = Some DefaultValue; reading = AsWritten }
 
 -- where the flag isn't there its default comes last
-default_last : (rows : List Row) → has_row (codes "serial") rows ≡ false → with_default rows filled_serial ≡ rows ++ default_row ∷ []
-default_last rows none = rw none (at_missing_row (codes "serial") (more_values DefaultValue (codes "false" ∷ [])) (default_row ∷ []) rows none)
+default_last : (flag : Text) (rows : List Row) → has_row flag rows ≡ false → with_default rows (filled_flag flag) ≡ rows ++ default_row flag ∷ []
+default_last flag rows none = rw none (at_missing_row flag (more_values DefaultValue (codes "false" ∷ [])) (default_row flag ∷ []) rows none)
+
+-- so what is found of an id is found before it, or is the default
+default_found : (flag id : Text) (rows : List Row) → has_row flag rows ≡ false
+    → one_of id (with_default rows (filled_flag flag))
+    ≡ option_and_then row_text (option_or (find (λ row. bytes_eq row.id id) rows) (find (λ row. bytes_eq row.id id) (default_row flag ∷ [])))
+default_found flag id rows none =
+    ap (one_of id) (default_last flag rows none) ∙ ap (option_and_then row_text) (find-append (λ (row : Row). bytes_eq row.id id) rows (default_row flag ∷ []))
 
 -- the first, where there is no second
 or_none : {X : Type 0} (found : Option X) → option_or found None ≡ found
 or_none None = refl
 or_none (Some x) = refl
 
--- and other options have what they had
-other_text : (id : Text) (rows : List Row) → bytes_eq (codes "serial") id ≡ false → one_of id (with_default rows filled_serial) ≡ one_of id rows
-other_text id rows differs = by (has_row (codes "serial") rows) refl
+-- other options have what they had
+other_text : (flag id : Text) (rows : List Row) → bytes_eq flag id ≡ false → one_of id (with_default rows (filled_flag flag)) ≡ one_of id rows
+other_text flag id rows differs = by (has_row flag rows) refl
   where
-    by : (there : Bool) → has_row (codes "serial") rows ≡ there → one_of id (with_default rows filled_serial) ≡ one_of id rows
+    by : (there : Bool) → has_row flag rows ≡ there → one_of id (with_default rows (filled_flag flag)) ≡ one_of id rows
     by true is = rw is refl
-    by false is =
-        ap (one_of id) (default_last rows is)
-        ∙ ap (option_and_then row_text)
-        (find-append (λ (row : Row). bytes_eq row.id id) rows (default_row ∷ []) ∙ rw differs (or_none (find (λ row. bytes_eq row.id id) rows)))
+    by false is = default_found flag id rows is ∙ ap (option_and_then row_text) (rw differs (or_none (find (λ row. bytes_eq row.id id) rows)))
+
+-- and a flag says what it said, since its default says what no row says
+default_silent : (flag id : Text) (found : Option Row)
+    → flag_in (option_and_then row_text (option_or found (find (λ row. bytes_eq row.id id) (default_row flag ∷ [])))) ≡ flag_in (option_and_then row_text found)
+default_silent flag id (Some row) = refl
+default_silent flag id None = by (bytes_eq flag id) refl
+  where
+    by : (same : Bool) → bytes_eq flag id ≡ same
+        → flag_in (option_and_then row_text (option_or None (find (λ row. bytes_eq row.id id) (default_row flag ∷ [])))) ≡ flag_in (option_and_then row_text None)
+    by true is = rw is refl
+    by false is = rw is refl
+
+flag_stays : (flag id : Text) (rows : List Row) → flag_in (one_of id (with_default rows (filled_flag flag))) ≡ flag_in (one_of id rows)
+flag_stays flag id rows = by (has_row flag rows) refl
+  where
+    by : (there : Bool) → has_row flag rows ≡ there → flag_in (one_of id (with_default rows (filled_flag flag))) ≡ flag_in (one_of id rows)
+    by true is = rw is refl
+    by false is = ap flag_in (default_found flag id rows is) ∙ default_silent flag id (find (λ row. bytes_eq row.id id) rows)
+
+-- ---- the defaults of flags
+
+-- the id is none of these flags
+abbrev IsNoneOf : Text → List Text → Type 0
+IsNoneOf id [] = ⊤
+IsNoneOf id (flag ∷ flags) = (bytes_eq flag id ≡ false) × IsNoneOf id flags
+
+-- one that is no flag is none of a command
+no_flag_of : (command : Command) (id : Text) → IsNoneOf id all_flags → IsNoneOf id (flags_of command)
+no_flag_of (Run output) id none = none
+no_flag_of (Generate blocks) id none = tt
+no_flag_of command id none = (none.0, tt)
+
+others_text : (flags : List Text) (id : Text) (rows : List Row) → IsNoneOf id flags → one_of id (fold with_default rows (map filled_flag flags)) ≡ one_of id rows
+others_text [] id rows none = refl
+others_text (flag ∷ flags) id rows none = others_text flags id (with_default rows (filled_flag flag)) none.1 ∙ other_text flag id rows none.0
+
+flags_stay : (flags : List Text) (id : Text) (rows : List Row) → flag_in (one_of id (fold with_default rows (map filled_flag flags))) ≡ flag_in (one_of id rows)
+flags_stay [] id rows = refl
+flags_stay (flag ∷ flags) id rows = flags_stay flags id (with_default rows (filled_flag flag)) ∙ flag_stays flag id rows
+
+-- the number of blocks is no option
+own_text : (command : Command) (choices : List Choice) (id : Text) → bytes_eq (codes "blocks") id ≡ false
+    → one_of id (map row_of (uses_in command choices)) ≡ one_of id (rows_of choices)
+own_text (Generate number) choices id blocks = rw blocks refl
+own_text command choices id blocks = refl
 
 -- so the matches have of an option what its use has
-option_text : (command : Command) (choices : List Choice) (id : Text) → bytes_eq (codes "serial") id ≡ false → bytes_eq (codes "blocks") id ≡ false
+option_text : (command : Command) (choices : List Choice) (id : Text) → IsNoneOf id all_flags → bytes_eq (codes "blocks") id ≡ false
     → one_of id (rows_in command (uses_in command choices)) ≡ one_of id (rows_of choices)
-option_text Listing choices id flag blocks = ap (one_of id) (readers_default (rows_of choices)) ∙ other_text id (rows_of choices) flag
-option_text Run choices id flag blocks = ap (one_of id) (readers_default (rows_of choices)) ∙ other_text id (rows_of choices) flag
-option_text Record choices id flag blocks = ap (one_of id) (readers_default (rows_of choices)) ∙ other_text id (rows_of choices) flag
-option_text Profile choices id flag blocks = ap (one_of id) (readers_default (rows_of choices)) ∙ other_text id (rows_of choices) flag
-option_text (Timeline columns) choices id flag blocks = ap (one_of id) (timeline_default (rows_of choices)) ∙ other_text id (rows_of choices) flag
-option_text (Generate number) choices id flag blocks = ap (one_of id) (generator_default (blocks_row number ∷ rows_of choices)) ∙ rw blocks refl
+option_text command choices id none blocks =
+    let rows : List Row = map row_of (uses_in command choices) in
+    ap (one_of id) (defaults_of command rows) ∙ others_text (flags_of command) id rows (no_flag_of command id none) ∙ own_text command choices id blocks
+
+-- and say of a flag what its use says
+flag_text : (command : Command) (choices : List Choice) (id : Text) → bytes_eq (codes "blocks") id ≡ false
+    → flag_in (one_of id (rows_in command (uses_in command choices))) ≡ flag_in (one_of id (rows_of choices))
+flag_text command choices id blocks =
+    let rows : List Row = map row_of (uses_in command choices) in
+    ap (λ all. flag_in (one_of id all)) (defaults_of command rows) ∙ flags_stay (flags_of command) id rows ∙ ap flag_in (own_text command choices id blocks)
 
 -- ---- the options
 
@@ -145,6 +204,7 @@ threads_found (Threads n ∷ rest) all =
     let range : IsInRange (Threads n) = first_in (Threads n) rest all in number_found 1 16 default_threads n (omega arith) range.0 range.1 (omega arith)
 threads_found (Steps n ∷ rest) all = threads_found rest (rest_in (Steps n) rest all)
 threads_found (Serial ∷ rest) all = threads_found rest (rest_in Serial rest all)
+threads_found (WithHistory ∷ rest) all = threads_found rest (rest_in WithHistory rest all)
 threads_found (Columns n ∷ rest) all = threads_found rest (rest_in (Columns n) rest all)
 
 -- their number of steps
@@ -154,6 +214,7 @@ steps_found (Threads n ∷ rest) all = steps_found rest (rest_in (Threads n) res
 steps_found (Steps n ∷ rest) all =
     let range : IsInRange (Steps n) = first_in (Steps n) rest all in number_found 1 30000000 default_steps n (omega arith) range.0 range.1 (omega arith)
 steps_found (Serial ∷ rest) all = steps_found rest (rest_in Serial rest all)
+steps_found (WithHistory ∷ rest) all = steps_found rest (rest_in WithHistory rest all)
 steps_found (Columns n ∷ rest) all = steps_found rest (rest_in (Columns n) rest all)
 
 -- their number of columns
@@ -162,74 +223,57 @@ columns_found [] all = refl
 columns_found (Threads n ∷ rest) all = columns_found rest (rest_in (Threads n) rest all)
 columns_found (Steps n ∷ rest) all = columns_found rest (rest_in (Steps n) rest all)
 columns_found (Serial ∷ rest) all = columns_found rest (rest_in Serial rest all)
+columns_found (WithHistory ∷ rest) all = columns_found rest (rest_in WithHistory rest all)
 columns_found (Columns n ∷ rest) all =
     let range : IsInRange (Columns n) = first_in (Columns n) rest all in number_found 10 200 default_columns n (omega arith) range.0 range.1 (omega arith)
 
--- and the flag if they have it
-serial_there : (choices : List Choice) → has_row (codes "serial") (rows_of choices) ≡ serial_of choices
-serial_there [] = refl
-serial_there (Threads n ∷ rest) = serial_there rest
-serial_there (Steps n ∷ rest) = serial_there rest
-serial_there (Serial ∷ rest) = refl
-serial_there (Columns n ∷ rest) = serial_there rest
+-- and each flag if they have it
+serial_found : (choices : List Choice) → flag_in (one_of (codes "serial") (rows_of choices)) ≡ serial_of choices
+serial_found [] = refl
+serial_found (Threads n ∷ rest) = serial_found rest
+serial_found (Steps n ∷ rest) = serial_found rest
+serial_found (Serial ∷ rest) = refl
+serial_found (WithHistory ∷ rest) = serial_found rest
+serial_found (Columns n ∷ rest) = serial_found rest
 
--- its text, where it is there
-serial_text : (choices : List Choice) → serial_of choices ≡ true → one_of (codes "serial") (rows_of choices) ≡ Some (codes "true")
-serial_text [] there = cc
-serial_text (Threads n ∷ rest) there = serial_text rest there
-serial_text (Steps n ∷ rest) there = serial_text rest there
-serial_text (Serial ∷ rest) there = refl
-serial_text (Columns n ∷ rest) there = serial_text rest there
-
--- and where it is not
-serial_default : (choices : List Choice) → serial_of choices ≡ false → one_of (codes "serial") (rows_of choices ++ default_row ∷ []) ≡ Some (codes "false")
-serial_default [] none = refl
-serial_default (Threads n ∷ rest) none = serial_default rest none
-serial_default (Steps n ∷ rest) none = serial_default rest none
-serial_default (Serial ∷ rest) none = cc
-serial_default (Columns n ∷ rest) none = serial_default rest none
-
--- so with its default it is what the options say
-flag_found : (choices : List Choice) → flag_in (one_of (codes "serial") (with_default (rows_of choices) filled_serial)) ≡ serial_of choices
-flag_found choices = by (serial_of choices) refl
-  where
-    by : (there : Bool) → serial_of choices ≡ there → flag_in (one_of (codes "serial") (with_default (rows_of choices) filled_serial)) ≡ serial_of choices
-    by true is = rw (serial_there choices, is) (ap flag_in (serial_text choices is))
-    by false is = ap (λ rows. flag_in (one_of (codes "serial") rows)) (default_last (rows_of choices) (serial_there choices ∙ is)) ∙ rw is (ap flag_in (serial_default choices is))
+history_found : (choices : List Choice) → flag_in (one_of (codes "history") (rows_of choices)) ≡ has_history choices
+history_found [] = refl
+history_found (Threads n ∷ rest) = history_found rest
+history_found (Steps n ∷ rest) = history_found rest
+history_found (Serial ∷ rest) = history_found rest
+history_found (WithHistory ∷ rest) = refl
+history_found (Columns n ∷ rest) = history_found rest
 
 -- ---- what the matches of a command tell
 
 pub threads_read : (command : Command) (choices : List Choice) → All IsInRange choices
     → number_in 1 16 default_threads (one_of (codes "threads") (rows_in command (uses_in command choices))) ≡ threads_of choices
-threads_read command choices all = ap (number_in 1 16 default_threads) (option_text command choices (codes "threads") refl refl) ∙ threads_found choices all
+threads_read command choices all = ap (number_in 1 16 default_threads) (option_text command choices (codes "threads") (refl, (refl, tt)) refl) ∙ threads_found choices all
 
 pub steps_read : (command : Command) (choices : List Choice) → All IsInRange choices
     → number_in 1 30000000 default_steps (one_of (codes "steps") (rows_in command (uses_in command choices))) ≡ steps_of choices
-steps_read command choices all = ap (number_in 1 30000000 default_steps) (option_text command choices (codes "steps") refl refl) ∙ steps_found choices all
+steps_read command choices all = ap (number_in 1 30000000 default_steps) (option_text command choices (codes "steps") (refl, (refl, tt)) refl) ∙ steps_found choices all
 
 pub columns_read : (command : Command) (choices : List Choice) → All IsInRange choices
     → number_in 10 200 default_columns (one_of (codes "columns") (rows_in command (uses_in command choices))) ≡ columns_of choices
-columns_read command choices all = ap (number_in 10 200 default_columns) (option_text command choices (codes "columns") refl refl) ∙ columns_found choices all
+columns_read command choices all = ap (number_in 10 200 default_columns) (option_text command choices (codes "columns") (refl, (refl, tt)) refl) ∙ columns_found choices all
 
 pub blocks_read : (blocks : ℕ) (choices : List Choice) → 1 ≤ blocks → blocks ≤ 400
     → number_in 1 400 1 (one_of (codes "blocks") (rows_in (Generate blocks) (uses_in (Generate blocks) choices))) ≡ blocks
-blocks_read blocks choices some few = ap (λ rows. number_in 1 400 1 (one_of (codes "blocks") rows)) (generator_default (blocks_row blocks ∷ rows_of choices))
+blocks_read blocks choices some few = ap (λ rows. number_in 1 400 1 (one_of (codes "blocks") rows)) (defaults_of (Generate blocks) (blocks_row blocks ∷ rows_of choices))
     ∙ number_found 1 400 1 blocks (omega arith) some few (omega arith)
 
-pub serial_read : (command : Command) (choices : List Choice)
-    → runs_serially command (flag_in (one_of (codes "serial") (rows_in command (uses_in command choices)))) ≡ runs_serially command (serial_of choices)
-serial_read Listing choices = ap (λ rows. flag_in (one_of (codes "serial") rows)) (readers_default (rows_of choices)) ∙ flag_found choices
-serial_read Run choices = ap (λ rows. flag_in (one_of (codes "serial") rows)) (readers_default (rows_of choices)) ∙ flag_found choices
-serial_read Record choices = ap (λ rows. flag_in (one_of (codes "serial") rows)) (readers_default (rows_of choices)) ∙ flag_found choices
-serial_read Profile choices = ap (λ rows. flag_in (one_of (codes "serial") rows)) (readers_default (rows_of choices)) ∙ flag_found choices
-serial_read (Timeline columns) choices = ap (λ rows. flag_in (one_of (codes "serial") rows)) (timeline_default (rows_of choices)) ∙ flag_found choices
-serial_read (Generate blocks) choices = refl
+pub serial_read : (command : Command) (choices : List Choice) → flag_in (one_of (codes "serial") (rows_in command (uses_in command choices))) ≡ serial_of choices
+serial_read command choices = flag_text command choices (codes "serial") refl ∙ serial_found choices
+
+pub history_read : (command : Command) (choices : List Choice) → flag_in (one_of (codes "history") (rows_in command (uses_in command choices))) ≡ has_history choices
+history_read command choices = flag_text command choices (codes "history") refl ∙ history_found choices
 
 -- and they have what the command requires: the number of blocks stands before the options
 pub required_there : (command : Command) (choices : List Choice) → HasRequired command (rows_in command (uses_in command choices))
 required_there Listing choices = refl
-required_there Run choices = refl
+required_there (Run output) choices = refl
 required_there Record choices = refl
 required_there Profile choices = refl
 required_there (Timeline columns) choices = refl
-required_there (Generate blocks) choices = ap (λ rows. list_any (λ (rule : Rule). rule.required && not (is_given rule.id rows)) generator_rules) (generator_default (blocks_row blocks ∷ rows_of choices))
+required_there (Generate blocks) choices = ap (λ rows. list_any (λ (rule : Rule). rule.required && not (is_given rule.id rows)) generator_rules) (defaults_of (Generate blocks) (blocks_row blocks ∷ rows_of choices))

@@ -6,6 +6,4 @@ use Rattle.ompt_words.proofs.clap_command.ompt_command.Goals as goal
 
 pub returns-clause-app : goal.returns-clause-app
 returns-clause-app c =
-    let line2 = c.in_ok-line-2.ensures.app ∙ ap (λ line. with_subcommand line (reader (codes "show"))) c.in_ok-line.ensures.app in
-    let line3 = c.in_ok-line-3.ensures.app ∙ ap (λ line. with_subcommand line (reader (codes "migrate"))) line2 in
-    IfOk-weaker c.with_reader-3.result _ _ (λ command is. is ∙ ap (λ line. with_subcommand line (reader (codes "check"))) line3) c.with_reader-3.ensures.app
+    IfOk-weaker c.with_reader.result _ _ (λ command is. is ∙ ap (λ line. with_subcommand line (reader (codes "rerun"))) c.in_ok-line.ensures.app) c.with_reader.ensures.app

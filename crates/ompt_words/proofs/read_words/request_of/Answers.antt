@@ -10,7 +10,7 @@ use Rattle.ompt_words.specs.declared.settings.Command.TheVariants.{List as Listi
 use Rattle.ompt_words.proofs.Choices.{asked_wish, form_clean, own_command, own_read, read_clean, read_once, read_taken}
 use Rattle.ompt_words.proofs.Faults.{asking_words, command_found, command_read, exact, generator_read, only_memory, same_fault, settings_read, text_or_memory, wish_is_fault, wrong_words}
 use Rattle.ompt_words.proofs.Levels.{listing_left}
-use Rattle.ompt_words.proofs.read_words.request_of.Goals.{in-check, in-gen, in-migrate, in-profile, in-record, in-run, in-show, in-timeline, in_default-name}
+use Rattle.ompt_words.proofs.read_words.request_of.Goals.{in-check, in-gen, in-migrate, in-profile, in-record, in-rerun, in-run, in-show, in-timeline, in_default-name}
 use Rattle.ompt_words.proofs.read_words.request_of.Goals as goal
 
 pub returns-in-Err-clause-usage : goal.returns-in-Err-clause-usage
@@ -55,12 +55,13 @@ returns-clause-read c =
       | in-show w ↦ subst (AreReadAs words) (sym w.result-is) (command_read words name (rows_of rows) (codes "show") clean found w.in-show.is)
       | in-migrate w ↦ subst (AreReadAs words) (sym w.result-is) (command_read words name (rows_of rows) (codes "migrate") clean found w.in-migrate.is)
       | in-check w ↦ subst (AreReadAs words) (sym w.result-is) (command_read words name (rows_of rows) (codes "check") clean found w.in-check.is)
+      | in-rerun w ↦ subst (AreReadAs words) (sym w.result-is) (command_read words name (rows_of rows) (codes "rerun") clean found w.in-rerun.is)
       | in-gen w ↦ subst (AreReadAs words) (sym w.result-is)
           (generator_read words name rows w.generator_settings.result clean found w.in-gen.is w.generator_settings.ensures.command
           w.generator_settings.ensures.threads w.generator_settings.ensures.steps w.generator_settings.ensures.serial
           w.generator_settings.ensures.some w.generator_settings.ensures.few)
       | in-run w ↦ subst (AreReadAs words) (sym w.result-is)
-          (settings_read words name rows w.settings_in.result Run clean found w.in-run.is w.settings_in.ensures.command tt
+          (settings_read words name rows w.settings_in.result (Run w.output_in.result) clean found w.in-run.is w.settings_in.ensures.command w.output_in.ensures
           w.settings_in.ensures.threads w.settings_in.ensures.steps w.settings_in.ensures.serial
           w.settings_in.ensures.some w.settings_in.ensures.few w.settings_in.ensures.some_steps w.settings_in.ensures.few_steps)
       | in-record w ↦ subst (AreReadAs words) (sym w.result-is)
@@ -76,7 +77,7 @@ returns-clause-read c =
           w.settings_in-in-timeline.ensures.threads w.settings_in-in-timeline.ensures.steps w.settings_in-in-timeline.ensures.serial
           w.settings_in-in-timeline.ensures.some w.settings_in-in-timeline.ensures.few w.settings_in-in-timeline.ensures.some_steps w.settings_in-in-timeline.ensures.few_steps)
       | in_default-name w ↦
-          let list = listing_left words name (rows_of rows) found w.in_default-name.not-show w.in_default-name.not-migrate w.in_default-name.not-check w.in_default-name.not-gen
+          let list = listing_left words name (rows_of rows) found w.in_default-name.not-show w.in_default-name.not-migrate w.in_default-name.not-check w.in_default-name.not-rerun w.in_default-name.not-gen
           w.in_default-name.not-run w.in_default-name.not-record w.in_default-name.not-profile w.in_default-name.not-timeline in
           subst (AreReadAs words) (sym w.result-is)
           (settings_read words name rows w.settings_in-in_default-name.result Listing clean found list w.settings_in-in_default-name.ensures.command tt
