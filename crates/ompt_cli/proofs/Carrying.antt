@@ -49,7 +49,7 @@ nothing-appended : (held : Option (List ℕ)) → Appends held held []
 nothing-appended None = tt
 nothing-appended (Some bytes) = sym (append-nil bytes)
 
-nothing-kept : (held : Option (List ℕ)) → Keeps held held
+pub nothing-kept : (held : Option (List ℕ)) → Keeps held held
 nothing-kept None = tt
 nothing-kept (Some bytes) = refl
 

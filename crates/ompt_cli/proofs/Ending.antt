@@ -3,7 +3,7 @@ use Rattle.std.proofs.Common.{◌≡◌, ℕ, ◌≤◌, List, ◌++◌, length,
 use Rattle.run_edges.specs.Edges.{ConsumesMore}
 use Rattle.ompt_cli.specs.Text.{IsProgram}
 
-longer : (xs given rest : List ℕ) → xs ≡ given ++ rest → length given ≤ length xs
+pub longer : (xs given rest : List ℕ) → xs ≡ given ++ rest → length given ≤ length xs
 longer xs given rest same = omega (arith, ap length same, length-append given rest)
 
 -- the text of a program isn't longer than any text may be
