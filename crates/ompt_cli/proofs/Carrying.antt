@@ -21,18 +21,16 @@ use Rattle.ompt_cli.specs.declared.end.End.{End}
 use Rattle.ompt_cli.specs.declared.end.End.TheVariants as end
 use Rattle.ompt_cli.specs.declared.end.Refusal.{Refusal}
 use Rattle.ompt_cli.specs.declared.report.Report.{Report}
-use Rattle.ompt_cli.specs.Commands.{CountsFaults, EndsAs, HasGuests, HasWritten, IsAfterRun, IsBeforeRun, IsReading, IsShowing, IsUnread, MayRefuse, MayRun, out_of, run_of, run_text, settings_in, written_by}
+use Rattle.ompt_cli.specs.Commands.{CountsFaults, EndsAs, HasGuests, HasWritten, IsAfterRun, IsBeforeRun, IsReading, IsShowing, IsUnread, MayRefuse, MayRun, out_of, run_of, run_text, settings_in}
 use Rattle.ompt_cli.specs.Job.{JobView}
 use Rattle.omp_model.specs.declared.cause.Cause.TheVariants as causes
 use Rattle.run_trace.specs.TraceOf.{trace_of}
 use Rattle.trace_format.specs.Validity.{IsTrace}
 use Rattle.c_syntax.specs.language.Numbered.{TreeView}
 use Rattle.history_file.specs.declared.file.HistoryFile.{HistoryFile}
-use Rattle.history_file.specs.Certificates.{IsCertificate, run_of_file}
-use Rattle.history_file.specs.Fields.{fields_of as history_fields, spelling as history_spelling}
 use Rattle.history_file.specs.Validity.{WritesHistory}
 use Rattle.ompt_words.specs.declared.settings.RunOutput.TheVariants as output
-use Rattle.ompt_cli.specs.Histories.{MayCertify, file_of_report}
+use Rattle.ompt_cli.specs.Histories.{Certifies, MayCertify}
 use Rattle.ompt_cli.specs.Reports.{HasCertificate, HasRun, Reports}
 use Rattle.ompt_cli.specs.Text.{IsProgram, IsRefused, Spells, text_for}
 use Rattle.ompt_cli.specs.Top.{CarriesOut, HasTrace, IsRunOf}
@@ -41,7 +39,8 @@ use Rattle.ompt_cli.specs.Words.{AreFaulty, AreInRange, AreTakenAs, AskFor, AskF
 use Rattle.ompt_cli.proofs.Finishing.{finished}
 use Rattle.ompt_cli.proofs.NestedRuns.{nested-run}
 use Rattle.ompt_cli.proofs.Telling.{after-may, after-run, ends-found, ends-told, is-none, lost-read, lost-write, none-if, same-settings, settings-as, spelled-as, text-as}
-use Rattle.ompt_cli.proofs.Recorded.{ends-found as found-of, unless-found}
+use Rattle.ompt_cli.proofs.Filing.{filed-text}
+use Rattle.ompt_cli.proofs.Recorded.{ends-found as found-of}
 use Rattle.ompt_cli.proofs.Traced.{trace_unbroken, trace_unrefused}
 
 -- nothing is appended where nothing changed, and nothing is written
@@ -56,11 +55,6 @@ nothing-kept (Some bytes) = refl
 nothing-written : (told : End) (held : Option (List ℕ)) → told ≢ end.WriteFault → HasWritten told [] held held
 nothing-written told held other =
     record { listed = λ whole memory. nothing-appended held; part = λ is. absurd (other is); kept = λ is. nothing-kept held }
-
--- what is written of a run that ended so is its history file
-file-written : {Table : Type 0} {Behind : Table → Type 0} (report : Report Table Behind) (told : End) → EndsAs report.cause told → told ≢ end.Memory → report.command ≡ Running output.History → run_text (Some report) ≡ history_spelling (history_fields (file_of_report report))
-file-written report told ends memory is =
-    unless-found report.cause _ (found-of report.cause told ends memory) ∙ ap (λ (command : Command). written_by command report.program.text (run_of report) report.cause report.history) is
 
 module _ {S O : Type 0} (left : S → Option (List ℕ)) (reads_failed : S → ℕ) (held : O → Option (List ℕ)) (writes_failed : O → ℕ) (words : List (List ℕ)) where
   -- words that are read as settings ask for no others, and for no trace to be read
@@ -113,7 +107,7 @@ module _ {S O : Type 0} (left : S → Option (List ℕ)) (reads_failed : S → �
                 nested-run (run_of report) report.history report.cause (subst (λ (n : ℕ). 1 ≤ n) (sym threads) some) (subst (λ (n : ℕ). n ≤ 16) (sym threads) few) (r.stays (λ guests. other (subst HasGuests (sym r.observes.command_is) guests))).mask_is
                 (job.text, subst (λ (tree : TreeView). Spells job.text tree) (sym r.observes.program_is) spelled) r.observes.to.legal (r.observes.to.ends found) (r.observes.to.outside found);
             history_file = λ whole memory is.
-                record { is_file = (filed whole memory (sym r.observes.command_is ∙ is)).is_file; bytes_are = file-written report told ends memory is };
+                record { is_file = (filed whole memory (sym r.observes.command_is ∙ is)).is_file; bytes_are = sym (filed-text report is (found-of report.cause told ends memory)) };
             certificate = λ whole memory is. (filed whole memory (sym r.observes.command_is ∙ is)).certificate;
           }
 
@@ -229,7 +223,7 @@ module _ {S O : Type 0} (left : S → Option (List ℕ)) (reads_failed : S → �
     command-is other (inr read) = let same = taken.exact (request.Read other) read in cc
 
     pub read_carried : {Table : Type 0} {Behind : Table → Type 0} (told : End) (source source_now : S) (out out_now : O) → IsReading told → HasRead command told (left source) (left source_now) (held out) (held out_now) → (command ≡ reads.Migrate → told ≢ end.Memory)
-        → (command ≡ reads.Rerun → (file : HistoryFile) (program : TreeView) → IsSomeAnd (left source) (WritesHistory file) → Spells file.text program → IsCertificate (run_of_file program file) file → MayCertify told)
+        → (command ≡ reads.Rerun → (file : HistoryFile) → IsSomeAnd (left source) (WritesHistory file) → Certifies file → MayCertify told)
         → CountsFaults told end.ReadFault (reads_failed source) (reads_failed source_now) → CountsFaults told end.WriteFault (writes_failed out) (writes_failed out_now)
         → CarriesOut {Table = Table} {Behind = Behind} left reads_failed held writes_failed words told None (Some command) None source source_now out out_now
     read_carried told source source_now out out_now reading copied memory certified read_faults write_faults =

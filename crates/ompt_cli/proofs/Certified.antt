@@ -1,15 +1,15 @@
 -- What is said of a history file that was read, by how its command ended.
-use Rattle.std.proofs.Common.{◌≡◌, ◌≢◌, ℕ, ◌≤◌, ◌⊎◌, inl, inr, List, [], ◌∷◌, ◌++◌, length, map, Option, Some, None, IfSome, IsSomeAnd, refl, sym, ap, subst, ◌∙◌, arith}
+use Rattle.std.proofs.Common.{◌≡◌, ℕ, ◌⊎◌, inl, inr, List, [], ◌∷◌, ◌++◌, map, Option, Some, None, IfSome, IsSomeAnd, refl, sym, ap, subst, ◌∙◌, arith}
 use Rattle.std.proofs.lemmas.List.{append-nil}
-use Rattle.std.specs.Io.KnownBytes.{Consumes, IsAtEnd, Keeps}
+use Rattle.std.specs.Io.KnownBytes.{Consumes, IsAtEnd}
 use Rattle.run_edges.specs.Edges.{ConsumesMore}
 use Rattle.c_syntax.specs.language.Numbered.{TreeView}
 use Rattle.ompt_calls.specs.Item.{Item}
+use Rattle.ompt_calls.specs.Line.{line_text}
 use Rattle.omp_model.specs.Records.{lines_of, record_of}
 use Rattle.history_file.specs.declared.file.HistoryFile.{HistoryFile}
 use Rattle.history_file.specs.declared.file.TheConstants.{HISTORY_LIMIT}
 use Rattle.history_file.specs.declared.reason.HistoryReason.TheVariants.{TooLong}
-use Rattle.history_file.specs.Certificates.{IsCertificate, run_of_file}
 use Rattle.history_file.specs.Refusing.{IsHistoryRefused}
 use Rattle.history_file.specs.Validity.{WritesHistory}
 use Rattle.history_file.specs.Verdicts.{heard_call}
@@ -19,7 +19,7 @@ use Rattle.ompt_cli.specs.declared.end.End.TheVariants as end
 use Rattle.ompt_cli.specs.declared.end.Refusal.{Refusal}
 use Rattle.ompt_cli.specs.Commands.{HasWritten, IsBeforeRun, IsReading, MayRun}
 use Rattle.ompt_cli.specs.Histories.{HasRerun, IsCertified, IsUnreadFile, MayCertify, heard_text, lines_of_calls}
-use Rattle.ompt_cli.specs.Text.{IsRefused, Spells}
+use Rattle.ompt_cli.specs.Text.{IsRefused}
 use Rattle.ompt_cli.proofs.Carrying.{nothing-kept}
 use Rattle.ompt_cli.proofs.Ending.{longer}
 
@@ -42,7 +42,7 @@ so-left P (Some text) bytes is so = subst P is so
 pub too-long : (left rest : Option (List ℕ)) → ConsumesMore left rest HISTORY_LIMIT → IfSome left (λ bytes. IsHistoryRefused bytes TooLong HISTORY_LIMIT)
 too-long None rest more = tt
 too-long (Some text) None more = absurd more.2
-too-long (Some text) (Some rest) more = inl (omega (arith, longer text more.0 rest more.2, more.1), refl, refl)
+too-long (Some text) (Some rest) more = inl (record { long = omega (arith, longer text more.0 rest more.2, more.1); reason_is = refl; offset_is = refl })
 
 pub never-long : (left rest : Option (List ℕ)) (file : HistoryFile) → IsSomeAnd left (WritesHistory file) → ConsumesMore left rest HISTORY_LIMIT → ⊥
 never-long None rest file is more = is
@@ -125,7 +125,7 @@ may-certify end.WriteFault before may = absurd before
 -- the lines of the calls are those of the records
 pub lines-heard : (items : List Item) → lines_of_calls (map heard_call items) ≡ lines_of (map record_of items)
 lines-heard [] = refl
-lines-heard (item ∷ items) = ap (λ (rest : List ℕ). _ ++ rest) (lines-heard items)
+lines-heard (item ∷ items) = ap (λ (rest : List ℕ). line_text item.seq item.thread item.call ++ rest) (lines-heard items)
 
 -- what is written of a certificate
 pub written-rerun : (left held after : Option (List ℕ)) (file : HistoryFile) (program : TreeView) (told : End) → (told ≡ end.Read) ⊎ ((told ≡ end.WriteFault) ⊎ (told ≡ end.Memory)) → IsCertified left file program

@@ -12,4 +12,6 @@ pub mod Telling
 pub mod Recorded
 pub mod Traced
 pub mod NestedRuns
+pub mod Filing
 pub mod Carrying
+pub mod Certified

@@ -16,7 +16,7 @@ use Rattle.ompt_cli.specs.declared.end.End.{End}
 use Rattle.ompt_cli.specs.declared.end.End.TheVariants.{HistoryRefused, Illegal, Memory, Read, ReadFault, Refused, WriteFault}
 use Rattle.ompt_cli.specs.declared.report.Report.{Report}
 use Rattle.ompt_cli.specs.Commands.{run_of}
-use Rattle.ompt_cli.specs.Text.{IsRefused, Spells}
+use Rattle.ompt_cli.specs.Text.{IsProgram, IsRefused, Spells}
 
 -- the history file of the run that is reported
 abbrev pub file_of_report : {Table : Type 0} {Behind : Table → Type 0} → Report Table Behind → HistoryFile
@@ -65,6 +65,10 @@ IsUnreadFile left (HistoryRefused reason offset) = IfSome left (λ bytes. IsHist
 IsUnreadFile left ReadFault = ⊤
 IsUnreadFile left Memory = ⊤
 IsUnreadFile left other = ⊥
+
+-- the text of the file is a program, and the file is a certificate of it, however its nodes are numbered
+abbrev pub Certifies : HistoryFile → Type 0
+Certifies file = IsProgram file.text × ((program : TreeView) → Spells file.text program → IsCertificate (run_of_file program file) file)
 
 -- what may be said of a certificate: that it is one, unless a read, a write or memory fails
 abbrev pub MayCertify : End → Type 0

@@ -1,14 +1,11 @@
 -- What a report says of its run.
-use Rattle.std.specs.Prelude.{ℕ, ◌≤◌, ◌≡◌, ◌≢◌, List, [], Option, Some, IfSome, IsNone, true}
+use Rattle.std.specs.Prelude.{ℕ, ◌≤◌, ◌≡◌, ◌≢◌, List, Option, IfSome, IsNone}
 use Rattle.omp_codes.specs.declared.callbacks.TheConstants.{PROFILE_MASK}
-use Rattle.tool_api.specs.Registering.{AreAlways}
 use Rattle.omp_model.specs.declared.cause.Cause.TheVariants as cause
-use Rattle.omp_model.specs.Cause.{cause_of}
-use Rattle.omp_model.specs.Legal.{Legal, after}
+use Rattle.omp_model.specs.Legal.{after}
 use Rattle.omp_model.specs.Records.{records_of}
 use Rattle.ompt_calls.specs.declared.event.EventRecord.{EventRecord}
 use Rattle.tool_report.specs.Order.{AreKept}
-use Rattle.omp_model.specs.Serial.{Serial, serial}
 use Rattle.tool_api.specs.Record.{Record}
 use Rattle.team_run.specs.Serving.{AreSame}
 use Rattle.team_run.specs.Standing.{HearsOwn, HearsSilent}

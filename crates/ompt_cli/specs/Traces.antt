@@ -15,12 +15,9 @@ use Rattle.trace_copy.specs.declared.form.Form.TheVariants.{Lines, SecondVersion
 use Rattle.trace_copy.specs.Copying.{HasCopied}
 use Rattle.ompt_words.specs.declared.settings.ReadCommand.{ReadCommand}
 use Rattle.ompt_words.specs.declared.settings.ReadCommand.TheVariants.{Check, Migrate, Rerun, Show}
-use Rattle.c_syntax.specs.language.Numbered.{TreeView}
 use Rattle.history_file.specs.declared.file.HistoryFile.{HistoryFile}
-use Rattle.history_file.specs.Certificates.{IsCertificate, run_of_file}
 use Rattle.history_file.specs.Validity.{WritesHistory}
-use Rattle.ompt_cli.specs.Histories.{HasRerun, MayCertify}
-use Rattle.ompt_cli.specs.Text.{Spells}
+use Rattle.ompt_cli.specs.Histories.{Certifies, HasRerun, MayCertify}
 use Rattle.ompt_cli.specs.declared.end.End.{End}
 use Rattle.ompt_cli.specs.declared.end.End.TheVariants.{Read, TraceRefused, Broken, ReadFault, WriteFault, Memory}
 
@@ -67,4 +64,4 @@ pub record HasReadTrace (command : ReadCommand) (end : End) (left rest held afte
   pub unrefused : (trace : Trace) → IsSomeAnd left (Writes trace) → (refusal : Refusal) → end ≢ TraceRefused refusal
   pub unbroken : (trace : Trace) → IsSomeAnd left (Writes trace) → IsNested trace → (breach : Breach) → end ≢ Broken breach
   pub migrated : command ≡ Migrate → end ≢ Memory
-  pub certified : command ≡ Rerun → (file : HistoryFile) (program : TreeView) → IsSomeAnd left (WritesHistory file) → Spells file.text program → IsCertificate (run_of_file program file) file → MayCertify end
+  pub certified : command ≡ Rerun → (file : HistoryFile) → IsSomeAnd left (WritesHistory file) → Certifies file → MayCertify end

@@ -67,10 +67,7 @@ impl End {
             End::Shown | End::Read => 0,
             End::Usage => 2,
             End::Refused(_) => 3,
-            End::TraceRefused(_)
-            | End::HistoryRefused(..)
-            | End::Broken(_)
-            | End::Illegal(_) => 7,
+            End::TraceRefused(_) | End::HistoryRefused(..) | End::Broken(_) | End::Illegal(_) => 7,
             End::ReadFault => 8,
             End::WriteFault => 9,
             End::Memory => 10,

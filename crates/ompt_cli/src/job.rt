@@ -3,6 +3,7 @@
 ghost use Rattle.std.specs.Prelude.{◌≡◌, ◌≤◌, IfOk, length};
 
 use crate::loaded::Loaded;
+use history_file::FileText;
 use std::alloc::{AllocError, Global};
 use std::marker::Model;
 
@@ -51,11 +52,11 @@ impl Job {
     }
 
     /// The program's text once more.
-    pub fn copied_text(&self, alloc: Global) -> Result<Vec<u8>, AllocError>
-        ensures { IfOk result (λ text. text.items ≡ self.now.text) }
+    pub fn copied_text(&self, alloc: Global) -> Result<FileText, AllocError>
+        ensures { IfOk result (λ text. text ≡ self.now.text) }
     {
         let mut text = Vec::new(alloc);
         text.extend_from_slice(self.loaded.text.as_slice())?;
-        Ok(text)
+        Ok(FileText(text))
     }
 }

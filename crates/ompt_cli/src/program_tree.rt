@@ -24,8 +24,7 @@ impl Model for ProgramTree {
 impl ProgramTree {
     /// The tree of the program, with its text.
     pub(crate) fn of(_loaded: &Loaded) -> ProgramTree
-        ensures tree { result.tree ≡ _loaded.now.program }
-        ensures text { result.text ≡ _loaded.now.text.items }
+        ensures { (result.tree ≡ _loaded.now.program) × (result.text ≡ _loaded.now.text.items) }
     {
         ProgramTree {}
     }

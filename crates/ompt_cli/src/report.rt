@@ -3,7 +3,7 @@
 use crate::end::End;
 use crate::program_tree::ProgramTree;
 use omp_model::{Cause, History};
-use ompt_words::{Command, Settings, ReadCommand};
+use ompt_words::{Command, ReadCommand, Settings};
 use tool_api::GuestTool;
 
 /// What a command reports of its run.

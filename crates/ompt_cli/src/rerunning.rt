@@ -1,15 +1,13 @@
 //! The command `rerun`: it reads a history file, and says whether it is a certificate.
 
-ghost use Rattle.std.specs.Prelude.{ℕ, ◌≡◌, ◌≢◌, ◌⊎◌, ◌++◌, Err, IfErr, IfOk, IfSome, IsSomeAnd, List, MatchResult, Option, Some, length};
+ghost use Rattle.std.specs.Prelude.{ℕ, ◌<◌, ◌^◌, ◌≡◌, ◌≢◌, ◌⊎◌, ◌++◌, Err, IfErr, IfOk, IfSome, IsSomeAnd, List, MatchResult, Option, Some, length};
 ghost use Rattle.run_edges.specs.Edges.{Rose};
-ghost use Rattle.c_syntax.specs.language.Numbered.{TreeView};
 ghost use Rattle.trace_copy.specs.Written.{line_of_end as line_of_mark};
 ghost use Rattle.history_file.specs.declared.file.HistoryFile.{HistoryFile as SeenFile};
 ghost use Rattle.history_file.specs.Certificates.{IsCertificate, run_of_file};
 ghost use Rattle.history_file.specs.Validity.{IsHistoryFile, WritesHistory};
 ghost use Rattle.ompt_cli.specs.Commands.{CountsFaults, HasWritten, IsReading};
-ghost use Rattle.ompt_cli.specs.Histories.{HasFile, HasRerun, IsUnreadFile, MayCertify, lines_of_calls};
-ghost use Rattle.ompt_cli.specs.Text.{Spells};
+ghost use Rattle.ompt_cli.specs.Histories.{Certifies, HasFile, HasRerun, IsUnreadFile, MayCertify, lines_of_calls};
 
 use crate::end::End;
 use crate::text::program_of;
@@ -26,15 +24,10 @@ use trace_format::EndMark;
 
 /// Reads a history file from the source, and says whether it is a certificate: where it is, the calls that were heard are written, a line each, and how
 /// the run ended.
-pub(crate) fn rerun_history<S: Source, O: Sink>(
-    alloc: Global,
-    source: &mut S,
-    out: &mut O,
-) -> End
+pub(crate) fn rerun_history<S: Source, O: Sink>(alloc: Global, source: &mut S, out: &mut O) -> End
     ensures end { IsReading result }
     ensures rerun { HasRerun result (S.left source.old) (O.held out.old) (O.held out.new) }
-    ensures certified { (file : SeenFile) (program : TreeView) → IsSomeAnd (S.left source.old) (WritesHistory file) → Spells file.text program →
-        IsCertificate (run_of_file program file) file → MayCertify result }
+    ensures certified { (file : SeenFile) → IsSomeAnd (S.left source.old) (WritesHistory file) → Certifies file → MayCertify result }
     ensures reads { CountsFaults result End.ReadFault (S.faults source.old) (S.faults source.new) }
     ensures writes { CountsFaults result End.WriteFault (O.faults out.old) (O.faults out.new) }
 {
@@ -55,7 +48,10 @@ fn read_file<S: Source>(alloc: Global, source: &mut S) -> Result<HistoryFile, En
 {
     match read_all(alloc, source, HISTORY_LIMIT) {
         Ok(bytes) => file_of_bytes(alloc, &bytes),
-        Err(ReadAllFault::TooLong) => Err(End::HistoryRefused(HistoryReason::TooLong, u64::from(HISTORY_LIMIT))),
+        Err(ReadAllFault::TooLong) => Err(End::HistoryRefused(
+            HistoryReason::TooLong,
+            u64::from(HISTORY_LIMIT),
+        )),
         Err(ReadAllFault::ReadFault) => Err(End::ReadFault),
         Err(ReadAllFault::Memory) => Err(End::Memory),
     }
@@ -82,7 +78,7 @@ fn judge<O: Sink>(alloc: Global, file: &HistoryFile, out: &mut O) -> End
     ensures end { IsReading result }
     ensures faultless { result ≢ End.ReadFault }
     ensures rerun { (left : Option (List ℕ)) → IfSome left (WritesHistory file.now) → HasRerun result left (O.held out.old) (O.held out.new) }
-    ensures certified { (program : TreeView) → Spells file.now.text program → IsCertificate (run_of_file program file.now) file.now → MayCertify result }
+    ensures certified { Certifies file.now → MayCertify result }
     ensures writes { CountsFaults result End.WriteFault (O.faults out.old) (O.faults out.new) }
 {
     match program_of(alloc, file.text.bytes()) {
@@ -92,12 +88,7 @@ fn judge<O: Sink>(alloc: Global, file: &HistoryFile, out: &mut O) -> End
 }
 
 /// Judges a history file whose text spells this program.
-fn judge_program<O: Sink>(
-    alloc: Global,
-    program: Program,
-    file: &HistoryFile,
-    out: &mut O,
-) -> End
+fn judge_program<O: Sink>(alloc: Global, program: Program, file: &HistoryFile, out: &mut O) -> End
     requires { IsHistoryFile file.now }
     ensures end { IsReading result }
     ensures faultless { result ≢ End.ReadFault }
@@ -129,6 +120,7 @@ fn write_heard<O: Sink>(made: Result<Vec<u8>, AllocError>, out: &mut O) -> End
 
 /// A line for each call that was heard, and one for how the run of the file ended.
 fn heard_text(alloc: Global, file: &HistoryFile, calls: &[HeardCall]) -> Result<Vec<u8>, AllocError>
+    requires { length file.now.history < 2 ^ 32 }
     ensures { IfOk result (λ text. text.items ≡ lines_of_calls calls.now ++
         line_of_mark (record { status = file.now.status; detail = file.now.detail; count = length file.now.history })) }
 {

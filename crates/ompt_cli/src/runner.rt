@@ -176,6 +176,13 @@ impl<'a, R: Threads + Wait + Sync> Runner for WithThreads<'a, R> {
         job: Job,
         parts: Vec<Handed<GuestPart>>,
     ) -> Result<Observed<Handed<GuestPart>>, AllocError> {
-        observe(self.0, alloc, Command::Run(output), job, parts, Vec::new(alloc))
+        observe(
+            self.0,
+            alloc,
+            Command::Run(output),
+            job,
+            parts,
+            Vec::new(alloc),
+        )
     }
 }

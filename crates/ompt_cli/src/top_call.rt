@@ -15,7 +15,7 @@ use crate::report::{ByThreads, Top};
 use crate::runner::{Alone, WithThreads};
 use crate::settings_run::run_settings;
 use crate::trace_commands::read_input;
-use ompt_words::{Request, ReadCommand, WordsFault, request_of};
+use ompt_words::{ReadCommand, Request, WordsFault, request_of};
 use run_edges::{Sink, Source, write_all};
 use std::alloc::Global;
 use std::sync::Wait;

@@ -4,12 +4,9 @@ ghost use Rattle.std.specs.Prelude.{◌≡◌, ◌≢◌, ◌⊎◌, IsSomeAnd};
 ghost use Rattle.std.specs.Io.KnownBytes.{Appends};
 ghost use Rattle.run_edges.specs.Edges.{AppendsFront};
 ghost use Rattle.ompt_cli.specs.Commands.{CountsFaults, IsReading};
-ghost use Rattle.c_syntax.specs.language.Numbered.{TreeView};
 ghost use Rattle.history_file.specs.declared.file.HistoryFile.{HistoryFile as SeenFile};
-ghost use Rattle.history_file.specs.Certificates.{IsCertificate, run_of_file};
 ghost use Rattle.history_file.specs.Validity.{WritesHistory};
-ghost use Rattle.ompt_cli.specs.Histories.{MayCertify};
-ghost use Rattle.ompt_cli.specs.Text.{Spells};
+ghost use Rattle.ompt_cli.specs.Histories.{Certifies, MayCertify};
 ghost use Rattle.ompt_cli.specs.Traces.{HasJudged, HasRead, HasCopy, ok_text};
 
 use crate::end::End;
@@ -30,8 +27,8 @@ pub(crate) fn read_input<S: Source, O: Sink>(
     ensures end { IsReading result }
     ensures copied { HasRead command result (S.left source.old) (S.left source.new) (O.held out.old) (O.held out.new) }
     ensures memory { command ≡ ReadCommand.Migrate → result ≢ End.Memory }
-    ensures certified { command ≡ ReadCommand.Rerun → (file : SeenFile) (program : TreeView) → IsSomeAnd (S.left source.old) (WritesHistory file) →
-        Spells file.text program → IsCertificate (run_of_file program file) file → MayCertify result }
+    ensures certified { command ≡ ReadCommand.Rerun → (file : SeenFile) → IsSomeAnd (S.left source.old) (WritesHistory file) →
+        Certifies file → MayCertify result }
     ensures reads { CountsFaults result End.ReadFault (S.faults source.old) (S.faults source.new) }
     ensures writes { CountsFaults result End.WriteFault (O.faults out.old) (O.faults out.new) }
 {

@@ -5,7 +5,7 @@ use Rattle.ompt_cli.proofs.run.serve.Goals as goal
 
 pub returns-clause-observes : goal.returns-clause-observes
 returns-clause-observes g c =
-    let observes = c.in_ok-run_guests.ensures.observes in
+    let observes = c.in_ok-report.ensures.observes in
     record {
       command_is = observes.command_is;
       program_is = observes.program_is;
@@ -18,11 +18,11 @@ returns-clause-observes g c =
 
 pub returns-clause-guests : goal.returns-clause-guests
 returns-clause-guests g c =
-    let report = c.in_ok-run_guests.value.report in
-    let has = c.in_ok-run_guests.ensures in
+    let report = c.in_ok-report.field-0.report in
+    let has = c.in_ok-report.ensures in
     let same : c.args.job.threads ≡ c.job.inside.threads = rw (← c.job.view_is) refl in
     let threads = has.observes.threads_are ∙ same in
-    let parts = c.in_ok-hand_out_all.value.parts.items in
-    let after = c.in_ok-run_guests.value.parts.items in
+    let parts = c.in_ok-parts.field-0.parts.items in
+    let after = c.in_ok-report.field-0.parts.items in
     rw c.take_back_all.ensures
-    (guests-serve (λ guest. guest.0) _ (λ guest other. guest.vtable ≡ other.vtable) (λ guest. refl) report.serial (run_of report) report.cause report.history c.args.guests.items parts after _ (subst (λ (n : ℕ). 1 ≤ n) (sym threads) c.job.invariant.0) (c.in_ok-hand_out_all.ensures.each ∙ sym threads) c.in_ok-hand_out_all.ensures.handed has.same has.runs)
+    (guests-serve (λ guest. guest.0) _ (λ guest other. guest.vtable ≡ other.vtable) (λ guest. refl) report.serial (run_of report) report.cause report.history c.args.guests.items parts after _ (subst (λ (n : ℕ). 1 ≤ n) (sym threads) c.job.invariant.0) (c.in_ok-parts.ensures.each ∙ sym threads) c.in_ok-parts.ensures.handed has.same has.runs)

@@ -1,0 +1,55 @@
+-- What a history file of a run is, and that it is a certificate of the run.
+use Rattle.std.proofs.Common.{◌≡◌, ◌≢◌, ◌≤◌, ◌⊎◌, inl, inr, ℕ, List, length, Option, Some, None, refl, sym, ap, subst, ◌∙◌}
+use Rattle.omp_model.specs.declared.cause.Cause.{Cause}
+use Rattle.omp_model.specs.declared.cause.Cause.TheVariants as causes
+use Rattle.run_trace.specs.TraceOf.{FitsCause, detail_of, status_of}
+use Rattle.history_file.specs.Fields.{fields_of as history_fields, spelling as history_spelling}
+use Rattle.history_file.specs.Fitting.{FitsFile}
+use Rattle.history_file.proofs.OfRuns.{files_of_runs}
+use Rattle.ompt_words.specs.declared.settings.Command.{Command}
+use Rattle.ompt_words.specs.declared.settings.Command.TheVariants.{Run as Running}
+use Rattle.ompt_words.specs.declared.settings.RunOutput.TheVariants as output
+use Rattle.ompt_cli.specs.declared.end.End.{End}
+use Rattle.ompt_cli.specs.declared.end.End.TheVariants as end
+use Rattle.ompt_cli.specs.declared.report.Report.{Report}
+use Rattle.ompt_cli.specs.Commands.{EndsAs, run_of, run_text, written_by}
+use Rattle.ompt_cli.specs.Histories.{file_of_report}
+use Rattle.ompt_cli.specs.Reports.{HasCertificate}
+use Rattle.ompt_cli.specs.Runs.{RunsTo}
+use Rattle.ompt_cli.proofs.Recorded.{unless-found}
+
+-- a cause that has an end in a file isn't want of memory
+pub found-by : (cause : Cause) (result : Option (ℕ × ℕ)) (status detail : ℕ) → result ≡ Some (status, detail) → (cause ≡ causes.Memory → result ≡ None) → cause ≢ causes.Memory
+found-by cause result status detail is none memory = let other = sym is ∙ none memory in cc
+
+-- the end of a file that was written, or of which a write failed
+pub ended-as : (cause : Cause) (told : End) → cause ≢ causes.Memory → (told ≡ end.Ended cause) ⊎ (told ≡ end.WriteFault) → EndsAs cause told
+ended-as cause told found (inl is) = subst (EndsAs cause) (sym is) (refl, found)
+ended-as cause told found (inr is) = subst (EndsAs cause) (sym is) found
+
+module _ {Table : Type 0} {Behind : Table → Type 0} (report : Report Table Behind) where
+  -- the file that was made is that of the report
+  pub file-is : (text : List ℕ) (result : Option (ℕ × ℕ)) (status detail : ℕ) → report.program.text ≡ text → result ≡ Some (status, detail) → result ≡ Some (status_of report.cause, detail_of report.cause)
+      → record { threads = report.threads; mask = report.mask; steps = report.steps; text = text; history = report.history; status = status; detail = detail } ≡ file_of_report report
+  file-is text result status detail text_is is of =
+      let ends = pair-is (status, detail) (status_of report.cause, detail_of report.cause) (sym is ∙ of) in
+      rw (text_is, ends.0, ends.1) refl
+    where
+      pair_of : Option (ℕ × ℕ) → ℕ × ℕ
+      pair_of None = (0, 0)
+      pair_of (Some pair) = pair
+
+      pair-is : (a b : ℕ × ℕ) → Some a ≡ Some b → (a.0 ≡ b.0) × (a.1 ≡ b.1)
+      pair-is a b same = (ap (λ (found : Option (ℕ × ℕ)). (pair_of found).0) same, ap (λ (found : Option (ℕ × ℕ)). (pair_of found).1) same)
+
+  -- what is written of the run is what is written of the file
+  pub filed-text : report.command ≡ Running output.History → report.cause ≢ causes.Memory → history_spelling (history_fields (file_of_report report)) ≡ run_text (Some report)
+  filed-text is found =
+      sym (unless-found report.cause _ found ∙ ap (λ (command : Command). written_by command report.program.text (run_of report) report.cause report.history) is)
+
+  -- and the file is a certificate
+  pub filed : 1 ≤ report.threads → report.threads ≤ 16 → 1 ≤ report.steps → report.steps ≤ 30000000 → length report.program.text ≤ 65536 → RunsTo (run_of report) report.serial report.cause report.history → report.cause ≢ causes.Memory
+      → FitsFile (file_of_report report) → FitsCause report.cause → HasCertificate report
+  filed some few steps bounded short to found fits fits_cause =
+      let both = files_of_runs (run_of report) report.program.text report.history report.cause some few steps bounded to.always short to.legal (to.ends found) fits fits_cause in
+      record { is_file = both.0; certificate = both.1 }
