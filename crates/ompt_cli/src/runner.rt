@@ -121,7 +121,13 @@ impl Runner for Alone {
         job: Job,
         parts: Vec<Handed<GuestPart>>,
     ) -> Result<Observed<Handed<GuestPart>>, AllocError> {
-        observe_alone(alloc, Command::Run(RunOutput::Printed), job, parts, Vec::new(alloc))
+        observe_alone(
+            alloc,
+            Command::Run(RunOutput::Printed),
+            job,
+            parts,
+            Vec::new(alloc),
+        )
     }
 }
 
@@ -173,6 +179,13 @@ impl<'a, R: Threads + Wait + Sync> Runner for WithThreads<'a, R> {
         job: Job,
         parts: Vec<Handed<GuestPart>>,
     ) -> Result<Observed<Handed<GuestPart>>, AllocError> {
-        observe(self.0, alloc, Command::Run(RunOutput::Printed), job, parts, Vec::new(alloc))
+        observe(
+            self.0,
+            alloc,
+            Command::Run(RunOutput::Printed),
+            job,
+            parts,
+            Vec::new(alloc),
+        )
     }
 }
