@@ -1,7 +1,7 @@
 //! A tool from start to end: the commands of `ompt`, where `run` is followed by the report of a tool.
 //!
 //! [`Profiler`] is the tool. Each thread has one as its guest, and all of them add to one [`Profile`], which `main` writes behind what the
-//! program printed. For the other commands nothing is heard, and nothing is reported.
+//! program printed. With `--history`, and for the other commands, nothing is reported.
 //!
 //! Proved is that it is safe, that it ends unless it waits for the lock, and what [`ended`], `Profile::add_region` and `Profile::add_wait`
 //! say. That the profile has all that was heard, and that the report is as it should be, is only tested: by the run of `stdin`, which has
@@ -15,7 +15,7 @@ ghost use Rattle.ompt_cli.specs.Ends.{status_of};
 mod profile;
 mod profiler;
 
-use ompt_cli::{End, Top, own_words, top};
+use ompt_cli::{Command, End, RunOutput, Top, own_words, top};
 use profile::Profile;
 use profiler::Profiler;
 use run_edges::{Sink, StdSink, StdSource, write_all};
@@ -64,9 +64,16 @@ fn main(rt: HostRuntime) -> ExitCode {
     ExitCode::from(top.status)
 }
 
-/// Whether there is a run to report, and memory and the output were there for it.
+/// Whether the command has printed what a program printed, so that the report may stand behind it.
 fn has_report(top: &Top) -> bool {
-    top.ran.is_some() && top.end != End::Memory && top.end != End::WriteFault
+    match &top.ran {
+        Some(report) => {
+            report.command == Command::Run(RunOutput::Printed)
+                && top.end != End::Memory
+                && top.end != End::WriteFault
+        }
+        None => false,
+    }
 }
 
 /// Writes the report of this profile.
