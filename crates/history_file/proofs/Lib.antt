@@ -15,3 +15,8 @@ pub mod OneRefusal
 pub mod Verdicts
 pub mod Endings
 pub mod OfRuns
+pub mod Coming
+pub mod Inside
+pub mod Entering
+pub mod Judging
+pub mod Progressing

@@ -6,17 +6,24 @@ ghost use Rattle.history_file.specs.Validity.{IsHistoryFile};
 ghost use Rattle.history_file.specs.Verdicts.{IsVerdict};
 
 use crate::file::HistoryFile;
+use crate::progress::Progress;
 use crate::verdict::Verdict;
 use c_check::Program;
-use std::alloc::{AllocError, Global};
+use omp_machine::Memory;
+use std::alloc::Global;
 
 /// Whether the file is a certificate of the program, with the calls that are heard of its history; or how many of its first entries are legal
 /// together, where it is none. A legal history that ends in another cause than the file's, or in none, is legal at its whole length.
 ///
 /// The error is that no memory is left.
-pub fn rerun(_alloc: Global, _program: Program, _file: &HistoryFile) -> Result<Verdict, AllocError>
-    requires { IsHistoryFile _file.now }
-    ensures { IfOk result (IsVerdict (run_of_file _program _file.now) _file.now) }
+pub fn rerun(alloc: Global, program: Program, file: &HistoryFile) -> Result<Verdict, Memory>
+    requires { IsHistoryFile file.now }
+    ensures { IfOk result (IsVerdict (run_of_file program file.now) file.now) }
 {
-    Err(AllocError)
+    let mut progress = Progress::start(alloc, program, file)?;
+    if progress.take_all(file.history.entries())? {
+        Ok(progress.verdict(file))
+    } else {
+        Ok(Verdict::Illegal(progress.taken()))
+    }
 }
