@@ -11,13 +11,14 @@
 //!
 //! Proved by the contracts of the functions that are named:
 //!
-//! - [`write_history`] appends what the file is written as, of every file, or at a write fault a front of it;
+//! - [`write_history`] appends what the file is written as, or at a write fault a front of it, where its lengths and threads are those
+//!   of a file;
 //! - [`read_history`] answers the file that the bytes are, and for all other bytes the one refusal that the definition has, unless no
 //!   memory is left;
 //! - [`rerun`], where it finds memory, answers whether the file is a certificate of the program: whether its history is legal and ends as the
 //!   file says. If so it has the calls that are heard of the history, and if not the greatest number of first entries that are legal together.
 //!   A legal history that ends otherwise, or not at all, is legal at its whole length;
-//! - [`end_of`]: the status and the detail of every cause;
+//! - [`end_of`]: the status and the detail of every cause but want of memory, which has none;
 //! - [`one_spelling`], [`one_refusal`], [`never_refused`], [`longest`] and [`runs_have_files`] are laws of the definitions. By the last,
 //!   each legal history that ends in a cause makes a file that is a certificate of its run.
 //!

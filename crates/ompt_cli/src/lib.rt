@@ -16,11 +16,12 @@
 //! Every text runs that is a program of the grammar, breaks no rule and is at most 65,536 bytes long. What its program printed
 //! is written where the run ends in any cause but want of memory: also at a trap, at a limit, and where no thread can go on.
 //!
-//! The definitions stand in `specs/`: which words ask for a run or for a trace to be read (`Words`), the texts that run, with their
+//! The definitions stand in `specs/`: which words ask for a run or for an input to be read (`Words`), the texts that run, with their
 //! programs, and why others are refused (`Text`), the status and the line of each end (`Ends`), what a run of either kind gives (`Runs`),
-//! what a command writes (`Commands`) and reports (`Reports`), what one that reads a trace (`Traces`) or a history file (`Histories`) has read and written, what guests stand
-//! for after a command (`Guests`), and the records of [`top`]'s contract (`Top`). The runs are those of `omp_model`, the traces those of `trace_format` and `run_trace`,
-//! and the rules on them those of `trace_check`. A report holds the tree of its program for contracts alone ([`ProgramTree`]).
+//! what a command writes (`Commands`) and reports (`Reports`), what one that reads a trace (`Traces`) or a history file (`Histories`) has
+//! read and written, what guests stand for after a command (`Guests`), and the records of [`top`]'s contract (`Top`). The runs are those of
+//! `omp_model`, the traces those of `trace_format` and `run_trace`, the rules on them those of `trace_check`, and the history files those
+//! of `history_file`. A report holds the tree of its program and its text for contracts alone ([`ProgramTree`]).
 //!
 //! [`top_alone`] does the same for all words that don't ask for a run by threads, without the handles for threads and for waiting. By
 //! [`each_text_is_judged`], a law, each text runs or is refused, for one reason.

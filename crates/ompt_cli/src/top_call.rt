@@ -72,8 +72,8 @@ pub fn top<R: Threads + Wait + Sync, S: Source, O: Sink, E: Sink>(
     }
 }
 
-/// Does what [`top`] does for all words that don't ask for a run by threads: for `gen`, the commands that read a trace, help and wrong words, and for
-/// a run with `--serial`. It has no handle by which it could wait, so it comes back where the guests, the source and the sinks do. Where the
+/// Does what [`top`] does for all words that don't ask for a run by threads: for `gen`, the commands that read a trace or a history, help and wrong
+/// words, and for a run with `--serial`. It has no handle by which it could wait, so it comes back where the guests, the source and the sinks do. Where the
 /// words ask for a run by threads, that is answered as the error, and nothing was touched.
 pub fn top_alone<S: Source, O: Sink, E: Sink>(
     alloc: Global,
