@@ -12,11 +12,15 @@ use Rattle.tool_tasks.specs.declared.stacks.Stacks.{Stacks}
 use Rattle.tool_tasks.specs.Charge.{charges_of, tasks_on, work_of}
 use Rattle.tool_tasks.specs.Tree.{Origin, children_from, encountering_task, first_or_zero, node_of, origin_of, sibling_after}
 
--- the forest is that of these events: it has the node of each task, by identity from 1 on, and the work
-pub record IsForest (forest : Forest) (events : List EventRecord) : Type 0 where
-  pub nodes : (place : ℕ) → slice_get forest.nodes.items place ≡ node_of (place + 1) (reverse events)
-  pub none : node_of 0 (reverse events) ≡ None
-  pub work : forest.work ≡ work_of (reverse events)
+-- the forest has the node of each task, by identity from 1 on, and the work
+pub record HoldsForest (forest : Forest) (past : List EventRecord) : Type 0 where
+  pub nodes : (place : ℕ) → slice_get forest.nodes.items place ≡ node_of (place + 1) past
+  pub none : node_of 0 past ≡ None
+  pub work : forest.work ≡ work_of past
+
+-- the forest is that of these events
+abbrev pub IsForest : Forest → List EventRecord → Type 0
+IsForest forest events = HoldsForest forest (reverse events)
 
 -- ---- stacks
 
@@ -72,6 +76,20 @@ one_more b node = node
 
 abbrev pub CountsOne : List TaskNode → List TaskNode → ℕ → Type 0
 CountsOne old new task = (place : ℕ) → slice_get new place ≡ one_more (place + 1 == task) (slice_get old place)
+
+-- the nodes with the links that are set so far
+pub record HoldsLinks (nodes : List TaskNode) (past : List EventRecord) (rest : ℕ) : Type 0 where
+  pub count : length nodes ≡ greatest_task past
+  pub each : (place : ℕ) → slice_get nodes place ≡ partly_linked rest (place + 1) (charges_of (place + 1) past) past (origin_of (place + 1) past)
+
+-- a node with another link
+abbrev pub with_sibling : Bool → ℕ → Option TaskNode → Option TaskNode
+with_sibling true sibling (Some node) = Some (record node { next_sibling = sibling })
+with_sibling b sibling node = node
+
+abbrev pub with_child : Bool → ℕ → Option TaskNode → Option TaskNode
+with_child true child (Some node) = Some (record node { first_child = child })
+with_child b child node = node
 
 pub record Builds (builder : ForestBuilder) (past : List EventRecord) : Type 0 where
   pub stacks : HoldsStacks builder.stacks past

@@ -1,5 +1,13 @@
 //! The task tree of a trace.
 
+ghost use Rattle.std.specs.Prelude.{◌≡◌, List, IfOk, reverse};
+ghost use Rattle.ompt_calls.specs.declared.event.EventRecord.{EventRecord as EventOf};
+ghost use Rattle.trace_check.specs.Checking.{Unbroken};
+ghost use Rattle.trace_check.specs.Nested.{Nested};
+ghost use Rattle.tool_tasks.specs.Charge.{work_of};
+ghost use Rattle.tool_tasks.specs.Holding.{HoldsForest, HoldsNodes, IsForest};
+ghost use Rattle.tool_tasks.specs.Tree.{node_of};
+
 use crate::forest_builder::ForestBuilder;
 use crate::links::link_all;
 use std::alloc::{AllocError, Global};
@@ -24,7 +32,9 @@ pub struct TaskNode {
 
 impl TaskNode {
     /// A task that was just made.
-    pub(crate) fn made(identity: u32, parent: u32, flags: u32) -> TaskNode {
+    pub(crate) fn made(identity: u32, parent: u32, flags: u32) -> TaskNode
+        ensures { result ≡ record { identity = identity; flags = flags; events = 0; parent = parent; first_child = 0; next_sibling = 0 } }
+    {
         TaskNode {
             identity,
             flags,
@@ -47,7 +57,10 @@ pub struct Forest {
 
 impl Forest {
     /// The task tree of a trace that is valid and nested.
-    pub fn of(alloc: Global, trace: &Trace) -> Result<Forest, AllocError> {
+    pub fn of(alloc: Global, trace: &Trace) -> Result<Forest, AllocError>
+        requires { Nested trace.now.header trace.now.events trace.now.end }
+        ensures { IfOk result (λ forest. IsForest forest trace.now.events) }
+    {
         let mut builder = ForestBuilder::new(alloc)?;
         for event in &trace.events.0 {
             builder.learn(event)?;
@@ -56,18 +69,24 @@ impl Forest {
     }
 
     /// The task with this identity, or None where there is none.
-    pub fn node(&self, identity: u32) -> Option<TaskNode> {
+    pub fn node(&self, identity: u32) -> Option<TaskNode>
+        ensures { (events : List EventOf) → IsForest self.now events → result ≡ node_of identity (reverse events) }
+    {
         let place = identity.checked_sub(1)?;
         self.nodes.get(place as usize).copied()
     }
 
     /// How many events are charged to a task.
-    pub fn work(&self) -> u32 {
+    pub fn work(&self) -> u32
+        ensures { (events : List EventOf) → IsForest self.now events → result ≡ work_of (reverse events) }
+    {
         self.work
     }
 
     /// A forest of these tasks, whose links are set.
-    pub(crate) fn linked(mut nodes: Vec<TaskNode>, work: u32) -> Forest {
+    pub(crate) fn linked(mut nodes: Vec<TaskNode>, work: u32) -> Forest
+        ensures { (past : List EventOf) → Unbroken past → HoldsNodes nodes.items past past → work ≡ work_of past → HoldsForest result past }
+    {
         link_all(&mut nodes);
         Forest { nodes, work }
     }

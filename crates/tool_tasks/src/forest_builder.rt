@@ -4,7 +4,7 @@ ghost use Rattle.std.specs.Prelude.{◌≡◌, ◌∷◌, ◌+◌, [], List, IfO
 ghost use Rattle.ompt_calls.specs.declared.event.EventRecord.{EventRecord as EventOf};
 ghost use Rattle.trace_check.specs.Checking.{Unbroken};
 ghost use Rattle.trace_check.specs.Rules.{first_broken};
-ghost use Rattle.tool_tasks.specs.Holding.{Builds, CountsOne, HoldsNodes, HoldsRegions};
+ghost use Rattle.tool_tasks.specs.Holding.{Builds, CountsOne, HoldsForest, HoldsNodes, HoldsRegions};
 
 use crate::forest::{Forest, TaskNode};
 use crate::making::{INITIAL, Making, making_by};
@@ -79,7 +79,9 @@ impl ForestBuilder {
     }
 
     /// The forest of the events so far.
-    pub fn finish(self) -> Forest {
+    pub fn finish(self) -> Forest
+        ensures { (past : List EventOf) → Builds self past → Unbroken past → HoldsForest result past }
+    {
         Forest::linked(self.nodes, self.work)
     }
 }

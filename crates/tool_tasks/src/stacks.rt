@@ -1,6 +1,6 @@
 //! The stacks of tasks of all threads.
 
-ghost use Rattle.std.specs.Prelude.{◌≡◌, ◌∷◌, ◌++◌, ◌+◌, [], List, IfOk, OnOk, option_map, get_or, set, length};
+ghost use Rattle.std.specs.Prelude.{◌≡◌, ◌∷◌, ◌++◌, ◌+◌, ◌<◌, [], List, IfOk, OnOk, option_map, get_or, set, length};
 ghost use Rattle.ompt_calls.specs.declared.event.EventRecord.{EventRecord as EventOf};
 ghost use Rattle.tool_tasks.specs.Charge.{charged_task};
 ghost use Rattle.tool_tasks.specs.Holding.{HoldsStacks, frame_at, tops_below};
@@ -68,6 +68,7 @@ impl Stacks {
     fn push(&mut self, thread: u8, task: u32) -> Result<(), AllocError>
         ensures frames { OnOk result (self.new.frames.items
             ≡ self.old.frames.items ++ (record { task = task; below = get_or self.old.tops thread 0 }) ∷ []) }
+        ensures fits { thread < length self.old.tops }
         ensures tops { OnOk result (self.new.tops ≡ set self.old.tops thread (length self.old.frames.items + 1)) }
     {
         let below = self.tops[thread as usize];
