@@ -25,16 +25,19 @@ keeps_at header events end before behind event nested is = by-found (first_broke
       seq_is = refl;
     }))))
 
--- the event at a place, behind those before it
-pub next_keeps : (header : Header) (events : List EventRecord) (end : EndMark) (place : ℕ) (event : EventRecord)
-    → Nested header events end → place < length events → event ≡ get_or events place event → first_broken (reverse (take place events)) event ≡ None
-next_keeps header events end place event nested within is =
-    keeps_at header events end (take place events) (drop (place + 1) events) event nested
-    (sym (take-append-drop place events) ∙ ap (λ (rest : List EventRecord). take place events ++ rest)
-        (drop_more events place event within ∙ ap (λ (one : EventRecord). one ∷ drop (place + 1) events) (sym is)))
+-- the next event of one keeps to the rules, and is the newest behind it
+pub record IsNewest (events : List EventRecord) (place : ℕ) (event : EventRecord) : Type 0 where
+  pub keeps : first_broken (reverse (take place events)) event ≡ None
+  pub taken : reverse (take (place + 1) events) ≡ event ∷ reverse (take place events)
 
-pub next_taken : (events : List EventRecord) (place : ℕ) (event : EventRecord) → place < length events → event ≡ get_or events place event
-    → reverse (take (place + 1) events) ≡ event ∷ reverse (take place events)
-next_taken events place event within is =
-    ap reverse (take_more events place event within ∙ ap (λ (one : EventRecord). take place events ++ one ∷ []) (sym is))
-    ∙ reverse-append (take place events) (event ∷ [])
+pub is_newest : (header : Header) (events read : List EventRecord) (end : EndMark) (place : ℕ) (none : EventRecord)
+    → Nested header events end → read ≡ events → place < length read → IsNewest events place (get_or read place none)
+is_newest header events read end place none nested same within =
+    subst (λ (all : List EventRecord). IsNewest events place (get_or all place none)) (sym same) (of_events (subst (λ (all : List EventRecord). place < length all) same within))
+  where
+    of_events : place < length events → IsNewest events place (get_or events place none)
+    of_events there = record {
+      keeps = keeps_at header events end (take place events) (drop (place + 1) events) (get_or events place none) nested
+          (sym (take-append-drop place events) ∙ ap (λ (rest : List EventRecord). take place events ++ rest) (drop_more events place none there));
+      taken = ap reverse (take_more events place none there) ∙ reverse-append (take place events) (get_or events place none ∷ []);
+    }
