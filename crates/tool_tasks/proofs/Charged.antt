@@ -1,19 +1,19 @@
 -- The tasks on the stacks were made, so nothing is charged to a task beyond the greatest.
-use Rattle.std.proofs.Common.{◌≡◌, ℕ, ◌+◌, ◌<◌, ◌≤◌, ◌==◌, ◌&&◌, ◌||◌, Bool, true, false, cond, not, max, drop, List, [], ◌∷◌, Option, Some, None, refl, sym, ◌∙◌, ap, subst, arith}
+use Rattle.std.proofs.Common.{◌≡◌, ℕ, ◌<◌, ◌≤◌, ◌==◌, ◌&&◌, ◌||◌, Bool, true, false, cond, not, max, drop, List, [], ◌∷◌, Option, Some, None, refl, arith}
 use Rattle.std.proofs.lemmas.Bool.{eqb-true}
 use Rattle.std.proofs.lemmas.Bool.Decides.{nat_tests}
 use Rattle.ompt_calls.specs.declared.call.Call.{Call}
 use Rattle.ompt_calls.specs.declared.call.Call.TheVariants.{ImplicitTask, TaskSchedule, ThreadBegin}
 use Rattle.ompt_calls.specs.declared.event.EventRecord.{EventRecord}
-use Rattle.trace_check.specs.Before.{events_of, greatest_task, has_started, is_created, is_just, join_of, task_made}
+use Rattle.trace_check.specs.Before.{events_of, greatest_task, has_started, is_created, is_just, task_made}
 use Rattle.trace_check.specs.Checking.{Unbroken}
-use Rattle.trace_check.specs.Rules.{begins_initial, first_broken, is_initial, keeps_starts, keeps_tasks, may_join}
+use Rattle.trace_check.specs.Rules.{first_broken, keeps_starts, keeps_tasks}
 use Rattle.trace_check.proofs.Children.{made_below}
 use Rattle.trace_check.proofs.Kept12.{KeepsAll, keeps_all}
 use Rattle.trace_check.proofs.Tests.{left, right}
 use Rattle.tool_tasks.specs.declared.stack_step.StackStep.{StackStep}
 use Rattle.tool_tasks.specs.declared.stack_step.StackStep.TheVariants.{Push, Pop, Stay}
-use Rattle.tool_tasks.specs.Charge.{charge_by, charged_task, charges_of, one_if, stack_after, stack_step, tasks_on, top_of}
+use Rattle.tool_tasks.specs.Charge.{charge_by, charged_task, charges_of, stack_after, stack_step, tasks_on, top_of}
 
 -- all are at most this
 abbrev AllBelow : ℕ → List ℕ → Type 0

@@ -1,11 +1,10 @@
 -- Stacks among frames.
-use Rattle.std.proofs.Common.{◌≡◌, ◌≢◌, ℕ, zero, suc, ◌+◌, ◌<◌, ◌≤◌, ◌==◌, Bool, true, false, cond, List, [], ◌∷◌, ◌++◌, length, get_or, set, replicate, Option, Some, None, refl, sym, ◌∙◌, ap, subst, inl, inr, arith}
+use Rattle.std.proofs.Common.{◌≡◌, ◌≢◌, ℕ, zero, suc, ◌+◌, ◌<◌, ◌==◌, Bool, true, false, cond, List, [], ◌∷◌, ◌++◌, length, get_or, set, replicate, Some, refl, sym, ◌∙◌, ap, subst, inl, inr, arith}
 use Rattle.std.specs.Prelude.{slice_get}
 use Rattle.std.proofs.lemmas.Bool.{eqb-true}
 use Rattle.std.proofs.lemmas.Bool.Decides.{leb_tells, nat_tests}
 use Rattle.std.proofs.lemmas.List.{get_or-replicate, get_or-set_other, get_or-set_same, get_or_past, length-replicate}
 use Rattle.ompt_calls.specs.declared.event.EventRecord.{EventRecord}
-use Rattle.tool_tasks.specs.declared.stack_step.StackStep.{StackStep}
 use Rattle.tool_tasks.specs.declared.stack_step.StackStep.TheVariants.{Push}
 use Rattle.tool_tasks.specs.declared.stacks.StackFrame.{StackFrame}
 use Rattle.tool_tasks.specs.declared.stacks.Stacks.{Stacks}
@@ -37,7 +36,7 @@ none = 0
 
 pub zeros : (n t : ℕ) → get_or (replicate n none) t none ≡ none
 zeros n t = elim (leb_tells n t) as (λ _. get_or (replicate n none) t none ≡ none) [
-    inl past ↦ (let is : length (replicate n none) ≡ n = length-replicate n none in get_or_past (replicate n none) t none (omega (arith, is, past.1)))
+  | inl past ↦ (let is : length (replicate n none) ≡ n = length-replicate n none in get_or_past (replicate n none) t none (omega (arith, is, past.1)))
   | inr within ↦ get_or-replicate n t none none within.1
 ]
 
@@ -60,9 +59,13 @@ pushed old new past event task frames tops within step holds = λ t. by-test t (
     over top top' tasks same is = subst (λ (n : ℕ). IsStack new.frames.items n tasks) (sym same) (subst (λ (fs : List StackFrame). IsStack fs top tasks) (sym frames) is)
 
     here : IsStack (old.frames.items ++ (record { task = task; below = get_or old.tops event.thread 0 }) ∷ []) (length old.frames.items + 1) (task ∷ tasks_on event.thread past)
-    here =
-        (length old.frames.items, get_or old.tops event.thread 0, refl, get-last old.frames.items (record { task = task; below = get_or old.tops event.thread 0 }),
-         stays old.frames.items (record { task = task; below = get_or old.tops event.thread 0 }) (get_or old.tops event.thread 0) (tasks_on event.thread past) (holds event.thread))
+    here = (
+      length old.frames.items,
+      get_or old.tops event.thread 0,
+      refl,
+      get-last old.frames.items (record { task = task; below = get_or old.tops event.thread 0 }),
+      stays old.frames.items (record { task = task; below = get_or old.tops event.thread 0 }) (get_or old.tops event.thread 0) (tasks_on event.thread past) (holds event.thread),
+    )
 
     by-test : (t : ℕ) (b : Bool) → (event.thread == t) ≡ b
         → IsStack new.frames.items (get_or new.tops t 0) (cond b (stack_after (stack_step event.call) (tasks_on t past)) (tasks_on t past))
@@ -71,7 +74,7 @@ pushed old new past event task frames tops within step holds = λ t. by-test t (
         let top : get_or new.tops t 0 ≡ length old.frames.items + 1 =
         ap (λ (all : List ℕ). get_or all t 0) tops ∙ (ap (λ (n : ℕ). get_or (set old.tops event.thread (length old.frames.items + 1)) n 0) (sym is) ∙ get_or-set_same old.tops event.thread (length old.frames.items + 1) 0 within) in
         rw step (over (length old.frames.items + 1) (get_or new.tops t 0) (task ∷ tasks_on t past) top
-            (subst (λ (n : ℕ). IsStack (old.frames.items ++ (record { task = task; below = get_or old.tops event.thread 0 }) ∷ []) (length old.frames.items + 1) (task ∷ tasks_on n past)) is here))
+        (subst (λ (n : ℕ). IsStack (old.frames.items ++ (record { task = task; below = get_or old.tops event.thread 0 }) ∷ []) (length old.frames.items + 1) (task ∷ tasks_on n past)) is here))
     by-test t false other =
         let apart : t ≢ event.thread = grind (arith, nat_tests, other) in
         over (get_or old.tops t 0) (get_or new.tops t 0) (tasks_on t past)

@@ -1,10 +1,10 @@
 -- One task more with its links.
-use Rattle.std.proofs.Common.{◌≡◌, ◌≢◌, ℕ, zero, suc, ◌+◌, ◌-◌, ◌<◌, ◌≤◌, ◌==◌, ◌&&◌, ◌⊎◌, Bool, true, false, cond, List, [], ◌∷◌, ◌++◌, length, filter, Option, Some, None, refl, sym, ◌∙◌, ap, subst, inl, inr, arith}
+use Rattle.std.proofs.Common.{◌≡◌, ℕ, suc, ◌+◌, ◌-◌, ◌<◌, ◌≤◌, ◌==◌, ◌⊎◌, Bool, true, false, cond, List, [], ◌∷◌, length, filter, Option, Some, None, refl, sym, ◌∙◌, ap, subst, inl, inr, arith}
 use Rattle.std.specs.Prelude.{nat_le, slice_get}
 use Rattle.std.specs.List.{range_with_len}
-use Rattle.std.proofs.lemmas.Bool.{eqb-true, eq-eqb}
-use Rattle.std.proofs.lemmas.Bool.Decides.{eqb_tells, nat_tests}
-use Rattle.std.proofs.lemmas.Option.{slice_get_past, slice_get_within}
+use Rattle.std.proofs.lemmas.Bool.{eqb-true}
+use Rattle.std.proofs.lemmas.Bool.Decides.{nat_tests}
+use Rattle.std.proofs.lemmas.Option.{slice_get_within}
 use Rattle.ompt_calls.specs.declared.event.EventRecord.{EventRecord}
 use Rattle.trace_check.specs.Before.{greatest_task}
 use Rattle.trace_check.specs.Checking.{Unbroken}
@@ -12,7 +12,7 @@ use Rattle.tool_tasks.specs.declared.forest.TaskNode.{TaskNode}
 use Rattle.tool_tasks.specs.Charge.{charges_of}
 use Rattle.tool_tasks.specs.Holding.{HoldsLinks, HoldsNodes, partly_linked, unlinked, with_child, with_sibling}
 use Rattle.tool_tasks.specs.Tree.{Origin, children_from, first_or_zero, has_parent, node_from, node_of, origin_of, sibling_after, tasks_from}
-use Rattle.tool_tasks.proofs.Makes.{ParentBelow, no_zero, parent_below}
+use Rattle.tool_tasks.proofs.Makes.{ParentBelow, parent_below}
 
 -- ---- the children from a task on
 

@@ -1,13 +1,13 @@
 -- What an event makes that breaks no rule.
-use Rattle.std.proofs.Common.{◌≡◌, ℕ, ◌+◌, ◌<◌, ◌≤◌, ◌==◌, ◌&&◌, ◌||◌, Bool, true, false, cond, not, max, List, [], ◌∷◌, Option, Some, None, refl, sym, ◌∙◌, ap, subst, arith}
+use Rattle.std.proofs.Common.{◌≡◌, ℕ, ◌+◌, ◌<◌, ◌≤◌, ◌==◌, ◌&&◌, Bool, true, false, cond, not, List, [], ◌∷◌, Option, Some, None, refl, ◌∙◌, arith}
 use Rattle.std.proofs.lemmas.Bool.{eqb-true}
 use Rattle.std.proofs.lemmas.Bool.Decides.{nat_tests}
 use Rattle.ompt_calls.specs.declared.call.Call.{Call}
-use Rattle.ompt_calls.specs.declared.call.Call.TheVariants.{ImplicitTask, ParallelBegin, TaskCreate, TaskSchedule, ThreadBegin}
+use Rattle.ompt_calls.specs.declared.call.Call.TheVariants.{ImplicitTask, ParallelBegin, TaskCreate, ThreadBegin}
 use Rattle.ompt_calls.specs.declared.event.EventRecord.{EventRecord}
-use Rattle.trace_check.specs.Before.{Join, current, greatest_region, greatest_task, is_just, is_open_region, join_of, joins_of, task_made}
+use Rattle.trace_check.specs.Before.{Join, current, greatest_region, greatest_task, is_open_region, task_made}
 use Rattle.trace_check.specs.Checking.{Unbroken}
-use Rattle.trace_check.specs.Rules.{begins_initial, first_broken, is_initial, keeps_creations, keeps_regions, keeps_tasks, may_join}
+use Rattle.trace_check.specs.Rules.{first_broken, keeps_creations, keeps_regions, keeps_tasks, may_join}
 use Rattle.trace_check.proofs.Creations.{current_below, is_current}
 use Rattle.trace_check.proofs.Kept12.{KeepsAll, keeps_all}
 use Rattle.trace_check.proofs.Tests.{left, right}
@@ -189,5 +189,5 @@ parent_below k (event ∷ past) unbroken =
     let all : KeepsAll past event = keeps_all past event unbroken.0 in
     either (greatest_task (event ∷ past)) (originates k past (making_by event.call)) (origin_of k past)
     (parent_more (greatest_task past) (greatest_task (event ∷ past)) less (originates k past (making_by event.call))
-        (of_making k past (making_by event.call) unbroken.1 (creator_below past event.thread event.call unbroken.1 all.creations)))
+    (of_making k past (making_by event.call) unbroken.1 (creator_below past event.thread event.call unbroken.1 all.creations)))
     (parent_more (greatest_task past) (greatest_task (event ∷ past)) less (origin_of k past) (parent_below k past unbroken.1))

@@ -1,12 +1,11 @@
 -- The events of a nested trace break no rule.
-use Rattle.std.proofs.Common.{◌≡◌, ℕ, ◌+◌, ◌<◌, ◌≤◌, ◌==◌, ◌⊎◌, Bool, true, false, cond, List, [], ◌∷◌, ◌++◌, length, get_or, take, drop, reverse, Option, Some, None, refl, sym, ◌∙◌, ap, subst, inl, inr, arith}
+use Rattle.std.proofs.Common.{◌≡◌, ℕ, ◌+◌, ◌<◌, List, [], ◌∷◌, ◌++◌, length, get_or, take, drop, reverse, Option, Some, None, refl, sym, ◌∙◌, ap, subst, inl, inr}
 use Rattle.std.proofs.lemmas.List.{drop_more, reverse-append, take-append-drop, take_more}
 use Rattle.ompt_calls.specs.declared.event.EventRecord.{EventRecord}
 use Rattle.trace_format.specs.declared.trace.EndMark.{EndMark}
 use Rattle.trace_format.specs.declared.trace.Header.{Header}
-use Rattle.trace_check.specs.Checking.{Unbroken}
-use Rattle.trace_check.specs.Nested.{BrokenAt, Nested}
-use Rattle.trace_check.specs.Rules.{first_broken, keeps}
+use Rattle.trace_check.specs.Nested.{Nested}
+use Rattle.trace_check.specs.Rules.{first_broken}
 use Rattle.trace_check.proofs.Firsts.{first_breaks}
 
 -- an event of a nested trace breaks no rule

@@ -1,5 +1,5 @@
 -- What a forest holds of a trace, and what is held of the events while it is built. The events before stand with the newest first.
-use Rattle.std.specs.Prelude.{ℕ, ◌≡◌, ◌+◌, ◌-◌, ◌==◌, Bool, true, false, List, [], ◌∷◌, Option, Some, None, reverse, length, nat_le, slice_get, get_or, set, if◌then◌else◌}
+use Rattle.std.specs.Prelude.{ℕ, ◌≡◌, ◌+◌, ◌-◌, ◌==◌, Bool, true, List, [], ◌∷◌, Option, Some, None, reverse, length, nat_le, slice_get, get_or, set, if◌then◌else◌}
 use Rattle.std.specs.Ordering.{nat_cmp}
 use Rattle.std.specs.BTreeMap.{BTreeMap, get}
 use Rattle.ompt_calls.specs.declared.event.EventRecord.{EventRecord}

@@ -1,4 +1,4 @@
-use Rattle.std.proofs.Common.{◌≡◌, List, get_or, reverse, take, sym, ◌∙◌, ap, subst}
+use Rattle.std.proofs.Common.{◌≡◌, List, reverse, take, sym, ◌∙◌, ap, subst}
 use Rattle.ompt_calls.specs.declared.event.EventRecord.{EventRecord}
 use Rattle.trace_check.specs.Checking.{Unbroken}
 use Rattle.trace_format.specs.declared.trace.Trace.{Trace}

@@ -15,7 +15,7 @@ returns-in_ok-push-in-Implicit-clause-nodes c = λ past regions nodes unbroken k
     subst (λ (items : List TaskNode). HoldsNodes items (c.args.event.now ∷ past) past)
     (sym (c.in_ok-push-in-Implicit.ensures.items ∙ ap (λ (node : TaskNode). c.args.self.now.nodes.items ++ node ∷ []) c.made.ensures))
     (with_implicit c.args.self.now.nodes.items c.args.event.now past c.in-Implicit.task c.in-Implicit.region c.in-Implicit.flags c.unwrap_or-parent.result
-        (sym c.in-Implicit.ensures) parent_is unbroken keeps nodes)
+    (sym c.in-Implicit.ensures) parent_is unbroken keeps nodes)
 
 pub returns-in_ok-push-in-Explicit-clause-nodes : goal.returns-in_ok-push-in-Explicit-clause-nodes
 returns-in_ok-push-in-Explicit-clause-nodes c = λ past regions nodes unbroken keeps.
