@@ -1,0 +1,6 @@
+pub mod Frames
+pub mod Charged
+pub mod Makes
+pub mod Grown
+pub mod Linking
+pub mod Whole

@@ -1,0 +1,3 @@
+pub mod Charge
+pub mod Tree
+pub mod Holding

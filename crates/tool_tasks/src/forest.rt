@@ -1,0 +1,93 @@
+//! The task tree of a trace.
+
+ghost use Rattle.std.specs.Prelude.{◌≡◌, List, IfOk, reverse};
+ghost use Rattle.ompt_calls.specs.declared.event.EventRecord.{EventRecord as EventOf};
+ghost use Rattle.trace_check.specs.Checking.{Unbroken};
+ghost use Rattle.trace_check.specs.Nested.{Nested};
+ghost use Rattle.tool_tasks.specs.Charge.{work_of};
+ghost use Rattle.tool_tasks.specs.Holding.{HoldsForest, HoldsNodes, IsForest};
+ghost use Rattle.tool_tasks.specs.Tree.{node_of};
+
+use crate::forest_builder::ForestBuilder;
+use crate::links::link_all;
+use std::alloc::{AllocError, Global};
+use trace_format::Trace;
+
+/// A task of a trace, with links to other tasks: their identities, or 0.
+#[derive(Clone, Copy, Debug, PartialEq, Eq)]
+pub struct TaskNode {
+    /// The task's identity.
+    pub identity: u32,
+    /// The flags with which it was made (OpenMP 5.2, 19.4.4); 1 for the initial task.
+    pub flags: u32,
+    /// How many events are charged to it.
+    pub events: u32,
+    /// Its parent: the encountering task of its region, or the task that created it; 0 for the initial task.
+    pub parent: u32,
+    /// Its first child, by identity.
+    pub first_child: u32,
+    /// The next child of its parent.
+    pub next_sibling: u32,
+}
+
+impl TaskNode {
+    /// A task that was just made.
+    pub(crate) fn made(identity: u32, parent: u32, flags: u32) -> TaskNode
+        ensures { result ≡ record { identity = identity; flags = flags; events = 0; parent = parent; first_child = 0; next_sibling = 0 } }
+    {
+        TaskNode {
+            identity,
+            flags,
+            events: 0,
+            parent,
+            first_child: 0,
+            next_sibling: 0,
+        }
+    }
+}
+
+/// The task tree of a trace.
+#[derive(Drop)]
+pub struct Forest {
+    /// The tasks, by identity from 1 on.
+    nodes: Vec<TaskNode>,
+    /// How many events are charged to a task.
+    work: u32,
+}
+
+impl Forest {
+    /// The task tree of a trace that is valid and nested.
+    pub fn of(alloc: Global, trace: &Trace) -> Result<Forest, AllocError>
+        requires { Nested trace.now.header trace.now.events trace.now.end }
+        ensures { IfOk result (λ forest. IsForest forest trace.now.events) }
+    {
+        let mut builder = ForestBuilder::new(alloc)?;
+        for event in &trace.events.0 {
+            builder.learn(event)?;
+        }
+        Ok(builder.finish())
+    }
+
+    /// The task with this identity, or None where there is none.
+    pub fn node(&self, identity: u32) -> Option<TaskNode>
+        ensures { (events : List EventOf) → IsForest self.now events → result ≡ node_of identity (reverse events) }
+    {
+        let place = identity.checked_sub(1)?;
+        self.nodes.get(place as usize).copied()
+    }
+
+    /// How many events are charged to a task.
+    pub fn work(&self) -> u32
+        ensures { (events : List EventOf) → IsForest self.now events → result ≡ work_of (reverse events) }
+    {
+        self.work
+    }
+
+    /// A forest of these tasks, whose links are set.
+    pub(crate) fn linked(mut nodes: Vec<TaskNode>, work: u32) -> Forest
+        ensures { (past : List EventOf) → Unbroken past → HoldsNodes nodes.items past past → work ≡ work_of past → HoldsForest result past }
+    {
+        link_all(&mut nodes);
+        Forest { nodes, work }
+    }
+}

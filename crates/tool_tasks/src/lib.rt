@@ -1,0 +1,38 @@
+//! The task tree of a nested trace, and how many of its events each task has.
+//!
+//! A [`Forest`] is made of the events of a trace that is nested (`trace_check`): `Forest::of`. It has a [`TaskNode`] for each task, with the
+//! task's parent, its first child and its next sibling, by identity, and with how many events are charged to it.
+//!
+//! An event is charged to the task that its thread runs. The begin of an implicit or initial task and the switch to an explicit one put the
+//! task on the thread's stack, and are charged to it; its end and its completion take it off, and are charged to it too; and every other
+//! event is charged to the task on top. Where the stack is empty, as at the begin of a thread, it is charged to none. The **work** of a trace is
+//! how many events are charged to any.
+//!
+//! The tasks are task 1, the initial one, and each that an implicit task's begin or a creation names. The parent of an implicit task is the
+//! encountering task of its region, and that of an explicit one the task that created it. The initial task has none, which is told as 0.
+//! The children of a task stand in the order of their identities.
+//!
+//! The definitions that are to be believed stand in `specs/`: `Charge` says which task an event is charged to, and `Tree` which tasks there are,
+//! with their parents and links. They speak of the list of the events alone. `Holding` says what a forest holds of a trace, for the contracts
+//! and the proofs.
+//!
+//! Proved by the contracts of the functions that are named. `IsForest` of `specs/Holding.antt` says of a forest that it is that of these events:
+//!
+//! - [`Forest::of`] gives the forest of the events of each trace that is nested, or finds no memory;
+//! - [`Forest::node`] gives the task with an identity, with all its links, and `None` exactly where there is no such task;
+//! - [`Forest::work`] is how many events are charged to a task.
+//!
+//! A count that would pass the greatest number is told as want of memory, which no trace comes to. How much memory a forest takes isn't proved,
+//! nor how fast it is made: that it is linear is plain in the code.
+#![tactic(auto)]
+
+mod forest;
+mod forest_builder;
+mod links;
+mod making;
+mod stack_step;
+mod stacks;
+
+pub use forest::{Forest, TaskNode};
+pub use making::Making;
+pub use stack_step::StackStep;
