@@ -4,7 +4,9 @@ ghost use Rattle.std.specs.Prelude.{◌≡◌, ◌<◌, ◌^◌, All, IfOk, leng
 ghost use Rattle.omp_model.specs.declared.history.What.TheVariants.{Put};
 ghost use Rattle.history_file.specs.Fitting.{HasThread};
 
-use history_file::{FileText, HISTORY_LIMIT, HistoryFault, HistoryFile, HistoryReason, read_history, write_history};
+use history_file::{
+    FileText, HISTORY_LIMIT, HistoryFault, HistoryFile, HistoryReason, read_history, write_history,
+};
 use omp_model::{Entry, History, What};
 use ompt_calls::Target;
 use run_edges::{MemSink, WriteFault};
