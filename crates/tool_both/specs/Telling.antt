@@ -1,0 +1,33 @@
+-- What becomes of a record with a call that the tool may hear of, and at a start and an end.
+use Rattle.std.specs.Prelude.{ℕ, zero, suc, ◌≡◌, Bool, true, false, List, [], ◌∷◌}
+use Rattle.ompt_calls.specs.Item.{Item}
+use Rattle.tool_api.specs.Record.{Record, told, finalized}
+use Rattle.tool_both.specs.declared.both.Both.{Both}
+use Rattle.tool_both.specs.declared.masks.Masks.{Masks}
+use Rattle.tool_both.specs.Joined.{starts_of}
+
+-- the record after an item, where it is heard
+abbrev pub heard_by : Bool → Record → Item → Record
+heard_by true h item = told h item
+heard_by false h item = h
+
+-- the record after one more end, where the tool is active by its answer
+abbrev pub finalized_by : ℕ → Record → Record
+finalized_by zero h = h
+finalized_by (suc answer) h = finalized h
+
+-- no call of `callback` or of `finalize` yet; it may be started
+pub record IsUnheard (h : Record) : Type 0 where
+  pub calls : h.calls ≡ []
+  pub finished : h.finished ≡ []
+  pub unheard : h.unheard ≡ 0
+
+-- the record of both at first, where the tools have these records
+abbrev pub fresh_both : Masks → Record → Record → Record
+fresh_both masks first second =
+    record { started = []; calls = []; finished = []; unheard = 0; within = starts_of masks ∷ first.started ∷ second.started ∷ [] }
+
+-- these are the two tools of it
+pub record HasTools {A B : Type 0} (both : Both A B) (first : A) (second : B) : Type 0 where
+  pub first_is : both.first ≡ first
+  pub second_is : both.second ≡ second
