@@ -1,1 +1,5 @@
+pub mod Ends
+pub mod Joining
+pub mod Replies
+pub mod Splits
 pub mod Stores

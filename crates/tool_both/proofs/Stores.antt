@@ -1,5 +1,5 @@
 -- Which stores count of a list with one store more at its front.
-use Rattle.std.proofs.Common.{◌≡◌, ℕ, ◌+◌, ◌-◌, ◌<◌, ◌≤◌, ◌||◌, ◌++◌, Bool, true, false, List, [], ◌∷◌, length, drop, Option, Some, None, inl, inr, refl, sym, ap, subst, ◌∙◌, arith, length-drop}
+use Rattle.std.proofs.Common.{◌≡◌, ℕ, ◌+◌, ◌-◌, ◌<◌, ◌≤◌, ◌||◌, ◌++◌, suc, Bool, true, false, List, [], ◌∷◌, length, drop, Option, Some, None, inl, inr, refl, sym, ap, subst, ◌∙◌, arith, length-drop}
 use Rattle.std.proofs.lemmas.Bool.{cases_Bool, eqb-true}
 use Rattle.ompt_calls.specs.declared.snapshot.Target.{Target}
 use Rattle.ompt_calls.specs.declared.snapshot.Target.TheVariants as target
@@ -39,7 +39,7 @@ occurs-kept word (store ∷ rest) =
 
 -- a word that occurs behind some stores occurs in all
 occurs-drop : (word : Target) (n : ℕ) (stores : List Stored) → occurs word (drop n stores) ≡ true → occurs word stores ≡ true
-occurs-drop word zero stores found = found
+occurs-drop word Prim.Native.Nat.zero stores found = found
 occurs-drop word (suc n) [] found = found
 occurs-drop word (suc n) (store ∷ rest) found = rw (occurs-drop word n rest found) (or-any (same_target word store.target))
   where

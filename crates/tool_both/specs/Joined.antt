@@ -1,5 +1,5 @@
 -- The records of two tools, and the record of the tool that they are together.
-use Rattle.std.specs.Prelude.{ℕ, zero, suc, ◌≡◌, ◌+◌, ◌≤◌, ◌==◌, ◌++◌, bit_or, Bool, true, false, List, [], ◌∷◌, All, length, map, take, ⊤, if◌then◌else◌}
+use Rattle.std.specs.Prelude.{ℕ, suc, ◌≡◌, ◌+◌, ◌≤◌, ◌==◌, ◌++◌, bit_or, Bool, true, false, List, [], ◌∷◌, All, length, map, take, ⊤, if◌then◌else◌}
 use Rattle.std.specs.List.{filter}
 use Rattle.ompt_calls.specs.Item.{Item}
 use Rattle.ompt_calls.specs.Number.{number_of, is_registered}
@@ -49,7 +49,7 @@ counts_at mask items ends = map (λ (c : ℕ). length (filter (hears mask) (take
 
 -- a tool is finished with both where it is active: then, after as many calls as it had heard; and else never
 abbrev pub FinishedAs : ℕ → ℕ → Bool → Record → List ℕ → Type 0
-FinishedAs zero mask whole h finished = finished ≡ []
+FinishedAs Prim.Native.Nat.zero mask whole h finished = finished ≡ []
 FinishedAs (suc answer) mask whole h finished = (length finished ≡ length h.finished) × (whole ≡ true → finished ≡ counts_at mask h.calls h.finished)
 
 -- what both register together, and what they answer

@@ -1,3 +1,3 @@
 pub mod BothStores
 pub mod Joined
-pub mod Telling
+pub mod Tools

@@ -2,9 +2,8 @@
 
 ghost use Rattle.tool_api.specs.Registering.{AreAlways};
 
-use crate::joined_reply::joined;
+use crate::joined_reply::{NOTHING, joined};
 use crate::masks::Masks;
-use crate::telling::{finish, tell};
 use ompt_calls::{Call, Reply, Snapshot, is_registered};
 use std::alloc::AllocError;
 use tool_api::{Memory, Registrar, ToolPart};
@@ -26,7 +25,7 @@ impl<A: ToolPart, B: ToolPart> Both<A, B> {
     ghost use Rattle.tool_api.specs.Record.{Record};
     ghost use Rattle.tool_both.specs.declared.masks.Masks.{Masks};
     ghost use Rattle.tool_both.specs.Joined.{Joins, BothFor};
-    ghost use Rattle.tool_both.specs.Telling.{IsUnheard, HasTools, fresh_both};
+    ghost use Rattle.tool_both.specs.Tools.{IsUnheard, HasTools, fresh_both};
 
     /// Two tools that are started already, with their registrations as [`Masks::ask`] gives them. It takes no memory.
     pub fn new(first: A, second: B, masks: Masks) -> Both<A, B>
@@ -89,18 +88,34 @@ impl<A: ToolPart, B: ToolPart> ToolPart for Both<A, B> {
         if !self.whole {
             return Err(AllocError);
         }
-        let first = tell(&mut self.first, self.masks.first, seq, thread, call, snapshot)?;
-        match tell(&mut self.second, self.masks.second, seq, thread, call, snapshot) {
-            Ok(second) => Ok(joined(first, second, snapshot)),
-            Err(memory) => {
-                self.whole = !is_registered(self.masks.first, call.number());
-                Err(memory)
+        let number = call.number();
+        let first_hears = is_registered(self.masks.first, number);
+        let second_hears = is_registered(self.masks.second, number);
+        match (first_hears, second_hears) {
+            (false, false) => Ok(NOTHING),
+            (true, false) => {
+                let first = self.first.callback(seq, thread, call, snapshot)?;
+                Ok(joined(first, NOTHING, snapshot))
+            }
+            (false, true) => {
+                let second = self.second.callback(seq, thread, call, snapshot)?;
+                Ok(joined(NOTHING, second, snapshot))
+            }
+            (true, true) => {
+                let first = self.first.callback(seq, thread, call, snapshot)?;
+                let second = self.second.callback(seq, thread, call, snapshot);
+                self.whole = second.is_ok();
+                Ok(joined(first, second?, snapshot))
             }
         }
     }
 
     fn finalize(&mut self) {
-        finish(&mut self.first, self.masks.first_answer);
-        finish(&mut self.second, self.masks.second_answer);
+        if self.masks.first_answer != 0 {
+            self.first.finalize();
+        }
+        if self.masks.second_answer != 0 {
+            self.second.finalize();
+        }
     }
 }

@@ -4,7 +4,6 @@
 mod both;
 mod joined_reply;
 mod masks;
-mod telling;
 
 pub use both::Both;
 pub use masks::Masks;

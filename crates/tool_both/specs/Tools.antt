@@ -1,20 +1,9 @@
--- What becomes of a record with a call that the tool may hear of, and at a start and an end.
-use Rattle.std.specs.Prelude.{ℕ, zero, suc, ◌≡◌, Bool, true, false, List, [], ◌∷◌}
-use Rattle.ompt_calls.specs.Item.{Item}
-use Rattle.tool_api.specs.Record.{Record, told, finalized}
+-- Two tools in one, before anything is told.
+use Rattle.std.specs.Prelude.{◌≡◌, List, [], ◌∷◌}
+use Rattle.tool_api.specs.Record.{Record}
 use Rattle.tool_both.specs.declared.both.Both.{Both}
 use Rattle.tool_both.specs.declared.masks.Masks.{Masks}
 use Rattle.tool_both.specs.Joined.{starts_of}
-
--- the record after an item, where it is heard
-abbrev pub heard_by : Bool → Record → Item → Record
-heard_by true h item = told h item
-heard_by false h item = h
-
--- the record after one more end, where the tool is active by its answer
-abbrev pub finalized_by : ℕ → Record → Record
-finalized_by zero h = h
-finalized_by (suc answer) h = finalized h
 
 -- no call of `callback` or of `finalize` yet; it may be started
 pub record IsUnheard (h : Record) : Type 0 where
