@@ -2,6 +2,7 @@
 use Rattle.std.proofs.Common.{◌≡◌, ℕ, ◌<◌, ◌≤◌, ◌+◌, ◌++◌, suc, Bool, true, false, List, [], ◌∷◌, length, map, take, All, refl, sym, ap, ◌∙◌, arith, length-append}
 use Rattle.std.specs.List.{filter}
 use Rattle.std.proofs.lemmas.List.{take-append-le, map-append}
+use Rattle.std.proofs.Math.Seq.{take-length}
 use Rattle.std.proofs.lemmas.List.Elements.{All-tail}
 use Rattle.ompt_calls.specs.Item.{Item}
 use Rattle.tool_api.specs.Record.{Record, Start, told, one_unheard, finalized}

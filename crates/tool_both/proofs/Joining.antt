@@ -1,13 +1,13 @@
 -- The record of both goes with those of the two tools.
-use Rattle.std.proofs.Common.{◌≡◌, ℕ, ◌≤◌, ◌+◌, ◌++◌, Bool, true, false, List, [], ◌∷◌, length, All, refl, sym, ap, subst, ◌∙◌, arith, length-append, append-nil}
-use Rattle.std.specs.Result.{Result, OnErr}
+use Rattle.std.proofs.Common.{◌≡◌, ◌≢◌, ℕ, ◌≤◌, ◌+◌, ◌++◌, suc, Bool, true, false, List, [], ◌∷◌, length, All, refl, sym, ap, subst, ◌∙◌, arith, length-append, append-nil}
+use Rattle.std.specs.Prelude.{Result, Ok, Err, OnErr}
 use Rattle.std.proofs.lemmas.List.Elements.{All-append, All-cons, All-nil}
 use Rattle.ompt_calls.specs.Item.{Item}
 use Rattle.ompt_calls.specs.Snapshot.{Stored}
 use Rattle.tool_api.specs.Record.{Record, Start, initialized, told, one_unheard, finalized}
 use Rattle.tool_both.specs.declared.masks.Masks.{Masks}
 use Rattle.tool_both.specs.BothStores.{both_stores}
-use Rattle.tool_both.specs.Joined.{hears, own, StoresOf, IsSplit, IsHeard, joint_mask, joint_answer, Joins, BothFor}
+use Rattle.tool_both.specs.Joined.{hears, own, StoresOf, IsSplit, IsHeard, joint_mask, joint_answer, AreOwn, Joins, BothFor}
 use Rattle.tool_both.proofs.Ends.{finalized_by, finished-beside, finished-broken, finished-told, finished-ended}
 use Rattle.tool_both.proofs.Splits.{split_more, own_of_split, counted}
 
@@ -233,3 +233,12 @@ both-finished FA FB a new_a b new_b masks whole by_first by_second h both =
 pub on-err : {A E : Type 0} {P : Type 0} (result : Result A E) → P → OnErr result P
 on-err (Ok value) holds = tt
 on-err (Err fault) holds = holds
+
+-- a tool that is finished where it is active, and stays where it isn't
+pub active-end : {A : Type 0} (FA : A → Record → Type 0) (a new_a : A) (answer : ℕ) → answer ≢ 0 → ((r : Record) → FA a r → FA new_a (finalized r))
+    → (r : Record) → FA a r → FA new_a (finalized_by answer r)
+active-end FA a new_a Prim.Native.Nat.zero active ended r stands = absurd (active refl)
+active-end FA a new_a (suc answer) active ended r stands = ended r stands
+
+pub inactive-end : {A : Type 0} (FA : A → Record → Type 0) (a : A) (answer : ℕ) → answer ≡ 0 → (r : Record) → FA a r → FA a (finalized_by answer r)
+inactive-end FA a answer inactive r stands = rw inactive stands

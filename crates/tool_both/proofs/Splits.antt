@@ -1,7 +1,8 @@
 -- What two tools heard, with one item more.
-use Rattle.std.proofs.Common.{◌≡◌, ℕ, ◌++◌, Bool, true, false, List, [], ◌∷◌, length, map, inl, inr, refl, sym, ap, subst, ◌∙◌, append_assoc, append-nil, length-map}
+use Rattle.std.proofs.Common.{◌≡◌, ℕ, ◌++◌, Bool, true, false, List, [], ◌∷◌, length, map, inl, inr, refl, sym, ap, subst, ◌∙◌, append_assoc, append-nil}
 use Rattle.std.specs.List.{filter}
 use Rattle.std.proofs.lemmas.Bool.{cases_Bool}
+use Rattle.std.proofs.lemmas.List.{length-map}
 use Rattle.ompt_calls.specs.Item.{Item}
 use Rattle.ompt_calls.specs.Snapshot.{Stored}
 use Rattle.tool_both.specs.BothStores.{both_stores}
