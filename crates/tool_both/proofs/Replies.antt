@@ -1,5 +1,5 @@
 -- The stores of a reply with one store more at its front.
-use Rattle.std.proofs.Common.{◌≡◌, ℕ, ◌+◌, ◌≤◌, ◌++◌, Bool, true, false, List, [], ◌∷◌, length, Option, Some, None, IfSome, refl, sym, ap, ◌∙◌, arith, length-append, append-nil}
+use Rattle.std.proofs.Common.{◌≡◌, ℕ, ◌≤◌, ◌++◌, true, false, List, [], ◌∷◌, length, Option, Some, None, IfSome, refl, sym, ap, ◌∙◌, arith, length-append, append-nil}
 use Rattle.std.specs.Option.{is_some}
 use Rattle.ompt_calls.specs.declared.snapshot.Target.{Target}
 use Rattle.ompt_calls.specs.declared.snapshot.Snapshot.{Snapshot}

@@ -1,5 +1,5 @@
 -- The stores of two tools that are told of one event.
-use Rattle.std.specs.Prelude.{ℕ, ◌-◌, ◌==◌, ◌||◌, ◌++◌, ◌≤◌, Bool, false, List, [], ◌∷◌, length, drop, IfSome, if◌then◌else◌}
+use Rattle.std.specs.Prelude.{◌-◌, ◌==◌, ◌||◌, ◌++◌, ◌≤◌, Bool, false, List, [], ◌∷◌, length, drop, IfSome, if◌then◌else◌}
 use Rattle.ompt_calls.specs.declared.snapshot.Target.{Target}
 use Rattle.ompt_calls.specs.declared.snapshot.Target.TheVariants as target
 use Rattle.ompt_calls.specs.declared.snapshot.Snapshot.{Snapshot}

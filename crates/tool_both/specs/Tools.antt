@@ -1,5 +1,5 @@
 -- Two tools in one, before anything is told.
-use Rattle.std.specs.Prelude.{◌≡◌, List, [], ◌∷◌}
+use Rattle.std.specs.Prelude.{◌≡◌, [], ◌∷◌}
 use Rattle.tool_api.specs.Record.{Record}
 use Rattle.tool_both.specs.declared.both.Both.{Both}
 use Rattle.tool_both.specs.declared.masks.Masks.{Masks}

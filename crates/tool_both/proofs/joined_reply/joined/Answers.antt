@@ -1,6 +1,6 @@
-use Rattle.std.proofs.Common.{◌≡◌, ◌++◌, List, [], refl, ◌∙◌}
+use Rattle.std.proofs.Common.{◌≡◌, [], refl}
 use Rattle.std.proofs.Common.{append-nil}
-use Rattle.ompt_calls.specs.Snapshot.{Stored, stores_of}
+use Rattle.ompt_calls.specs.Snapshot.{stores_of}
 use Rattle.tool_both.specs.BothStores.{counting_stores}
 use Rattle.tool_both.proofs.joined_reply.joined.Goals as goal
 

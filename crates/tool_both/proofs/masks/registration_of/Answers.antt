@@ -1,4 +1,4 @@
-use Rattle.std.proofs.Common.{◌≡◌, refl}
+use Rattle.std.proofs.Common.{refl}
 use Rattle.tool_both.proofs.masks.registration_of.Goals as goal
 
 pub returns-then-answer-eq0-clause-started : goal.returns-then-answer-eq0-clause-started

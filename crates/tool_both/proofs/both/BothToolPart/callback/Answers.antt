@@ -1,4 +1,4 @@
-use Rattle.std.proofs.Common.{◌≡◌, ℕ, Bool, true, false, [], refl, sym, ap, ◌∙◌}
+use Rattle.std.proofs.Common.{◌≡◌, true, false, [], refl, sym}
 use Rattle.ompt_calls.specs.Item.{Item, item_of}
 use Rattle.ompt_calls.specs.Number.{is_registered, number_of}
 use Rattle.ompt_calls.specs.Snapshot.{stores_of}

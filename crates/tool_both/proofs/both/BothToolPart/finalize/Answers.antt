@@ -1,4 +1,3 @@
-use Rattle.std.proofs.Common.{◌≡◌, ℕ}
 use Rattle.tool_api.specs.Record.{Record}
 use Rattle.tool_both.proofs.Ends.{finalized_by}
 use Rattle.tool_both.proofs.Joining.{both-finished, active-end, inactive-end}
