@@ -51,8 +51,10 @@ finished-ended (suc answer) mask whole h tool counts is = (lengths, λ (kept : w
   where
     lengths : length (tool.finished ++ length tool.calls ∷ []) ≡ length (h.finished ++ length h.calls ∷ [])
     lengths = simp length-append (omega (arith, is.0))
+
     all : take (length h.calls) h.calls ≡ h.calls
     all = take-length h.calls
+
     ends : whole ≡ true → tool.finished ++ length tool.calls ∷ [] ≡ counts_at mask h.calls (h.finished ++ length h.calls ∷ [])
     ends kept =
         rw (map-append (λ (c : ℕ). length (filter (hears mask) (take c h.calls))) h.finished (length h.calls ∷ []), all, is.1 kept, counts kept) refl

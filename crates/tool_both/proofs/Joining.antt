@@ -179,7 +179,7 @@ both-started FA FB a b masks whole answer mask answers registers h both =
         heard = joins.heard;
         started = All-append (λ (start : Start). (start.answer ≡ joint_answer masks) × (start.mask ≡ joint_mask masks)) h.started (record { answer = answer; mask = mask } ∷ []) joins.started
             (All-cons (λ (start : Start). (start.answer ≡ joint_answer masks) × (start.mask ≡ joint_mask masks)) (record { answer = answer; mask = mask }) [] (answers, registers)
-                (All-nil (λ (start : Start). (start.answer ≡ joint_answer masks) × (start.mask ≡ joint_mask masks))));
+            (All-nil (λ (start : Start). (start.answer ≡ joint_answer masks) × (start.mask ≡ joint_mask masks))));
         within = joins.within;
         first_finished = finished-beside masks.first_answer masks.first whole h both.first.finished more h.unheard joins.first_finished;
         second_finished = finished-beside masks.second_answer masks.second whole h both.second.finished more h.unheard joins.second_finished;

@@ -26,7 +26,7 @@ short-of snapshot (Some store) = short-stored store.word (target_of snapshot sto
 -- the reply with one store more, where there is room
 front-stores : (snapshot : Snapshot) (kept : Reply) (given : Store) (word : Target) → target_of snapshot given.place ≡ Some word → (third : Option Store) → is_some third ≡ false
     → stored_of snapshot (Some given) ++ stored_of snapshot kept.first ++ stored_of snapshot kept.second
-        ≡ record { target = word; word = given.word } ∷ (stored_of snapshot kept.first ++ stored_of snapshot kept.second ++ stored_of snapshot third)
+    ≡ record { target = word; word = given.word } ∷ (stored_of snapshot kept.first ++ stored_of snapshot kept.second ++ stored_of snapshot third)
 front-stores snapshot kept given word there None empty =
     rw there (ap (λ (xs : List Stored). record { target = word; word = given.word } ∷ xs) (sym (append-nil (stored_of snapshot kept.first ++ stored_of snapshot kept.second))))
 front-stores snapshot kept given word there (Some third) empty = cc
@@ -68,6 +68,6 @@ front-answer snapshot kept given word later there room other counts =
     let few : length (counting_stores later) ≤ 2 = rw counts at (few-stores snapshot kept kept.third room) in
     let absent : occurs word (counting_stores later) ≡ false = rw counts at other in
     front-stores snapshot kept given word there kept.third room
-        ∙ ap (λ (xs : List Stored). new ∷ xs) counts
-        ∙ sym (one-before new later few absent)
-        ∙ ap (λ (xs : List Stored). counting_stores (xs ++ later)) (sym (stored-there snapshot given word there))
+    ∙ ap (λ (xs : List Stored). new ∷ xs) counts
+    ∙ sym (one-before new later few absent)
+    ∙ ap (λ (xs : List Stored). counting_stores (xs ++ later)) (sym (stored-there snapshot given word there))

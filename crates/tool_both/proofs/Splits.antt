@@ -12,18 +12,32 @@ use Rattle.tool_both.specs.Joined.{hears, own, StoresOf, IsSplit, bare, AreOwn}
 pub split_more : (m n : ℕ) (items first second : List Item) (item : Item) (s t : List Stored) → IsSplit m n items first second
     → StoresOf (hears m item) s → StoresOf (hears n item) t → item.stores ≡ both_stores s t
     → IsSplit m n (items ++ item ∷ []) (first ++ own (hears m item) item s) (second ++ own (hears n item) item t)
-split_more m n [] first second item s t split of_first of_second stores =
-    (s, t, [], [],
-      ap (λ (xs : List Item). xs ++ own (hears m item) item s) split.0 ∙ sym (append-nil (own (hears m item) item s)),
-      ap (λ (xs : List Item). xs ++ own (hears n item) item t) split.1 ∙ sym (append-nil (own (hears n item) item t)),
-      of_first, of_second, stores, (refl, refl))
+split_more m n [] first second item s t split of_first of_second stores = (
+  s,
+  t,
+  [],
+  [],
+  ap (λ (xs : List Item). xs ++ own (hears m item) item s) split.0 ∙ sym (append-nil (own (hears m item) item s)),
+  ap (λ (xs : List Item). xs ++ own (hears n item) item t) split.1 ∙ sym (append-nil (own (hears n item) item t)),
+  of_first,
+  of_second,
+  stores,
+  (refl, refl),
+)
 split_more m n (next ∷ rest) first second item s t split of_first of_second stores =
     let new_first = own (hears m item) item s in
-    let new_second = own (hears n item) item t in
-    (split.0, split.1, split.2 ++ new_first, split.3 ++ new_second,
+    let new_second = own (hears n item) item t in (
+      split.0,
+      split.1,
+      split.2 ++ new_first,
+      split.3 ++ new_second,
       ap (λ (xs : List Item). xs ++ new_first) split.4 ∙ append_assoc (own (hears m next) next split.0) split.2 new_first,
       ap (λ (xs : List Item). xs ++ new_second) split.5 ∙ append_assoc (own (hears n next) next split.1) split.3 new_second,
-      split.6, split.7, split.8, split_more m n rest split.2 split.3 item s t split.9 of_first of_second stores)
+      split.6,
+      split.7,
+      split.8,
+      split_more m n rest split.2 split.3 item s t split.9 of_first of_second stores,
+    )
 
 -- one tool's part of an item
 own-bare : (mask : ℕ) (item : Item) (s : List Stored) (rest calls : List Item) → map bare calls ≡ map bare (filter (hears mask) rest)

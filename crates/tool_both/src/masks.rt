@@ -51,7 +51,7 @@ impl Masks {
     }
 
     /// What both tools answer together: 1 where one of them is active, else 0.
-    pub fn answer(&self) -> u32
+    pub(crate) fn answer(&self) -> u32
         ensures { result ≡ joint_answer self.now }
     {
         if self.first_answer == 0 && self.second_answer == 0 {
@@ -62,7 +62,7 @@ impl Masks {
     }
 
     /// Registers what one of the tools has registered.
-    pub fn register(&self, registrar: &mut Registrar)
+    pub(crate) fn register(&self, registrar: &mut Registrar)
         // Nothing is registered yet.
         requires nothing { registrar.old ≡ 0 }
         requires always { AreAlways self.now.first × AreAlways self.now.second }

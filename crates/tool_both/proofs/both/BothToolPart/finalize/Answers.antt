@@ -10,12 +10,12 @@ returns-then-self-ne0-2-clause-finished g c =
     let FA = g.A.ToolPart.stands_for in
     let FB = g.B.ToolPart.stands_for in
     let by_first : (r : Record) → FA both.first r → FA c.if-self-ne0.self.1.0 (finalized_by both.masks.first_answer r) =
-        elim c.if-self-ne0.branch [
-          | then-self-ne0 w ↦ rw w.self-is (active-end FA both.first w.finalize.new.self both.masks.first_answer w.if-self-ne0.true w.finalize.ensures.finished)
-          | else-self-ne0 w ↦ rw w.self-is (inactive-end FA both.first both.masks.first_answer w.if-self-ne0.false)
-        ] in
+    elim c.if-self-ne0.branch [
+      | then-self-ne0 w ↦ rw w.self-is (active-end FA both.first w.finalize.new.self both.masks.first_answer w.if-self-ne0.true w.finalize.ensures.finished)
+      | else-self-ne0 w ↦ rw w.self-is (inactive-end FA both.first both.masks.first_answer w.if-self-ne0.false)
+    ] in
     both-finished FA FB both.first c.if-self-ne0.self.1.0 both.second c.finalize-then-self-ne0-2.new.self both.masks both.whole by_first
-        (active-end FB both.second c.finalize-then-self-ne0-2.new.self both.masks.second_answer c.if-self-ne0-2.true c.finalize-then-self-ne0-2.ensures.finished)
+    (active-end FB both.second c.finalize-then-self-ne0-2.new.self both.masks.second_answer c.if-self-ne0-2.true c.finalize-then-self-ne0-2.ensures.finished)
 
 pub returns-else-self-ne0-2-clause-finished : goal.returns-else-self-ne0-2-clause-finished
 returns-else-self-ne0-2-clause-finished g c =
@@ -23,9 +23,9 @@ returns-else-self-ne0-2-clause-finished g c =
     let FA = g.A.ToolPart.stands_for in
     let FB = g.B.ToolPart.stands_for in
     let by_first : (r : Record) → FA both.first r → FA c.if-self-ne0.self.1.0 (finalized_by both.masks.first_answer r) =
-        elim c.if-self-ne0.branch [
-          | then-self-ne0 w ↦ rw w.self-is (active-end FA both.first w.finalize.new.self both.masks.first_answer w.if-self-ne0.true w.finalize.ensures.finished)
-          | else-self-ne0 w ↦ rw w.self-is (inactive-end FA both.first both.masks.first_answer w.if-self-ne0.false)
-        ] in
+    elim c.if-self-ne0.branch [
+      | then-self-ne0 w ↦ rw w.self-is (active-end FA both.first w.finalize.new.self both.masks.first_answer w.if-self-ne0.true w.finalize.ensures.finished)
+      | else-self-ne0 w ↦ rw w.self-is (inactive-end FA both.first both.masks.first_answer w.if-self-ne0.false)
+    ] in
     both-finished FA FB both.first c.if-self-ne0.self.1.0 both.second both.second both.masks both.whole by_first
-        (inactive-end FB both.second both.masks.second_answer c.if-self-ne0-2.false)
+    (inactive-end FB both.second both.masks.second_answer c.if-self-ne0-2.false)

@@ -27,4 +27,4 @@ returns c =
     let joint : bit_or masks.first masks.second < 2 ^ 64 = or_lt 64 masks.first masks.second first second in
     let all : c.loop-number.number ≡ 64 = omega arith in
     registers-all (bit_or masks.first masks.second) c.loop-number.registrar joint
-        (subst (λ (n : ℕ). (other : ℕ) → is_registered c.loop-number.registrar other ≡ (is_registered (bit_or masks.first masks.second) other && nat_lt other n)) all c.loop-number.invariant)
+    (subst (λ (n : ℕ). (other : ℕ) → is_registered c.loop-number.registrar other ≡ (is_registered (bit_or masks.first masks.second) other && nat_lt other n)) all c.loop-number.invariant)
