@@ -68,7 +68,7 @@ fn inquiries_read_the_snapshot(rt: HostRuntime) -> Result<(), Memory> {
 }
 
 /// Two levels of tasks and two of regions, where the event makes nothing.
-fn snapshot_of_two(alloc: Global) -> Result<Snapshot, Memory> {
+pub(crate) fn snapshot_of_two(alloc: Global) -> Result<Snapshot, Memory> {
     let tasks = Vec::from_array(alloc, [task_of(TWO, STORED), task_of(ONE, ONE)])?;
     let regions = Vec::from_array(alloc, [region_of(STORED), region_of(ONE)])?;
     Ok(Snapshot {

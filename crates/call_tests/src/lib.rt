@@ -9,4 +9,6 @@ mod codes;
 #[cfg(test)]
 mod edges;
 #[cfg(test)]
+mod two_tools;
+#[cfg(test)]
 mod words;

@@ -1,0 +1,3 @@
+pub mod BothStores
+pub mod Joined
+pub mod Tools
