@@ -1,3 +1,5 @@
 pub mod Charge
 pub mod Tree
+pub mod Leads
+pub mod Span
 pub mod Holding

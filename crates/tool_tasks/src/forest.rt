@@ -8,8 +8,10 @@ ghost use Rattle.tool_tasks.specs.Charge.{work_of};
 ghost use Rattle.tool_tasks.specs.Holding.{HoldsForest, HoldsNodes, IsForest};
 ghost use Rattle.tool_tasks.specs.Tree.{node_of};
 
+use crate::chain_builder::ChainBuilder;
 use crate::forest_builder::ForestBuilder;
 use crate::links::link_all;
+use crate::reaches::{Link, Reach, Reaches};
 use std::alloc::{AllocError, Global};
 use trace_format::Trace;
 
@@ -53,6 +55,9 @@ pub struct Forest {
     nodes: Vec<TaskNode>,
     /// How many events are charged to a task.
     work: u32,
+    /// A link for each charged event, and the longest chain.
+    links: Vec<Link>,
+    longest: Reach,
 }
 
 impl Forest {
@@ -62,10 +67,28 @@ impl Forest {
         ensures { IfOk result (λ forest. IsForest forest trace.now.events) }
     {
         let mut builder = ForestBuilder::new(alloc)?;
+        let mut chains = ChainBuilder::new(alloc)?;
         for event in &trace.events.0 {
-            builder.learn(event)?;
+            let charged = builder.learn(event)?;
+            chains.learn(event, charged, builder.nodes.as_slice())?;
         }
-        Ok(builder.finish())
+        let ForestBuilder {
+            mut nodes,
+            work,
+            ..
+        } = builder;
+        link_all(&mut nodes);
+        let Reaches {
+            links,
+            greatest,
+            ..
+        } = chains.reaches;
+        Ok(Forest {
+            nodes,
+            work,
+            links,
+            longest: greatest,
+        })
     }
 
     /// The task with this identity, or None where there is none.
@@ -83,11 +106,34 @@ impl Forest {
         self.work
     }
 
-    /// A forest of these tasks, whose links are set.
-    pub(crate) fn linked(mut nodes: Vec<TaskNode>, work: u32) -> Forest
-        ensures { (past : List EventOf) → Unbroken past → HoldsNodes nodes.items past past → work ≡ work_of past → HoldsForest result past }
-    {
-        link_all(&mut nodes);
-        Forest { nodes, work }
+    /// How many tasks there are.
+    pub(crate) fn count(&self) -> u32 {
+        u32::try_from(self.nodes.len()).unwrap_or(u32::MAX)
     }
+
+    /// The length of a longest chain of charged events, of which each leads to the next.
+    pub fn span(&self) -> u32 {
+        self.longest.length
+    }
+
+    /// The positions of the events of a longest chain.
+    pub fn chain(&self, alloc: Global) -> Result<Vec<u32>, AllocError> {
+        let mut chain = Vec::new(alloc);
+        let mut at = self.longest.link;
+        for _place in 0..self.longest.length {
+            let Some(link) = link_at(self.links.as_slice(), at) else {
+                break;
+            };
+            chain.push(link.seq)?;
+            at = link.back;
+        }
+        chain.reverse();
+        Ok(chain)
+    }
+}
+
+/// The link with this number, counted from 1.
+fn link_at(links: &[Link], number: u32) -> Option<Link> {
+    let place = number.checked_sub(1)?;
+    links.get(place as usize).copied()
 }

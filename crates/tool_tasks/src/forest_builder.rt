@@ -4,9 +4,10 @@ ghost use Rattle.std.specs.Prelude.{◌≡◌, ◌∷◌, ◌+◌, [], List, IfO
 ghost use Rattle.ompt_calls.specs.declared.event.EventRecord.{EventRecord as EventOf};
 ghost use Rattle.trace_check.specs.Checking.{Unbroken};
 ghost use Rattle.trace_check.specs.Rules.{first_broken};
+ghost use Rattle.tool_tasks.specs.Charge.{charged_task};
 ghost use Rattle.tool_tasks.specs.Holding.{Builds, CountsOne, HoldsForest, HoldsNodes, HoldsRegions};
 
-use crate::forest::{Forest, TaskNode};
+use crate::forest::TaskNode;
 use crate::making::{INITIAL, Making, making_by};
 use crate::stacks::Stacks;
 use ompt_calls::EventRecord;
@@ -42,16 +43,18 @@ impl ForestBuilder {
     }
 
     /// Learns of the next event of a nested trace.
-    pub fn learn(&mut self, event: &EventRecord) -> Result<(), AllocError>
-        ensures { OnOk result ((past : List EventOf) → Builds self.old past → Unbroken past → first_broken past event.now ≡ None →
+    pub fn learn(&mut self, event: &EventRecord) -> Result<Option<u32>, AllocError>
+        ensures charged { IfOk result (λ task. (past : List EventOf) → Builds self.old past → task ≡ charged_task past event.now) }
+        ensures learned { OnOk result ((past : List EventOf) → Builds self.old past → Unbroken past → first_broken past event.now ≡ None →
             Builds self.new (event.now ∷ past)) }
     {
         self.make(event)?;
-        if let Some(task) = self.stacks.take(event)? {
+        let charged = self.stacks.take(event)?;
+        if let Some(task) = charged {
             self.work = self.work.checked_add(1).ok_or(AllocError)?;
             count_event(&mut self.nodes, task)?;
         }
-        Ok(())
+        Ok(charged)
     }
 
     /// Learns which region or task the event makes.
@@ -76,13 +79,6 @@ impl ForestBuilder {
             Making::Nothing => {}
         }
         Ok(())
-    }
-
-    /// The forest of the events so far.
-    pub fn finish(self) -> Forest
-        ensures { (past : List EventOf) → Builds self past → Unbroken past → HoldsForest result past }
-    {
-        Forest::linked(self.nodes, self.work)
     }
 }
 

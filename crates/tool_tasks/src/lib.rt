@@ -26,13 +26,19 @@
 //! nor how fast it is made: that it is linear is plain in the code.
 #![tactic(auto)]
 
+mod chain_builder;
 mod forest;
 mod forest_builder;
+mod key;
 mod links;
 mod making;
+mod reaches;
 mod stack_step;
 mod stacks;
+mod task_state;
+mod text;
 
 pub use forest::{Forest, TaskNode};
+pub use key::Key;
 pub use making::Making;
 pub use stack_step::StackStep;

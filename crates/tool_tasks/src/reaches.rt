@@ -1,0 +1,90 @@
+//! The longest chains to the events so far.
+
+use crate::key::Key;
+use std::alloc::{AllocError, Global};
+use std::collections::BTreeMap;
+
+/// The longest chain to an event.
+#[derive(Clone, Copy, PartialEq, Eq)]
+pub(crate) struct Reach {
+    /// Its length.
+    pub length: u32,
+    /// The number of its last link, counted from 1; 0 where the length is 0.
+    pub link: u32,
+}
+
+/// A charged event, and the one before it in a longest chain to it.
+#[derive(Clone, Copy, PartialEq, Eq)]
+pub(crate) struct Link {
+    /// The event's position.
+    pub seq: u32,
+    /// The link before it, or 0 where it is the first.
+    pub back: u32,
+}
+
+/// The longest chains to the events so far.
+#[derive(Drop)]
+pub(crate) struct Reaches {
+    /// The longest chain to an event that gave a key, by the key's number.
+    pub bests: BTreeMap<u128, Reach>,
+    /// A link for each charged event.
+    pub links: Vec<Link>,
+    /// The longest chain of all.
+    pub greatest: Reach,
+}
+
+/// No chain.
+pub(crate) const NOWHERE: Reach = Reach { length: 0, link: 0 };
+
+impl Reaches {
+    /// No event was charged yet.
+    pub fn new(alloc: Global) -> Reaches {
+        Reaches {
+            bests: BTreeMap::new(alloc),
+            links: Vec::new(alloc),
+            greatest: NOWHERE,
+        }
+    }
+
+    /// The longest chain to an event that gave this key.
+    fn best(&self, key: Option<Key>) -> Reach {
+        match key {
+            Some(key) => self.bests.get(&key.number()).copied().unwrap_or(NOWHERE),
+            None => NOWHERE,
+        }
+    }
+
+    /// Adds the link of a charged event that takes these keys, and says which chain it is the end of.
+    pub fn add(&mut self, seq: u32, taken: [Option<Key>; 3]) -> Result<Reach, AllocError> {
+        let [next, first, second] = taken;
+        let before = longer(longer(self.best(next), self.best(first)), self.best(second));
+        let length = before.length.checked_add(1).ok_or(AllocError)?;
+        self.links.push(Link {
+            seq,
+            back: before.link,
+        })?;
+        let link = u32::try_from(self.links.len()).map_err(|_| AllocError)?;
+        let reach = Reach { length, link };
+        self.greatest = longer(self.greatest, reach);
+        Ok(reach)
+    }
+
+    /// The event at the end of this chain gives a key.
+    pub fn give(&mut self, key: Option<Key>, reach: Reach) -> Result<(), AllocError> {
+        let Some(key) = key else {
+            return Ok(());
+        };
+        let best = longer(self.best(Some(key)), reach);
+        self.bests.insert(key.number(), best)?;
+        Ok(())
+    }
+}
+
+/// The longer of two chains.
+fn longer(first: Reach, second: Reach) -> Reach {
+    if first.length < second.length {
+        second
+    } else {
+        first
+    }
+}
