@@ -4,3 +4,4 @@ pub mod Makes
 pub mod Grown
 pub mod Linking
 pub mod Whole
+pub mod Longest

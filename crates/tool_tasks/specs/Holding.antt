@@ -10,6 +10,8 @@ use Rattle.tool_tasks.specs.declared.forest_builder.ForestBuilder.{ForestBuilder
 use Rattle.tool_tasks.specs.declared.stacks.StackFrame.{StackFrame}
 use Rattle.tool_tasks.specs.declared.stacks.Stacks.{Stacks}
 use Rattle.tool_tasks.specs.Charge.{charges_of, tasks_on, work_of}
+use Rattle.tool_tasks.specs.Reaching.{span_of}
+use Rattle.tool_tasks.specs.Span.{AreRising}
 use Rattle.tool_tasks.specs.Tree.{Origin, children_from, encountering_task, first_or_zero, node_of, origin_of, sibling_after}
 
 -- the forest has the node of each task, by identity from 1 on, and the work
@@ -17,10 +19,12 @@ pub record HoldsForest (forest : Forest) (past : List EventRecord) : Type 0 wher
   pub nodes : (place : ℕ) → slice_get forest.nodes.items place ≡ node_of (place + 1) past
   pub none : node_of 0 past ≡ None
   pub work : forest.work ≡ work_of past
+  pub span : forest.chains.longest.length ≡ span_of past
 
--- the forest is that of these events
-abbrev pub IsForest : Forest → List EventRecord → Type 0
-IsForest forest events = HoldsForest forest (reverse events)
+-- the forest is that of these events, whose positions rise
+pub record IsForest (forest : Forest) (events : List EventRecord) : Type 0 where
+  pub holds : HoldsForest forest (reverse events)
+  pub rising : AreRising 0 events
 
 -- ---- stacks
 

@@ -67,22 +67,29 @@ parent_next past event (Some origin) =
     if origin.flags == undeferred_flags then Some (Next origin.parent (charges_of origin.parent (event ∷ past))) else None
 
 -- what the begin of a region gives, the end of an implicit task, a creation, the completion of a task, and the begin of a wait at a barrier
-abbrev pub given_by : List EventRecord → EventRecord → Call → List (Option Key)
-given_by past event (ParallelBegin task frame region requested flags codeptr) = Some (Begun region.identity) ∷ []
+abbrev pub given_by : List EventRecord → EventRecord → Call → Option Key × Option Key × Option Key
+given_by past event (ParallelBegin task frame region requested flags codeptr) = (Some (Begun region.identity), None, None)
 given_by past event (ImplicitTask endpoint region task actual index flags) =
-    (if endpoint == 2 then key_of Left (joined_region task.identity past) else None) ∷ []
-given_by past event (TaskCreate task frame fresh flags has_dependences codeptr) = Some (Created fresh.identity) ∷ []
+    (if endpoint == 2 then key_of Left (joined_region task.identity past) else None, None, None)
+given_by past event (TaskCreate task frame fresh flags has_dependences codeptr) = (Some (Created fresh.identity), None, None)
 given_by past event (TaskSchedule prior status next) =
-    if status == 1
-    then key_of Child (parent_of (origin_of prior.identity past)) ∷ key_of Ended (region_of prior.identity past)
-    ∷ parent_next past event (origin_of prior.identity past) ∷ []
-    else []
-given_by past event (SyncRegionWait kind endpoint region task codeptr) =
-    (if (endpoint == 1) && is_barrier kind then key_of (λ r. Wait r (waits_of task.identity past)) (region_of task.identity past) else None) ∷ []
-given_by past event other = []
+    if status == 1 then (
+      key_of Child (parent_of (origin_of prior.identity past)),
+      key_of Ended (region_of prior.identity past),
+      parent_next past event (origin_of prior.identity past),
+    ) else (None, None, None)
+given_by past event (SyncRegionWait kind endpoint region task codeptr) = (
+  if (endpoint == 1) && is_barrier kind then key_of (λ r. Wait r (waits_of task.identity past)) (region_of task.identity past) else None,
+  None,
+  None,
+)
+given_by past event other = (None, None, None)
+
+abbrev pub with_three : Option Key → Option Key × Option Key × Option Key → List (Option Key)
+with_three next keys = next ∷ keys.0 ∷ keys.1 ∷ keys.2 ∷ []
 
 abbrev pub gives : List EventRecord → EventRecord → List (Option Key)
-gives past event = next_given past (charged_task past event) ∷ given_by past event event.call
+gives past event = with_three (next_given past (charged_task past event)) (given_by past event event.call)
 
 -- ---- keys that an event takes
 
@@ -92,22 +99,27 @@ next_taken past (Some task) = Some (Next task (charges_of task past))
 
 -- what the begin of an implicit task takes, and the end of the initial one, the end of a region, a switch to a task, and the ends of waits: a taskwait is
 -- of kind 5
-abbrev pub taken_by : List EventRecord → Call → List (Option Key)
+abbrev pub taken_by : List EventRecord → Call → Option Key × Option Key
 taken_by past (ImplicitTask endpoint region task actual index flags) =
-    (if (endpoint == 1) && not (flags == 1) then Some (Begun region.identity)
-    else if (endpoint == 2) && (flags == 1) then Some (Ended 1) else None) ∷ []
-taken_by past (ParallelEnd region task flags codeptr) = Some (Left region.identity) ∷ []
-taken_by past (TaskSchedule prior status next) = (if status == 7 then Some (Created next.identity) else None) ∷ []
+    if (endpoint == 1) && not (flags == 1) then (Some (Begun region.identity), None)
+    else if (endpoint == 2) && (flags == 1) then (Some (Ended 1), None)
+    else (None, None)
+taken_by past (ParallelEnd region task flags codeptr) = (Some (Left region.identity), None)
+taken_by past (TaskSchedule prior status next) = (if status == 7 then Some (Created next.identity) else None, None)
 taken_by past (SyncRegionWait kind endpoint region task codeptr) =
-    if not (endpoint == 2) then []
-    else if kind == 5 then Some (Child task.identity) ∷ []
-    else if is_barrier kind
-    then key_of Ended (joined_region task.identity past) ∷ key_of (λ r. Wait r (ends_of task.identity past)) (joined_region task.identity past) ∷ []
-    else []
-taken_by past other = []
+    if not (endpoint == 2) then (None, None)
+    else if kind == 5 then (Some (Child task.identity), None)
+    else if is_barrier kind then (
+      key_of Ended (joined_region task.identity past),
+      key_of (λ r. Wait r (ends_of task.identity past)) (joined_region task.identity past),
+    ) else (None, None)
+taken_by past other = (None, None)
+
+abbrev pub with_two : Option Key → Option Key × Option Key → List (Option Key)
+with_two next keys = next ∷ keys.0 ∷ keys.1 ∷ []
 
 abbrev pub takes : List EventRecord → EventRecord → List (Option Key)
-takes past event = next_taken past (charged_task past event) ∷ taken_by past event.call
+takes past event = with_two (next_taken past (charged_task past event)) (taken_by past event.call)
 
 -- ---- an event leads to a later one
 

@@ -2,4 +2,5 @@ pub mod Charge
 pub mod Tree
 pub mod Leads
 pub mod Span
+pub mod Reaching
 pub mod Holding

@@ -1,5 +1,5 @@
 -- Chains of charged events, of which each leads to the next.
-use Rattle.std.specs.Prelude.{ℕ, ◌≡◌, ◌≤◌, Bool, true, List, [], ◌∷◌, ◌++◌, is_some, length, reverse}
+use Rattle.std.specs.Prelude.{ℕ, ◌≡◌, ◌+◌, ◌≤◌, Bool, true, List, [], ◌∷◌, ◌++◌, is_some, length, reverse}
 use Rattle.ompt_calls.specs.declared.event.EventRecord.{EventRecord}
 use Rattle.tool_tasks.specs.Charge.{charged_task}
 use Rattle.tool_tasks.specs.Leads.{leads}
@@ -39,3 +39,8 @@ pub record IsSpan (events : List EventRecord) (span : ℕ) : Type 0 where
   pub is_chain : IsChain events chain
   pub length_is : length chain ≡ span
   pub longest : (other : List ℕ) → IsChain events other → length other ≤ span
+
+-- positions that rise, from this least one on
+abbrev pub AreRising : ℕ → List EventRecord → Type 0
+AreRising least [] = Unit {0}
+AreRising least (event ∷ rest) = (least ≤ event.seq) × AreRising (event.seq + 1) rest

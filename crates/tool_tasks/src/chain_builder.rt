@@ -1,5 +1,6 @@
 //! Building the longest chains event by event.
 
+use crate::chains::Chains;
 use crate::forest::TaskNode;
 use crate::key::Key;
 use crate::making::{INITIAL, Making, making_by};
@@ -55,6 +56,11 @@ impl ChainBuilder {
             self.charge(event, task, nodes)?;
         }
         self.note(event)
+    }
+
+    /// The chains of the events so far.
+    pub fn finish(self) -> Chains {
+        self.reaches.finish()
     }
 
     /// Adds an event that is charged to this task.

@@ -3,15 +3,19 @@
 ghost use Rattle.std.specs.Prelude.{◌≡◌, List, IfOk, reverse};
 ghost use Rattle.ompt_calls.specs.declared.event.EventRecord.{EventRecord as EventOf};
 ghost use Rattle.trace_check.specs.Checking.{Unbroken};
+ghost use Rattle.trace_format.specs.Validity.{IsTrace};
 ghost use Rattle.trace_check.specs.Nested.{Nested};
 ghost use Rattle.tool_tasks.specs.Charge.{work_of};
 ghost use Rattle.tool_tasks.specs.Holding.{HoldsForest, HoldsNodes, IsForest};
+ghost use Rattle.tool_tasks.specs.Reaching.{span_of};
+ghost use Rattle.tool_tasks.specs.Span.{IsSpan};
 ghost use Rattle.tool_tasks.specs.Tree.{node_of};
 
 use crate::chain_builder::ChainBuilder;
+use crate::chains::Chains;
 use crate::forest_builder::ForestBuilder;
 use crate::links::link_all;
-use crate::reaches::{Link, Reach, Reaches};
+use crate::reaches::Link;
 use std::alloc::{AllocError, Global};
 use trace_format::Trace;
 
@@ -55,15 +59,15 @@ pub struct Forest {
     nodes: Vec<TaskNode>,
     /// How many events are charged to a task.
     work: u32,
-    /// A link for each charged event, and the longest chain.
-    links: Vec<Link>,
-    longest: Reach,
+    /// A longest chain.
+    chains: Chains,
 }
 
 impl Forest {
     /// The task tree of a trace that is valid and nested.
     pub fn of(alloc: Global, trace: &Trace) -> Result<Forest, AllocError>
-        requires { Nested trace.now.header trace.now.events trace.now.end }
+        requires valid { IsTrace trace.now }
+        requires nested { Nested trace.now.header trace.now.events trace.now.end }
         ensures { IfOk result (λ forest. IsForest forest trace.now.events) }
     {
         let mut builder = ForestBuilder::new(alloc)?;
@@ -72,23 +76,7 @@ impl Forest {
             let charged = builder.learn(event)?;
             chains.learn(event, charged, builder.nodes.as_slice())?;
         }
-        let ForestBuilder {
-            mut nodes,
-            work,
-            ..
-        } = builder;
-        link_all(&mut nodes);
-        let Reaches {
-            links,
-            greatest,
-            ..
-        } = chains.reaches;
-        Ok(Forest {
-            nodes,
-            work,
-            links,
-            longest: greatest,
-        })
+        Ok(builder.finish(chains.finish()))
     }
 
     /// The task with this identity, or None where there is none.
@@ -106,22 +94,37 @@ impl Forest {
         self.work
     }
 
+    /// A forest of these tasks, whose links are set.
+    pub(crate) fn linked(mut nodes: Vec<TaskNode>, work: u32, chains: Chains) -> Forest
+        ensures { (past : List EventOf) → Unbroken past → HoldsNodes nodes.items past past → work ≡ work_of past →
+            chains.longest.length ≡ span_of past → HoldsForest result past }
+    {
+        link_all(&mut nodes);
+        Forest {
+            nodes,
+            work,
+            chains,
+        }
+    }
+
     /// How many tasks there are.
     pub(crate) fn count(&self) -> u32 {
         u32::try_from(self.nodes.len()).unwrap_or(u32::MAX)
     }
 
     /// The length of a longest chain of charged events, of which each leads to the next.
-    pub fn span(&self) -> u32 {
-        self.longest.length
+    pub fn span(&self) -> u32
+        ensures { (events : List EventOf) → IsForest self.now events → IsSpan events result }
+    {
+        self.chains.longest.length
     }
 
     /// The positions of the events of a longest chain.
     pub fn chain(&self, alloc: Global) -> Result<Vec<u32>, AllocError> {
         let mut chain = Vec::new(alloc);
-        let mut at = self.longest.link;
-        for _place in 0..self.longest.length {
-            let Some(link) = link_at(self.links.as_slice(), at) else {
+        let mut at = self.chains.longest.link;
+        for _place in 0..self.chains.longest.length {
+            let Some(link) = link_at(self.chains.links.as_slice(), at) else {
                 break;
             };
             chain.push(link.seq)?;

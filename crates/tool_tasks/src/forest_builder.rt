@@ -5,9 +5,11 @@ ghost use Rattle.ompt_calls.specs.declared.event.EventRecord.{EventRecord as Eve
 ghost use Rattle.trace_check.specs.Checking.{Unbroken};
 ghost use Rattle.trace_check.specs.Rules.{first_broken};
 ghost use Rattle.tool_tasks.specs.Charge.{charged_task};
+ghost use Rattle.tool_tasks.specs.Reaching.{span_of};
 ghost use Rattle.tool_tasks.specs.Holding.{Builds, CountsOne, HoldsForest, HoldsNodes, HoldsRegions};
 
-use crate::forest::TaskNode;
+use crate::chains::Chains;
+use crate::forest::{Forest, TaskNode};
 use crate::making::{INITIAL, Making, making_by};
 use crate::stacks::Stacks;
 use ompt_calls::EventRecord;
@@ -79,6 +81,13 @@ impl ForestBuilder {
             Making::Nothing => {}
         }
         Ok(())
+    }
+
+    /// The forest of the events so far, with these chains.
+    pub fn finish(self, chains: Chains) -> Forest
+        ensures { (past : List EventOf) → Builds self past → chains.longest.length ≡ span_of past → Unbroken past → HoldsForest result past }
+    {
+        Forest::linked(self.nodes, self.work, chains)
     }
 }
 

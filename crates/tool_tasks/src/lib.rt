@@ -27,6 +27,7 @@
 #![tactic(auto)]
 
 mod chain_builder;
+mod chains;
 mod forest;
 mod forest_builder;
 mod key;

@@ -1,5 +1,6 @@
 //! The longest chains to the events so far.
 
+use crate::chains::Chains;
 use crate::key::Key;
 use std::alloc::{AllocError, Global};
 use std::collections::BTreeMap;
@@ -43,6 +44,14 @@ impl Reaches {
             bests: BTreeMap::new(alloc),
             links: Vec::new(alloc),
             greatest: NOWHERE,
+        }
+    }
+
+    /// The chains of the events so far.
+    pub fn finish(self) -> Chains {
+        Chains {
+            links: self.links,
+            longest: self.greatest,
         }
     }
 
