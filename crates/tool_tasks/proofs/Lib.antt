@@ -5,3 +5,4 @@ pub mod Grown
 pub mod Linking
 pub mod Whole
 pub mod Longest
+pub mod Numbers

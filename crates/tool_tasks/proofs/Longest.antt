@@ -46,7 +46,7 @@ most_found number (Some key ∷ rest) n is = by-order (number key) (most number 
 
     by-order : (a b : ℕ) → number key ≡ a → most number rest ≡ b → max a b ≡ suc n → (most number rest ≡ suc n → IsMost number rest (suc n)) → IsMost number (Some key ∷ rest) (suc n)
     by-order a b a_is b_is is rest_found = elim (larger a b is) as (λ _. IsMost number (Some key ∷ rest) (suc n)) [
-        inl here ↦ record { key = key; number_is = a_is ∙ here; among = λ given has. (rw has refl) }
+      | inl here ↦ record { key = key; number_is = a_is ∙ here; among = λ given has. (rw has refl) }
       | inr there ↦ (let found : IsMost number rest (suc n) = rest_found (b_is ∙ there) in
           record { key = found.key; number_is = found.number_is; among = λ given has. or_right (has_key key given) (list_any (is_among_keys given) rest) (found.among given has) })
     ]
@@ -105,16 +105,16 @@ best_found key (event ∷ past) n is =
     by-test : (b : Bool) → (is_charged past event && has_key key (gives past event)) ≡ b → cond b (max (best key past) (reach past event)) (best key past) ≡ suc n
         → (best key past ≡ suc n → IsBest key past (suc n)) → IsBest key (event ∷ past) (suc n)
     by-test true both is rest = elim (larger (best key past) (reach past event) is) as (λ _. IsBest key (event ∷ past) (suc n)) [
-        inl there ↦ longer (rest there)
+      | inl there ↦ longer (rest there)
       | inr here ↦ record {
-          newer = [];
-          event = event;
-          before = past;
-          past_is = refl;
-          charged = and_left (is_charged past event) _ both;
-          given = and_right (is_charged past event) _ both;
-          reach_is = here;
-        }
+        newer = [];
+        event = event;
+        before = past;
+        past_is = refl;
+        charged = and_left (is_charged past event) _ both;
+        given = and_right (is_charged past event) _ both;
+        reach_is = here;
+      }
     ]
     by-test false none is rest = longer (rest is)
 
@@ -157,7 +157,7 @@ span_found (event ∷ past) n is = by-test (is_charged past event) refl is (λ s
     by-test : (b : Bool) → is_charged past event ≡ b → cond b (max (span_of past) (reach past event)) (span_of past) ≡ suc n
         → (span_of past ≡ suc n → IsEnd past (suc n)) → IsEnd (event ∷ past) (suc n)
     by-test true charged is rest = elim (larger (span_of past) (reach past event) is) as (λ _. IsEnd (event ∷ past) (suc n)) [
-        inl there ↦ longer (rest there)
+      | inl there ↦ longer (rest there)
       | inr here ↦ record { newer = []; event = event; before = past; past_is = refl; charged = charged; reach_is = here }
     ]
     by-test false none is rest = longer (rest is)
@@ -359,7 +359,7 @@ extend events (suc fuel) newer before event rest few is charged chain =
   where
     by-most : (m : ℕ) → most (λ (taken : Key). best taken before) (takes before event) ≡ m
         → ((newer' before' : List EventRecord) (event' : EventRecord) (rest' : List ℕ) → length before' ≤ fuel → reverse events ≡ newer' ++ event' ∷ before' → is_charged before' event' ≡ true
-            → IsChain events (event'.seq ∷ rest') → HasChain events (reach before' event' + length rest'))
+        → IsChain events (event'.seq ∷ rest') → HasChain events (reach before' event' + length rest'))
         → HasChain events (m + 1 + length rest)
     by-most zero none again = record { chain = event.seq ∷ rest; is_chain = chain; length_is = omega arith }
     by-most (suc m) more again =

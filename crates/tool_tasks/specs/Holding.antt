@@ -1,18 +1,25 @@
 -- What a forest holds of a trace, and what is held of the events while it is built. The events before stand with the newest first.
-use Rattle.std.specs.Prelude.{ℕ, ◌≡◌, ◌+◌, ◌-◌, ◌==◌, Bool, true, List, [], ◌∷◌, Option, Some, None, reverse, length, nat_le, slice_get, get_or, set, if◌then◌else◌}
+use Rattle.std.specs.Prelude.{ℕ, ◌≡◌, ◌+◌, ◌-◌, ◌==◌, Bool, true, List, [], ◌∷◌, Option, Some, None, reverse, length, nat_le, slice_get, get_or, set, if◌then◌else◌, ◌*◌, ◌<◌, max, false}
 use Rattle.std.specs.Ordering.{nat_cmp}
 use Rattle.std.specs.BTreeMap.{BTreeMap, get}
 use Rattle.ompt_calls.specs.declared.event.EventRecord.{EventRecord}
-use Rattle.trace_check.specs.Before.{greatest_task}
+use Rattle.trace_check.specs.Before.{greatest_task, waits_of}
 use Rattle.tool_tasks.specs.declared.forest.Forest.{Forest}
 use Rattle.tool_tasks.specs.declared.forest.TaskNode.{TaskNode}
 use Rattle.tool_tasks.specs.declared.forest_builder.ForestBuilder.{ForestBuilder}
+use Rattle.tool_tasks.specs.declared.chain_builder.ChainBuilder.{ChainBuilder}
+use Rattle.tool_tasks.specs.declared.chain_tasks.ChainTasks.{ChainTasks}
+use Rattle.tool_tasks.specs.declared.key.Key.{Key}
+use Rattle.tool_tasks.specs.declared.key.Key.TheVariants.{Next, Begun, Left, Created, Child, Ended, Wait}
+use Rattle.tool_tasks.specs.declared.reaches.Reach.{Reach}
+use Rattle.tool_tasks.specs.declared.reaches.Reaches.{Reaches}
 use Rattle.tool_tasks.specs.declared.stacks.StackFrame.{StackFrame}
 use Rattle.tool_tasks.specs.declared.stacks.Stacks.{Stacks}
-use Rattle.tool_tasks.specs.Charge.{charges_of, tasks_on, work_of}
-use Rattle.tool_tasks.specs.Reaching.{span_of}
+use Rattle.tool_tasks.specs.Charge.{charges_of, one_if, tasks_on, work_of}
+use Rattle.tool_tasks.specs.Leads.{ends_of, joined_region, region_of}
+use Rattle.tool_tasks.specs.Reaching.{best, span_of}
 use Rattle.tool_tasks.specs.Span.{AreRising}
-use Rattle.tool_tasks.specs.Tree.{Origin, children_from, encountering_task, first_or_zero, node_of, origin_of, sibling_after}
+use Rattle.tool_tasks.specs.Tree.{Origin, children_from, encountering_task, first_or_zero, node_of, or_zero, origin_of, sibling_after}
 
 -- the forest has the node of each task, by identity from 1 on, and the work
 pub record HoldsForest (forest : Forest) (past : List EventRecord) : Type 0 where
@@ -100,3 +107,87 @@ pub record Builds (builder : ForestBuilder) (past : List EventRecord) : Type 0 w
   pub regions : HoldsRegions builder.regions past
   pub nodes : HoldsNodes builder.nodes.items past past
   pub work : builder.work ≡ work_of past
+
+-- ---- keys
+
+-- a number for each key whose own numbers are short
+abbrev pub number_in : ℕ → ℕ → ℕ → ℕ
+number_in family first second = (family * 4294967296 + first) * 4294967296 + second
+
+abbrev pub number_of : Key → ℕ
+number_of (Next task count) = number_in 0 task count
+number_of (Begun region) = number_in 1 region 0
+number_of (Left region) = number_in 2 region 0
+number_of (Created task) = number_in 3 task 0
+number_of (Child parent) = number_in 4 parent 0
+number_of (Ended region) = number_in 5 region 0
+number_of (Wait region count) = number_in 6 region count
+
+abbrev pub IsShortKey : Key → Type 0
+IsShortKey (Next task count) = (task < 4294967296) × (count < 4294967296)
+IsShortKey (Begun region) = region < 4294967296
+IsShortKey (Left region) = region < 4294967296
+IsShortKey (Created task) = task < 4294967296
+IsShortKey (Child parent) = parent < 4294967296
+IsShortKey (Ended region) = region < 4294967296
+IsShortKey (Wait region count) = (region < 4294967296) × (count < 4294967296)
+
+abbrev pub AreShort : Option Key → Type 0
+AreShort None = Unit {0}
+AreShort (Some key) = IsShortKey key
+
+-- ---- the longest chains
+
+abbrev pub length_at : Option Reach → ℕ
+length_at None = 0
+length_at (Some reach) = reach.length
+
+abbrev pub length_for : BTreeMap ℕ Reach → Option Key → ℕ
+length_for bests None = 0
+length_for bests (Some key) = length_at (get nat_cmp bests (number_of key))
+
+abbrev pub HoldsBests : BTreeMap ℕ Reach → List EventRecord → Type 0
+HoldsBests bests past = (key : Key) → IsShortKey key → length_at (get nat_cmp bests (number_of key)) ≡ best key past
+
+-- the longest chains once a key was given by an event with a chain of this length
+abbrev pub is_number : ℕ → Option Key → Bool
+is_number number None = false
+is_number number (Some key) = number_of key == number
+
+abbrev pub GivesKey : BTreeMap ℕ Reach → BTreeMap ℕ Reach → Option Key → ℕ → Type 0
+GivesKey old new key length =
+    (number : ℕ) → length_at (get nat_cmp new number) ≡ (if is_number number key then max (length_at (get nat_cmp old number)) length else length_at (get nat_cmp old number))
+
+pub record HoldsReaches (reaches : Reaches) (past : List EventRecord) : Type 0 where
+  pub bests : HoldsBests reaches.bests past
+  pub span : reaches.greatest.length ≡ span_of past
+
+-- ---- tasks, for chains
+
+abbrev pub counted_at : BTreeMap ℕ ℕ → ℕ → ℕ
+counted_at counts task = or_zero (get nat_cmp counts task)
+
+abbrev pub CountsAt : BTreeMap ℕ ℕ → BTreeMap ℕ ℕ → ℕ → Type 0
+CountsAt old new task = (other : ℕ) → counted_at new other ≡ counted_at old other + one_if (task == other)
+
+abbrev pub HoldsRegionsOf : BTreeMap ℕ ℕ → List EventRecord → Type 0
+HoldsRegionsOf regions past = (task : ℕ) → get nat_cmp regions task ≡ region_of task past
+
+abbrev pub HoldsJoined : BTreeMap ℕ ℕ → List EventRecord → Type 0
+HoldsJoined joined past = (task : ℕ) → get nat_cmp joined task ≡ joined_region task past
+
+abbrev pub HoldsBegun : BTreeMap ℕ ℕ → List EventRecord → Type 0
+HoldsBegun counts past = (task : ℕ) → counted_at counts task ≡ waits_of task past
+
+abbrev pub HoldsEnded : BTreeMap ℕ ℕ → List EventRecord → Type 0
+HoldsEnded counts past = (task : ℕ) → counted_at counts task ≡ ends_of task past
+
+pub record HoldsTasks (tasks : ChainTasks) (past : List EventRecord) : Type 0 where
+  pub regions : HoldsRegionsOf tasks.regions past
+  pub joined : HoldsJoined tasks.joined past
+  pub begun : HoldsBegun tasks.begun past
+  pub ended : HoldsEnded tasks.ended past
+
+pub record HoldsChains (builder : ChainBuilder) (past : List EventRecord) : Type 0 where
+  pub tasks : HoldsTasks builder.tasks past
+  pub reaches : HoldsReaches builder.reaches past

@@ -1,5 +1,5 @@
 -- When a charged event leads to a later one: it gives a key that the later one takes. The events before an event stand with the newest first.
-use Rattle.std.specs.Prelude.{ℕ, ◌+◌, ◌==◌, ◌&&◌, ◌||◌, Bool, true, false, not, List, [], ◌∷◌, count_by, Option, Some, None, if◌then◌else◌}
+use Rattle.std.specs.Prelude.{ℕ, ◌+◌, ◌==◌, ◌&&◌, ◌||◌, Bool, true, false, not, List, [], ◌∷◌, Option, Some, None, if◌then◌else◌}
 use Rattle.std.specs.List.{list_any}
 use Rattle.ompt_calls.specs.declared.call.Call.{Call}
 use Rattle.ompt_calls.specs.declared.call.Call.TheVariants.{ImplicitTask, ParallelBegin, ParallelEnd, SyncRegionWait, TaskCreate, TaskSchedule}
@@ -9,7 +9,7 @@ use Rattle.tool_tasks.specs.declared.key.Key.{Key}
 use Rattle.tool_tasks.specs.declared.key.Key.TheVariants.{Next, Begun, Left, Created, Child, Ended, Wait}
 use Rattle.tool_tasks.specs.declared.making.Making.{Making}
 use Rattle.tool_tasks.specs.declared.making.Making.TheVariants.{Implicit, Explicit}
-use Rattle.tool_tasks.specs.Charge.{charged_task, charges_of}
+use Rattle.tool_tasks.specs.Charge.{charged_task, charges_of, one_if}
 use Rattle.tool_tasks.specs.Tree.{Origin, making_by, or_else, origin_of}
 
 -- ---- regions of tasks
@@ -39,7 +39,8 @@ ended_wait (SyncRegionWait kind endpoint region task codeptr) = if (endpoint == 
 ended_wait other = None
 
 abbrev pub ends_of : ℕ → List EventRecord → ℕ
-ends_of task past = count_by (λ (event : EventRecord). is_just task (ended_wait event.call)) past
+ends_of task [] = 0
+ends_of task (event ∷ past) = ends_of task past + one_if (is_just task (ended_wait event.call))
 
 -- ---- keys that an event gives
 
@@ -66,23 +67,23 @@ parent_next past event None = None
 parent_next past event (Some origin) =
     if origin.flags == undeferred_flags then Some (Next origin.parent (charges_of origin.parent (event ∷ past))) else None
 
+-- what the completion of a task gives, and the begin of its wait at a barrier
+abbrev pub given_by_completion : List EventRecord → EventRecord → ℕ → Option Key × Option Key × Option Key
+given_by_completion past event task =
+    (key_of Child (parent_of (origin_of task past)), key_of Ended (region_of task past), parent_next past event (origin_of task past))
+
+abbrev pub given_by_wait : List EventRecord → ℕ → Option Key
+given_by_wait past task = key_of (λ (region : ℕ). Wait region (waits_of task past)) (region_of task past)
+
 -- what the begin of a region gives, the end of an implicit task, a creation, the completion of a task, and the begin of a wait at a barrier
 abbrev pub given_by : List EventRecord → EventRecord → Call → Option Key × Option Key × Option Key
 given_by past event (ParallelBegin task frame region requested flags codeptr) = (Some (Begun region.identity), None, None)
 given_by past event (ImplicitTask endpoint region task actual index flags) =
     (if endpoint == 2 then key_of Left (joined_region task.identity past) else None, None, None)
 given_by past event (TaskCreate task frame fresh flags has_dependences codeptr) = (Some (Created fresh.identity), None, None)
-given_by past event (TaskSchedule prior status next) =
-    if status == 1 then (
-      key_of Child (parent_of (origin_of prior.identity past)),
-      key_of Ended (region_of prior.identity past),
-      parent_next past event (origin_of prior.identity past),
-    ) else (None, None, None)
-given_by past event (SyncRegionWait kind endpoint region task codeptr) = (
-  if (endpoint == 1) && is_barrier kind then key_of (λ r. Wait r (waits_of task.identity past)) (region_of task.identity past) else None,
-  None,
-  None,
-)
+given_by past event (TaskSchedule prior status next) = if status == 1 then given_by_completion past event prior.identity else (None, None, None)
+given_by past event (SyncRegionWait kind endpoint region task codeptr) =
+    (if (endpoint == 1) && is_barrier kind then given_by_wait past task.identity else None, None, None)
 given_by past event other = (None, None, None)
 
 abbrev pub with_three : Option Key → Option Key × Option Key × Option Key → List (Option Key)
@@ -97,22 +98,23 @@ abbrev pub next_taken : List EventRecord → Option ℕ → Option Key
 next_taken past None = None
 next_taken past (Some task) = Some (Next task (charges_of task past))
 
--- what the begin of an implicit task takes, and the end of the initial one, the end of a region, a switch to a task, and the ends of waits: a taskwait is
--- of kind 5
+-- what the end of a task's wait takes: a taskwait is of kind 5
+abbrev pub taken_by_wait : List EventRecord → ℕ → ℕ → Option Key × Option Key
+taken_by_wait past kind task =
+    if kind == 5 then (Some (Child task), None)
+    else if is_barrier kind
+    then (key_of Ended (joined_region task past), key_of (λ (region : ℕ). Wait region (ends_of task past)) (joined_region task past))
+    else (None, None)
+
+-- what the begin of an implicit task takes, and the end of the initial one, the end of a region, a switch to a task, and the end of a wait
 abbrev pub taken_by : List EventRecord → Call → Option Key × Option Key
 taken_by past (ImplicitTask endpoint region task actual index flags) =
     if (endpoint == 1) && not (flags == 1) then (Some (Begun region.identity), None)
     else if (endpoint == 2) && (flags == 1) then (Some (Ended 1), None)
     else (None, None)
 taken_by past (ParallelEnd region task flags codeptr) = (Some (Left region.identity), None)
-taken_by past (TaskSchedule prior status next) = (if status == 7 then Some (Created next.identity) else None, None)
-taken_by past (SyncRegionWait kind endpoint region task codeptr) =
-    if not (endpoint == 2) then (None, None)
-    else if kind == 5 then (Some (Child task.identity), None)
-    else if is_barrier kind then (
-      key_of Ended (joined_region task.identity past),
-      key_of (λ r. Wait r (ends_of task.identity past)) (joined_region task.identity past),
-    ) else (None, None)
+taken_by past (TaskSchedule prior status next) = if status == 7 then (Some (Created next.identity), None) else (None, None)
+taken_by past (SyncRegionWait kind endpoint region task codeptr) = if endpoint == 2 then taken_by_wait past kind task.identity else (None, None)
 taken_by past other = (None, None)
 
 abbrev pub with_two : Option Key → Option Key × Option Key → List (Option Key)

@@ -1,5 +1,8 @@
 //! What an event gives, and a later one takes.
 
+ghost use Rattle.std.specs.Prelude.{◌≡◌};
+ghost use Rattle.tool_tasks.specs.Holding.{IsShortKey, number_in, number_of};
+
 /// What an event gives, and a later one takes. The first leads to the later one where they have a key in common.
 #[derive(Clone, Copy, PartialEq, Eq)]
 pub enum Key {
@@ -21,7 +24,10 @@ pub enum Key {
 
 impl Key {
     /// A number for each key.
-    pub fn number(self) -> u128 {
+    pub fn number(self) -> u128
+        ensures number { result ≡ number_of self }
+        ensures short { IsShortKey self }
+    {
         match self {
             Key::Next(task, count) => number(0, task, count),
             Key::Begun(region) => number(1, region, 0),
@@ -35,6 +41,8 @@ impl Key {
 }
 
 /// Three numbers as one.
-fn number(family: u8, first: u32, second: u32) -> u128 {
+fn number(family: u8, first: u32, second: u32) -> u128
+    ensures { result ≡ number_in family first second }
+{
     (u128::from(family) * 0x1_0000_0000 + u128::from(first)) * 0x1_0000_0000 + u128::from(second)
 }

@@ -27,6 +27,8 @@
 #![tactic(auto)]
 
 mod chain_builder;
+mod chain_keys;
+mod chain_tasks;
 mod chains;
 mod forest;
 mod forest_builder;
@@ -36,7 +38,6 @@ mod making;
 mod reaches;
 mod stack_step;
 mod stacks;
-mod task_state;
 mod text;
 
 pub use forest::{Forest, TaskNode};

@@ -1,5 +1,9 @@
 //! The longest chains to the events so far.
 
+ghost use Rattle.std.specs.Prelude.{◌≡◌, ◌+◌, [], IfOk, OnOk, Some, max};
+ghost use Rattle.tool_tasks.specs.Holding.{AreShort, GivesKey, HoldsReaches, IsShortKey, length_for};
+ghost use Rattle.tool_tasks.specs.Reaching.{span_of};
+
 use crate::chains::Chains;
 use crate::key::Key;
 use std::alloc::{AllocError, Global};
@@ -39,7 +43,9 @@ pub(crate) const NOWHERE: Reach = Reach { length: 0, link: 0 };
 
 impl Reaches {
     /// No event was charged yet.
-    pub fn new(alloc: Global) -> Reaches {
+    pub fn new(alloc: Global) -> Reaches
+        ensures { HoldsReaches result [] }
+    {
         Reaches {
             bests: BTreeMap::new(alloc),
             links: Vec::new(alloc),
@@ -48,7 +54,9 @@ impl Reaches {
     }
 
     /// The chains of the events so far.
-    pub fn finish(self) -> Chains {
+    pub fn finish(self) -> Chains
+        ensures { result.longest ≡ self.greatest }
+    {
         Chains {
             links: self.links,
             longest: self.greatest,
@@ -56,7 +64,10 @@ impl Reaches {
     }
 
     /// The longest chain to an event that gave this key.
-    fn best(&self, key: Option<Key>) -> Reach {
+    fn best(&self, key: Option<Key>) -> Reach
+        ensures length { result.length ≡ length_for self.now.bests key }
+        ensures short { AreShort key }
+    {
         match key {
             Some(key) => self.bests.get(&key.number()).copied().unwrap_or(NOWHERE),
             None => NOWHERE,
@@ -64,9 +75,24 @@ impl Reaches {
     }
 
     /// Adds the link of a charged event that takes these keys, and says which chain it is the end of.
-    pub fn add(&mut self, seq: u32, taken: [Option<Key>; 3]) -> Result<Reach, AllocError> {
-        let [next, first, second] = taken;
-        let before = longer(longer(self.best(next), self.best(first)), self.best(second));
+    pub fn add(
+        &mut self,
+        seq: u32,
+        next: Option<Key>,
+        taken: (Option<Key>, Option<Key>),
+    ) -> Result<Reach, AllocError>
+        ensures length { IfOk result (λ reach. reach.length
+            ≡ max (max (length_for self.old.bests next) (length_for self.old.bests taken.0)) (length_for self.old.bests taken.1) + 1) }
+        ensures greatest { IfOk result (λ reach. self.new.greatest.length ≡ max self.old.greatest.length reach.length) }
+        ensures bests { self.new.bests ≡ self.old.bests }
+        ensures next_short { AreShort next }
+        ensures first_short { AreShort taken.0 }
+        ensures second_short { AreShort taken.1 }
+    {
+        let before = longer(
+            longer(self.best(next), self.best(taken.0)),
+            self.best(taken.1),
+        );
         let length = before.length.checked_add(1).ok_or(AllocError)?;
         self.links.push(Link {
             seq,
@@ -78,8 +104,27 @@ impl Reaches {
         Ok(reach)
     }
 
+    /// The event at the end of this chain gives these keys.
+    pub fn give_all(
+        &mut self,
+        next: Key,
+        given: (Option<Key>, Option<Key>, Option<Key>),
+        reach: Reach,
+    ) -> Result<(), AllocError>
+        ensures { self.new.greatest ≡ self.old.greatest }
+    {
+        self.give(Some(next), reach)?;
+        self.give(given.0, reach)?;
+        self.give(given.1, reach)?;
+        self.give(given.2, reach)
+    }
+
     /// The event at the end of this chain gives a key.
-    pub fn give(&mut self, key: Option<Key>, reach: Reach) -> Result<(), AllocError> {
+    fn give(&mut self, key: Option<Key>, reach: Reach) -> Result<(), AllocError>
+        ensures gives { OnOk result (GivesKey self.old.bests self.new.bests key reach.length) }
+        ensures greatest { self.new.greatest ≡ self.old.greatest }
+        ensures short { AreShort key }
+    {
         let Some(key) = key else {
             return Ok(());
         };
@@ -90,7 +135,9 @@ impl Reaches {
 }
 
 /// The longer of two chains.
-fn longer(first: Reach, second: Reach) -> Reach {
+fn longer(first: Reach, second: Reach) -> Reach
+    ensures { result.length ≡ max first.length second.length }
+{
     if first.length < second.length {
         second
     } else {
