@@ -6,3 +6,4 @@ pub mod Linking
 pub mod Whole
 pub mod Longest
 pub mod Numbers
+pub mod Giving

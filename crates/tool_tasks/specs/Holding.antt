@@ -1,5 +1,5 @@
 -- What a forest holds of a trace, and what is held of the events while it is built. The events before stand with the newest first.
-use Rattle.std.specs.Prelude.{ℕ, ◌≡◌, ◌+◌, ◌-◌, ◌==◌, Bool, true, List, [], ◌∷◌, Option, Some, None, reverse, length, nat_le, slice_get, get_or, set, if◌then◌else◌, ◌*◌, ◌<◌, max, false}
+use Rattle.std.specs.Prelude.{ℕ, ◌≡◌, ◌+◌, ◌-◌, ◌==◌, Bool, true, List, [], ◌∷◌, Option, Some, None, reverse, length, nat_le, slice_get, get_or, set, if◌then◌else◌, ◌*◌, ◌<◌, max, false, ◌||◌}
 use Rattle.std.specs.Ordering.{nat_cmp}
 use Rattle.std.specs.BTreeMap.{BTreeMap, get}
 use Rattle.ompt_calls.specs.declared.event.EventRecord.{EventRecord}
@@ -80,6 +80,10 @@ pub record HoldsNodes (nodes : List TaskNode) (past counted : List EventRecord) 
   pub count : length nodes ≡ greatest_task past
   pub each : (place : ℕ) → slice_get nodes place ≡ unlinked (place + 1) (charges_of (place + 1) counted) (origin_of (place + 1) past)
 
+-- the node of a task among these
+abbrev pub node_at : List TaskNode → ℕ → Option TaskNode
+node_at nodes task = if task == 0 then None else slice_get nodes (task - 1)
+
 -- the nodes with one event more at a task
 abbrev pub one_more : Bool → Option TaskNode → Option TaskNode
 one_more true (Some node) = Some (record node { events = node.events + 1 })
@@ -157,6 +161,21 @@ is_number number (Some key) = number_of key == number
 abbrev pub GivesKey : BTreeMap ℕ Reach → BTreeMap ℕ Reach → Option Key → ℕ → Type 0
 GivesKey old new key length =
     (number : ℕ) → length_at (get nat_cmp new number) ≡ (if is_number number key then max (length_at (get nat_cmp old number)) length else length_at (get nat_cmp old number))
+
+-- and once these four were
+abbrev pub is_given : ℕ → Key → Option Key × Option Key × Option Key → Bool
+is_given number next given = is_number number (Some next) || (is_number number given.0 || (is_number number given.1 || (is_number number given.2 || false)))
+
+abbrev pub GivesAll : BTreeMap ℕ Reach → BTreeMap ℕ Reach → Key → Option Key × Option Key × Option Key → ℕ → Type 0
+GivesAll old new next given length =
+    (number : ℕ) → length_at (get nat_cmp new number)
+        ≡ (if is_given number next given then max (length_at (get nat_cmp old number)) length else length_at (get nat_cmp old number))
+
+pub record AreAllShort (key : Key) (given : Option Key × Option Key × Option Key) : Type 0 where
+  pub next : IsShortKey key
+  pub first : AreShort given.0
+  pub second : AreShort given.1
+  pub third : AreShort given.2
 
 pub record HoldsReaches (reaches : Reaches) (past : List EventRecord) : Type 0 where
   pub bests : HoldsBests reaches.bests past

@@ -52,7 +52,8 @@ impl ChainBuilder {
         if let Some(task) = charged {
             self.charge(event, task, nodes)?;
         }
-        self.tasks.learn(event)
+        self.tasks.learn(event)?;
+        Ok(())
     }
 
     /// The chains of the events so far.
@@ -79,7 +80,8 @@ impl ChainBuilder {
         let taken = taken_keys(&self.tasks, &event.call);
         let reach = self.reaches.add(event.seq, next, taken)?;
         let given = given_keys(&self.tasks, event, nodes);
-        self.reaches.give_all(Key::Next(task, count), given, reach)
+        self.reaches.give_all(Key::Next(task, count), given, reach)?;
+        Ok(())
     }
 }
 

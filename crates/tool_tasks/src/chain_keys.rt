@@ -5,9 +5,9 @@ ghost use Rattle.ompt_calls.specs.declared.event.EventRecord.{EventRecord as Eve
 ghost use Rattle.trace_check.specs.Checking.{Unbroken};
 ghost use Rattle.trace_check.specs.Rules.{first_broken};
 ghost use Rattle.tool_tasks.specs.Charge.{charges_of};
-ghost use Rattle.tool_tasks.specs.Holding.{HoldsNodes, HoldsTasks, unlinked};
-ghost use Rattle.tool_tasks.specs.Leads.{given_by, given_by_completion, given_by_wait, joined_region, key_of, taken_by, taken_by_wait};
-ghost use Rattle.tool_tasks.specs.declared.key.Key.TheVariants.{Left, Next};
+ghost use Rattle.tool_tasks.specs.Holding.{HoldsNodes, HoldsTasks, node_at};
+ghost use Rattle.tool_tasks.specs.Leads.{given_by, given_by_completion, given_by_wait, joined_region, key_of, region_of, taken_by, taken_by_wait};
+ghost use Rattle.tool_tasks.specs.declared.key.Key.TheVariants.{Ended, Left, Next};
 ghost use Rattle.tool_tasks.specs.Tree.{origin_of};
 
 use crate::chain_tasks::{ChainTasks, INITIAL_REGION, is_barrier};
@@ -156,10 +156,7 @@ fn completion_given(
     ensures { (past : List EventOf) (event : EventOf) → HoldsTasks tasks.now past → HoldsNodes nodes.now (event ∷ past) (event ∷ past) →
         Unbroken (event ∷ past) → origin_of task (event ∷ past) ≡ origin_of task past → result ≡ given_by_completion past event task }
 {
-    let region = match tasks.region(task) {
-        Some(region) => Some(Key::Ended(region)),
-        None => None,
-    };
+    let region = ended_given(tasks, task);
     match node_at(nodes, task) {
         Some(node) => (
             Some(Key::Child(node.parent)),
@@ -167,6 +164,16 @@ fn completion_given(
             parent_given(&node, nodes),
         ),
         None => (None, region, None),
+    }
+}
+
+/// The key that the completion of a task gives to its region.
+fn ended_given(tasks: &ChainTasks, task: u32) -> Option<Key>
+    ensures { (past : List EventOf) → HoldsTasks tasks.now past → result ≡ key_of Ended (region_of task past) }
+{
+    match tasks.region(task) {
+        Some(region) => Some(Key::Ended(region)),
+        None => None,
     }
 }
 
@@ -184,8 +191,7 @@ fn parent_given(node: &TaskNode, nodes: &[TaskNode]) -> Option<Key>
 
 /// A task's node.
 fn node_at(nodes: &[TaskNode], task: u32) -> Option<TaskNode>
-    ensures { (past : List EventOf) → HoldsNodes nodes.now past past → Unbroken past →
-        result ≡ unlinked task (charges_of task past) (origin_of task past) }
+    ensures { result ≡ node_at nodes.now task }
 {
     let place = task.checked_sub(1)?;
     nodes.get(place as usize).copied()

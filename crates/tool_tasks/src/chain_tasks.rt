@@ -87,7 +87,8 @@ impl ChainTasks {
         ensures { OnOk result ((past : List EventOf) → HoldsTasks self.old past → HoldsTasks self.new (event.now ∷ past)) }
     {
         self.make(event)?;
-        self.wait(event)
+        self.wait(event)?;
+        Ok(())
     }
 
     /// Learns which task the event makes.

@@ -1,7 +1,7 @@
 //! The longest chains to the events so far.
 
 ghost use Rattle.std.specs.Prelude.{◌≡◌, ◌+◌, [], IfOk, OnOk, Some, max};
-ghost use Rattle.tool_tasks.specs.Holding.{AreShort, GivesKey, HoldsReaches, IsShortKey, length_for};
+ghost use Rattle.tool_tasks.specs.Holding.{AreAllShort, AreShort, GivesAll, GivesKey, HoldsReaches, IsShortKey, length_for};
 ghost use Rattle.tool_tasks.specs.Reaching.{span_of};
 
 use crate::chains::Chains;
@@ -111,12 +111,15 @@ impl Reaches {
         given: (Option<Key>, Option<Key>, Option<Key>),
         reach: Reach,
     ) -> Result<(), AllocError>
-        ensures { self.new.greatest ≡ self.old.greatest }
+        ensures gives { OnOk result (GivesAll self.old.bests self.new.bests next given reach.length) }
+        ensures short { OnOk result (AreAllShort next given) }
+        ensures greatest { self.new.greatest ≡ self.old.greatest }
     {
         self.give(Some(next), reach)?;
         self.give(given.0, reach)?;
         self.give(given.1, reach)?;
-        self.give(given.2, reach)
+        self.give(given.2, reach)?;
+        Ok(())
     }
 
     /// The event at the end of this chain gives a key.
