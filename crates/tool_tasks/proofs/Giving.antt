@@ -55,7 +55,7 @@ pub uncharged : (nodes : List TaskNode) (past : List EventRecord) (task : ℕ) �
     → None ≡ node_at nodes task → 0 ≡ charges_of task past
 uncharged nodes past zero holds unbroken none = sym (no_zero_charges past unbroken)
 uncharged nodes past (suc place) holds unbroken none = elim (leb_tells (length nodes) place) as (λ _. 0 ≡ charges_of (suc place) past) [
-    inl beyond ↦ (let count : length nodes ≡ greatest_task past = holds.count in let e : length nodes ≤ place = beyond.1 in sym (no_charges (suc place) past unbroken (omega arith)))
+  | inl beyond ↦ (let count : length nodes ≡ greatest_task past = holds.count in let e : length nodes ≤ place = beyond.1 in sym (no_charges (suc place) past unbroken (omega arith)))
   | inr within ↦ absurd (nowhere within.1 (by-test (suc place == 0) refl none))
 ]
   where
@@ -93,8 +93,11 @@ completed_none past event task n is same = by-origin (origin_of task past) (is �
     by-origin None is = refl
     by-origin (Some origin) is = absurd (cc)
 
-pub three : (a b c x y z : Option Key) → a ≡ x → b ≡ y → c ≡ z → (a, b, c) ≡ (x, y, z)
-three a b c x y z first second third = ap (λ (k : Option Key). (k, b, c)) first ∙ (ap (λ (k : Option Key). (x, k, c)) second ∙ ap (λ (k : Option Key). (x, y, k)) third)
+pub three : (a b c x y z : Option Key) → a ≡ x → b ≡ y → c ≡ z → ◌≡◌ {A = Option Key × Option Key × Option Key} (a, b, c) (x, y, z)
+three a b c x y z first second third =
+    subst (λ (k : Option Key). ◌≡◌ {A = Option Key × Option Key × Option Key} (a, b, c) (k, y, z)) first
+    (subst (λ (k : Option Key). ◌≡◌ {A = Option Key × Option Key × Option Key} (a, b, c) (a, k, z)) second
+    (subst (λ (k : Option Key). ◌≡◌ {A = Option Key × Option Key × Option Key} (a, b, c) (a, b, k)) third refl))
 
 -- ---- the longest chains after a charged event
 
@@ -138,10 +141,10 @@ reach_is : (old new : Reaches) (past : List EventRecord) (event : EventRecord) (
     → IsCharged old new past event task count length next taken given → HoldsBests old.bests past → length ≡ reach past event
 reach_is old new past event task count length next taken given is holds =
     is.length_is ∙ ap (λ (n : ℕ). n + 1) (
-      ap (λ (n : ℕ). max (max n (length_for old.bests taken.0)) (length_for old.bests taken.1)) (length_is old.bests past next holds is.next_short)
-      ∙ (ap (λ (n : ℕ). max (max (number_at number next) n) (length_for old.bests taken.1)) (length_is old.bests past taken.0 holds is.first_short)
-      ∙ (ap (λ (n : ℕ). max (max (number_at number next) (number_at number taken.0)) n) (length_is old.bests past taken.1 holds is.second_short)
-      ∙ (most_of number next taken.0 taken.1 ∙ ap (most number) taken_are)))
+    ap (λ (n : ℕ). max (max n (length_for old.bests taken.0)) (length_for old.bests taken.1)) (length_is old.bests past next holds is.next_short)
+    ∙ (ap (λ (n : ℕ). max (max (number_at number next) n) (length_for old.bests taken.1)) (length_is old.bests past taken.0 holds is.first_short)
+    ∙ (ap (λ (n : ℕ). max (max (number_at number next) (number_at number taken.0)) n) (length_is old.bests past taken.1 holds is.second_short)
+    ∙ (most_of number next taken.0 taken.1 ∙ ap (most number) taken_are)))
     )
   where
     number : Key → ℕ
@@ -183,8 +186,22 @@ after_charge old new past event task n l next taken given is holds = record {
     at_key key short =
         is.gives (number_of key)
         ∙ (ap (λ (b : Bool). cond b (max (length_at (get nat_cmp old.bests (number_of key))) l) (length_at (get nat_cmp old.bests (number_of key))))
-            (given_key key (Next task n) given short is.short ∙ ap (has_key key) keys_are)
+        (given_key key (Next task n) given short is.short ∙ ap (has_key key) keys_are)
         ∙ (ap (λ (m : ℕ). cond (has_key key (gives past event)) (max m l) m) (holds.bests key short)
         ∙ (ap (λ (m : ℕ). cond (has_key key (gives past event)) (max (best key past) m) (best key past))
-            (reach_is old new past event task n l next taken given is holds.bests)
+        (reach_is old new past event task n l next taken given is holds.bests)
         ∙ ap (λ (b : Bool). cond (b && has_key key (gives past event)) (max (best key past) (reach past event)) (best key past)) (sym (charged_is past event task is.charged)))))
+
+-- an event that is charged to none changes none of them
+pub still : (reaches : Reaches) (past : List EventRecord) (event : EventRecord) → None ≡ charged_task past event → HoldsReaches reaches past → HoldsReaches reaches (event ∷ past)
+still reaches past event none holds = record {
+  bests = λ key short. holds.bests key short
+      ∙ ap (λ (b : Bool). cond (b && has_key key (gives past event)) (max (best key past) (reach past event)) (best key past)) uncharged_is;
+  span = holds.span ∙ ap (λ (b : Bool). cond b (max (span_of past) (reach past event)) (span_of past)) uncharged_is;
+}
+  where
+    uncharged_is : false ≡ is_charged past event
+    uncharged_is = ap is_some none
+
+pub charge_more : (past : List EventRecord) (event : EventRecord) (task : ℕ) → charged_task past event ≡ Some task → charges_of task (event ∷ past) ≡ charges_of task past + 1
+charge_more past event task is = ap (λ (found : Option ℕ). charges_of task past + one_if (is_just task found)) is ∙ ap (λ (b : Bool). charges_of task past + one_if b) (eq-eqb task task refl)

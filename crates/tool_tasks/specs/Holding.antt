@@ -169,7 +169,7 @@ is_given number next given = is_number number (Some next) || (is_number number g
 abbrev pub GivesAll : BTreeMap ℕ Reach → BTreeMap ℕ Reach → Key → Option Key × Option Key × Option Key → ℕ → Type 0
 GivesAll old new next given length =
     (number : ℕ) → length_at (get nat_cmp new number)
-        ≡ (if is_given number next given then max (length_at (get nat_cmp old number)) length else length_at (get nat_cmp old number))
+    ≡ (if is_given number next given then max (length_at (get nat_cmp old number)) length else length_at (get nat_cmp old number))
 
 pub record AreAllShort (key : Key) (given : Option Key × Option Key × Option Key) : Type 0 where
   pub next : IsShortKey key

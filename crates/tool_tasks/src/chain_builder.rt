@@ -49,9 +49,7 @@ impl ChainBuilder {
             HoldsNodes nodes.now (event.now ∷ past) (event.now ∷ past) → Unbroken past → first_broken past event.now ≡ None →
             HoldsChains self.new (event.now ∷ past)) }
     {
-        if let Some(task) = charged {
-            self.charge(event, task, nodes)?;
-        }
+        self.charge(event, charged, nodes)?;
         self.tasks.learn(event)?;
         Ok(())
     }
@@ -67,14 +65,17 @@ impl ChainBuilder {
     fn charge(
         &mut self,
         event: &EventRecord,
-        task: u32,
+        charged: Option<u32>,
         nodes: &[TaskNode],
     ) -> Result<(), AllocError>
         ensures tasks { self.new.tasks ≡ self.old.tasks }
-        ensures reaches { OnOk result ((past : List EventOf) → HoldsChains self.old past → charged_task past event.now ≡ Some task →
+        ensures reaches { OnOk result ((past : List EventOf) → HoldsChains self.old past → charged ≡ charged_task past event.now →
             HoldsNodes nodes.now (event.now ∷ past) (event.now ∷ past) → Unbroken past → first_broken past event.now ≡ None →
             HoldsReaches self.new.reaches (event.now ∷ past)) }
     {
+        let Some(task) = charged else {
+            return Ok(());
+        };
         let count = events_of(nodes, task);
         let next = next_taken(task, count);
         let taken = taken_keys(&self.tasks, &event.call);

@@ -15,7 +15,6 @@ use crate::chain_builder::ChainBuilder;
 use crate::chains::Chains;
 use crate::forest_builder::ForestBuilder;
 use crate::links::link_all;
-use crate::reaches::Link;
 use std::alloc::{AllocError, Global};
 use trace_format::Trace;
 
@@ -107,36 +106,10 @@ impl Forest {
         }
     }
 
-    /// How many tasks there are.
-    pub(crate) fn count(&self) -> u32 {
-        u32::try_from(self.nodes.len()).unwrap_or(u32::MAX)
-    }
-
     /// The length of a longest chain of charged events, of which each leads to the next.
     pub fn span(&self) -> u32
         ensures { (events : List EventOf) → IsForest self.now events → IsSpan events result }
     {
         self.chains.longest.length
     }
-
-    /// The positions of the events of a longest chain.
-    pub fn chain(&self, alloc: Global) -> Result<Vec<u32>, AllocError> {
-        let mut chain = Vec::new(alloc);
-        let mut at = self.chains.longest.link;
-        for _place in 0..self.chains.longest.length {
-            let Some(link) = link_at(self.chains.links.as_slice(), at) else {
-                break;
-            };
-            chain.push(link.seq)?;
-            at = link.back;
-        }
-        chain.reverse();
-        Ok(chain)
-    }
-}
-
-/// The link with this number, counted from 1.
-fn link_at(links: &[Link], number: u32) -> Option<Link> {
-    let place = number.checked_sub(1)?;
-    links.get(place as usize).copied()
 }
