@@ -1,8 +1,7 @@
 -- What an event gives and takes, as the code has it.
-use Rattle.std.proofs.Common.{◌≡◌, ◌≢◌, ℕ, zero, suc, ◌+◌, ◌-◌, ◌<◌, ◌≤◌, ◌==◌, ◌&&◌, ◌||◌, ◌⊎◌, Bool, true, false, cond, max, List, [], ◌∷◌, length, get_or, Option, Some, None, refl, sym, ◌∙◌, ap, subst, inl, inr, arith}
+use Rattle.std.proofs.Common.{◌≡◌, ℕ, zero, suc, ◌+◌, ◌-◌, ◌<◌, ◌≤◌, ◌==◌, ◌&&◌, Bool, true, false, cond, max, List, [], ◌∷◌, length, get_or, Option, Some, None, refl, sym, ◌∙◌, ap, subst, inl, inr, arith}
 use Rattle.std.specs.Prelude.{is_some, slice_get}
 use Rattle.std.specs.BTreeMap.{BTreeMap, get}
-use Rattle.std.specs.List.{list_any}
 use Rattle.std.specs.Ordering.{nat_cmp}
 use Rattle.std.proofs.lemmas.Bool.{eqb-true, eq-eqb}
 use Rattle.std.proofs.lemmas.Bool.Decides.{leb_tells}
@@ -16,8 +15,8 @@ use Rattle.tool_tasks.specs.declared.key.Key.TheVariants.{Child, Next}
 use Rattle.tool_tasks.specs.declared.reaches.Reach.{Reach}
 use Rattle.tool_tasks.specs.declared.reaches.Reaches.{Reaches}
 use Rattle.tool_tasks.specs.Charge.{charged_task, charges_of, one_if}
-use Rattle.tool_tasks.specs.Holding.{AreAllShort, AreShort, GivesAll, HoldsBests, HoldsNodes, HoldsReaches, IsShortKey, is_given, is_number, length_at, length_for, node_at, number_of, unlinked}
-use Rattle.tool_tasks.specs.Leads.{given_by, gives, has_key, is_key, key_of, next_given, next_taken, parent_next, parent_of, taken_by, takes, undeferred_flags, with_three, with_two}
+use Rattle.tool_tasks.specs.Holding.{AreAllShort, AreShort, GivesAll, HoldsBests, HoldsNodes, HoldsReaches, IsShortKey, is_given, length_at, length_for, node_at, number_of, unlinked}
+use Rattle.tool_tasks.specs.Leads.{given_by, gives, has_key, key_of, next_given, next_taken, parent_next, parent_of, taken_by, takes, undeferred_flags, with_three, with_two}
 use Rattle.tool_tasks.specs.Reaching.{best, is_charged, most, reach, span_of}
 use Rattle.tool_tasks.specs.Tree.{Origin, origin_of}
 use Rattle.tool_tasks.proofs.Charged.{no_charges, no_zero_charges}

@@ -1,13 +1,11 @@
 -- A longest chain has the length that the keys tell.
-use Rattle.std.proofs.Common.{◌≡◌, ◌≢◌, ℕ, zero, suc, ◌+◌, ◌<◌, ◌≤◌, ◌==◌, ◌&&◌, ◌||◌, ◌⊎◌, Bool, true, false, cond, max, List, [], ◌∷◌, ◌++◌, length, reverse, Option, Some, None, refl, sym, ◌∙◌, ap, subst, inl, inr, append_assoc, arith}
-use Rattle.std.specs.Prelude.{is_some}
+use Rattle.std.proofs.Common.{◌≡◌, ℕ, zero, suc, ◌+◌, ◌≤◌, ◌&&◌, ◌||◌, ◌⊎◌, Bool, true, false, cond, max, List, [], ◌∷◌, ◌++◌, length, reverse, Option, Some, None, refl, sym, ◌∙◌, ap, subst, inl, inr, append_assoc, arith}
 use Rattle.std.specs.List.{list_any}
 use Rattle.std.proofs.lemmas.List.{length-append, reverse-append, reverse-reverse}
 use Rattle.ompt_calls.specs.declared.event.EventRecord.{EventRecord}
 use Rattle.trace_check.proofs.Firsts.{Apart, apart, earlier as comes_before, later as comes_after, same as comes_at}
 use Rattle.tool_tasks.specs.declared.key.Key.{Key}
-use Rattle.tool_tasks.specs.Charge.{charged_task}
-use Rattle.tool_tasks.specs.Leads.{gives, has_key, is_among_keys, is_key, leads, same_key, takes}
+use Rattle.tool_tasks.specs.Leads.{gives, has_key, is_among_keys, leads, takes}
 use Rattle.tool_tasks.specs.Reaching.{best, is_charged, most, reach, span_of}
 use Rattle.tool_tasks.specs.Span.{AreRising, IsChain, IsCharged, IsSpan, Leads}
 

@@ -1,6 +1,6 @@
 -- The length of a longest chain to an event, by the keys that it takes. It serves the contracts of private functions and the proofs. The events
 -- before stand with the newest first.
-use Rattle.std.specs.Prelude.{ℕ, ◌+◌, ◌&&◌, Bool, true, false, max, List, [], ◌∷◌, is_some, Option, Some, None, if◌then◌else◌}
+use Rattle.std.specs.Prelude.{ℕ, ◌+◌, ◌&&◌, Bool, max, List, [], ◌∷◌, is_some, Option, Some, None, if◌then◌else◌}
 use Rattle.ompt_calls.specs.declared.event.EventRecord.{EventRecord}
 use Rattle.tool_tasks.specs.declared.key.Key.{Key}
 use Rattle.tool_tasks.specs.Charge.{charged_task}

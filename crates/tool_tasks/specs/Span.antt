@@ -1,5 +1,5 @@
 -- Chains of charged events, of which each leads to the next.
-use Rattle.std.specs.Prelude.{ℕ, ◌≡◌, ◌+◌, ◌≤◌, Bool, true, List, [], ◌∷◌, ◌++◌, is_some, length, reverse}
+use Rattle.std.specs.Prelude.{ℕ, ◌≡◌, ◌+◌, ◌≤◌, true, List, [], ◌∷◌, ◌++◌, is_some, length, reverse}
 use Rattle.ompt_calls.specs.declared.event.EventRecord.{EventRecord}
 use Rattle.tool_tasks.specs.Charge.{charged_task}
 use Rattle.tool_tasks.specs.Leads.{leads}

@@ -1,4 +1,4 @@
-use Rattle.std.proofs.Common.{◌≡◌, ◌∷◌, Option, Some, None, refl, sym, ◌∙◌, ap}
+use Rattle.std.proofs.Common.{◌≡◌, ◌∷◌, Option, None, sym, ◌∙◌, ap}
 use Rattle.tool_tasks.specs.declared.key.Key.TheVariants.{Child}
 use Rattle.tool_tasks.specs.Charge.{charges_of}
 use Rattle.tool_tasks.specs.Leads.{key_of, parent_next, parent_of}

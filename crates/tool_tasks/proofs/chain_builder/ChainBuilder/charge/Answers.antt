@@ -1,4 +1,4 @@
-use Rattle.std.proofs.Common.{◌≡◌, ◌∷◌, ◌+◌, ℕ, BTreeMap, Option, Some, None, sym, ◌∙◌, ap, subst}
+use Rattle.std.proofs.Common.{◌≡◌, ◌∷◌, ◌+◌, ℕ, BTreeMap, Some, sym, ◌∙◌, ap, subst}
 use Rattle.tool_tasks.specs.declared.key.Key.TheVariants.{Next}
 use Rattle.tool_tasks.specs.declared.reaches.Reach.{Reach}
 use Rattle.tool_tasks.specs.Charge.{charged_task, charges_of}

@@ -1,4 +1,4 @@
-use Rattle.std.proofs.Common.{◌∷◌, subst, sym}
+use Rattle.std.proofs.Common.{subst, sym}
 use Rattle.tool_tasks.specs.declared.chain_tasks.ChainTasks.{ChainTasks}
 use Rattle.tool_tasks.specs.Holding.{HoldsTasks}
 use Rattle.tool_tasks.proofs.chain_builder.ChainBuilder.learn.Goals as goal
