@@ -1,5 +1,5 @@
 -- What a forest holds of a trace, and what is held of the events while it is built. The events before stand with the newest first.
-use Rattle.std.specs.Prelude.{ℕ, ◌≡◌, ◌+◌, ◌-◌, ◌==◌, Bool, true, List, [], ◌∷◌, Option, Some, None, reverse, length, nat_le, slice_get, get_or, set, if◌then◌else◌, ◌*◌, ◌<◌, max, false, ◌||◌}
+use Rattle.std.specs.Prelude.{ℕ, ◌≡◌, ◌+◌, ◌-◌, ◌==◌, Bool, true, List, [], ◌∷◌, Option, Some, None, reverse, length, nat_le, slice_get, get_or, set, if◌then◌else◌, ◌*◌, ◌<◌, max, false, ◌||◌, ◌⊎◌, ◌++◌, zero, suc}
 use Rattle.std.specs.Ordering.{nat_cmp}
 use Rattle.std.specs.BTreeMap.{BTreeMap, get}
 use Rattle.ompt_calls.specs.declared.event.EventRecord.{EventRecord}
@@ -11,27 +11,16 @@ use Rattle.tool_tasks.specs.declared.chain_builder.ChainBuilder.{ChainBuilder}
 use Rattle.tool_tasks.specs.declared.chain_tasks.ChainTasks.{ChainTasks}
 use Rattle.tool_tasks.specs.declared.key.Key.{Key}
 use Rattle.tool_tasks.specs.declared.key.Key.TheVariants.{Next, Begun, Left, Created, Child, Ended, Wait}
+use Rattle.tool_tasks.specs.declared.reaches.Link.{Link}
 use Rattle.tool_tasks.specs.declared.reaches.Reach.{Reach}
 use Rattle.tool_tasks.specs.declared.reaches.Reaches.{Reaches}
 use Rattle.tool_tasks.specs.declared.stacks.StackFrame.{StackFrame}
 use Rattle.tool_tasks.specs.declared.stacks.Stacks.{Stacks}
 use Rattle.tool_tasks.specs.Charge.{charges_of, one_if, tasks_on, work_of}
-use Rattle.tool_tasks.specs.Leads.{ends_of, joined_region, region_of}
-use Rattle.tool_tasks.specs.Reaching.{best, span_of}
-use Rattle.tool_tasks.specs.Span.{AreRising}
+use Rattle.tool_tasks.specs.Leads.{ends_of, gives, has_key, joined_region, region_of}
+use Rattle.tool_tasks.specs.Reaching.{best, is_charged, span_of}
+use Rattle.tool_tasks.specs.Span.{AreRising, IsCharged, Leads}
 use Rattle.tool_tasks.specs.Tree.{Origin, children_from, encountering_task, first_or_zero, node_of, or_zero, origin_of, sibling_after}
-
--- the forest has the node of each task, by identity from 1 on, and the work
-pub record HoldsForest (forest : Forest) (past : List EventRecord) : Type 0 where
-  pub nodes : (place : ℕ) → slice_get forest.nodes.items place ≡ node_of (place + 1) past
-  pub none : node_of 0 past ≡ None
-  pub work : forest.work ≡ work_of past
-  pub span : forest.chains.longest.length ≡ span_of past
-
--- the forest is that of these events, whose positions rise
-pub record IsForest (forest : Forest) (events : List EventRecord) : Type 0 where
-  pub holds : HoldsForest forest (reverse events)
-  pub rising : AreRising 0 events
 
 -- ---- stacks
 
@@ -177,9 +166,78 @@ pub record AreAllShort (key : Key) (given : Option Key × Option Key × Option K
   pub second : AreShort given.1
   pub third : AreShort given.2
 
+-- ---- links
+
+-- the link with this number, counted from 1
+abbrev pub link_at : List Link → ℕ → Option Link
+link_at links number = if number == 0 then None else slice_get links (number - 1)
+
+abbrev pub walk_on : Option Link → (ℕ → List ℕ) → List ℕ
+walk_on None rest = []
+walk_on (Some link) rest = link.seq ∷ rest link.back
+
+-- the positions of so many links, from this one back
+abbrev pub walked : List Link → ℕ → ℕ → List ℕ
+walked links zero number = []
+walked links (suc count) number = walk_on (link_at links number) (λ (back : ℕ). walked links count back)
+
+-- a chain with its last event first
+abbrev pub IsBack : List EventRecord → List ℕ → Type 0
+IsBack events [] = Unit {0}
+IsBack events (seq ∷ []) = IsCharged events seq
+IsBack events (seq ∷ prior ∷ rest) = Leads events prior seq × IsBack events (prior ∷ rest)
+
+-- the links of this chain are one of its length
+pub record IsWalk (links : List Link) (past : List EventRecord) (reach : Reach) : Type 0 where
+  pub is_back : IsBack (reverse past) (walked links reach.length reach.link)
+  pub length_is : length (walked links reach.length reach.link) ≡ reach.length
+
+-- a chain that ends in an event that gives this key
+pub record Ends (links : List Link) (past : List EventRecord) (key : Key) (reach : Reach) : Type 0 where
+  pub newer : List EventRecord
+  pub event : EventRecord
+  pub before : List EventRecord
+  pub past_is : past ≡ newer ++ event ∷ before
+  pub charged : is_charged before event ≡ true
+  pub given : has_key key (gives before event) ≡ true
+  pub rest : List ℕ
+  pub walked_is : walked links reach.length reach.link ≡ event.seq ∷ rest
+  pub walk : IsWalk links past reach
+
+abbrev pub EndsIn : List Link → List EventRecord → Key → Option Reach → Type 0
+EndsIn links past key None = Unit {0}
+EndsIn links past key (Some reach) = Ends links past key reach
+
+abbrev pub EndsFor : List Link → List EventRecord → Option Key → Reach → Type 0
+EndsFor links past None reach = Unit {0}
+EndsFor links past (Some key) reach = Ends links past key reach
+
+abbrev pub HoldsEnds : List Link → List EventRecord → BTreeMap ℕ Reach → Type 0
+HoldsEnds links past bests = (key : Key) → IsShortKey key → EndsIn links past key (get nat_cmp bests (number_of key))
+
+-- the longest chain to an event that gave a key, or none
+abbrev pub or_nowhere : Option Reach → Reach
+or_nowhere None = record { length = 0; link = 0 }
+or_nowhere (Some reach) = reach
+
+abbrev pub reach_for : BTreeMap ℕ Reach → Option Key → Reach
+reach_for bests None = record { length = 0; link = 0 }
+reach_for bests (Some key) = or_nowhere (get nat_cmp bests (number_of key))
+
+-- a link is added behind one of the chains to the events that gave these keys
+pub record Adds (old new : Reaches) (seq : ℕ) (next : Option Key) (taken : Option Key × Option Key) (reach : Reach) : Type 0 where
+  pub before : Reach
+  pub before_is : (before ≡ reach_for old.bests next) ⊎ ((before ≡ reach_for old.bests taken.0) ⊎ (before ≡ reach_for old.bests taken.1))
+  pub links_are : new.links.items ≡ old.links.items ++ (record { seq = seq; back = before.link }) ∷ []
+  pub link_is : reach.link ≡ length old.links.items + 1
+  pub length_is : reach.length ≡ before.length + 1
+  pub greatest_is : (new.greatest ≡ old.greatest) ⊎ (new.greatest ≡ reach)
+
 pub record HoldsReaches (reaches : Reaches) (past : List EventRecord) : Type 0 where
   pub bests : HoldsBests reaches.bests past
   pub span : reaches.greatest.length ≡ span_of past
+  pub ends : HoldsEnds reaches.links.items past reaches.bests
+  pub walk : IsWalk reaches.links.items past reaches.greatest
 
 -- ---- tasks, for chains
 
@@ -210,3 +268,18 @@ pub record HoldsTasks (tasks : ChainTasks) (past : List EventRecord) : Type 0 wh
 pub record HoldsChains (builder : ChainBuilder) (past : List EventRecord) : Type 0 where
   pub tasks : HoldsTasks builder.tasks past
   pub reaches : HoldsReaches builder.reaches past
+
+-- ---- the forest
+
+-- the forest has the node of each task, by identity from 1 on, and the work
+pub record HoldsForest (forest : Forest) (past : List EventRecord) : Type 0 where
+  pub nodes : (place : ℕ) → slice_get forest.nodes.items place ≡ node_of (place + 1) past
+  pub none : node_of 0 past ≡ None
+  pub work : forest.work ≡ work_of past
+  pub span : forest.chains.longest.length ≡ span_of past
+  pub walk : IsWalk forest.chains.links.items past forest.chains.longest
+
+-- the forest is that of these events, whose positions rise
+pub record IsForest (forest : Forest) (events : List EventRecord) : Type 0 where
+  pub holds : HoldsForest forest (reverse events)
+  pub rising : AreRising 0 events

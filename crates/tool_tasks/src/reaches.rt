@@ -1,7 +1,9 @@
 //! The longest chains to the events so far.
 
-ghost use Rattle.std.specs.Prelude.{◌≡◌, ◌+◌, [], IfOk, OnOk, Some, max};
-ghost use Rattle.tool_tasks.specs.Holding.{AreAllShort, AreShort, GivesAll, GivesKey, HoldsReaches, IsShortKey, length_for};
+ghost use Rattle.std.specs.Prelude.{◌≡◌, ◌⊎◌, ◌+◌, [], List, IfOk, OnOk, Some, max};
+ghost use Rattle.ompt_calls.specs.declared.event.EventRecord.{EventRecord as EventOf};
+ghost use Rattle.tool_tasks.specs.declared.reaches.Link.{Link as LinkOf};
+ghost use Rattle.tool_tasks.specs.Holding.{Adds, AreAllShort, AreShort, Ends, EndsFor, GivesAll, GivesKey, HoldsEnds, HoldsReaches, length_for, reach_for};
 ghost use Rattle.tool_tasks.specs.Reaching.{span_of};
 
 use crate::chains::Chains;
@@ -55,7 +57,8 @@ impl Reaches {
 
     /// The chains of the events so far.
     pub fn finish(self) -> Chains
-        ensures { result.longest ≡ self.greatest }
+        ensures longest { result.longest ≡ self.greatest }
+        ensures links { result.links ≡ self.links }
     {
         Chains {
             links: self.links,
@@ -65,6 +68,7 @@ impl Reaches {
 
     /// The longest chain to an event that gave this key.
     fn best(&self, key: Option<Key>) -> Reach
+        ensures reach { result ≡ reach_for self.now.bests key }
         ensures length { result.length ≡ length_for self.now.bests key }
         ensures short { AreShort key }
     {
@@ -83,6 +87,7 @@ impl Reaches {
     ) -> Result<Reach, AllocError>
         ensures length { IfOk result (λ reach. reach.length
             ≡ max (max (length_for self.old.bests next) (length_for self.old.bests taken.0)) (length_for self.old.bests taken.1) + 1) }
+        ensures adds { IfOk result (λ reach. Adds self.old self.new seq next taken reach) }
         ensures greatest { IfOk result (λ reach. self.new.greatest.length ≡ max self.old.greatest.length reach.length) }
         ensures bests { self.new.bests ≡ self.old.bests }
         ensures next_short { AreShort next }
@@ -113,6 +118,10 @@ impl Reaches {
     ) -> Result<(), AllocError>
         ensures gives { OnOk result (GivesAll self.old.bests self.new.bests next given reach.length) }
         ensures short { OnOk result (AreAllShort next given) }
+        ensures ends { OnOk result ((links : List LinkOf) (past : List EventOf) → HoldsEnds links past self.old.bests →
+            Ends links past next reach → EndsFor links past given.0 reach → EndsFor links past given.1 reach →
+            EndsFor links past given.2 reach → HoldsEnds links past self.new.bests) }
+        ensures links { self.new.links ≡ self.old.links }
         ensures greatest { self.new.greatest ≡ self.old.greatest }
     {
         self.give(Some(next), reach)?;
@@ -125,6 +134,9 @@ impl Reaches {
     /// The event at the end of this chain gives a key.
     fn give(&mut self, key: Option<Key>, reach: Reach) -> Result<(), AllocError>
         ensures gives { OnOk result (GivesKey self.old.bests self.new.bests key reach.length) }
+        ensures ends { OnOk result ((links : List LinkOf) (past : List EventOf) → HoldsEnds links past self.old.bests →
+            EndsFor links past key reach → HoldsEnds links past self.new.bests) }
+        ensures links { self.new.links ≡ self.old.links }
         ensures greatest { self.new.greatest ≡ self.old.greatest }
         ensures short { AreShort key }
     {
@@ -139,7 +151,8 @@ impl Reaches {
 
 /// The longer of two chains.
 fn longer(first: Reach, second: Reach) -> Reach
-    ensures { result.length ≡ max first.length second.length }
+    ensures length { result.length ≡ max first.length second.length }
+    ensures either { (result ≡ first) ⊎ (result ≡ second) }
 {
     if first.length < second.length {
         second
