@@ -1,5 +1,5 @@
 -- What an event gives and takes, as the code has it.
-use Rattle.std.proofs.Common.{◌≡◌, ℕ, zero, suc, ◌+◌, ◌-◌, ◌<◌, ◌≤◌, ◌==◌, ◌&&◌, Bool, true, false, cond, max, List, [], ◌∷◌, length, get_or, Option, Some, None, refl, sym, ◌∙◌, ap, subst, inl, inr, arith}
+use Rattle.std.proofs.Common.{◌≡◌, ℕ, zero, suc, ◌+◌, ◌-◌, ◌<◌, ◌≤◌, ◌==◌, ◌&&◌, Bool, true, false, cond, max, List, [], ◌∷◌, length, get_or, Option, Some, None, refl, sym, ◌∙◌, ap, subst, inl, inr, arith, ◌||◌}
 use Rattle.std.specs.Prelude.{is_some, slice_get}
 use Rattle.std.specs.BTreeMap.{BTreeMap, get}
 use Rattle.std.specs.Ordering.{nat_cmp}
@@ -15,7 +15,7 @@ use Rattle.tool_tasks.specs.declared.key.Key.TheVariants.{Child, Next}
 use Rattle.tool_tasks.specs.declared.reaches.Reach.{Reach}
 use Rattle.tool_tasks.specs.declared.reaches.Reaches.{Reaches}
 use Rattle.tool_tasks.specs.Charge.{charged_task, charges_of, one_if}
-use Rattle.tool_tasks.specs.Holding.{AreAllShort, AreShort, GivesAll, HoldsBests, HoldsNodes, HoldsReaches, IsShortKey, is_given, length_at, length_for, node_at, number_of, unlinked}
+use Rattle.tool_tasks.specs.Holding.{AreAllShort, AreShort, GivesAll, GivesKey, HoldsBests, HoldsNodes, HoldsReaches, IsShortKey, is_given, is_number, length_at, length_for, node_at, number_of, unlinked}
 use Rattle.tool_tasks.specs.Leads.{given_by, gives, has_key, key_of, next_given, next_taken, parent_next, parent_of, taken_by, takes, undeferred_flags, with_three, with_two}
 use Rattle.tool_tasks.specs.Reaching.{best, is_charged, most, reach, span_of}
 use Rattle.tool_tasks.specs.Tree.{Origin, origin_of}
@@ -23,6 +23,7 @@ use Rattle.tool_tasks.proofs.Charged.{no_charges, no_zero_charges}
 use Rattle.tool_tasks.proofs.Linking.{zero_node}
 use Rattle.tool_tasks.proofs.Makes.{no_zero}
 use Rattle.tool_tasks.proofs.Numbers.{is_number_is}
+use Rattle.tool_tasks.proofs.Walks.{ends_on_past, walk_on_past}
 
 -- ---- a task's node
 
@@ -98,6 +99,34 @@ three a b c x y z first second third =
     (subst (λ (k : Option Key). ◌≡◌ {A = Option Key × Option Key × Option Key} (a, b, c) (a, k, z)) second
     (subst (λ (k : Option Key). ◌≡◌ {A = Option Key × Option Key × Option Key} (a, b, c) (a, b, k)) third refl))
 
+-- ---- four keys are given
+
+both : (a b : Bool) (x l : ℕ) → cond b (max (cond a (max x l) x) l) (cond a (max x l) x) ≡ cond (a || b) (max x l) x
+both true true x l = omega arith
+both true false x l = refl
+both false true x l = refl
+both false false x l = refl
+
+or_assoc : (a b c d : Bool) → (((a || b) || c) || d) ≡ (a || (b || (c || (d || false))))
+or_assoc true b c d = refl
+or_assoc false true c d = refl
+or_assoc false false true d = refl
+or_assoc false false false true = refl
+or_assoc false false false false = refl
+
+pub gives_all : (m0 m1 m2 m3 m4 : BTreeMap ℕ Reach) (next : Key) (given : Option Key × Option Key × Option Key) (l : ℕ)
+    → GivesKey m0 m1 (Some next) l → GivesKey m1 m2 given.0 l → GivesKey m2 m3 given.1 l → GivesKey m3 m4 given.2 l → GivesAll m0 m4 next given l
+gives_all m0 m1 m2 m3 m4 next given l first second third fourth = λ number.
+    let a : Bool = is_number number (Some next) in
+    let b : Bool = is_number number given.0 in
+    let d : Bool = is_number number given.1 in
+    let e : Bool = is_number number given.2 in
+    let x : ℕ = length_at (get nat_cmp m0 number) in
+    let one : length_at (get nat_cmp m1 number) ≡ cond a (max x l) x = first number in
+    let two : length_at (get nat_cmp m2 number) ≡ cond (a || b) (max x l) x = second number ∙ (ap (λ (n : ℕ). cond b (max n l) n) one ∙ both a b x l) in
+    let three : length_at (get nat_cmp m3 number) ≡ cond ((a || b) || d) (max x l) x = third number ∙ (ap (λ (n : ℕ). cond d (max n l) n) two ∙ both (a || b) d x l) in
+    fourth number ∙ (ap (λ (n : ℕ). cond e (max n l) n) three ∙ (both ((a || b) || d) e x l ∙ ap (λ (t : Bool). cond t (max x l) x) (or_assoc a b d e)))
+
 -- ---- the longest chains after a charged event
 
 number_at : (Key → ℕ) → Option Key → ℕ
@@ -136,6 +165,20 @@ pub record IsCharged (old new : Reaches) (past : List EventRecord) (event : Even
   pub short : AreAllShort (Next task n) given
   pub greatest : new.greatest.length ≡ max old.greatest.length l
 
+pub keys_taken : (old new : Reaches) (past : List EventRecord) (event : EventRecord) (task n l : ℕ) (next : Option Key) (taken : Option Key × Option Key) (given : Option Key × Option Key × Option Key)
+    → IsCharged old new past event task n l next taken given → ◌≡◌ {A = List (Option Key)} (next ∷ taken.0 ∷ taken.1 ∷ []) (takes past event)
+keys_taken old new past event task n l next taken given is =
+    ap (λ (key : Option Key). key ∷ taken.0 ∷ taken.1 ∷ []) is.next_is
+    ∙ (ap (λ (keys : Option Key × Option Key). with_two (Some (Next task (charges_of task past))) keys) is.taken_is
+    ∙ ap (λ (found : Option ℕ). with_two (next_taken past found) (taken_by past event.call)) (sym is.charged))
+
+pub keys_given : (old new : Reaches) (past : List EventRecord) (event : EventRecord) (task n l : ℕ) (next : Option Key) (taken : Option Key × Option Key) (given : Option Key × Option Key × Option Key)
+    → IsCharged old new past event task n l next taken given → with_three (Some (Next task n)) given ≡ gives past event
+keys_given old new past event task n l next taken given is =
+    ap (λ (m : ℕ). with_three (Some (Next task m)) given) is.count_is
+    ∙ (ap (λ (keys : Option Key × Option Key × Option Key). with_three (Some (Next task (charges_of task past + 1))) keys) is.given_is
+    ∙ ap (λ (found : Option ℕ). with_three (next_given past found) (given_by past event event.call)) (sym is.charged))
+
 reach_is : (old new : Reaches) (past : List EventRecord) (event : EventRecord) (task count length : ℕ) (next : Option Key) (taken : Option Key × Option Key) (given : Option Key × Option Key × Option Key)
     → IsCharged old new past event task count length next taken given → HoldsBests old.bests past → length ≡ reach past event
 reach_is old new past event task count length next taken given is holds =
@@ -162,8 +205,12 @@ given_key : (key next : Key) (given : Option Key × Option Key × Option Key) �
 given_key key next given short all =
     rw (is_number_is key (Some next) short all.next, is_number_is key given.0 short all.first, is_number_is key given.1 short all.second, is_number_is key given.2 short all.third) refl
 
+pub record HoldsLengths (reaches : Reaches) (past : List EventRecord) : Type 0 where
+  pub bests : HoldsBests reaches.bests past
+  pub span : reaches.greatest.length ≡ span_of past
+
 pub after_charge : (old new : Reaches) (past : List EventRecord) (event : EventRecord) (task n l : ℕ) (next : Option Key) (taken : Option Key × Option Key) (given : Option Key × Option Key × Option Key)
-    → IsCharged old new past event task n l next taken given → HoldsReaches old past → HoldsReaches new (event ∷ past)
+    → IsCharged old new past event task n l next taken given → HoldsReaches old past → HoldsLengths new (event ∷ past)
 after_charge old new past event task n l next taken given is holds = record {
   bests = λ key short. at_key key short;
   span = is.greatest ∙ (ap (λ (m : ℕ). max m l) holds.span ∙ (ap (λ (m : ℕ). max (span_of past) m) far ∙ charged_span));
@@ -197,6 +244,8 @@ still reaches past event none holds = record {
   bests = λ key short. holds.bests key short
       ∙ ap (λ (b : Bool). cond (b && has_key key (gives past event)) (max (best key past) (reach past event)) (best key past)) uncharged_is;
   span = holds.span ∙ ap (λ (b : Bool). cond b (max (span_of past) (reach past event)) (span_of past)) uncharged_is;
+  ends = λ key short. ends_on_past reaches.links.items past event key (get nat_cmp reaches.bests (number_of key)) (holds.ends key short);
+  walk = walk_on_past reaches.links.items past event reaches.greatest holds.walk;
 }
   where
     uncharged_is : false ≡ is_charged past event

@@ -7,3 +7,5 @@ pub mod Whole
 pub mod Longest
 pub mod Numbers
 pub mod Giving
+pub mod Walks
+pub mod Charging

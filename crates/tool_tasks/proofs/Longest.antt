@@ -291,7 +291,7 @@ record HasChain (events : List EventRecord) (n : ℕ) : Type 0 where
 in_order : (events newer before : List EventRecord) (event : EventRecord) → reverse events ≡ newer ++ event ∷ before → events ≡ reverse before ++ event ∷ reverse newer
 in_order events newer before event is = sym (reverse-reverse events) ∙ (ap reverse is ∙ turned newer before event)
 
-leads_to : (events newer before between older : List EventRecord) (event earlier : EventRecord)
+pub leads_to : (events newer before between older : List EventRecord) (event earlier : EventRecord)
     → reverse events ≡ newer ++ event ∷ before → before ≡ between ++ earlier ∷ older
     → is_charged before event ≡ true → is_charged older earlier ≡ true → leads older earlier before event ≡ true → Leads events earlier.seq event.seq
 leads_to events newer before between older event earlier is before_is charged earlier_charged led = record {

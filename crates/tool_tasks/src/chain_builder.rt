@@ -6,7 +6,7 @@ ghost use Rattle.trace_check.specs.Checking.{Unbroken};
 ghost use Rattle.trace_check.specs.Rules.{first_broken};
 ghost use Rattle.tool_tasks.specs.declared.key.Key.TheVariants.{Next};
 ghost use Rattle.tool_tasks.specs.Charge.{charged_task};
-ghost use Rattle.tool_tasks.specs.Holding.{HoldsChains, HoldsNodes, HoldsReaches, HoldsTasks};
+ghost use Rattle.tool_tasks.specs.Holding.{HoldsChains, HoldsNodes, HoldsReaches, IsWalk};
 ghost use Rattle.tool_tasks.specs.Reaching.{span_of};
 
 use crate::chain_keys::{events_of, given_keys, taken_keys};
@@ -56,7 +56,8 @@ impl ChainBuilder {
 
     /// The chains of the events so far.
     pub fn finish(self) -> Chains
-        ensures { (past : List EventOf) → HoldsChains self past → result.longest.length ≡ span_of past }
+        ensures span { (past : List EventOf) → HoldsChains self past → result.longest.length ≡ span_of past }
+        ensures walk { (past : List EventOf) → HoldsChains self past → IsWalk result.links.items past result.longest }
     {
         self.reaches.finish()
     }

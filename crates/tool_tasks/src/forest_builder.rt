@@ -6,7 +6,7 @@ ghost use Rattle.trace_check.specs.Checking.{Unbroken};
 ghost use Rattle.trace_check.specs.Rules.{first_broken};
 ghost use Rattle.tool_tasks.specs.Charge.{charged_task};
 ghost use Rattle.tool_tasks.specs.Reaching.{span_of};
-ghost use Rattle.tool_tasks.specs.Holding.{Builds, CountsOne, HoldsForest, HoldsNodes, HoldsRegions};
+ghost use Rattle.tool_tasks.specs.Holding.{Builds, CountsOne, HoldsForest, HoldsNodes, HoldsRegions, IsWalk};
 
 use crate::chains::Chains;
 use crate::forest::{Forest, TaskNode};
@@ -85,7 +85,8 @@ impl ForestBuilder {
 
     /// The forest of the events so far, with these chains.
     pub fn finish(self, chains: Chains) -> Forest
-        ensures { (past : List EventOf) → Builds self past → chains.longest.length ≡ span_of past → Unbroken past → HoldsForest result past }
+        ensures { (past : List EventOf) → Builds self past → chains.longest.length ≡ span_of past →
+            IsWalk chains.links.items past chains.longest → Unbroken past → HoldsForest result past }
     {
         Forest::linked(self.nodes, self.work, chains)
     }
