@@ -343,3 +343,9 @@ last_charged events seq (prior ∷ rest) back = record {
 pub turned : (events : List EventRecord) (back : List ℕ) → IsBack events back → IsChain events (reverse back)
 turned events [] is = tt
 turned events (seq ∷ rest) is = subst (IsChain events) (append-nil (reverse (seq ∷ rest))) (turned_onto events seq rest [] is (last_charged events seq rest is))
+
+-- a walk, one link on
+pub walked_step : (links : List Link) (left number : ℕ) (link : Link) → 0 < left → Some link ≡ link_at links number → walked links left number ≡ link.seq ∷ walked links (left - 1) link.back
+walked_step links left number link some is =
+    let e : left ≡ suc (left - 1) = omega arith in
+    ap (λ (count : ℕ). walked links count number) e ∙ ap (λ (found : Option Link). walk_on found (λ (back : ℕ). walked links (left - 1) back)) (sym is)
