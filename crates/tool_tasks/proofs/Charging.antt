@@ -1,5 +1,5 @@
 -- The links after a charged event.
-use Rattle.std.proofs.Common.{◌≡◌, ℕ, ◌==◌, ◌&&◌, ◌||◌, ◌⊎◌, Bool, true, false, BTreeMap, List, [], ◌∷◌, ◌++◌, Option, Some, None, refl, sym, ◌∙◌, ap, subst, inl, inr}
+use Rattle.std.proofs.Common.{◌≡◌, ℕ, ◌||◌, ◌⊎◌, Bool, true, false, BTreeMap, List, [], ◌∷◌, ◌++◌, Option, Some, None, refl, sym, ◌∙◌, ap, subst, inl, inr}
 use Rattle.std.specs.Prelude.{is_some}
 use Rattle.std.specs.BTreeMap.{get}
 use Rattle.std.specs.Ordering.{nat_cmp}
@@ -10,11 +10,10 @@ use Rattle.tool_tasks.specs.declared.key.Key.TheVariants.{Next, Begun, Left, Cre
 use Rattle.tool_tasks.specs.declared.reaches.Link.{Link}
 use Rattle.tool_tasks.specs.declared.reaches.Reach.{Reach}
 use Rattle.tool_tasks.specs.declared.reaches.Reaches.{Reaches}
-use Rattle.tool_tasks.specs.Charge.{charged_task}
 use Rattle.tool_tasks.specs.Leads.{gives, has_key, is_key, same_key, with_three}
 use Rattle.tool_tasks.specs.Reaching.{is_charged}
 use Rattle.tool_tasks.specs.Holding.{Adds, Ends, EndsFor, EndsIn, HoldsEnds, HoldsReaches, IsWalk, number_of}
-use Rattle.tool_tasks.proofs.Giving.{HoldsLengths, IsCharged, after_charge, keys_given, keys_taken}
+use Rattle.tool_tasks.proofs.Giving.{IsCharged, after_charge, keys_given, keys_taken}
 use Rattle.tool_tasks.proofs.Walks.{IsStep, ends_on_links, ends_on_past, step, walk_on_links, walk_on_past}
 
 key_self : (key : Key) → same_key key key ≡ true

@@ -1,10 +1,10 @@
 -- Chains by links.
-use Rattle.std.proofs.Common.{◌≡◌, ◌≢◌, ℕ, zero, suc, ◌+◌, ◌-◌, ◌<◌, ◌≤◌, ◌==◌, ◌&&◌, ◌||◌, ◌⊎◌, Bool, true, false, cond, max, List, [], ◌∷◌, ◌++◌, length, reverse, Option, Some, None, refl, sym, ◌∙◌, ap, subst, inl, inr, append_assoc, arith}
-use Rattle.std.specs.Prelude.{is_some, slice_get}
+use Rattle.std.proofs.Common.{◌≡◌, ℕ, zero, suc, ◌+◌, ◌-◌, ◌<◌, ◌≤◌, ◌==◌, ◌&&◌, ◌||◌, ◌⊎◌, Bool, true, false, cond, List, [], ◌∷◌, ◌++◌, length, reverse, Option, Some, None, refl, sym, ◌∙◌, ap, subst, inl, inr, append_assoc, arith}
+use Rattle.std.specs.Prelude.{slice_get}
 use Rattle.std.specs.BTreeMap.{BTreeMap, Updates, get}
 use Rattle.std.specs.List.{list_any}
 use Rattle.std.specs.Ordering.{nat_cmp}
-use Rattle.std.proofs.lemmas.Bool.{eqb-true, eq-eqb}
+use Rattle.std.proofs.lemmas.Bool.{eqb-true}
 use Rattle.std.proofs.lemmas.List.{append-nil, reverse-append, reverse-reverse}
 use Rattle.ompt_calls.specs.declared.event.EventRecord.{EventRecord}
 use Rattle.trace_check.proofs.RegionParts.{beside_key}
@@ -13,7 +13,7 @@ use Rattle.tool_tasks.specs.declared.key.Key.TheVariants.{Next, Begun, Left, Cre
 use Rattle.tool_tasks.specs.declared.reaches.Link.{Link}
 use Rattle.tool_tasks.specs.declared.reaches.Reach.{Reach}
 use Rattle.tool_tasks.specs.declared.reaches.Reaches.{Reaches}
-use Rattle.tool_tasks.specs.Leads.{gives, has_key, is_among_keys, is_key, leads, same_key, takes}
+use Rattle.tool_tasks.specs.Leads.{gives, has_key, is_among_keys, same_key, takes}
 use Rattle.tool_tasks.specs.Reaching.{is_charged}
 use Rattle.tool_tasks.specs.Span.{IsChain, IsCharged, Leads}
 use Rattle.tool_tasks.specs.Holding.{Adds, AreShort, Ends, EndsIn, HoldsEnds, IsBack, IsShortKey, IsWalk, link_at, number_of, or_nowhere, reach_for, walk_on, walked}
@@ -70,7 +70,7 @@ given_ends old new links past given reach result short updates either longer hol
 
     here : Ends links past given result
     here = elim either as (λ _. Ends links past given result) [
-        inl is ↦ of_old (get nat_cmp old (number_of given)) (holds given short) is
+      | inl is ↦ of_old (get nat_cmp old (number_of given)) (holds given short) is
       | inr is ↦ subst (λ (one : Reach). Ends links past given one) (sym is) ends
     ]
 

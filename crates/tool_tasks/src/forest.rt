@@ -120,7 +120,11 @@ impl Forest {
         ensures longest { IfOk result (λ chain. (events : List EventOf) → IsForest self.now events → IsSpan events (length chain.items)) }
     {
         let mut chain = Vec::new(alloc);
-        walk_back(self.chains.links.as_slice(), self.chains.longest, &mut chain)?;
+        walk_back(
+            self.chains.links.as_slice(),
+            self.chains.longest,
+            &mut chain,
+        )?;
         chain.reverse();
         Ok(chain)
     }

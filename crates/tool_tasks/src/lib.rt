@@ -28,7 +28,8 @@
 //! - [`Forest::of`] gives the forest of the events of each trace that is nested, or finds no memory;
 //! - [`Forest::node`] gives the task with an identity, with all its links, and `None` exactly where there is no such task;
 //! - [`Forest::work`] is how many events are charged to a task;
-//! - [`Forest::span`] is the span: there is a chain of that length, and no chain is longer.
+//! - [`Forest::span`] is the span: there is a chain of that length, and no chain is longer;
+//! - [`Forest::chain`] gives the positions of a chain of that length, in their order, or finds no memory.
 //!
 //! A count that would pass the greatest number is told as want of memory, which no trace comes to. How much memory a forest takes isn't proved,
 //! nor how fast it is made: that it is linear, but for the searches of maps, is plain in the code.

@@ -8,5 +8,5 @@ loop-left-preserved c =
     ap (λ (items : List ℕ). items ++ walked c.args.links.now (c.loop-left.left - 1) c.in-Some.link.back) c.in_ok-push.ensures.items
     ∙ (append_assoc c.loop-left.chain.items (c.in-Some.link.seq ∷ []) (walked c.args.links.now (c.loop-left.left - 1) c.in-Some.link.back)
     ∙ (ap (λ (rest : List ℕ). c.loop-left.chain.items ++ rest)
-        (sym (walked_step c.args.links.now c.loop-left.left c.loop-left.number c.in-Some.link c.loop-left-test.true c.in-Some.ensures))
+    (sym (walked_step c.args.links.now c.loop-left.left c.loop-left.number c.in-Some.link c.loop-left-test.true c.in-Some.ensures))
     ∙ c.loop-left.invariant))

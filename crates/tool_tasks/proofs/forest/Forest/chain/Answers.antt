@@ -15,9 +15,9 @@ returns-clause-chain c = λ events forest.
     let last : ℕ = c.args.self.now.chains.longest.link in
     let walked_is : c.reverse.new.self.items ≡ reverse (walked links n last) =
     c.reverse.ensures.items ∙ ap reverse (c.in_ok-walk_back.ensures ∙ (ap (λ (front : List ℕ). front ++ walked c.as_slice.result.now n last) c.new-chain.ensures.items
-        ∙ ap (λ (all : List Link). walked all n last) c.as_slice.ensures.value)) in
+    ∙ ap (λ (all : List Link). walked all n last) c.as_slice.ensures.value)) in
     subst (IsChain events) (sym walked_is) (turned events (walked links n last)
-        (subst (λ (all : List EventRecord). IsBack all (walked links n last)) (reverse-reverse events) forest.holds.walk.is_back))
+    (subst (λ (all : List EventRecord). IsBack all (walked links n last)) (reverse-reverse events) forest.holds.walk.is_back))
 
 pub returns-clause-longest : goal.returns-clause-longest
 returns-clause-longest c = λ events forest.
@@ -26,7 +26,7 @@ returns-clause-longest c = λ events forest.
     let last : ℕ = c.args.self.now.chains.longest.link in
     let walked_is : c.reverse.new.self.items ≡ reverse (walked links n last) =
     c.reverse.ensures.items ∙ ap reverse (c.in_ok-walk_back.ensures ∙ (ap (λ (front : List ℕ). front ++ walked c.as_slice.result.now n last) c.new-chain.ensures.items
-        ∙ ap (λ (all : List Link). walked all n last) c.as_slice.ensures.value)) in
+    ∙ ap (λ (all : List Link). walked all n last) c.as_slice.ensures.value)) in
     subst (IsSpan events)
     (sym (ap (length {A = ℕ}) walked_is ∙ (length-reverse (walked links n last) ∙ (forest.holds.walk.length_is ∙ forest.holds.span))))
     (is_span events forest.rising)
