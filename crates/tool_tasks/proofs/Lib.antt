@@ -4,3 +4,8 @@ pub mod Makes
 pub mod Grown
 pub mod Linking
 pub mod Whole
+pub mod Longest
+pub mod Numbers
+pub mod Giving
+pub mod Walks
+pub mod Charging

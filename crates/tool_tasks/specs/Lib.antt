@@ -1,3 +1,6 @@
 pub mod Charge
 pub mod Tree
+pub mod Leads
+pub mod Span
+pub mod Reaching
 pub mod Holding

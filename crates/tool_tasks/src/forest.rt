@@ -1,15 +1,21 @@
 //! The task tree of a trace.
 
-ghost use Rattle.std.specs.Prelude.{◌≡◌, List, IfOk, reverse};
+ghost use Rattle.std.specs.Prelude.{◌≡◌, ◌++◌, List, IfOk, OnOk, length, reverse};
 ghost use Rattle.ompt_calls.specs.declared.event.EventRecord.{EventRecord as EventOf};
 ghost use Rattle.trace_check.specs.Checking.{Unbroken};
+ghost use Rattle.trace_format.specs.Validity.{IsTrace};
 ghost use Rattle.trace_check.specs.Nested.{Nested};
 ghost use Rattle.tool_tasks.specs.Charge.{work_of};
-ghost use Rattle.tool_tasks.specs.Holding.{HoldsForest, HoldsNodes, IsForest};
+ghost use Rattle.tool_tasks.specs.Holding.{HoldsForest, HoldsNodes, IsForest, IsWalk, link_at, walked};
+ghost use Rattle.tool_tasks.specs.Reaching.{span_of};
+ghost use Rattle.tool_tasks.specs.Span.{IsChain, IsSpan};
 ghost use Rattle.tool_tasks.specs.Tree.{node_of};
 
+use crate::chain_builder::ChainBuilder;
+use crate::chains::Chains;
 use crate::forest_builder::ForestBuilder;
 use crate::links::link_all;
+use crate::reaches::{Link, Reach};
 use std::alloc::{AllocError, Global};
 use trace_format::Trace;
 
@@ -53,19 +59,24 @@ pub struct Forest {
     nodes: Vec<TaskNode>,
     /// How many events are charged to a task.
     work: u32,
+    /// A longest chain.
+    chains: Chains,
 }
 
 impl Forest {
     /// The task tree of a trace that is valid and nested.
     pub fn of(alloc: Global, trace: &Trace) -> Result<Forest, AllocError>
-        requires { Nested trace.now.header trace.now.events trace.now.end }
+        requires valid { IsTrace trace.now }
+        requires nested { Nested trace.now.header trace.now.events trace.now.end }
         ensures { IfOk result (λ forest. IsForest forest trace.now.events) }
     {
         let mut builder = ForestBuilder::new(alloc)?;
+        let mut chains = ChainBuilder::new(alloc)?;
         for event in &trace.events.0 {
-            builder.learn(event)?;
+            let charged = builder.learn(event)?;
+            chains.learn(event, charged, builder.nodes.as_slice())?;
         }
-        Ok(builder.finish())
+        Ok(builder.finish(chains.finish()))
     }
 
     /// The task with this identity, or None where there is none.
@@ -84,10 +95,62 @@ impl Forest {
     }
 
     /// A forest of these tasks, whose links are set.
-    pub(crate) fn linked(mut nodes: Vec<TaskNode>, work: u32) -> Forest
-        ensures { (past : List EventOf) → Unbroken past → HoldsNodes nodes.items past past → work ≡ work_of past → HoldsForest result past }
+    pub(crate) fn linked(mut nodes: Vec<TaskNode>, work: u32, chains: Chains) -> Forest
+        ensures { (past : List EventOf) → Unbroken past → HoldsNodes nodes.items past past → work ≡ work_of past →
+            chains.longest.length ≡ span_of past → IsWalk chains.links.items past chains.longest → HoldsForest result past }
     {
         link_all(&mut nodes);
-        Forest { nodes, work }
+        Forest {
+            nodes,
+            work,
+            chains,
+        }
     }
+
+    /// The length of a longest chain of charged events, of which each leads to the next.
+    pub fn span(&self) -> u32
+        ensures { (events : List EventOf) → IsForest self.now events → IsSpan events result }
+    {
+        self.chains.longest.length
+    }
+
+    /// The positions of the events of a longest chain, each of which leads to the next.
+    pub fn chain(&self, alloc: Global) -> Result<Vec<u32>, AllocError>
+        ensures chain { IfOk result (λ chain. (events : List EventOf) → IsForest self.now events → IsChain events chain.items) }
+        ensures longest { IfOk result (λ chain. (events : List EventOf) → IsForest self.now events → IsSpan events (length chain.items)) }
+    {
+        let mut chain = Vec::new(alloc);
+        walk_back(
+            self.chains.links.as_slice(),
+            self.chains.longest,
+            &mut chain,
+        )?;
+        chain.reverse();
+        Ok(chain)
+    }
+}
+
+/// Adds the positions of a chain, the last one first.
+fn walk_back(links: &[Link], reach: Reach, chain: &mut Vec<u32>) -> Result<(), AllocError>
+    ensures { OnOk result (chain.new.items ≡ chain.old.items ++ walked links.now reach.length reach.link) }
+{
+    let mut left = reach.length;
+    let mut number = reach.link;
+    while left > 0 {
+        let Some(link) = link_at(links, number) else {
+            return Ok(());
+        };
+        chain.push(link.seq)?;
+        number = link.back;
+        left -= 1;
+    }
+    Ok(())
+}
+
+/// The link with this number, counted from 1.
+fn link_at(links: &[Link], number: u32) -> Option<Link>
+    ensures { result ≡ link_at links.now number }
+{
+    let place = number.checked_sub(1)?;
+    links.get(place as usize).copied()
 }

@@ -4,8 +4,11 @@ ghost use Rattle.std.specs.Prelude.{◌≡◌, ◌∷◌, ◌+◌, [], List, IfO
 ghost use Rattle.ompt_calls.specs.declared.event.EventRecord.{EventRecord as EventOf};
 ghost use Rattle.trace_check.specs.Checking.{Unbroken};
 ghost use Rattle.trace_check.specs.Rules.{first_broken};
-ghost use Rattle.tool_tasks.specs.Holding.{Builds, CountsOne, HoldsForest, HoldsNodes, HoldsRegions};
+ghost use Rattle.tool_tasks.specs.Charge.{charged_task};
+ghost use Rattle.tool_tasks.specs.Reaching.{span_of};
+ghost use Rattle.tool_tasks.specs.Holding.{Builds, CountsOne, HoldsForest, HoldsNodes, HoldsRegions, IsWalk};
 
+use crate::chains::Chains;
 use crate::forest::{Forest, TaskNode};
 use crate::making::{INITIAL, Making, making_by};
 use crate::stacks::Stacks;
@@ -42,16 +45,18 @@ impl ForestBuilder {
     }
 
     /// Learns of the next event of a nested trace.
-    pub fn learn(&mut self, event: &EventRecord) -> Result<(), AllocError>
-        ensures { OnOk result ((past : List EventOf) → Builds self.old past → Unbroken past → first_broken past event.now ≡ None →
+    pub fn learn(&mut self, event: &EventRecord) -> Result<Option<u32>, AllocError>
+        ensures charged { IfOk result (λ task. (past : List EventOf) → Builds self.old past → task ≡ charged_task past event.now) }
+        ensures learned { OnOk result ((past : List EventOf) → Builds self.old past → Unbroken past → first_broken past event.now ≡ None →
             Builds self.new (event.now ∷ past)) }
     {
         self.make(event)?;
-        if let Some(task) = self.stacks.take(event)? {
+        let charged = self.stacks.take(event)?;
+        if let Some(task) = charged {
             self.work = self.work.checked_add(1).ok_or(AllocError)?;
             count_event(&mut self.nodes, task)?;
         }
-        Ok(())
+        Ok(charged)
     }
 
     /// Learns which region or task the event makes.
@@ -78,11 +83,12 @@ impl ForestBuilder {
         Ok(())
     }
 
-    /// The forest of the events so far.
-    pub fn finish(self) -> Forest
-        ensures { (past : List EventOf) → Builds self past → Unbroken past → HoldsForest result past }
+    /// The forest of the events so far, with these chains.
+    pub fn finish(self, chains: Chains) -> Forest
+        ensures { (past : List EventOf) → Builds self past → chains.longest.length ≡ span_of past →
+            IsWalk chains.links.items past chains.longest → Unbroken past → HoldsForest result past }
     {
-        Forest::linked(self.nodes, self.work)
+        Forest::linked(self.nodes, self.work, chains)
     }
 }
 

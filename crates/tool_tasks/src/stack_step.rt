@@ -8,12 +8,12 @@ use ompt_calls::Call;
 /// `ompt_scope_begin` and `ompt_scope_end` (OpenMP 5.2, 19.4.4).
 pub(crate) const BEGIN: u32 = 1;
 
-const END: u32 = 2;
+pub(crate) const END: u32 = 2;
 
 /// `ompt_task_complete` and `ompt_task_switch` (OpenMP 5.2, 19.4.4).
-const COMPLETE: u32 = 1;
+pub(crate) const COMPLETE: u32 = 1;
 
-const SWITCH: u32 = 7;
+pub(crate) const SWITCH: u32 = 7;
 
 /// What an event does to the stack of tasks of its thread.
 #[derive(Clone, Copy, PartialEq, Eq)]

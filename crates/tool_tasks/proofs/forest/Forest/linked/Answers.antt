@@ -10,7 +10,7 @@ use Rattle.tool_tasks.proofs.Linking.{linked}
 use Rattle.tool_tasks.proofs.Makes.{no_zero}
 
 pub returns : goal.returns
-returns c = λ past unbroken holds work.
+returns c = λ past unbroken holds work span walk.
     let links : HoldsLinks c.link_all.new.nodes past 0 =
     c.link_all.ensures past unbroken (subst (λ (all : List TaskNode). HoldsNodes all past past) (sym c.deref_mut.ensures.value) holds) in
     let items : (with_items c.args.nodes c.link_all.new.nodes).items ≡ c.link_all.new.nodes = with_items_is c.args.nodes c.link_all.new.nodes (c.link_all.auto.nodes ∙ c.deref_mut.ensures.len) in
@@ -18,4 +18,6 @@ returns c = λ past unbroken holds work.
       nodes = λ place. ap (λ (all : List TaskNode). slice_get all place) items ∙ linked c.link_all.new.nodes past links place;
       none = ap (node_from 0 past) (no_zero past unbroken);
       work = work;
+      span = span;
+      walk = walk;
     }
