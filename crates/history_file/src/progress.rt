@@ -20,6 +20,7 @@ use omp_machine::{Machine, Memory, Went};
 use omp_model::{Entry, What};
 use ompt_calls::{Call, Target};
 use std::alloc::Global;
+use std::mem;
 
 /// A history that is taken through the machine, entry by entry.
 #[derive(Drop)]
@@ -51,7 +52,7 @@ impl Progress {
     }
 
     /// Takes these entries one after the other, up to the first that may not stand next. Tells whether there was none.
-    pub fn take_all(&mut self, entries: &[Entry]) -> Result<bool, Memory>
+    fn take_all(&mut self, entries: &[Entry]) -> Result<bool, Memory>
         requires at { IsAt [] self.old }
         requires threads { All (IsEntry self.old.machine.run.threads) entries.now }
         requires few { length entries.now ≤ ENTRY_LIMIT }
@@ -177,20 +178,27 @@ impl Progress {
         true
     }
 
-    /// How many entries were taken.
-    pub fn taken(&self) -> u32
-        ensures { result ≡ self.now.seq }
+    /// Takes the entries of the file, from the first one on, up to one that may not stand next. Says whether the file is a certificate.
+    pub fn judge(&mut self, alloc: Global, file: &HistoryFile) -> Result<Verdict, Memory>
+        requires at { IsAt [] self.old }
+        requires threads { All (IsEntry self.old.machine.run.threads) file.now.history }
+        requires few { length file.now.history ≤ ENTRY_LIMIT }
+        ensures { IfOk result (IsVerdict self.old.machine.run file.now) }
     {
-        self.seq
+        if self.take_all(file.history.entries())? {
+            Ok(self.verdict(alloc, file))
+        } else {
+            Ok(Verdict::Illegal(self.seq))
+        }
     }
 
-    /// Whether the file, each of whose entries was taken, is a certificate.
-    pub fn verdict(self, file: &HistoryFile) -> Verdict
-        requires { IsAt file.now.history self }
-        ensures { IsVerdict self.machine.run file.now result }
+    /// Whether the file, each of whose entries was taken, is a certificate. The calls are taken out.
+    fn verdict(&mut self, alloc: Global, file: &HistoryFile) -> Verdict
+        requires { IsAt file.now.history self.old }
+        ensures { IsVerdict self.old.machine.run file.now result }
     {
         if self.ends_as(file) {
-            Verdict::Legal(self.into_calls())
+            Verdict::Legal(self.heard_calls(alloc))
         } else {
             Verdict::Illegal(self.seq)
         }
@@ -209,16 +217,12 @@ impl Progress {
         }
     }
 
-    /// The calls that are heard of the entries so far: those whose callbacks have returned.
-    fn into_calls(self) -> HeardCalls
-        ensures { (done : List Entry) → IsAt done self → result ≡ map heard_call (heard self.machine.run done) }
+    /// Takes out the calls that are heard of the entries so far: those whose callbacks have returned.
+    fn heard_calls(&mut self, alloc: Global) -> HeardCalls
+        ensures { (done : List Entry) → IsAt done self.old → result ≡ map heard_call (heard self.old.machine.run done) }
     {
-        let Progress {
-            waiting,
-            mut calls,
-            ..
-        } = self;
-        calls.retain(|call| !waits(&waiting, call));
-        HeardCalls(calls)
+        let waiting = &self.waiting;
+        self.calls.retain(|call| !waits(waiting, call));
+        HeardCalls(mem::replace(&mut self.calls, Vec::new(alloc)))
     }
 }

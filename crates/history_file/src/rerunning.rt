@@ -21,9 +21,5 @@ pub fn rerun(alloc: Global, program: Program, file: &HistoryFile) -> Result<Verd
     ensures { IfOk result (IsVerdict (run_of_file program file.now) file.now) }
 {
     let mut progress = Progress::start(alloc, program, file)?;
-    if progress.take_all(file.history.entries())? {
-        Ok(progress.verdict(file))
-    } else {
-        Ok(Verdict::Illegal(progress.taken()))
-    }
+    progress.judge(alloc, file)
 }

@@ -10,22 +10,22 @@ use Rattle.clap.specs.Walk.{Row, Rule, Text, has_row, one_of}
 use Rattle.clap.specs.Simple.{subcommand_of}
 use Rattle.clap.specs.Faults.{fault_of}
 use Rattle.ompt_words.specs.CommandLine.{ompt}
-use Rattle.ompt_words.specs.Form.{AreDistinct, AskInForm, BeginInForm, Choice, Columns, HasOwnNumber, InForm, IsGenerators, IsInRange, IsOptionOf, IsOutput, IsReaders, IsRunners, IsTimelines, ReadInForm, Serial, Steps, Threads, WithHistory}
+use Rattle.ompt_words.specs.Form.{AreDistinct, AskInForm, BeginInForm, Choice, Columns, HasOwnNumber, InForm, IsGenerators, IsInRange, IsOptionOf, IsOutput, IsReaders, IsRunners, IsTimelines, ReadInForm, Serial, Steps, Threads, WithHistory, WithProfile, has_history}
 use Rattle.ompt_words.specs.Form.{command_word, command_words, default_columns, default_steps, default_threads, option_word, option_words, own_settings, read_word, runs_serially}
-use Rattle.ompt_words.specs.Answers.{AreReadAs, HasMatchedNumber, HaveSettings, NamesCommand, flag_in, matched_text, number_in}
+use Rattle.ompt_words.specs.Answers.{AreReadAs, HasMatchedNumber, HaveSettings, HoldBoth, NamesCommand, flag_in, matched_text, number_in}
 use Rattle.ompt_words.specs.declared.settings.Settings.{Settings}
 use Rattle.ompt_words.specs.declared.settings.Command.{Command}
 use Rattle.ompt_words.specs.declared.settings.Command.TheVariants.{Generate, List as Listing, Profile, Record, Run, Timeline}
 use Rattle.ompt_words.specs.declared.settings.ReadCommand.{ReadCommand}
-use Rattle.ompt_words.specs.declared.settings.ReadCommand.TheVariants.{Check, Migrate, Rerun, Show}
+use Rattle.ompt_words.specs.declared.settings.ReadCommand.TheVariants.{Check, Migrate, Rerun, Show, Tasks}
 use Rattle.ompt_words.specs.declared.settings.RunOutput.{RunOutput}
-use Rattle.ompt_words.specs.declared.settings.RunOutput.TheVariants.{History, Printed}
+use Rattle.ompt_words.specs.declared.settings.RunOutput.TheVariants.{History, Printed, Profile as Profiled}
 use Rattle.ompt_words.specs.declared.settings.Request.{Request}
 use Rattle.ompt_words.specs.declared.settings.Request.TheVariants as request
 use Rattle.ompt_words.proofs.Uses.{AreTaken, Takes, Use, id_of, position_after, row_of, words_of}
-use Rattle.ompt_words.proofs.Options.{HasReaders, IsOneWish, blocks_taken, flag_taken, generator_rules, generator_threads, leaf, number_taken, readers_have, readers_rules, run_has, run_history, run_rules, timeline_columns, timeline_has, timeline_rules, with_rules}
+use Rattle.ompt_words.proofs.Options.{HasReaders, IsOneWish, blocks_taken, flag_taken, generator_rules, generator_threads, leaf, number_taken, readers_have, readers_rules, run_has, run_history, run_profile, run_rules, timeline_columns, timeline_has, timeline_rules, with_rules}
 use Rattle.ompt_words.proofs.Levels.{distinct, alone_clean, alone_matched, first_asked, read_asked, rows_in, uses_asked, uses_clean, uses_matched}
-use Rattle.ompt_words.proofs.Readings.{blocks_read, blocks_row, columns_read, history_read, required_there, serial_read, steps_read, threads_read, use_of, uses_in}
+use Rattle.ompt_words.proofs.Readings.{blocks_read, blocks_row, columns_read, history_read, profile_read, required_there, serial_read, steps_read, threads_read, use_of, uses_in}
 use Rattle.ompt_words.proofs.Numbers.{decimal_fits, decimal_value}
 
 -- ---- the options are taken
@@ -39,6 +39,7 @@ readers_taken name rules has position (Steps n) own range = number_taken name ru
     (decimal_value n (omega arith) (omega arith)) (decimal_fits 1 30000000 n (omega arith) range.0 range.1 (omega arith))
 readers_taken name rules has position Serial own range = flag_taken name rules (codes "--serial") (codes "serial") has.serial
 readers_taken name rules has position WithHistory own range = absurd own
+readers_taken name rules has position WithProfile own range = absurd own
 readers_taken name rules has position (Columns n) own range = absurd own
 
 -- by the rules of `run`
@@ -47,6 +48,7 @@ run_taken position (Threads n) own range = readers_taken (codes "run") run_rules
 run_taken position (Steps n) own range = readers_taken (codes "run") run_rules run_has position (Steps n) tt range
 run_taken position Serial own range = readers_taken (codes "run") run_rules run_has position Serial tt tt
 run_taken position WithHistory own range = flag_taken (codes "run") run_rules (codes "--history") (codes "history") run_history
+run_taken position WithProfile own range = flag_taken (codes "run") run_rules (codes "--profile") (codes "profile") run_profile
 run_taken position (Columns n) own range = absurd own
 
 -- by those of `timeline`
@@ -55,6 +57,7 @@ timeline_taken position (Threads n) own range = readers_taken (codes "timeline")
 timeline_taken position (Steps n) own range = readers_taken (codes "timeline") timeline_rules timeline_has position (Steps n) tt range
 timeline_taken position Serial own range = readers_taken (codes "timeline") timeline_rules timeline_has position Serial tt tt
 timeline_taken position WithHistory own range = absurd own
+timeline_taken position WithProfile own range = absurd own
 timeline_taken position (Columns n) own range = number_taken (codes "timeline") timeline_rules (codes "--columns") (codes "columns") (decimal n) 10 200 timeline_columns
     (decimal_value n (omega arith) (omega arith)) (decimal_fits 10 200 n (omega arith) range.0 range.1 (omega arith))
 
@@ -65,6 +68,7 @@ generator_taken position (Threads n) own range = number_taken (codes "gen") gene
 generator_taken position (Steps n) own range = absurd own
 generator_taken position Serial own range = absurd own
 generator_taken position WithHistory own range = absurd own
+generator_taken position WithProfile own range = absurd own
 generator_taken position (Columns n) own range = absurd own
 
 -- a command takes each option of its own
@@ -82,6 +86,7 @@ rows_differ (Threads n) (Threads m) differ = absurd (differ refl)
 rows_differ (Steps n) (Steps m) differ = absurd (differ refl)
 rows_differ Serial Serial differ = absurd (differ refl)
 rows_differ WithHistory WithHistory differ = absurd (differ refl)
+rows_differ WithProfile WithProfile differ = absurd (differ refl)
 rows_differ (Columns n) (Columns m) differ = absurd (differ refl)
 rows_differ choice other differ = refl
 
@@ -101,6 +106,7 @@ no_row_behind_blocks blocks (Threads n ∷ rest) = (refl, no_row_behind_blocks b
 no_row_behind_blocks blocks (Steps n ∷ rest) = (refl, no_row_behind_blocks blocks rest)
 no_row_behind_blocks blocks (Serial ∷ rest) = (refl, no_row_behind_blocks blocks rest)
 no_row_behind_blocks blocks (WithHistory ∷ rest) = (refl, no_row_behind_blocks blocks rest)
+no_row_behind_blocks blocks (WithProfile ∷ rest) = (refl, no_row_behind_blocks blocks rest)
 no_row_behind_blocks blocks (Columns n ∷ rest) = (refl, no_row_behind_blocks blocks rest)
 
 -- the row of an option is not that of a later one
@@ -120,6 +126,7 @@ position_stays (Threads n) position = refl
 position_stays (Steps n) position = refl
 position_stays Serial position = refl
 position_stays WithHistory position = refl
+position_stays WithProfile position = refl
 position_stays (Columns n) position = refl
 
 -- so options that are the own of a command and distinct are taken
@@ -162,6 +169,7 @@ same_words (Threads n ∷ rest) = ap (λ words. codes "--threads" ∷ decimal n 
 same_words (Steps n ∷ rest) = ap (λ words. codes "--steps" ∷ decimal n ∷ words) (same_words rest)
 same_words (Serial ∷ rest) = ap (λ words. codes "--serial" ∷ words) (same_words rest)
 same_words (WithHistory ∷ rest) = ap (λ words. codes "--history" ∷ words) (same_words rest)
+same_words (WithProfile ∷ rest) = ap (λ words. codes "--profile" ∷ words) (same_words rest)
 same_words (Columns n ∷ rest) = ap (λ words. codes "--columns" ∷ decimal n ∷ words) (same_words rest)
 
 -- and so with the words of a command
@@ -220,7 +228,8 @@ number_of_form : (words : List Text) (command : Command) (choices : List Choice)
     → HasOwnNumber command choices → All IsInRange choices → HasMatchedNumber words command
 number_of_form words Listing choices texts own range = tt
 number_of_form words (Run output) choices texts own range =
-    subst (IsOutput output) (sym (ap flag_in (texts (codes "history")) ∙ history_read (Run output) choices)) own
+    subst (λ (history : Bool). IsOutput output history (flag_in (matched_text words (codes "profile")))) (sym (ap flag_in (texts (codes "history")) ∙ history_read (Run output) choices))
+    (subst (IsOutput output (has_history choices)) (sym (ap flag_in (texts (codes "profile")) ∙ profile_read (Run output) choices)) own)
 number_of_form words Record choices texts own range = tt
 number_of_form words Profile choices texts own range = tt
 number_of_form words (Timeline columns) choices texts own range =
@@ -232,17 +241,31 @@ number_of_form words (Generate blocks) choices texts own range =
 form_number : (words : List Text) (form : InForm words) → HasMatchedNumber words form.command
 form_number words form = number_of_form words form.command form.choices (form_text words form) form.begin.number form.begin.in_range
 
--- what `run` writes is the one by its flag
-same_output : (a b : RunOutput) (history : Bool) → IsOutput a history → IsOutput b history → a ≡ b
-same_output Printed Printed history one other = refl
-same_output Printed History history one other = let wrong : true ≡ false = sym other ∙ one in cc
-same_output History Printed history one other = let wrong : true ≡ false = sym one ∙ other in cc
-same_output History History history one other = refl
+-- what `run` writes is the one by its flags
+apart : {value : Bool} → value ≡ true → value ≡ false → ⊥
+apart is not = let wrong : true ≡ false = sym is ∙ not in cc
+
+same_output : (a b : RunOutput) (history profile : Bool) → IsOutput a history profile → IsOutput b history profile → a ≡ b
+same_output Printed Printed history profile one other = refl
+same_output Printed History history profile one other = absurd (apart other.0 one.0)
+same_output Printed Profiled history profile one other = absurd (apart other.1 one.1)
+same_output History Printed history profile one other = absurd (apart one.0 other.0)
+same_output History History history profile one other = refl
+same_output History Profiled history profile one other = absurd (apart one.0 other.0)
+same_output Profiled Printed history profile one other = absurd (apart one.1 other.1)
+same_output Profiled History history profile one other = absurd (apart other.0 one.0)
+same_output Profiled Profiled history profile one other = refl
+
+-- and none where both are there
+no_output : (output : RunOutput) (history profile : Bool) → history ≡ true → profile ≡ true → IsOutput output history profile → ⊥
+no_output Printed history profile has both is = apart has is.0
+no_output History history profile has both is = apart both is.1
+no_output Profiled history profile has both is = apart has is.0
 
 -- commands with one name and the numbers of the matches are the same
 same_command : (words : List Text) (a b : Command) → command_word a ≡ command_word b → HasMatchedNumber words a → HasMatchedNumber words b → a ≡ b
 same_command words Listing Listing same one other = refl
-same_command words (Run a) (Run b) same one other = ap Run (same_output a b (flag_in (matched_text words (codes "history"))) one other)
+same_command words (Run a) (Run b) same one other = ap Run (same_output a b (flag_in (matched_text words (codes "history"))) (flag_in (matched_text words (codes "profile"))) one other)
 same_command words Record Record same one other = refl
 same_command words Profile Profile same one other = refl
 same_command words (Timeline a) (Timeline b) same one other = ap Timeline (one ∙ sym other)
@@ -255,6 +278,7 @@ same_reader Show Show same = refl
 same_reader Migrate Migrate same = refl
 same_reader Check Check same = refl
 same_reader Rerun Rerun same = refl
+same_reader Tasks Tasks same = refl
 same_reader a b same = absurd (distinct (read_word a) (read_word b) refl refl same)
 
 -- no command of the one kind has the word of one of the other
@@ -263,6 +287,7 @@ words_differ Show Listing same = distinct (codes "list") (codes "show") refl ref
 words_differ Migrate Listing same = distinct (codes "list") (codes "migrate") refl refl same
 words_differ Check Listing same = distinct (codes "list") (codes "check") refl refl same
 words_differ Rerun Listing same = distinct (codes "list") (codes "rerun") refl refl same
+words_differ Tasks Listing same = distinct (codes "list") (codes "tasks") refl refl same
 words_differ other command same = distinct (command_word command) (read_word other) refl refl same
 
 -- the words name one command
@@ -318,6 +343,31 @@ own_read words (request.Read command) read form = absurd (words_differ command f
 -- and so is one that is read of words that ask that a trace or a history is read
 pub own_command : (words : List Text) (given : Request) → AreReadAs words given → (command : ReadCommand) → ReadInForm words command → given ≡ request.Read command
 own_command words given read command is = read_once words given (request.Read command) read (record {
+  taken = read_clean words command is;
+  command_is = ap (λ all. option_map (λ (found : Text × List Row). found.0) (subcommand_of ompt all)) is ∙ alone_matched command;
+})
+
+-- ---- two outputs
+
+-- words that are `run` with both flags aren't read as anything
+pub both_unread : (words : List Text) (given : Request) → HoldBoth words → AreReadAs words given → ⊥
+both_unread words (request.Run settings) both read = by settings.command read.name read.number
+  where
+    by : (command : Command) → NamesCommand words (command_word command) → HasMatchedNumber words command → ⊥
+    by (Run output) name number = no_output output _ _ both.history both.profile number
+    by other name number = distinct (codes "run") (command_word other) refl refl (one_name both.name name)
+both_unread words (request.Read command) both read = words_differ command (Run Printed) (one_name both.name read)
+
+-- and aren't of the form
+pub both_formless : (words : List Text) → HoldBoth words → InForm words → ⊥
+both_formless words both form = by form.command (form_name words form) (form_number words form)
+  where
+    by : (command : Command) → NamesCommand words (command_word command) → HasMatchedNumber words command → ⊥
+    by (Run output) name number = no_output output _ _ both.history both.profile number
+    by other name number = distinct (codes "run") (command_word other) refl refl (one_name both.name name)
+
+pub both_unasked : (words : List Text) (command : ReadCommand) → HoldBoth words → ReadInForm words command → ⊥
+both_unasked words command both is = both_unread words (request.Read command) both (record {
   taken = read_clean words command is;
   command_is = ap (λ all. option_map (λ (found : Text × List Row). found.0) (subcommand_of ompt all)) is ∙ alone_matched command;
 })

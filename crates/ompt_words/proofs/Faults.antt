@@ -1,5 +1,5 @@
 -- What clap's answer tells of the words.
-use Rattle.std.proofs.Common.{Err, Ok, Result, refl, ap, sym, subst, codes, true, List, Some, [], ◌∷◌, ◌≡◌, ◌∙◌, ◌≤◌, ◌⊎◌, inl, inr, option_map, arith}
+use Rattle.std.proofs.Common.{Err, Ok, Result, refl, ap, sym, subst, codes, true, Bool, List, Some, [], ◌∷◌, ◌≡◌, ◌∙◌, ◌≤◌, ◌⊎◌, inl, inr, option_map, arith}
 use Rattle.std.specs.Prelude.{None, option_and_then, ⊤}
 use Rattle.clap.specs.Walk.{Row, Text, one_of, rows_of}
 use Rattle.clap.specs.Simple.{App, is_simple, matches_of, subcommand_of, subcommand_rows_of}
@@ -15,7 +15,7 @@ use Rattle.clap.specs.declared.parser.matches.Found.{Found}
 use Rattle.clap.proofs.WalkLemmas.{one_text-rows}
 use Rattle.ompt_words.specs.CommandLine.{ompt}
 use Rattle.ompt_words.specs.Form.{IsOutput, command_word, default_columns, default_steps, default_threads, runs_serially}
-use Rattle.ompt_words.specs.Answers.{AreWrong, AskForText, HaveSettings, IsAnswerTo, IsMistake, IsTextOrMemory, IsWish, HasMatchedNumber, NamesCommand, flag_in, matched_text, number_in}
+use Rattle.ompt_words.specs.Answers.{AreWrong, AskForText, HaveSettings, HoldBoth, IsAnswerTo, IsMistake, IsTextOrMemory, IsWish, HasMatchedNumber, NamesCommand, flag_in, matched_text, number_in}
 use Rattle.ompt_words.specs.declared.fault.WordsFault.{WordsFault}
 use Rattle.ompt_words.specs.declared.fault.WordsFault.TheVariants.{Memory, Shown, Usage}
 use Rattle.ompt_words.specs.declared.settings.Command.{Command}
@@ -53,7 +53,7 @@ same_fault a b same = ap (fault_in a) same
 
 pub wrong_words : (words : List Text) (e : Error) → HasKind (fault_of ompt words) e → IsMistake (kind_of e) → AreWrong words
 wrong_words words e (inl memory) mistake = absurd (mistake.2 memory)
-wrong_words words e (inr among) mistake = (kind_of e, among, mistake)
+wrong_words words e (inr among) mistake = inl (kind_of e, among, mistake)
 
 -- want of memory is no wish
 no_memory_wish : (found : ErrorKind) → found ≡ OutOfMemory → IsWish found → ⊥
@@ -116,10 +116,19 @@ command_read words name rows other clean found is = record {
   command_is = ap (option_map (λ (found : Text × List Row). found.0)) found ∙ ap (λ (word : Text). Some word) is;
 }
 
+-- matches of `run` with both flags are words that hold both
+pub both_held : (words : List Text) (name : Text) (found : Found) → fault_of ompt words ≡ [] → subcommand_of ompt words ≡ Some (name, rows_of found) → name ≡ codes "run"
+    → flag_in (one_text found (codes "history")) ≡ true → flag_in (one_text found (codes "profile")) ≡ true → HoldBoth words
+both_held words name found clean is_found is history profile = record {
+  name = command_read words name (rows_of found) (codes "run") clean is_found is;
+  history = sym (ap flag_in (text_matched words name found (codes "history") is_found)) ∙ history;
+  profile = sym (ap flag_in (text_matched words name found (codes "profile") is_found)) ∙ profile;
+}
+
 -- the number of a command is that of its matches
 abbrev pub HasFoundNumber : Found → Command → Type 0
 HasFoundNumber found Listing = ⊤
-HasFoundNumber found (Run output) = IsOutput output (flag_in (one_text found (codes "history")))
+HasFoundNumber found (Run output) = IsOutput output (flag_in (one_text found (codes "history"))) (flag_in (one_text found (codes "profile")))
 HasFoundNumber found Record = ⊤
 HasFoundNumber found Profile = ⊤
 HasFoundNumber found (Timeline columns) = columns ≡ number_in 10 200 default_columns (one_text found (codes "columns"))
@@ -128,7 +137,9 @@ HasFoundNumber found (Generate blocks) = blocks ≡ number_in 1 400 1 (one_text 
 -- it is that of the words
 number_matched : (words : List Text) (found : Found) (command : Command) → ((id : Text) → one_text found id ≡ matched_text words id) → HasFoundNumber found command → HasMatchedNumber words command
 number_matched words found Listing texts number = tt
-number_matched words found (Run output) texts number = subst (IsOutput output) (ap flag_in (texts (codes "history"))) number
+number_matched words found (Run output) texts number = 
+    subst (λ (history : Bool). IsOutput output history (flag_in (matched_text words (codes "profile")))) (ap flag_in (texts (codes "history")))
+    (subst (IsOutput output (flag_in (one_text found (codes "history")))) (ap flag_in (texts (codes "profile"))) number)
 number_matched words found Record texts number = tt
 number_matched words found Profile texts number = tt
 number_matched words found (Timeline columns) texts number = number ∙ ap (number_in 10 200 default_columns) (texts (codes "columns"))

@@ -21,7 +21,7 @@ use Rattle.ompt_words.specs.Form.{IsRequest, command_word, read_word}
 use Rattle.ompt_words.specs.declared.settings.Command.{Command}
 use Rattle.ompt_words.specs.declared.settings.Command.TheVariants.{Generate, List as Listing, Profile, Record, Run, Timeline}
 use Rattle.ompt_words.specs.declared.settings.ReadCommand.{ReadCommand}
-use Rattle.ompt_words.specs.declared.settings.ReadCommand.TheVariants.{Check, Migrate, Rerun, Show}
+use Rattle.ompt_words.specs.declared.settings.ReadCommand.TheVariants.{Check, Migrate, Rerun, Show, Tasks}
 use Rattle.ompt_words.proofs.Uses.{AreTaken, IsBetween, Use, Walks, row_of, standing, walks, words_of}
 use Rattle.ompt_words.proofs.Options.{IsOneWish, asked_between, leaf, rules_of}
 use Rattle.clap.specs.declared.error.kind.ErrorKind.TheVariants.{DisplayHelp, DisplayVersion}
@@ -80,7 +80,7 @@ walk_of command uses taken = walks (leaf command) uses 1 nothing_held [] (begin 
 -- no default of a command is a fault
 all_pass : (command : Command) → AllPass (rules_of command)
 all_pass Listing = (refl, (refl, (refl, (refl, (refl, tt)))))
-all_pass (Run output) = (refl, (refl, (refl, (refl, (refl, (refl, tt))))))
+all_pass (Run output) = (refl, (refl, (refl, (refl, (refl, (refl, (refl, tt)))))))
 all_pass Record = (refl, (refl, (refl, (refl, (refl, tt)))))
 all_pass Profile = (refl, (refl, (refl, (refl, (refl, tt)))))
 all_pass (Timeline columns) = (refl, (refl, (refl, (refl, (refl, (refl, tt))))))
@@ -277,6 +277,7 @@ read_walk Show words = stopped_walk top.rules (names_of (built ompt)) nothing_he
 read_walk Migrate words = stopped_walk top.rules (names_of (built ompt)) nothing_held idle 1 false (codes "migrate") [] words
 read_walk Check words = stopped_walk top.rules (names_of (built ompt)) nothing_held idle 1 false (codes "check") [] words
 read_walk Rerun words = stopped_walk top.rules (names_of (built ompt)) nothing_held idle 1 false (codes "rerun") [] words
+read_walk Tasks words = stopped_walk top.rules (names_of (built ompt)) nothing_held idle 1 false (codes "tasks") [] words
 
 -- and is no fault
 read_walk_clean : (command : ReadCommand) (words : List Text) → walk_fault top (names_of (built ompt)) (walk_from nothing_held) (read_word command ∷ words) ≡ []
@@ -285,6 +286,7 @@ read_walk_clean Show words = stopped_fault top (names_of (built ompt)) (walk_fro
 read_walk_clean Migrate words = stopped_fault top (names_of (built ompt)) (walk_from nothing_held) (codes "migrate", []) words
 read_walk_clean Check words = stopped_fault top (names_of (built ompt)) (walk_from nothing_held) (codes "check", []) words
 read_walk_clean Rerun words = stopped_fault top (names_of (built ompt)) (walk_from nothing_held) (codes "rerun", []) words
+read_walk_clean Tasks words = stopped_fault top (names_of (built ompt)) (walk_from nothing_held) (codes "tasks", []) words
 
 -- alone such a command has no fault
 pub alone_clean : (command : ReadCommand) → fault_of ompt (read_word command ∷ []) ≡ []
@@ -293,6 +295,7 @@ alone_clean Show = refl
 alone_clean Migrate = refl
 alone_clean Check = refl
 alone_clean Rerun = refl
+alone_clean Tasks = refl
 
 -- and it is the command of the matches
 pub alone_matched : (command : ReadCommand) → option_map (λ found. found.0) (subcommand_of ompt (read_word command ∷ [])) ≡ Some (read_word command)
@@ -301,6 +304,7 @@ alone_matched Show = refl
 alone_matched Migrate = refl
 alone_matched Check = refl
 alone_matched Rerun = refl
+alone_matched Tasks = refl
 
 -- its level is that of a command with its name and no options
 read_level : (command : ReadCommand) (words : List Text) → entered_fault (built ompt) (Some (read_word command, words)) ≡ level_fault (reader_leaf (read_word command)) [] nothing_held words false []
@@ -308,6 +312,7 @@ read_level Show words = refl
 read_level Migrate words = refl
 read_level Check words = refl
 read_level Rerun words = refl
+read_level Tasks words = refl
 
 -- one that is asked for help or the version has that one answer
 pub read_asked : (command : ReadCommand) (word : Text) (rest : List Text) → IsRequest word → IsOneWish (fault_of ompt (read_word command ∷ word ∷ rest))
@@ -383,15 +388,15 @@ entered_name : (a : App) (stop : Option (Text × List Text)) (name : Text) (rows
 entered_name a None name rows is = absurd (nothing-some is)
 entered_name a (Some at) name rows is = entered_in (λ s. answers_to at.0 (label_of s)) a.subs at.1 name rows is
 
--- the command of the matches is one of the ten
+-- the command of the matches is one of the eleven
 pub matched_name : (words : List Text) (name : Text) (rows : List Row) → subcommand_of ompt words ≡ Some (name, rows) → IsEnteredIn name rows (built ompt).subs
 matched_name words name rows is = entered_name (built ompt) (stop_after top.rules (names_of (built ompt)) (argument_words ompt words)) name rows is
 
--- a name of one of the ten, and of no other than `list`, is that
+-- a name of one of the eleven, and of no other than `list`, is that
 pub listing_left : (words : List Text) (name : Text) (rows : List Row) → subcommand_of ompt words ≡ Some (name, rows)
-    → name ≢ codes "show" → name ≢ codes "migrate" → name ≢ codes "check" → name ≢ codes "rerun" → name ≢ codes "gen" → name ≢ codes "run" → name ≢ codes "record" → name ≢ codes "profile" → name ≢ codes "timeline"
+    → name ≢ codes "show" → name ≢ codes "migrate" → name ≢ codes "check" → name ≢ codes "rerun" → name ≢ codes "tasks" → name ≢ codes "gen" → name ≢ codes "run" → name ≢ codes "record" → name ≢ codes "profile" → name ≢ codes "timeline"
     → name ≡ codes "list"
-listing_left words name rows is no_show no_migrate no_check no_rerun no_gen no_run no_record no_profile no_timeline = by (matched_name words name rows is)
+listing_left words name rows is no_show no_migrate no_check no_rerun no_tasks no_gen no_run no_record no_profile no_timeline = by (matched_name words name rows is)
   where
     by : IsEnteredIn name rows (built ompt).subs → name ≡ codes "list"
     by (inl run) = absurd (no_run run.is_name)
@@ -404,7 +409,8 @@ listing_left words name rows is no_show no_migrate no_check no_rerun no_gen no_r
     by (inr (inr (inr (inr (inr (inr (inr (inl migrate)))))))) = absurd (no_migrate migrate.is_name)
     by (inr (inr (inr (inr (inr (inr (inr (inr (inl check))))))))) = absurd (no_check check.is_name)
     by (inr (inr (inr (inr (inr (inr (inr (inr (inr (inl rerun)))))))))) = absurd (no_rerun rerun.is_name)
-    by (inr (inr (inr (inr (inr (inr (inr (inr (inr (inr none)))))))))) = absurd none
+    by (inr (inr (inr (inr (inr (inr (inr (inr (inr (inr (inl tasks))))))))))) = absurd (no_tasks tasks.is_name)
+    by (inr (inr (inr (inr (inr (inr (inr (inr (inr (inr (inr none))))))))))) = absurd none
 
 -- two texts of which the one isn't the other by a test
 pub distinct : (a b : Text) → bytes_eq a a ≡ true → bytes_eq a b ≡ false → a ≡ b → ⊥
@@ -429,7 +435,8 @@ generator_left words name rows is gen = by (matched_name words name rows is)
     by (inr (inr (inr (inr (inr (inr (inr (inl migrate)))))))) = absurd (other (codes "migrate") refl migrate.is_name)
     by (inr (inr (inr (inr (inr (inr (inr (inr (inl check))))))))) = absurd (other (codes "check") refl check.is_name)
     by (inr (inr (inr (inr (inr (inr (inr (inr (inr (inl rerun)))))))))) = absurd (other (codes "rerun") refl rerun.is_name)
-    by (inr (inr (inr (inr (inr (inr (inr (inr (inr (inr none)))))))))) = absurd none
+    by (inr (inr (inr (inr (inr (inr (inr (inr (inr (inr (inl tasks))))))))))) = absurd (other (codes "tasks") refl tasks.is_name)
+    by (inr (inr (inr (inr (inr (inr (inr (inr (inr (inr (inr none))))))))))) = absurd none
 
 -- the name in the matches is that in their rows
 name_in_rows : {Z : Type 0} (found : Option (Box SubCommand Z)) → option_map (λ b. (out-SubCommand (box_value b)).name.now) found ≡ option_map (λ p. p.0) (subcommand_rows found)

@@ -199,6 +199,9 @@ run_has = record {
 pub run_history : HasFlag run_rules (codes "--history") (codes "history")
 run_history = record { long = refl; not_dashes = refl; by_long = refl }
 
+pub run_profile : HasFlag run_rules (codes "--profile") (codes "profile")
+run_profile = record { long = refl; not_dashes = refl; by_long = refl }
+
 pub timeline_has : HasReaders timeline_rules
 timeline_has = record {
   threads = record { long = refl; not_dashes = refl; same = refl; by_long = refl; by_id = refl };

@@ -10,7 +10,7 @@ use Rattle.clap.specs.Walk.{Row, Rule, Text, has_row, more_values, one_of, row_t
 use Rattle.clap.specs.Takes.{is_given}
 use Rattle.clap.specs.declared.builder.value_parser.Reading.TheVariants.{AsWritten, WithoutMinus}
 use Rattle.clap.specs.declared.parser.matches.ValueSource.TheVariants.{DefaultValue}
-use Rattle.ompt_words.specs.Form.{Choice, Columns, IsInRange, Serial, Steps, Threads, WithHistory, columns_of, has_history, serial_of, steps_of, threads_of}
+use Rattle.ompt_words.specs.Form.{Choice, Columns, IsInRange, Serial, Steps, Threads, WithHistory, WithProfile, columns_of, has_history, has_profile, serial_of, steps_of, threads_of}
 use Rattle.ompt_words.specs.Form.{default_columns, default_steps, default_threads}
 use Rattle.ompt_words.specs.Answers.{flag_in, number_in}
 use Rattle.ompt_words.specs.declared.settings.Command.{Command}
@@ -26,6 +26,7 @@ use_of (Threads n) = valued (codes "--threads") (codes "threads") (decimal n)
 use_of (Steps n) = valued (codes "--steps") (codes "steps") (decimal n)
 use_of Serial = bare (codes "--serial") (codes "serial")
 use_of WithHistory = bare (codes "--history") (codes "history")
+use_of WithProfile = bare (codes "--profile") (codes "profile")
 use_of (Columns n) = valued (codes "--columns") (codes "columns") (decimal n)
 
 -- the uses of a command with these options: before those of the options the number of blocks stands, if it has one
@@ -74,7 +75,7 @@ defaults_alone (rule ∷ rules) rows = by rule.defaults refl (λ front. defaults
 
 -- the flags, and those of each command
 abbrev all_flags : List Text
-all_flags = codes "serial" ∷ codes "history" ∷ []
+all_flags = codes "serial" ∷ codes "history" ∷ codes "profile" ∷ []
 
 abbrev flags_of : Command → List Text
 flags_of Listing = codes "serial" ∷ []
@@ -205,6 +206,7 @@ threads_found (Threads n ∷ rest) all =
 threads_found (Steps n ∷ rest) all = threads_found rest (rest_in (Steps n) rest all)
 threads_found (Serial ∷ rest) all = threads_found rest (rest_in Serial rest all)
 threads_found (WithHistory ∷ rest) all = threads_found rest (rest_in WithHistory rest all)
+threads_found (WithProfile ∷ rest) all = threads_found rest (rest_in WithProfile rest all)
 threads_found (Columns n ∷ rest) all = threads_found rest (rest_in (Columns n) rest all)
 
 -- their number of steps
@@ -215,6 +217,7 @@ steps_found (Steps n ∷ rest) all =
     let range : IsInRange (Steps n) = first_in (Steps n) rest all in number_found 1 30000000 default_steps n (omega arith) range.0 range.1 (omega arith)
 steps_found (Serial ∷ rest) all = steps_found rest (rest_in Serial rest all)
 steps_found (WithHistory ∷ rest) all = steps_found rest (rest_in WithHistory rest all)
+steps_found (WithProfile ∷ rest) all = steps_found rest (rest_in WithProfile rest all)
 steps_found (Columns n ∷ rest) all = steps_found rest (rest_in (Columns n) rest all)
 
 -- their number of columns
@@ -224,6 +227,7 @@ columns_found (Threads n ∷ rest) all = columns_found rest (rest_in (Threads n)
 columns_found (Steps n ∷ rest) all = columns_found rest (rest_in (Steps n) rest all)
 columns_found (Serial ∷ rest) all = columns_found rest (rest_in Serial rest all)
 columns_found (WithHistory ∷ rest) all = columns_found rest (rest_in WithHistory rest all)
+columns_found (WithProfile ∷ rest) all = columns_found rest (rest_in WithProfile rest all)
 columns_found (Columns n ∷ rest) all =
     let range : IsInRange (Columns n) = first_in (Columns n) rest all in number_found 10 200 default_columns n (omega arith) range.0 range.1 (omega arith)
 
@@ -234,6 +238,7 @@ serial_found (Threads n ∷ rest) = serial_found rest
 serial_found (Steps n ∷ rest) = serial_found rest
 serial_found (Serial ∷ rest) = refl
 serial_found (WithHistory ∷ rest) = serial_found rest
+serial_found (WithProfile ∷ rest) = serial_found rest
 serial_found (Columns n ∷ rest) = serial_found rest
 
 history_found : (choices : List Choice) → flag_in (one_of (codes "history") (rows_of choices)) ≡ has_history choices
@@ -242,21 +247,31 @@ history_found (Threads n ∷ rest) = history_found rest
 history_found (Steps n ∷ rest) = history_found rest
 history_found (Serial ∷ rest) = history_found rest
 history_found (WithHistory ∷ rest) = refl
+history_found (WithProfile ∷ rest) = history_found rest
 history_found (Columns n ∷ rest) = history_found rest
+
+profile_found : (choices : List Choice) → flag_in (one_of (codes "profile") (rows_of choices)) ≡ has_profile choices
+profile_found [] = refl
+profile_found (Threads n ∷ rest) = profile_found rest
+profile_found (Steps n ∷ rest) = profile_found rest
+profile_found (Serial ∷ rest) = profile_found rest
+profile_found (WithHistory ∷ rest) = profile_found rest
+profile_found (WithProfile ∷ rest) = refl
+profile_found (Columns n ∷ rest) = profile_found rest
 
 -- ---- what the matches of a command tell
 
 pub threads_read : (command : Command) (choices : List Choice) → All IsInRange choices
     → number_in 1 16 default_threads (one_of (codes "threads") (rows_in command (uses_in command choices))) ≡ threads_of choices
-threads_read command choices all = ap (number_in 1 16 default_threads) (option_text command choices (codes "threads") (refl, (refl, tt)) refl) ∙ threads_found choices all
+threads_read command choices all = ap (number_in 1 16 default_threads) (option_text command choices (codes "threads") (refl, (refl, (refl, tt))) refl) ∙ threads_found choices all
 
 pub steps_read : (command : Command) (choices : List Choice) → All IsInRange choices
     → number_in 1 30000000 default_steps (one_of (codes "steps") (rows_in command (uses_in command choices))) ≡ steps_of choices
-steps_read command choices all = ap (number_in 1 30000000 default_steps) (option_text command choices (codes "steps") (refl, (refl, tt)) refl) ∙ steps_found choices all
+steps_read command choices all = ap (number_in 1 30000000 default_steps) (option_text command choices (codes "steps") (refl, (refl, (refl, tt))) refl) ∙ steps_found choices all
 
 pub columns_read : (command : Command) (choices : List Choice) → All IsInRange choices
     → number_in 10 200 default_columns (one_of (codes "columns") (rows_in command (uses_in command choices))) ≡ columns_of choices
-columns_read command choices all = ap (number_in 10 200 default_columns) (option_text command choices (codes "columns") (refl, (refl, tt)) refl) ∙ columns_found choices all
+columns_read command choices all = ap (number_in 10 200 default_columns) (option_text command choices (codes "columns") (refl, (refl, (refl, tt))) refl) ∙ columns_found choices all
 
 pub blocks_read : (blocks : ℕ) (choices : List Choice) → 1 ≤ blocks → blocks ≤ 400
     → number_in 1 400 1 (one_of (codes "blocks") (rows_in (Generate blocks) (uses_in (Generate blocks) choices))) ≡ blocks
@@ -268,6 +283,9 @@ serial_read command choices = flag_text command choices (codes "serial") refl �
 
 pub history_read : (command : Command) (choices : List Choice) → flag_in (one_of (codes "history") (rows_in command (uses_in command choices))) ≡ has_history choices
 history_read command choices = flag_text command choices (codes "history") refl ∙ history_found choices
+
+pub profile_read : (command : Command) (choices : List Choice) → flag_in (one_of (codes "profile") (rows_in command (uses_in command choices))) ≡ has_profile choices
+profile_read command choices = flag_text command choices (codes "profile") refl ∙ profile_found choices
 
 -- and they have what the command requires: the number of blocks stands before the options
 pub required_there : (command : Command) (choices : List Choice) → HasRequired command (rows_in command (uses_in command choices))

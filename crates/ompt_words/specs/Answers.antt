@@ -1,5 +1,5 @@
 -- What clap's rules find in the words, and what is answered for it.
-use Rattle.std.specs.Prelude.{ℕ, Bool, false, ⊤, ◌≡◌, ◌≢◌, ◌≤◌, ◌⊎◌, List, [], codes, Option, Some, None, option_and_then, option_map, if◌then◌else◌}
+use Rattle.std.specs.Prelude.{ℕ, Bool, true, false, ⊤, ◌≡◌, ◌≢◌, ◌≤◌, ◌⊎◌, List, [], codes, Option, Some, None, option_and_then, option_map, if◌then◌else◌}
 use Rattle.std.specs.Str.{bytes_eq}
 use Rattle.std.specs.Str.Parse.{digits_value, without_leading_plus}
 use Rattle.clap.specs.ValueTests.{is_unsigned_in}
@@ -39,10 +39,10 @@ pub record NamesCommand (words : List Text) (command : List ℕ) : Type 0 where
   pub taken : fault_of ompt words ≡ []
   pub command_is : option_map (λ found. found.0) (subcommand_of ompt words) ≡ Some command
 
--- the number of a command is that of the matches: its columns, or its blocks, which have to be given. `run` writes what its flag says
+-- the number of a command is that of the matches: its columns, or its blocks, which have to be given. `run` writes what its flags say
 abbrev pub HasMatchedNumber : List Text → Command → Type 0
 HasMatchedNumber words Listing = ⊤
-HasMatchedNumber words (Run output) = IsOutput output (flag_in (matched_text words (codes "history")))
+HasMatchedNumber words (Run output) = IsOutput output (flag_in (matched_text words (codes "history"))) (flag_in (matched_text words (codes "profile")))
 HasMatchedNumber words Record = ⊤
 HasMatchedNumber words Profile = ⊤
 HasMatchedNumber words (Timeline columns) = columns ≡ number_in 10 200 default_columns (matched_text words (codes "columns"))
@@ -74,8 +74,24 @@ abbrev pub IsMistake : ErrorKind → Type 0
 IsMistake found = (found ≢ kind.DisplayHelp) × (found ≢ kind.DisplayVersion) × (found ≢ kind.OutOfMemory)
 
 -- by clap's rules its answer to the words may be a mistake in them
+abbrev pub AreMistaken : List Text → Type 0
+AreMistaken words = (found : ErrorKind) × IsAmong found (fault_of ompt words) × IsMistake found
+
+-- clap finds no fault in the words, and they are `run` with both `--history` and `--profile`
+pub record HoldBoth (words : List Text) : Type 0 where
+  pub name : NamesCommand words (codes "run")
+  pub history : flag_in (matched_text words (codes "history")) ≡ true
+  pub profile : flag_in (matched_text words (codes "profile")) ≡ true
+
+-- the words are refused for a mistake in them, or for two outputs of one run
 abbrev pub AreWrong : List Text → Type 0
-AreWrong words = (found : ErrorKind) × IsAmong found (fault_of ompt words) × IsMistake found
+AreWrong words = AreMistaken words ⊎ HoldBoth words
+
+-- the words are refused, or there was no memory
+abbrev pub IsUsageOrMemory : WordsFault → Type 0
+IsUsageOrMemory Usage = ⊤
+IsUsageOrMemory (Shown text) = ⊥
+IsUsageOrMemory Memory = ⊤
 
 -- by clap's rules its answer to the words may be help or the version
 abbrev pub AskForText : List Text → Type 0

@@ -29,6 +29,10 @@ serial_rule = record (new_rule (codes "serial")) { long = Some (codes "serial");
 abbrev pub history_rule : Rule
 history_rule = record (new_rule (codes "history")) { long = Some (codes "history"); action = Some SetTrue }
 
+-- `--profile`
+abbrev pub profile_rule : Rule
+profile_rule = record (new_rule (codes "profile")) { long = Some (codes "profile"); action = Some SetTrue }
+
 -- `--columns N`, where N is from 10 to 200
 abbrev pub columns_rule : Rule
 columns_rule = record (new_rule (codes "columns")) {
@@ -49,10 +53,10 @@ blocks_rule = record (new_rule (codes "blocks")) {
 abbrev pub runner : Text → Shape
 runner name = record (new_shape name) { rules = threads_rule ∷ steps_rule ∷ serial_rule ∷ [] }
 
--- `run` and `timeline`, which have `--history` and the columns beside the options of such a command, and `gen`, which has the number of
+-- `run` and `timeline`, which have two flags and the columns beside the options of such a command, and `gen`, which has the number of
 -- blocks and the threads
 abbrev pub run_command : Shape
-run_command = record (new_shape (codes "run")) { rules = threads_rule ∷ steps_rule ∷ serial_rule ∷ history_rule ∷ [] }
+run_command = record (new_shape (codes "run")) { rules = threads_rule ∷ steps_rule ∷ serial_rule ∷ history_rule ∷ profile_rule ∷ [] }
 
 abbrev pub timeline : Shape
 timeline = record (new_shape (codes "timeline")) { rules = threads_rule ∷ steps_rule ∷ serial_rule ∷ columns_rule ∷ [] }
@@ -76,7 +80,7 @@ program = record (new_app (codes "ompt")) {
 abbrev pub reader : Text → Shape
 reader name = new_shape name
 
--- the program with the first commands that run a program, with all of these, with those that read a trace, and with all
+-- the program with the first commands that run a program, with all of these, with those that go through a trace, and with all
 abbrev pub runners : App
 runners = with_subcommand (with_subcommand (with_subcommand program run_command) (runner (codes "list"))) (runner (codes "record"))
 
@@ -87,4 +91,4 @@ abbrev pub trace_readers : App
 trace_readers = with_subcommand (with_subcommand (with_subcommand reporters (reader (codes "show"))) (reader (codes "migrate"))) (reader (codes "check"))
 
 abbrev pub ompt : App
-ompt = with_subcommand trace_readers (reader (codes "rerun"))
+ompt = with_subcommand (with_subcommand trace_readers (reader (codes "rerun"))) (reader (codes "tasks"))

@@ -6,17 +6,18 @@ use Rattle.std.specs.Fmt.{decimal}
 use Rattle.ompt_words.specs.declared.settings.Command.{Command}
 use Rattle.ompt_words.specs.declared.settings.Command.TheVariants.{Generate, List as Listing, Profile, Record, Run, Timeline}
 use Rattle.ompt_words.specs.declared.settings.ReadCommand.{ReadCommand}
-use Rattle.ompt_words.specs.declared.settings.ReadCommand.TheVariants.{Check, Migrate, Rerun, Show}
+use Rattle.ompt_words.specs.declared.settings.ReadCommand.TheVariants.{Check, Migrate, Rerun, Show, Tasks}
 use Rattle.ompt_words.specs.declared.settings.RunOutput.{RunOutput}
-use Rattle.ompt_words.specs.declared.settings.RunOutput.TheVariants.{History, Printed}
+use Rattle.ompt_words.specs.declared.settings.RunOutput.TheVariants.{History, Printed, Profile as Profiled}
 use Rattle.ompt_words.specs.declared.settings.Settings.{Settings}
 
--- an option: `--threads N`, `--steps N`, `--serial`, `--history` or `--columns N`
+-- an option: `--threads N`, `--steps N`, `--serial`, `--history`, `--profile` or `--columns N`
 pub data Choice : Type 0 where
   Threads : ℕ → Choice
   Steps : ℕ → Choice
   Serial : Choice
   WithHistory : Choice
+  WithProfile : Choice
   Columns : ℕ → Choice
 
 -- the name of a command that runs a program
@@ -43,6 +44,7 @@ read_word Show = codes "show"
 read_word Migrate = codes "migrate"
 read_word Check = codes "check"
 read_word Rerun = codes "rerun"
+read_word Tasks = codes "tasks"
 
 -- the word of an option
 abbrev pub option_word : Choice → List ℕ
@@ -50,6 +52,7 @@ option_word (Threads n) = codes "--threads"
 option_word (Steps n) = codes "--steps"
 option_word Serial = codes "--serial"
 option_word WithHistory = codes "--history"
+option_word WithProfile = codes "--profile"
 option_word (Columns n) = codes "--columns"
 
 -- the words of options: the word of each, and behind it its number in decimal, if it has one
@@ -59,6 +62,7 @@ option_words (Threads n ∷ rest) = codes "--threads" ∷ decimal n ∷ option_w
 option_words (Steps n ∷ rest) = codes "--steps" ∷ decimal n ∷ option_words rest
 option_words (Serial ∷ rest) = codes "--serial" ∷ option_words rest
 option_words (WithHistory ∷ rest) = codes "--history" ∷ option_words rest
+option_words (WithProfile ∷ rest) = codes "--profile" ∷ option_words rest
 option_words (Columns n ∷ rest) = codes "--columns" ∷ decimal n ∷ option_words rest
 
 -- the number of an option is within the limits
@@ -67,6 +71,7 @@ IsInRange (Threads n) = (1 ≤ n) × (n ≤ 16)
 IsInRange (Steps n) = (1 ≤ n) × (n ≤ 30000000)
 IsInRange Serial = ⊤
 IsInRange WithHistory = ⊤
+IsInRange WithProfile = ⊤
 IsInRange (Columns n) = (10 ≤ n) × (n ≤ 200)
 
 -- a command that reads its program has the first three, `run` and `timeline` have one more each, and `gen` has the threads alone
@@ -75,6 +80,7 @@ IsReaders (Threads n) = ⊤
 IsReaders (Steps n) = ⊤
 IsReaders Serial = ⊤
 IsReaders WithHistory = ⊥
+IsReaders WithProfile = ⊥
 IsReaders (Columns n) = ⊥
 
 abbrev pub IsRunners : Choice → Type 0
@@ -82,6 +88,7 @@ IsRunners (Threads n) = ⊤
 IsRunners (Steps n) = ⊤
 IsRunners Serial = ⊤
 IsRunners WithHistory = ⊤
+IsRunners WithProfile = ⊤
 IsRunners (Columns n) = ⊥
 
 abbrev pub IsTimelines : Choice → Type 0
@@ -89,6 +96,7 @@ IsTimelines (Threads n) = ⊤
 IsTimelines (Steps n) = ⊤
 IsTimelines Serial = ⊤
 IsTimelines WithHistory = ⊥
+IsTimelines WithProfile = ⊥
 IsTimelines (Columns n) = ⊤
 
 abbrev pub IsGenerators : Choice → Type 0
@@ -96,6 +104,7 @@ IsGenerators (Threads n) = ⊤
 IsGenerators (Steps n) = ⊥
 IsGenerators Serial = ⊥
 IsGenerators WithHistory = ⊥
+IsGenerators WithProfile = ⊥
 IsGenerators (Columns n) = ⊥
 
 abbrev pub IsOptionOf : Command → Choice → Type 0
@@ -128,6 +137,7 @@ columns_of (Threads n ∷ rest) = columns_of rest
 columns_of (Steps n ∷ rest) = columns_of rest
 columns_of (Serial ∷ rest) = columns_of rest
 columns_of (WithHistory ∷ rest) = columns_of rest
+columns_of (WithProfile ∷ rest) = columns_of rest
 columns_of (Columns n ∷ rest) = n
 
 -- whether the options have `--history`
@@ -137,18 +147,30 @@ has_history (Threads n ∷ rest) = has_history rest
 has_history (Steps n ∷ rest) = has_history rest
 has_history (Serial ∷ rest) = has_history rest
 has_history (WithHistory ∷ rest) = true
+has_history (WithProfile ∷ rest) = has_history rest
 has_history (Columns n ∷ rest) = has_history rest
 
--- what `run` writes of its run, by whether `--history` is asked for
-abbrev pub IsOutput : RunOutput → Bool → Type 0
-IsOutput Printed history = history ≡ false
-IsOutput History history = history ≡ true
+-- whether the options have `--profile`
+abbrev pub has_profile : List Choice → Bool
+has_profile [] = false
+has_profile (Threads n ∷ rest) = has_profile rest
+has_profile (Steps n ∷ rest) = has_profile rest
+has_profile (Serial ∷ rest) = has_profile rest
+has_profile (WithHistory ∷ rest) = has_profile rest
+has_profile (WithProfile ∷ rest) = true
+has_profile (Columns n ∷ rest) = has_profile rest
+
+-- what `run` writes of its run, by whether `--history` and `--profile` are asked for: not both
+abbrev pub IsOutput : RunOutput → Bool → Bool → Type 0
+IsOutput Printed history profile = (history ≡ false) × (profile ≡ false)
+IsOutput History history profile = (history ≡ true) × (profile ≡ false)
+IsOutput Profiled history profile = (history ≡ false) × (profile ≡ true)
 
 -- the number of a command: the columns of a timeline are those of its options, and a program is generated of 1 to 400 blocks.
 -- `run` writes what its options say
 abbrev pub HasOwnNumber : Command → List Choice → Type 0
 HasOwnNumber Listing choices = ⊤
-HasOwnNumber (Run output) choices = IsOutput output (has_history choices)
+HasOwnNumber (Run output) choices = IsOutput output (has_history choices) (has_profile choices)
 HasOwnNumber Record choices = ⊤
 HasOwnNumber Profile choices = ⊤
 HasOwnNumber (Timeline columns) choices = columns ≡ columns_of choices
@@ -179,6 +201,7 @@ threads_of (Threads n ∷ rest) = n
 threads_of (Steps n ∷ rest) = threads_of rest
 threads_of (Serial ∷ rest) = threads_of rest
 threads_of (WithHistory ∷ rest) = threads_of rest
+threads_of (WithProfile ∷ rest) = threads_of rest
 threads_of (Columns n ∷ rest) = threads_of rest
 
 -- how many silent steps the options ask for
@@ -188,6 +211,7 @@ steps_of (Threads n ∷ rest) = steps_of rest
 steps_of (Steps n ∷ rest) = n
 steps_of (Serial ∷ rest) = steps_of rest
 steps_of (WithHistory ∷ rest) = steps_of rest
+steps_of (WithProfile ∷ rest) = steps_of rest
 steps_of (Columns n ∷ rest) = steps_of rest
 
 -- whether the options have `--serial`
@@ -197,6 +221,7 @@ serial_of (Threads n ∷ rest) = serial_of rest
 serial_of (Steps n ∷ rest) = serial_of rest
 serial_of (Serial ∷ rest) = true
 serial_of (WithHistory ∷ rest) = serial_of rest
+serial_of (WithProfile ∷ rest) = serial_of rest
 serial_of (Columns n ∷ rest) = serial_of rest
 
 -- whether a command runs serially, where its options say so or not: a generated program always does

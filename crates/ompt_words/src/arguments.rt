@@ -2,7 +2,7 @@
 
 ghost use Rattle.std.specs.Prelude.{◌≡◌, false};
 ghost use Rattle.clap.specs.Words.{rule_of};
-ghost use Rattle.ompt_words.specs.CommandLine.{blocks_rule, columns_rule, history_rule, serial_rule, steps_rule, threads_rule};
+ghost use Rattle.ompt_words.specs.CommandLine.{blocks_rule, columns_rule, history_rule, profile_rule, serial_rule, steps_rule, threads_rule};
 
 use clap::{Arg, ArgAction, value_parser};
 use std::alloc::Global;
@@ -53,6 +53,17 @@ pub(crate) fn history<'a>(alloc: Global) -> Arg<'a>
         .long("history")
         .action(ArgAction::SetTrue)
         .help("Writes the run's history, which others can check, in place of what it prints")
+}
+
+/// `--profile`.
+pub(crate) fn profile<'a>(alloc: Global) -> Arg<'a>
+    ensures rule { rule_of result ≡ profile_rule }
+    ensures local { result.global ≡ false }
+{
+    Arg::new(alloc, "profile")
+        .long("profile")
+        .action(ArgAction::SetTrue)
+        .help("Also writes how many calls of each callback there were, behind what it prints")
 }
 
 /// `--columns N`.

@@ -6,7 +6,7 @@ ghost use Rattle.clap.specs.Words.{app_of, shape_of};
 ghost use Rattle.clap.specs.declared.builder.command.Command.TheViews.{out-Command};
 ghost use Rattle.ompt_words.specs.CommandLine.{generator, ompt, program, reader, reporters, run_command, runner, runners, timeline, trace_readers};
 
-use crate::arguments::{blocks, columns, history, serial, steps, threads};
+use crate::arguments::{blocks, columns, history, profile, serial, steps, threads};
 use clap::Command;
 use std::alloc::{AllocError, Global};
 
@@ -19,12 +19,19 @@ pub(crate) fn ompt_command<'a>(alloc: Global) -> Result<Command<'a>, AllocError>
     ensures local { IfOk result (λ command. (out-Command command).has_globals ≡ false) }
 {
     let line = trace_readers(alloc)?;
-    with_reader(
+    let line = with_reader(
         alloc,
         line,
         "rerun",
         "Reads a history and says whether it is a legal run that ends as it says",
         "Example: ompt rerun < run.history",
+    )?;
+    with_reader(
+        alloc,
+        line,
+        "tasks",
+        "Reads a trace that is nested and writes its task tree, its work and its span",
+        "Example: ompt tasks < run.trace",
     )
 }
 
@@ -193,7 +200,7 @@ fn runner<'a>(
         .arg(serial(alloc))
 }
 
-/// The command that runs a program with the tools: it may write the history of its run.
+/// The command that runs a program with the tools: it may write the history of its run, or the counts of its events.
 fn run_command<'a>(alloc: Global) -> Result<Command<'a>, AllocError>
     ensures shape { IfOk result (λ command. shape_of command ≡ run_command) }
     ensures local { IfOk result (λ command. (out-Command command).has_globals ≡ false) }
@@ -204,7 +211,8 @@ fn run_command<'a>(alloc: Global) -> Result<Command<'a>, AllocError>
         "Runs a program with the tools, and writes what it prints",
         "Example: ompt run --serial --threads 2 --steps 5000 < program.c",
     )?
-    .arg(history(alloc))
+    .arg(history(alloc))?
+    .arg(profile(alloc))
 }
 
 /// The command that writes the states of threads: it has its columns, too.

@@ -8,11 +8,11 @@
 //!
 //! - words of the form are never refused, and give their own values with the defaults. They are a command that runs a program, and
 //!   then its options in any order, each at most once; or a command that reads a trace or a history, alone (`Form`). The options are
-//!   `--threads N`, `--steps N` and `--serial`, of `run` `--history` too, of `timeline` `--columns N` too, and of `gen`, which has its
-//!   number of blocks before them, the threads alone;
+//!   `--threads N`, `--steps N` and `--serial`, of `run` one of `--history` and `--profile` too, of `timeline` `--columns N` too, and of
+//!   `gen`, which has its number of blocks before them, the threads alone;
 //! - a request comes only where clap's rules find no fault in the words, and is that of its matches; such words are never refused.
-//!   Words are refused only where a fault is a mistake, and a text is shown only where a fault asks for it (`Answers`, over the
-//!   command of `CommandLine`);
+//!   Words are refused only where a fault is a mistake, or where they are `run` with both `--history` and `--profile`, which always makes
+//!   no request. A text is shown only where a fault asks for it (`Answers`, over the command of `CommandLine`);
 //! - words of the form up to a `--help` or a `--version` give a text to show.
 //!
 //! What the shown text says isn't proved: clap's clauses don't speak of it. Tests of `call_tests` compare it. Want of memory is

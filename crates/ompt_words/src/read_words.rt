@@ -1,9 +1,9 @@
 //! Words, and what they ask for.
 
-ghost use Rattle.std.specs.Prelude.{◌≡◌, ◌≤◌, true, IfOk, IsErrAnd, MatchResult, String, codes, string_bytes, map};
+ghost use Rattle.std.specs.Prelude.{◌≡◌, ◌≤◌, true, IfOk, IfSome, IsNone, IsErrAnd, MatchResult, String, codes, string_bytes, map};
 ghost use Rattle.std.specs.declared.alloc.Global.{Global};
 ghost use Rattle.clap.specs.Words.{found_of, one_text};
-ghost use Rattle.ompt_words.specs.Answers.{AreReadAs, AreWrong, AskForText, IsTextOrMemory, flag_in, number_in};
+ghost use Rattle.ompt_words.specs.Answers.{AreReadAs, AreWrong, AskForText, HoldBoth, IsTextOrMemory, IsUsageOrMemory, flag_in, number_in};
 ghost use Rattle.ompt_words.specs.Form.{AskInForm, InForm, IsOutput, ReadInForm, default_columns, default_steps, default_threads, own_settings};
 
 use crate::clap_command::ompt_command;
@@ -27,6 +27,7 @@ pub fn request_of(alloc: Global, words: &[String]) -> Result<Request, WordsFault
     ensures read_form { (command : ReadCommand) → ReadInForm (map string_bytes words.now) command →
         MatchResult result (λ given. given ≡ Request.Read command) (λ fault. fault ≡ WordsFault.Memory) }
     ensures asked { AskInForm (map string_bytes words.now) → IsErrAnd result IsTextOrMemory }
+    ensures clash { HoldBoth (map string_bytes words.now) → IsErrAnd result IsUsageOrMemory }
 {
     let matches = match ompt_command(alloc)?.try_get_matches_from(words) {
         Ok(matches) => matches,
@@ -40,8 +41,14 @@ pub fn request_of(alloc: Global, words: &[String]) -> Result<Request, WordsFault
         "migrate" => Request::Read(ReadCommand::Migrate),
         "check" => Request::Read(ReadCommand::Check),
         "rerun" => Request::Read(ReadCommand::Rerun),
+        "tasks" => Request::Read(ReadCommand::Tasks),
         "gen" => Request::Run(generator_settings(inner)),
-        "run" => Request::Run(settings_in(Command::Run(output_in(inner)), inner)),
+        "run" => {
+            let Some(output) = output_in(inner) else {
+                return Err(WordsFault::Usage);
+            };
+            Request::Run(settings_in(Command::Run(output), inner))
+        }
         "record" => Request::Run(settings_in(Command::Record, inner)),
         "profile" => Request::Run(settings_in(Command::Profile, inner)),
         "timeline" => Request::Run(settings_in(Command::Timeline(columns_in(inner)), inner)),
@@ -129,14 +136,18 @@ fn blocks_in(matches: &ArgMatches<'_>) -> u16
     }
 }
 
-/// What the matches of `run` say that it writes.
-fn output_in(matches: &ArgMatches<'_>) -> RunOutput
-    ensures { IsOutput result (flag_in (one_text (found_of matches.now) (codes "history"))) }
+/// What the matches of `run` say that it writes. A run has one output, so both flags together say none.
+fn output_in(matches: &ArgMatches<'_>) -> Option<RunOutput>
+    ensures output { IfSome result (λ output.
+        IsOutput output (flag_in (one_text (found_of matches.now) (codes "history"))) (flag_in (one_text (found_of matches.now) (codes "profile")))) }
+    ensures history { IsNone result → flag_in (one_text (found_of matches.now) (codes "history")) ≡ true }
+    ensures profile { IsNone result → flag_in (one_text (found_of matches.now) (codes "profile")) ≡ true }
 {
-    if has_flag(matches, "history") {
-        RunOutput::History
-    } else {
-        RunOutput::Printed
+    match (has_flag(matches, "history"), has_flag(matches, "profile")) {
+        (false, false) => Some(RunOutput::Printed),
+        (true, false) => Some(RunOutput::History),
+        (false, true) => Some(RunOutput::Profile),
+        (true, true) => None,
     }
 }
 

@@ -33,6 +33,8 @@ pub enum RunOutput {
     Printed,
     /// The history of the run, for `--history`.
     History,
+    /// What the program prints and then how many calls of each callback there were, for `--profile`.
+    Profile,
 }
 
 /// A command that reads what a run has left: a trace or a history.
@@ -46,6 +48,8 @@ pub enum ReadCommand {
     Check,
     /// It says whether a history is a legal run that ends as it says.
     Rerun,
+    /// It writes the task tree of a trace that is nested, with its work and its span.
+    Tasks,
 }
 
 /// How a program is to run.
