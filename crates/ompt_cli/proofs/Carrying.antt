@@ -15,7 +15,7 @@ use Rattle.ompt_words.specs.declared.settings.Request.TheVariants as request
 use Rattle.ompt_words.specs.declared.settings.Settings.{Settings}
 use Rattle.ompt_words.specs.declared.settings.ReadCommand.{ReadCommand}
 use Rattle.ompt_words.specs.declared.settings.ReadCommand.TheVariants as reads
-use Rattle.ompt_words.specs.Answers.{AreReadAs, IsTextOrMemory}
+use Rattle.ompt_words.specs.Answers.{AreReadAs, HoldBoth, IsTextOrMemory, IsUsageOrMemory}
 use Rattle.ompt_words.specs.Form.{AskInForm, InForm, ReadInForm, own_settings}
 use Rattle.ompt_cli.specs.declared.end.End.{End}
 use Rattle.ompt_cli.specs.declared.end.End.TheVariants as end
@@ -133,6 +133,7 @@ module _ {S O : Type 0} (left : S → Option (List ℕ)) (reads_failed : S → �
                   shown_alone = none-if _ shown has.nothing_shown;
                   displayed = λ is. absurd (subst IsAfterRun is after);
                   help = λ ask. absurd (taken.no_help ask);
+                  clash = λ both. absurd (taken.not_both both);
                   reads = λ command ask. absurd (not-read command ask);
                   read_alone = none-if _ read has.nothing_read;
                   ended = λ why is. ends-told why ran told has.ended has.missing is;
@@ -180,6 +181,7 @@ module _ {S O : Type 0} (left : S → Option (List ℕ)) (reads_failed : S → �
                 shown_alone = tt;
                 displayed = λ is. absurd (subst IsBeforeRun is before);
                 help = λ ask. absurd (taken.no_help ask);
+                clash = λ both. absurd (taken.not_both both);
                 reads = λ command ask. absurd (not-read command ask);
                 read_alone = tt;
                 ended = λ why is. absurd (subst IsBeforeRun is before);
@@ -236,6 +238,7 @@ module _ {S O : Type 0} (left : S → Option (List ℕ)) (reads_failed : S → �
                 shown_alone = tt;
                 displayed = λ is. absurd (subst IsReading is reading);
                 help = λ ask. absurd (taken.no_help ask);
+                clash = λ both. absurd (taken.not_both both);
                 reads = λ other ask. inl (ap (λ (one : ReadCommand). Some one) (command-is other ask));
                 read_alone = (taken.read, reading, refl, refl);
                 ended = λ why is. absurd (subst IsReading is reading);
@@ -297,6 +300,7 @@ module _ {S O : Type 0} (left : S → Option (List ℕ)) (reads_failed : S → �
                 shown_alone = tt;
                 displayed = λ same. absurd cc;
                 help = λ ask. absurd (subst IsTextOrMemory is (faulty.help ask));
+                clash = λ both. inl refl;
                 reads = λ command ask. absurd (never (no-memory_read command ask));
                 read_alone = tt;
                 ended = λ why same. absurd cc;
@@ -340,6 +344,7 @@ module _ {S O : Type 0} (left : S → Option (List ℕ)) (reads_failed : S → �
                 shown_alone = tt;
                 displayed = λ same. absurd cc;
                 help = λ ask. tt;
+                clash = λ both. inr refl;
                 reads = λ command ask. inr (refl, refl, refl, refl);
                 read_alone = tt;
                 ended = λ why same. absurd cc;
@@ -386,6 +391,7 @@ module _ {S O : Type 0} (left : S → Option (List ℕ)) (reads_failed : S → �
                 shown_alone = (faulty.shown text is, shows, refl, refl);
                 displayed = λ same. cc;
                 help = λ ask. shows;
+                clash = λ both. absurd (subst IsUsageOrMemory is (faulty.clash both));
                 reads = λ command ask. absurd (never (no-memory_read command ask));
                 read_alone = tt;
                 ended = λ why same. absurd (subst IsShowing same shows);
@@ -428,9 +434,9 @@ module _ {S O : Type 0} (left : S → Option (List ℕ)) (reads_failed : S → �
 
 -- what was read of the words is what is asked of them
 pub taken-as : (words : List (List ℕ)) (found given : Request) → found ≡ given → AreReadAs words found → ((other : Request) → AreReadAs words other → found ≡ other) → ((form : InForm words) → found ≡ request.Run (own_settings form))
-    → ((command : ReadCommand) → ReadInForm words command → found ≡ request.Read command) → (AskInForm words → ⊥) → AreTakenAs words given
-taken-as words found given is read exact form read_form no_help =
-    subst (AreTakenAs words) is (record { read = read; exact = exact; form = form; read_form = read_form; no_help = no_help })
+    → ((command : ReadCommand) → ReadInForm words command → found ≡ request.Read command) → (AskInForm words → ⊥) → (HoldBoth words → ⊥) → AreTakenAs words given
+taken-as words found given is read exact form read_form no_help not_both =
+    subst (AreTakenAs words) is (record { read = read; exact = exact; form = form; read_form = read_form; no_help = no_help; not_both = not_both })
 
 -- settings that words ask for are in range
 pub in-range : (words : List (List ℕ)) (settings : Settings) → AreTakenAs words (request.Run settings) → AreInRange settings

@@ -10,6 +10,7 @@ use Rattle.omp_model.specs.Records.{lines_of, record_of}
 use Rattle.history_file.specs.declared.file.HistoryFile.{HistoryFile}
 use Rattle.history_file.specs.declared.file.TheConstants.{HISTORY_LIMIT}
 use Rattle.history_file.specs.declared.reason.HistoryReason.TheVariants.{TooLong}
+use Rattle.history_file.specs.Certificates.{IsCertificate, run_of_file}
 use Rattle.history_file.specs.Refusing.{IsHistoryRefused}
 use Rattle.history_file.specs.Validity.{WritesHistory}
 use Rattle.history_file.specs.Verdicts.{heard_call}
@@ -19,9 +20,11 @@ use Rattle.ompt_cli.specs.declared.end.End.TheVariants as end
 use Rattle.ompt_cli.specs.declared.end.Refusal.{Refusal}
 use Rattle.ompt_cli.specs.Commands.{HasWritten, IsBeforeRun, IsReading, MayRun}
 use Rattle.ompt_cli.specs.Histories.{HasRerun, IsCertified, IsUnreadFile, MayCertify, heard_text, lines_of_calls}
-use Rattle.ompt_cli.specs.Text.{IsRefused}
+use Rattle.numbered_runs.proofs.Histories.{same_cause, same_legal}
+use Rattle.ompt_cli.specs.Text.{IsRefused, Spells}
 use Rattle.ompt_cli.proofs.Carrying.{nothing-kept}
 use Rattle.ompt_cli.proofs.Ending.{longer}
+use Rattle.ompt_cli.proofs.Reading.{programs-alike}
 
 -- what was read to the end is all that the source had
 pub left-is : (left rest : Option (List ℕ)) (bytes : List ℕ) → Consumes left rest bytes → IfSome left (λ _. IsAtEnd rest) → IfSome left (λ text. text ≡ bytes)
@@ -140,3 +143,15 @@ pub written-reading : (told : End) → (told ≡ end.Read) ⊎ ((told ≡ end.Wr
 written-reading told (inl is) = (subst IsReading (sym is) tt, subst MayCertify (sym is) tt)
 written-reading told (inr (inl is)) = (subst IsReading (sym is) tt, subst MayCertify (sym is) tt)
 written-reading told (inr (inr is)) = (subst IsReading (sym is) tt, subst MayCertify (sym is) tt)
+
+-- a certificate of one program is one of each that its text spells
+pub certificate-of : (file : HistoryFile) (one other : TreeView) → Spells file.text one → Spells file.text other → IsCertificate (run_of_file one file) file → IsCertificate (run_of_file other file) file
+certificate-of file one other spells spelled certificate =
+    let alike = programs-alike file.text one other spells spelled in
+    record {
+      cause = certificate.cause;
+      legal = same_legal (run_of_file one file) other alike file.history certificate.legal;
+      ends = same_cause (run_of_file one file) other alike file.history ∙ certificate.ends;
+      status_is = certificate.status_is;
+      detail_is = certificate.detail_is;
+    }

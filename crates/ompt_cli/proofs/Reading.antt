@@ -29,6 +29,7 @@ use Rattle.ompt_cli.specs.declared.end.End.TheVariants.{Refused, Memory}
 use Rattle.ompt_cli.specs.Commands.{MayRefuse, MayRun}
 use Rattle.ompt_cli.specs.Ends.{end_of_check_fault, end_of_fault, end_of_syntax_fault}
 use Rattle.ompt_cli.specs.Text.{HasCheckFault, HasTree, IsProgram, IsReadAs, IsRefused, Spells, end_at, end_of, rule_broken}
+use Rattle.numbered_runs.specs.Alike.{AreAlike}
 
 module _ (text : List ℕ) where
   -- a text has one list of tokens, with one tree
@@ -173,3 +174,13 @@ text-judged text = by (ltb 65536 (length text)) refl
     by : (long : Bool) → ltb 65536 (length text) ≡ long → IsProgram text ⊎ ((why : Refusal) × IsRefused why text)
     by true is = inr (TooLong, ltb-true 65536 (length text) is)
     by false is = by-tokens text (ltb-false 65536 (length text) is) (read-or-ended text)
+
+  -- programs that it spells differ in the numbers of their nodes alone
+  pub programs-alike : (one other : TreeView) → Spells text one → Spells text other → AreAlike one other
+  programs-alike one other first second =
+      let same = reads-one text first.read.tokens second.read.tokens first.read.has.read second.read.has.read in
+      record {
+        root = tree_one text (root_tree one) (root_tree other) first.read.has.tree_is second.read.has.tree_is;
+        end = first.read.end_is ∙ ap end_of same ∙ sym second.read.end_is;
+        main = first.read.main_is ∙ ap (main_of text) same ∙ sym second.read.main_is;
+      }

@@ -14,7 +14,7 @@ use Rattle.trace_check.specs.Nested.{Broken as BreaksRule, Nested}
 use Rattle.ompt_words.specs.declared.settings.ReadCommand.{ReadCommand}
 use Rattle.ompt_cli.specs.declared.end.End.{End}
 use Rattle.ompt_cli.specs.declared.end.End.TheVariants.{Broken, TraceRefused}
-use Rattle.ompt_words.specs.declared.settings.ReadCommand.TheVariants.{Check, Migrate, Rerun, Show}
+use Rattle.ompt_words.specs.declared.settings.ReadCommand.TheVariants.{Check, Migrate, Rerun, Show, Tasks}
 use Rattle.ompt_cli.specs.Traces.{HasRead}
 
 -- neither a front of it nor the whole
@@ -40,6 +40,7 @@ trace_unrefused command left rest held after told trace refusal is read same = b
     by Migrate read = refused-input left read.0 trace refusal is read.2
     by Rerun read = read
     by Check (checked, kept) = refused-input left checked.0 trace refusal is checked.1
+    by Tasks (answered, kept) = refused-input left answered.0 trace refusal is answered.1
 
 -- a nested trace has no first breach
 nested-unbroken :
@@ -61,3 +62,4 @@ trace_unbroken command left rest held after told trace breach is nested read sam
     by Migrate read = read
     by Rerun read = read
     by Check (checked, kept) = nested-unbroken left rest trace breach is nested checked
+    by Tasks (answered, kept) = nested-unbroken left rest trace breach is nested answered

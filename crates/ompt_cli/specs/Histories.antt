@@ -66,9 +66,9 @@ IsUnreadFile left ReadFault = ⊤
 IsUnreadFile left Memory = ⊤
 IsUnreadFile left other = ⊥
 
--- the text of the file is a program, and the file is a certificate of it, however its nodes are numbered
+-- the text of the file spells a program, and the file is a certificate of it
 abbrev pub Certifies : HistoryFile → Type 0
-Certifies file = IsProgram file.text × ((program : TreeView) → Spells file.text program → IsCertificate (run_of_file program file) file)
+Certifies file = (program : TreeView) × Spells file.text program × IsCertificate (run_of_file program file) file
 
 -- what may be said of a certificate: that it is one, unless a read, a write or memory fails
 abbrev pub MayCertify : End → Type 0

@@ -15,7 +15,7 @@ use Rattle.run_trace.specs.TraceOf.{trace_of}
 use Rattle.trace_format.specs.Validity.{IsTrace}
 use Rattle.history_file.specs.Certificates.{IsCertificate}
 use Rattle.history_file.specs.Validity.{WritesHistory}
-use Rattle.ompt_words.specs.Answers.{AreReadAs, AreWrong, AskForText}
+use Rattle.ompt_words.specs.Answers.{AreReadAs, AreWrong, AskForText, HoldBoth}
 use Rattle.ompt_words.specs.Form.{AskInForm, InForm, own_settings}
 use Rattle.ompt_words.specs.declared.settings.Command.TheVariants.{Generate as Generating, Record as Recording, Run as Running}
 use Rattle.ompt_words.specs.declared.settings.Request.TheVariants as request
@@ -33,10 +33,11 @@ use Rattle.ompt_cli.specs.declared.end.End.TheVariants.{Ended, Shown, Usage, Ref
 use Rattle.ompt_cli.specs.declared.end.Refusal.{Refusal}
 use Rattle.ompt_cli.specs.declared.report.Report.{Report}
 
--- What the words decide: which of a run, a text that is shown and a trace that is read is there, one at most, and which ends there may be. Words are
--- refused only where clap may find a mistake in them; words that ask for a run aren't, and a text is read only for them. A text is shown only where clap
--- may say so, and words of the form up to `--help` or `--version` have theirs shown. A trace is read only where the words ask for it, and for no others.
--- An end that tells of a run comes with that run.
+-- What the words decide: which of a run, a text that is shown and a trace or a history file that is read is there, one at most, and which ends there may be.
+-- Words are refused only where clap may find a mistake in them, or where they are `run` with both `--history` and `--profile`, and these always are. Words
+-- that ask for a run aren't, and a text is read only for them. A text is shown only where clap may say so, and words of the form up to `--help` or
+-- `--version` have theirs shown. A trace or a history file is read only where the words ask for it, and for no others. An end that tells of a run comes with
+-- that run.
 pub record FollowsWords {Table : Type 0} {Behind : Table → Type 0} (words : List (List ℕ)) (end : End) (shown : Option (String Global)) (read : Option ReadCommand) (ran : Option (Report Table Behind)) : Type 0 where
   pub usage : end ≡ Usage → AreWrong words × IsNone ran × IsNone shown × IsNone read
   pub formed : AskForRun words → (end ≢ Usage) × (end ≢ Shown) × IsNone shown × IsNone read
@@ -44,6 +45,7 @@ pub record FollowsWords {Table : Type 0} {Behind : Table → Type 0} (words : Li
   pub shown_alone : IfSome shown (λ text. AskForText words × IsShowing end × IsNone ran × IsNone read)
   pub displayed : end ≡ Shown → IsSome shown
   pub help : AskInForm words → IsShowing end
+  pub clash : HoldBoth words → (end ≡ Usage) ⊎ (end ≡ Memory)
   pub reads : (command : ReadCommand) → AskToRead words command → (read ≡ Some command) ⊎ ((end ≡ Memory) × IsNone ran × IsNone shown × IsNone read)
   pub read_alone : IfSome read (λ command. AreReadAs words (request.Read command) × IsReading end × IsNone ran × IsNone shown)
   pub ended : (why : Cause) → end ≡ Ended why → IsSomeAnd ran (λ report. report.cause ≡ why)
@@ -93,8 +95,8 @@ pub record ShowsFaults (end : End) (source_before source_now out_before out_now 
   pub unread : source_before < source_now → end ≡ ReadFault
   pub lost : out_before < out_now → end ≡ WriteFault
 
--- What stays untouched: the source where the words ask for no text of it, and the output too where they are refused, or where they ask that a trace is read
--- and there was no memory for them.
+-- What stays untouched: the source where the words ask for no text of it, and the output too where they are refused, or where they ask that a trace or a
+-- history file is read and there was no memory for them.
 pub record StaysUntouched {S O : Type 0} (words : List (List ℕ)) (end : End) (shown : Option (String Global)) (read : Option ReadCommand) (source source_now : S) (out out_now : O) : Type 0 where
   pub untouched : end ≡ Usage → (source_now ≡ source) × (out_now ≡ out)
   pub unasked : ¬ AskForRun words → ((command : ReadCommand) → ¬ AskToRead words command) → source_now ≡ source

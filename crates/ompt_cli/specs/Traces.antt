@@ -1,5 +1,5 @@
 -- What a command that reads a trace or a history file has read and written, by how it ended.
-use Rattle.std.specs.Prelude.{ℕ, ◌≡◌, ◌≢◌, IsSomeAnd, List, [], ◌∷◌, ◌++◌, Option, codes}
+use Rattle.std.specs.Prelude.{ℕ, ◌≡◌, ◌≢◌, IsSomeAnd, List, [], ◌∷◌, ◌++◌, Option, Ok, Err, codes}
 use Rattle.std.specs.Io.KnownBytes.{Appends, Keeps}
 use Rattle.run_edges.specs.Edges.{AppendsFront}
 use Rattle.trace_check.specs.declared.checked.Checked.TheVariants as checked
@@ -13,8 +13,11 @@ use Rattle.trace_copy.specs.declared.copied.Copied.TheVariants as copied
 use Rattle.trace_copy.specs.declared.form.Form.{Form}
 use Rattle.trace_copy.specs.declared.form.Form.TheVariants.{Lines, SecondVersion}
 use Rattle.trace_copy.specs.Copying.{HasCopied}
+use Rattle.tool_tasks.specs.declared.unread.Unread.TheVariants as unread
+use Rattle.tool_tasks.specs.Answering.{HasReadNested}
+use Rattle.tool_tasks.specs.Text.{IsForestText}
 use Rattle.ompt_words.specs.declared.settings.ReadCommand.{ReadCommand}
-use Rattle.ompt_words.specs.declared.settings.ReadCommand.TheVariants.{Check, Migrate, Rerun, Show}
+use Rattle.ompt_words.specs.declared.settings.ReadCommand.TheVariants.{Check, Migrate, Rerun, Show, Tasks}
 use Rattle.history_file.specs.declared.file.HistoryFile.{HistoryFile}
 use Rattle.history_file.specs.Validity.{WritesHistory}
 use Rattle.ompt_cli.specs.Histories.{Certifies, HasRerun, MayCertify}
@@ -50,12 +53,26 @@ HasJudged WriteFault left rest held after = HasChecked checked.Nested left rest 
 HasJudged Memory left rest held after = HasChecked checked.Memory left rest × Keeps held after
 HasJudged other left rest held after = ⊥
 
+-- The tasks of a trace were told: a nested trace was read whole, and the text of its tasks is written, or a front of it where a write failed. Nothing is
+-- written else
+abbrev pub HasTasks : End → (left rest held after : Option (List ℕ)) → Type 0
+HasTasks Read left rest held after =
+    (trace : Trace) × HasReadNested (Ok trace) left rest × IsNested trace × (text : List ℕ) × IsForestText trace.events text × Appends held after text
+HasTasks (TraceRefused refusal) left rest held after = HasReadNested (Err (unread.Refused refusal)) left rest × Keeps held after
+HasTasks (Broken breach) left rest held after = HasReadNested (Err (unread.Broken breach)) left rest × Keeps held after
+HasTasks ReadFault left rest held after = HasReadNested (Err unread.ReadFault) left rest × Keeps held after
+HasTasks WriteFault left rest held after =
+    (trace : Trace) × HasReadNested (Ok trace) left rest × IsNested trace × (text : List ℕ) × IsForestText trace.events text × AppendsFront held after text
+HasTasks Memory left rest held after = Keeps held after
+HasTasks other left rest held after = ⊥
+
 -- what the command has read and written
 abbrev pub HasRead : ReadCommand → End → (left rest held after : Option (List ℕ)) → Type 0
 HasRead Show end left rest held after = HasCopy Lines end left rest held after
 HasRead Migrate end left rest held after = HasCopy SecondVersion end left rest held after
 HasRead Check end left rest held after = HasJudged end left rest held after
 HasRead Rerun end left rest held after = HasRerun end left held after
+HasRead Tasks end left rest held after = HasTasks end left rest held after
 
 -- What a command that reads has read and written, by how it ended: the trace or the file was read to its end, or it is refused, isn't nested or isn't legal,
 -- or a read, a write or memory failed. No trace is refused, no nested one has a breach, and `migrate` takes no memory. Each certificate is found to be one.

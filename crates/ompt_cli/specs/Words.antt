@@ -8,7 +8,7 @@ use Rattle.ompt_words.specs.declared.settings.ReadCommand.{ReadCommand}
 use Rattle.ompt_words.specs.declared.fault.WordsFault.{WordsFault}
 use Rattle.ompt_words.specs.declared.fault.WordsFault.TheVariants as fault
 use Rattle.ompt_words.specs.declared.settings.Request.{Request}
-use Rattle.ompt_words.specs.Answers.{AreReadAs, AreWrong, AskForText, IsTextOrMemory}
+use Rattle.ompt_words.specs.Answers.{AreReadAs, AreWrong, AskForText, HoldBoth, IsTextOrMemory, IsUsageOrMemory}
 use Rattle.ompt_words.specs.Form.{AskInForm, InForm, ReadInForm, own_settings}
 
 -- the bytes of each word
@@ -23,7 +23,7 @@ AskFor words settings = ((form : InForm words) × (settings ≡ own_settings for
 abbrev pub AskForRun : List (List ℕ) → Type 0
 AskForRun words = (settings : Settings) × AskFor words settings
 
--- the words ask that a trace is read, by this command
+-- the words ask that a trace or a history file is read, by this command
 abbrev pub AskToRead : List (List ℕ) → ReadCommand → Type 0
 AskToRead words command = ReadInForm words command ⊎ AreReadAs words (request.Read command)
 
@@ -34,6 +34,7 @@ pub record AreTakenAs (words : List (List ℕ)) (found : Request) : Type 0 where
   pub form : (form : InForm words) → found ≡ request.Run (own_settings form)
   pub read_form : (command : ReadCommand) → ReadInForm words command → found ≡ request.Read command
   pub no_help : ¬ AskInForm words
+  pub not_both : ¬ HoldBoth words
 
 -- the words were read as no request, for this: those that ask for one have no other fault than want of memory
 pub record AreFaulty (words : List (List ℕ)) (found : WordsFault) : Type 0 where
@@ -43,6 +44,7 @@ pub record AreFaulty (words : List (List ℕ)) (found : WordsFault) : Type 0 whe
   pub form : InForm words → found ≡ fault.Memory
   pub read_form : (command : ReadCommand) → ReadInForm words command → found ≡ fault.Memory
   pub help : AskInForm words → IsTextOrMemory found
+  pub clash : HoldBoth words → IsUsageOrMemory found
 
 -- how many threads and silent steps a run may have
 pub record AreInRange (settings : Settings) : Type 0 where

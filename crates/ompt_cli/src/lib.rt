@@ -53,6 +53,7 @@ mod run;
 mod runner;
 mod running;
 mod settings_run;
+mod task_tree;
 mod text;
 mod top_call;
 mod trace_commands;

@@ -6,18 +6,19 @@ ghost use Rattle.trace_copy.specs.Written.{line_of_end as line_of_mark};
 ghost use Rattle.history_file.specs.declared.file.HistoryFile.{HistoryFile as SeenFile};
 ghost use Rattle.history_file.specs.Certificates.{IsCertificate, run_of_file};
 ghost use Rattle.history_file.specs.Validity.{IsHistoryFile, WritesHistory};
-ghost use Rattle.ompt_cli.specs.Commands.{CountsFaults, HasWritten, IsReading};
+ghost use Rattle.ompt_cli.specs.Commands.{CountsFaults, IsReading};
 ghost use Rattle.ompt_cli.specs.Histories.{Certifies, HasFile, HasRerun, IsUnreadFile, MayCertify, lines_of_calls};
 
 use crate::end::End;
 use crate::text::program_of;
+use crate::writing::write_read;
 use c_check::Program;
 use history_file::{
     HISTORY_LIMIT, HeardCall, HistoryFault, HistoryFile, HistoryReason, Verdict, read_history,
     rerun,
 };
 use ompt_calls::line_of;
-use run_edges::{ReadAllFault, Sink, Source, read_all, write_all};
+use run_edges::{ReadAllFault, Sink, Source, read_all};
 use std::alloc::{AllocError, Global};
 use trace_copy::line_of_end;
 use trace_format::EndMark;
@@ -97,23 +98,8 @@ fn judge_program<O: Sink>(alloc: Global, program: Program, file: &HistoryFile, o
     ensures writes { CountsFaults result End.WriteFault (O.faults out.old) (O.faults out.new) }
 {
     match rerun(alloc, program, file) {
-        Ok(Verdict::Legal(calls)) => write_heard(heard_text(alloc, file, &calls.0), out),
+        Ok(Verdict::Legal(calls)) => write_read(heard_text(alloc, file, &calls.0), out),
         Ok(Verdict::Illegal(place)) => End::Illegal(place),
-        Err(_) => End::Memory,
-    }
-}
-
-/// Writes what was made of a certificate.
-fn write_heard<O: Sink>(made: Result<Vec<u8>, AllocError>, out: &mut O) -> End
-    ensures end { (result ≡ End.Read) ⊎ ((result ≡ End.WriteFault) ⊎ (result ≡ End.Memory)) }
-    ensures written { (text : List ℕ) → IfOk made (λ lines. lines.items ≡ text) → HasWritten result text (O.held out.old) (O.held out.new) }
-    ensures writes { CountsFaults result End.WriteFault (O.faults out.old) (O.faults out.new) }
-{
-    match made {
-        Ok(text) => match write_all(out, &text) {
-            Ok(()) => End::Read,
-            Err(_) => End::WriteFault,
-        },
         Err(_) => End::Memory,
     }
 }

@@ -1,4 +1,4 @@
-//! The commands that read: a trace for `show`, `migrate` and `check`, and a history file for `rerun`.
+//! The commands that read: a trace for `show`, `migrate`, `check` and `tasks`, and a history file for `rerun`.
 
 ghost use Rattle.std.specs.Prelude.{◌≡◌, ◌≢◌, ◌⊎◌, IsSomeAnd};
 ghost use Rattle.std.specs.Io.KnownBytes.{Appends};
@@ -11,6 +11,7 @@ ghost use Rattle.ompt_cli.specs.Traces.{HasJudged, HasRead, HasCopy, ok_text};
 
 use crate::end::End;
 use crate::rerunning::rerun_history;
+use crate::task_tree::tell_tasks;
 use ompt_words::ReadCommand;
 use run_edges::{Sink, Source, write_all};
 use std::alloc::Global;
@@ -37,6 +38,7 @@ pub(crate) fn read_input<S: Source, O: Sink>(
         ReadCommand::Migrate => copy(alloc, Form::SecondVersion, source, out),
         ReadCommand::Check => check(alloc, source, out),
         ReadCommand::Rerun => rerun_history(alloc, source, out),
+        ReadCommand::Tasks => tell_tasks(alloc, source, out),
     }
 }
 

@@ -1,6 +1,6 @@
-//! What is written of a run, as one text.
+//! What is written of a run, or of what was read, as one text.
 
-ghost use Rattle.std.specs.Prelude.{ℕ, ◌≡◌, ◌≢◌, List, IfOk};
+ghost use Rattle.std.specs.Prelude.{ℕ, ◌≡◌, ◌≢◌, ◌⊎◌, List, IfErr, IfOk};
 ghost use Rattle.ompt_cli.specs.Commands.{CountsFaults, EndsAs, HasWritten, unless_memory};
 
 use crate::end::End;
@@ -38,5 +38,21 @@ pub(crate) fn write_run<O: Sink>(cause: Cause, text: &[u8], out: &mut O) -> End
     match write_all(out, text) {
         Ok(()) => End::Ended(cause),
         Err(_) => End::WriteFault,
+    }
+}
+
+/// Writes what was made of what a command has read, unless there was no memory for it. It answers how the command ends.
+pub(crate) fn write_read<O: Sink>(made: Result<Vec<u8>, AllocError>, out: &mut O) -> End
+    ensures end { (result ≡ End.Read) ⊎ ((result ≡ End.WriteFault) ⊎ (result ≡ End.Memory)) }
+    ensures memory { IfErr made (λ _. result ≡ End.Memory) }
+    ensures written { (text : List ℕ) → IfOk made (λ lines. lines.items ≡ text) → HasWritten result text (O.held out.old) (O.held out.new) }
+    ensures writes { CountsFaults result End.WriteFault (O.faults out.old) (O.faults out.new) }
+{
+    match made {
+        Ok(text) => match write_all(out, &text) {
+            Ok(()) => End::Read,
+            Err(_) => End::WriteFault,
+        },
+        Err(_) => End::Memory,
     }
 }

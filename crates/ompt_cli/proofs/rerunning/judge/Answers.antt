@@ -1,7 +1,9 @@
 use Rattle.std.proofs.Common.{subst}
 use Rattle.ompt_cli.specs.Text.{Spells}
+use Rattle.ompt_cli.proofs.Certified.{certificate-of, may-certify}
 use Rattle.ompt_cli.proofs.rerunning.judge.Goals as goal
 
 pub returns-in-Ok-clause-certified : goal.returns-in-Ok-clause-certified
 returns-in-Ok-clause-certified g c = λ certifies.
-    c.judge_program.ensures.certified (certifies.1 c.in-Ok.program (subst (λ text. Spells text c.in-Ok.program) c.bytes.ensures c.in-Ok.ensures.program))
+    let spelled = subst (λ text. Spells text c.in-Ok.program) c.bytes.ensures c.in-Ok.ensures.program in
+    c.judge_program.ensures.certified (certificate-of c.args.file.now certifies.0 c.in-Ok.program certifies.1.0 spelled certifies.1.1)

@@ -8,18 +8,18 @@ use Rattle.ompt_cli.proofs.top_call.outcome_alone.Goals as goal
 pub returns-then-not-settings-clause-asked : goal.returns-then-not-settings-clause-asked
 returns-then-not-settings-clause-asked g c =
     let of = c.in-Ok-Run.ensures in
-    let taken = taken-as (texts c.args.words.now) c.in-Ok-Run.field-0 (request.Run c.in-Ok-Run.settings) c.in-Ok-Run.field-0-is of.read of.exact of.form of.read_form of.asked in
+    let taken = taken-as (texts c.args.words.now) c.in-Ok-Run.field-0 (request.Run c.in-Ok-Run.settings) c.in-Ok-Run.field-0-is of.read of.exact of.form of.read_form of.asked of.clash in
     (taken, in-range (texts c.args.words.now) c.in-Ok-Run.settings taken, not-serial _ c.if-not-settings.true)
 
 pub returns-else-not-settings-clause-carried : goal.returns-else-not-settings-clause-carried
 returns-else-not-settings-clause-carried g c =
     let of = c.in-Ok-Run.ensures in
-    c.run_settings.ensures.carried (texts c.args.words.now) (taken-as (texts c.args.words.now) c.in-Ok-Run.field-0 (request.Run c.in-Ok-Run.settings) c.in-Ok-Run.field-0-is of.read of.exact of.form of.read_form of.asked)
+    c.run_settings.ensures.carried (texts c.args.words.now) (taken-as (texts c.args.words.now) c.in-Ok-Run.field-0 (request.Run c.in-Ok-Run.settings) c.in-Ok-Run.field-0-is of.read of.exact of.form of.read_form of.asked of.clash)
 
 pub returns-in-Ok-Read-clause-carried : goal.returns-in-Ok-Read-clause-carried
 returns-in-Ok-Read-clause-carried g c =
     let of = c.in-Ok-Read.ensures in
-    c.read_as.ensures.carried (texts c.args.words.now) (taken-as (texts c.args.words.now) c.in-Ok-Read.field-0 (request.Read c.in-Ok-Read.command) c.in-Ok-Read.field-0-is of.read of.exact of.form of.read_form of.asked)
+    c.read_as.ensures.carried (texts c.args.words.now) (taken-as (texts c.args.words.now) c.in-Ok-Read.field-0 (request.Read c.in-Ok-Read.command) c.in-Ok-Read.field-0-is of.read of.exact of.form of.read_form of.asked of.clash)
 
 pub returns-in-Err-clause-carried : goal.returns-in-Err-clause-carried
 returns-in-Err-clause-carried g c =
@@ -32,10 +32,11 @@ returns-in-Err-clause-carried g c =
       form = of.form;
       read_form = of.read_form;
       help = of.asked;
+      clash = of.clash;
     })
 
 pub returns-else-not-settings-clause-serial : goal.returns-else-not-settings-clause-serial
 returns-else-not-settings-clause-serial g c =
     let of = c.in-Ok-Run.ensures in
-    let taken = taken-as (texts c.args.words.now) c.in-Ok-Run.field-0 (request.Run c.in-Ok-Run.settings) c.in-Ok-Run.field-0-is of.read of.exact of.form of.read_form of.asked in
+    let taken = taken-as (texts c.args.words.now) c.in-Ok-Run.field-0 (request.Run c.in-Ok-Run.settings) c.in-Ok-Run.field-0-is of.read of.exact of.form of.read_form of.asked of.clash in
     serial-reported (texts c.args.words.now) c.in-Ok-Run.settings taken (is-serial _ c.if-not-settings.false) _ _ c.run_settings.result.ran (c.run_settings.ensures.carried (texts c.args.words.now) taken).ran
