@@ -4,3 +4,5 @@ pub mod Leads
 pub mod Span
 pub mod Reaching
 pub mod Holding
+pub mod Collecting
+pub mod Answering
