@@ -11,3 +11,4 @@ pub mod Walks
 pub mod Charging
 pub mod Collected
 pub mod Rising
+pub mod Orders

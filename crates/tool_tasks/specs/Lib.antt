@@ -2,6 +2,7 @@ pub mod Charge
 pub mod Tree
 pub mod Leads
 pub mod Span
+pub mod Text
 pub mod Reaching
 pub mod Holding
 pub mod Collecting

@@ -49,6 +49,7 @@ mod reaches;
 mod reading;
 mod stack_step;
 mod stacks;
+mod text;
 mod unread;
 
 pub use forest::{Forest, TaskNode};
