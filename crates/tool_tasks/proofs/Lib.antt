@@ -9,3 +9,6 @@ pub mod Numbers
 pub mod Giving
 pub mod Walks
 pub mod Charging
+pub mod Collected
+pub mod Rising
+pub mod Orders

@@ -16,19 +16,19 @@ use Rattle.tool_tasks.proofs.Makes.{ParentBelow, parent_below}
 
 -- ---- the children from a task on
 
-from_here : (k : ℕ) (past : List EventRecord) → k ≤ greatest_task past → tasks_from k past ≡ k ∷ tasks_from (k + 1) past
+pub from_here : (k : ℕ) (past : List EventRecord) → k ≤ greatest_task past → tasks_from k past ≡ k ∷ tasks_from (k + 1) past
 from_here k past within =
     let more : greatest_task past + 1 - k ≡ suc (greatest_task past + 1 - (k + 1)) = omega arith in
     ap (λ (n : ℕ). range_with_len k n) more
 
-from_past : (k : ℕ) (past : List EventRecord) → greatest_task past < k → tasks_from k past ≡ []
+pub from_past : (k : ℕ) (past : List EventRecord) → greatest_task past < k → tasks_from k past ≡ []
 from_past k past beyond = let none : greatest_task past + 1 - k ≡ 0 = omega arith in ap (λ (n : ℕ). range_with_len k n) none
 
-abbrev is_child : ℕ → List EventRecord → ℕ → Bool
+abbrev pub is_child : ℕ → List EventRecord → ℕ → Bool
 is_child parent past child = has_parent parent (origin_of child past)
 
 -- a task is the first of them, or isn't among them
-children_here : (k parent : ℕ) (past : List EventRecord) → k ≤ greatest_task past
+pub children_here : (k parent : ℕ) (past : List EventRecord) → k ≤ greatest_task past
     → children_from k parent past ≡ cond (is_child parent past k) (k ∷ children_from (k + 1) parent past) (children_from (k + 1) parent past)
 children_here k parent past within = ap (filter (is_child parent past)) (from_here k past within)
 

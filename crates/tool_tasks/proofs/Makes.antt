@@ -191,3 +191,59 @@ parent_below k (event ∷ past) unbroken =
     (parent_more (greatest_task past) (greatest_task (event ∷ past)) less (originates k past (making_by event.call))
     (of_making k past (making_by event.call) unbroken.1 (creator_below past event.thread event.call unbroken.1 all.creations)))
     (parent_more (greatest_task past) (greatest_task (event ∷ past)) less (origin_of k past) (parent_below k past unbroken.1))
+
+-- ---- a parent was made before
+
+abbrev pub ParentLess : ℕ → Option Origin → Type 0
+ParentLess k None = Unit {0}
+ParentLess k (Some origin) = origin.parent < k
+
+less_of : (k g : ℕ) (past : List EventRecord) (making : Making) → IsNext g making → ParentBelow g (originates k past making) → ParentLess k (originates k past making)
+less_of k g past (Implicit task region flags) next below = by-test (task == k) refl below
+  where
+    by-test : (b : Bool) → (task == k) ≡ b → ParentBelow g (cond b (Some (record { parent = or_zero (encountering_task region past); flags = flags })) None)
+        → ParentLess k (cond b (Some (record { parent = or_zero (encountering_task region past); flags = flags })) None)
+    by-test true is below = let e : task ≡ k = eqb-true task k is in omega arith
+    by-test false is below = tt
+less_of k g past (Explicit task creator flags) next below = by-test (task == k) refl below
+  where
+    by-test : (b : Bool) → (task == k) ≡ b → ParentBelow g (cond b (Some (record { parent = creator; flags = flags })) None)
+        → ParentLess k (cond b (Some (record { parent = creator; flags = flags })) None)
+    by-test true is below = let e : task ≡ k = eqb-true task k is in omega arith
+    by-test false is below = tt
+less_of k g past (Region region task) next below = tt
+less_of k g past Nothing next below = tt
+
+either_less : (k : ℕ) (first rest : Option Origin) → ParentLess k first → ParentLess k rest → ParentLess k (or_else first rest)
+either_less k None rest less others = others
+either_less k (Some origin) rest less others = less
+
+pub parent_less : (k : ℕ) (past : List EventRecord) → Unbroken past → ParentLess k (origin_of k past)
+parent_less k [] unbroken = by-test (k == 1) refl
+  where
+    by-test : (b : Bool) → (k == 1) ≡ b → ParentLess k (cond b (Some (record { parent = 0; flags = 1 })) None)
+    by-test true is = let e : k ≡ 1 = eqb-true k 1 is in omega arith
+    by-test false is = tt
+parent_less k (event ∷ past) unbroken =
+    let all : KeepsAll past event = keeps_all past event unbroken.0 in
+    either_less k (originates k past (making_by event.call)) (origin_of k past)
+    (less_of k (greatest_task past) past (making_by event.call) (next_of past event unbroken.0)
+    (of_making k past (making_by event.call) unbroken.1 (creator_below past event.thread event.call unbroken.1 all.creations)))
+    (parent_less k past unbroken.1)
+
+-- the initial task has none
+beside_initial : (g : ℕ) (making : Making) → 1 ≤ g → IsNext g making → Misses 1 making
+beside_initial g (Implicit task region flags) some next = grind (arith, nat_tests)
+beside_initial g (Explicit task creator flags) some next = grind (arith, nat_tests)
+beside_initial g (Region region task) some next = tt
+beside_initial g Nothing some next = tt
+
+pub greatest_some : (past : List EventRecord) → 1 ≤ greatest_task past
+greatest_some [] = omega arith
+greatest_some (event ∷ past) = let e : 1 ≤ greatest_task past = greatest_some past in omega arith
+
+pub initial_origin : (past : List EventRecord) → Unbroken past → origin_of 1 past ≡ Some (record { parent = 0; flags = 1 })
+initial_origin [] unbroken = refl
+initial_origin (event ∷ past) unbroken =
+    rw (missed 1 past (making_by event.call) (beside_initial (greatest_task past) (making_by event.call) (greatest_some past) (next_of past event unbroken.0)))
+    (initial_origin past unbroken.1)

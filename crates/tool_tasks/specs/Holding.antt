@@ -1,9 +1,10 @@
 -- What a forest holds of a trace, and what is held of the events while it is built. The events before stand with the newest first.
-use Rattle.std.specs.Prelude.{ℕ, ◌≡◌, ◌+◌, ◌-◌, ◌==◌, Bool, true, List, [], ◌∷◌, Option, Some, None, reverse, length, nat_le, slice_get, get_or, set, if◌then◌else◌, ◌*◌, ◌<◌, max, false, ◌||◌, ◌⊎◌, ◌++◌, zero, suc}
+use Rattle.std.specs.Prelude.{ℕ, ◌≡◌, ◌+◌, ◌-◌, ◌==◌, Bool, true, List, [], ◌∷◌, Option, Some, None, reverse, length, nat_le, nat_lt, slice_get, get_or, set, if◌then◌else◌, ◌*◌, ◌<◌, max, false, ◌||◌, ◌⊎◌, ◌++◌, zero, suc}
 use Rattle.std.specs.Ordering.{nat_cmp}
 use Rattle.std.specs.BTreeMap.{BTreeMap, get}
 use Rattle.ompt_calls.specs.declared.event.EventRecord.{EventRecord}
 use Rattle.trace_check.specs.Before.{greatest_task, waits_of}
+use Rattle.trace_check.specs.Checking.{Unbroken}
 use Rattle.tool_tasks.specs.declared.forest.Forest.{Forest}
 use Rattle.tool_tasks.specs.declared.forest.TaskNode.{TaskNode}
 use Rattle.tool_tasks.specs.declared.forest_builder.ForestBuilder.{ForestBuilder}
@@ -269,11 +270,23 @@ pub record HoldsChains (builder : ChainBuilder) (past : List EventRecord) : Type
   pub tasks : HoldsTasks builder.tasks past
   pub reaches : HoldsReaches builder.reaches past
 
+-- ---- the text
+
+-- the tasks, with all links
+pub record AreNodes (nodes : List TaskNode) (past : List EventRecord) : Type 0 where
+  pub count : length nodes ≡ greatest_task past
+  pub each : (place : ℕ) → slice_get nodes place ≡ node_of (place + 1) past
+
+-- the task to which a link leads: one that was made later, or none
+abbrev pub later : ℕ → ℕ → List ℕ
+later task link = if nat_lt task link then link ∷ [] else []
+
 -- ---- the forest
 
 -- the forest has the node of each task, by identity from 1 on, and the work
 pub record HoldsForest (forest : Forest) (past : List EventRecord) : Type 0 where
   pub nodes : (place : ℕ) → slice_get forest.nodes.items place ≡ node_of (place + 1) past
+  pub count : length forest.nodes.items ≡ greatest_task past
   pub none : node_of 0 past ≡ None
   pub work : forest.work ≡ work_of past
   pub span : forest.chains.longest.length ≡ span_of past
@@ -282,4 +295,5 @@ pub record HoldsForest (forest : Forest) (past : List EventRecord) : Type 0 wher
 -- the forest is that of these events, whose positions rise
 pub record IsForest (forest : Forest) (events : List EventRecord) : Type 0 where
   pub holds : HoldsForest forest (reverse events)
+  pub unbroken : Unbroken (reverse events)
   pub rising : AreRising 0 events

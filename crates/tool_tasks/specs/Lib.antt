@@ -2,5 +2,8 @@ pub mod Charge
 pub mod Tree
 pub mod Leads
 pub mod Span
+pub mod Text
 pub mod Reaching
 pub mod Holding
+pub mod Collecting
+pub mod Answering

@@ -190,7 +190,7 @@ fn parent_given(node: &TaskNode, nodes: &[TaskNode]) -> Option<Key>
 }
 
 /// A task's node.
-fn node_at(nodes: &[TaskNode], task: u32) -> Option<TaskNode>
+pub(crate) fn node_at(nodes: &[TaskNode], task: u32) -> Option<TaskNode>
     ensures { result ≡ node_at nodes.now task }
 {
     let place = task.checked_sub(1)?;

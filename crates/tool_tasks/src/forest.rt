@@ -9,6 +9,7 @@ ghost use Rattle.tool_tasks.specs.Charge.{work_of};
 ghost use Rattle.tool_tasks.specs.Holding.{HoldsForest, HoldsNodes, IsForest, IsWalk, link_at, walked};
 ghost use Rattle.tool_tasks.specs.Reaching.{span_of};
 ghost use Rattle.tool_tasks.specs.Span.{IsChain, IsSpan};
+ghost use Rattle.tool_tasks.specs.Text.{IsForestText};
 ghost use Rattle.tool_tasks.specs.Tree.{node_of};
 
 use crate::chain_builder::ChainBuilder;
@@ -16,6 +17,7 @@ use crate::chains::Chains;
 use crate::forest_builder::ForestBuilder;
 use crate::links::link_all;
 use crate::reaches::{Link, Reach};
+use crate::text::{number_lines, put_trees};
 use std::alloc::{AllocError, Global};
 use trace_format::Trace;
 
@@ -127,6 +129,16 @@ impl Forest {
         )?;
         chain.reverse();
         Ok(chain)
+    }
+
+    /// The lines with how many tasks there are, the work and the span, then a line for each task, its children behind it.
+    pub fn text(&self, alloc: Global) -> Result<Vec<u8>, AllocError>
+        ensures { IfOk result (λ text. (events : List EventOf) → IsForest self.now events → IsForestText events text.items) }
+    {
+        let nodes = self.nodes.as_slice();
+        let mut text = number_lines(alloc, nodes.len(), self.work, self.span())?;
+        put_trees(alloc, nodes, &mut text)?;
+        Ok(text)
     }
 }
 

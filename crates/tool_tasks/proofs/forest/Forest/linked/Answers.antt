@@ -1,4 +1,4 @@
-use Rattle.std.proofs.Common.{◌≡◌, List, sym, ◌∙◌, ap, subst}
+use Rattle.std.proofs.Common.{◌≡◌, List, length, sym, ◌∙◌, ap, subst}
 use Rattle.std.specs.Prelude.{slice_get}
 use Rattle.std.specs.Vec.{with_items}
 use Rattle.std.proofs.lemmas.List.{with_items_is}
@@ -16,6 +16,7 @@ returns c = λ past unbroken holds work span walk.
     let items : (with_items c.args.nodes c.link_all.new.nodes).items ≡ c.link_all.new.nodes = with_items_is c.args.nodes c.link_all.new.nodes (c.link_all.auto.nodes ∙ c.deref_mut.ensures.len) in
     record {
       nodes = λ place. ap (λ (all : List TaskNode). slice_get all place) items ∙ linked c.link_all.new.nodes past links place;
+      count = ap (length {A = TaskNode}) items ∙ links.count;
       none = ap (node_from 0 past) (no_zero past unbroken);
       work = work;
       span = span;

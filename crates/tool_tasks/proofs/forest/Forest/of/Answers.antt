@@ -34,5 +34,7 @@ returns c =
       holds = subst (λ (all : List EventRecord). HoldsForest c.finish-2.result (reverse all))
           (all_taken c.args.trace.now.events c.deref-event-items.result.now c.loop-event.event-index same c.loop-event-test.false)
           (c.finish-2.ensures past c.loop-event.invariant.builds (c.finish.ensures.span past c.loop-event.invariant.chains) (c.finish.ensures.walk past c.loop-event.invariant.chains) c.loop-event.invariant.unbroken);
+      unbroken = subst (λ (all : List EventRecord). Unbroken (reverse all))
+          (all_taken c.args.trace.now.events c.deref-event-items.result.now c.loop-event.event-index same c.loop-event-test.false) c.loop-event.invariant.unbroken;
       rising = rising SEQ_LIMIT c.args.trace.now.header 0 c.args.trace.now.events c.requires.valid.events;
     }
