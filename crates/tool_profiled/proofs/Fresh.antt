@@ -1,9 +1,8 @@
 -- What is joined of a part and a profile before a run.
-use Rattle.std.proofs.Common.{◌≡◌, ℕ, List, [], ◌∷◌, All, refl, sym, ap, subst, ◌∙◌, arith}
+use Rattle.std.proofs.Common.{◌≡◌, ℕ, List, [], refl, ap, subst, ◌∙◌, arith}
 use Rattle.std.proofs.lemmas.List.Elements.{All-nil}
-use Rattle.ompt_calls.specs.Item.{Item}
 use Rattle.omp_codes.specs.declared.callbacks.TheConstants.{PROFILE_MASK}
-use Rattle.tool_api.specs.Record.{Record, Start, StartedWith, initialized}
+use Rattle.tool_api.specs.Record.{Record, Start, initialized}
 use Rattle.tool_api.specs.Registering.{mask_of}
 use Rattle.tool_both.specs.declared.masks.Masks.{Masks}
 use Rattle.tool_both.specs.Tools.{HasTools, IsUnheard, fresh_both}

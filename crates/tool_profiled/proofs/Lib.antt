@@ -1,2 +1,5 @@
 pub mod Fresh
+pub mod Hearing
+pub mod Silence
+pub mod Union
 pub mod Waiting

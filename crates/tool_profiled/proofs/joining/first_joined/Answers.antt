@@ -1,4 +1,4 @@
-use Rattle.std.proofs.Common.{◌≡◌, ap, subst, sym}
+use Rattle.std.proofs.Common.{ap, subst, sym}
 use Rattle.tool_profiled.specs.declared.asked.Asked.{Asked}
 use Rattle.tool_profiled.specs.Joining.{WasAsked, nothing_counted}
 use Rattle.tool_profiled.proofs.Fresh.{asked-counts, asked-mask, joined-fresh, nothing-counted}
