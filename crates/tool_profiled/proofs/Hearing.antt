@@ -174,3 +174,13 @@ module _ {P : Type 0} (part_for : P → Record → Type 0) (masks : Masks) (both
   -- which answered 1
   pub run-answer : masks.second_answer ≡ 1 → (answer registered : ℕ) → h.started ≡ record { answer = answer; mask = registered } ∷ [] → answer ≡ 1
   run-answer active answer registered start = both-answer part_for both h answer registered stands start (second-answer ∙ active)
+
+-- what is said of one is said of another that stands for all that it does
+pub other-started : {A B : Type 0} (first_for : A → Record → Type 0) (second_for : B → Record → Type 0) (a : A) (b : B) (started : List Start) → ((h : Record) → first_for a h → second_for b h)
+    → HasStarted first_for a started → HasStarted second_for b started
+other-started first_for second_for a b started so has = record { h = has.h; started_is = has.started_is; stands = so has.h has.stands }
+
+pub other-hears : {A B : Type 0} (first_for : A → Record → Type 0) (second_for : B → Record → Type 0) (a : A) (b : B) (started : List Start) (active mask : ℕ) (items : List Item) → ((h : Record) → first_for a h → second_for b h)
+    → HasHeard first_for a started active mask items → HasHeard second_for b started active mask items
+other-hears first_for second_for a b started active mask items so has =
+    record { calls = has.calls; counted = has.counted; within = has.within; silent = has.silent; split = has.split; stands = so _ has.stands }
