@@ -70,7 +70,7 @@ pub record IsRunOf {Table : Type 0} {Behind : Table → Type 0} (words : List (L
   pub whole : report.serial ≡ true → ¬ HasGuests report.command → report.cause ≢ causes.Memory → report.history ≡ history_of_serial (run_of report)
   pub silent_run : report.serial ≡ true → report.cause ≢ causes.Memory → HearsSilent (run_of report) report.history → report.history ≡ history_of_serial (run_of report)
   pub ended : EndsAs report.cause end
-  pub memory : HasGuests report.command → report.cause ≢ causes.Memory → end ≢ Memory
+  pub memory : HasGuests report.command → report.command ≢ Running output.Profile → report.cause ≢ causes.Memory → end ≢ Memory
   pub begun : report.cause ≡ causes.Memory → report.history ≢ []
 
 -- What is recorded of a run is a trace of the format. Where the parts of a run are no guests, the trace of the run, written or not, breaks no rule of the
