@@ -15,3 +15,4 @@ pub mod NestedRuns
 pub mod Filing
 pub mod Carrying
 pub mod Certified
+pub mod Beside
