@@ -186,8 +186,8 @@ module _ {G : Type 0} {B : Type 0} (box : G → B) (stands : B → Record → Ty
           let part : PartFor p h = guest-in box stands Same guests (p ∷ ps) rest out 0 d p h (omega arith) more for in
           let none = runs.all_heard found 0 (omega (arith, each)) in
           let heard = first-heard PartFor masks (slice_index_or others 0 e) (after-first (first-before h)) (marked-first h fresh part) (first-before h).started (first-within (first-before h))
-              (joins.was_asked p).profile_mask (first-unheard runs.answer runs.registered (heard_of run H 0) (runs.missed 0) (before (first-before h)) answers-one none) (heard_of run H 0) (first-calls (first-before h))
-              (first-finished runs.answer runs.registered (heard_of run H 0) (runs.missed 0) (before (first-before h)) answers-one none) (start ∷ []) (marks start h.started fresh.started) in
+          (joins.was_asked p).profile_mask (first-unheard runs.answer runs.registered (heard_of run H 0) (runs.missed 0) (before (first-before h)) answers-one none) (heard_of run H 0) (first-calls (first-before h))
+          (first-finished runs.answer runs.registered (heard_of run H 0) (runs.missed 0) (before (first-before h)) answers-one none) (start ∷ []) (marks start h.started fresh.started) in
           subst (λ (mask : ℕ). HasHeard stands (slice_index_or after 0 d) (start ∷ []) masks.first_answer mask (heard_of run H 0)) (joins.was_asked p).mask_is
           (other-hears PartFor stands (part_of (slice_index_or others 0 e)) (slice_index_or after 0 d) (start ∷ []) masks.first_answer masks.first (heard_of run H 0) (guest-at 0 d (omega (arith, each)) more) heard)
 
@@ -198,8 +198,8 @@ module _ {G : Type 0} {B : Type 0} (box : G → B) (stands : B → Record → Ty
           let part : PartFor (slice_index_or ps k p) h = guest-in box stands Same guests (p ∷ ps) rest out (suc k) d p h (omega (arith, below, each)) more for in
           let none = runs.all_heard found (suc k) below in
           let heard = other-heard PartFor masks (slice_index_or others (suc k) e) (after-other k (marked h)) (marked-other k below h fresh part) (marked h).started (other-within k (marked h))
-              (joins.was_asked p).profile_mask (called-unheard (heard_of run H (suc k)) (runs.missed (suc k)) (before (marked h)) none) (heard_of run H (suc k)) (other-calls k (marked h))
-              (called-finished (heard_of run H (suc k)) (runs.missed (suc k)) (before (marked h)) none) [] (ap (λ (starts : List Start). record { answer = 1; mask = 0 } ∷ starts) fresh.started) in
+          (joins.was_asked p).profile_mask (called-unheard (heard_of run H (suc k)) (runs.missed (suc k)) (before (marked h)) none) (heard_of run H (suc k)) (other-calls k (marked h))
+          (called-finished (heard_of run H (suc k)) (runs.missed (suc k)) (before (marked h)) none) [] (ap (λ (starts : List Start). record { answer = 1; mask = 0 } ∷ starts) fresh.started) in
           subst (λ (mask : ℕ). HasHeard stands (slice_index_or after (suc k) d) [] 0 mask (heard_of run H (suc k))) (joins.was_asked p).mask_is
           (other-hears PartFor stands (part_of (slice_index_or others (suc k) e)) (slice_index_or after (suc k) d) [] 0 masks.first (heard_of run H (suc k)) (guest-at (suc k) d below more) heard)
 

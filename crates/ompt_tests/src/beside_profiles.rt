@@ -118,7 +118,10 @@ const BESIDE: &[Beside] = &[
     },
     // One that finds no memory at its second call ends the run there, after the Go of that event, and is finished. Nothing is written.
     Beside {
-        habits: Habits { fails: 2, ..STORING },
+        habits: Habits {
+            fails: 2,
+            ..STORING
+        },
         status: 10,
         line: b"memory\n",
         cause: Cause::Memory,
