@@ -3,7 +3,8 @@
 //! [`top`] does what the words say, as `ompt_words` reads them. Five commands read a program from a source and run it: `list` writes a
 //! line for each event to an output; `record` writes the trace of the run; `profile` writes how many calls of each callback there were;
 //! `timeline` writes the states of the threads; `run` calls guests, which are tools, at the events of their threads, and writes what the
-//! program printed, or with `--history` the run's history (`history_file`). `gen` makes a program, runs it, and writes a summary. Three
+//! program printed, or with `--history` the run's history (`history_file`). With `--profile` each guest is called beside a profile
+//! (`tool_profiled`), and the counts follow what was printed. `gen` makes a program, runs it, and writes a summary. Three
 //! commands read a trace from the source: `show` writes a line for each event and one for the end, `migrate` writes the trace in the second
 //! version of the format, and `check` says whether it is nested. `rerun` reads a history, and says whether it is a legal run of its program
 //! that ends as it says. Where the end isn't a good one, one line goes to standard error. Its contract says, over any source and any sinks, what

@@ -47,7 +47,8 @@ pub fn top<R: Threads + Wait + Sync, S: Source, O: Sink, E: Sink>(
     ensures words { FollowsWords (texts words.now) result.end result.shown result.read result.ran }
     // What ran is the program that the words and the source say, in one legal run that ends in the cause that is reported.
     ensures ran { IfSome result.ran (IsRunOf (texts words.now) (S.left source.old) result.end) }
-    // Guest t was called for what thread t heard, in its order, and for nothing else but a call that found no memory, which ends the run.
+    // Guest t was called for what thread t heard, in its order, beside a profile for what the guests registered of that, and for nothing else but a call
+    // that found no memory, which ends the run.
     ensures guests { IfSome result.ran (λ report.
         GuestsAfter (λ guest h. (GuestTool-box guest).stands_for guest.value h) (λ guest other. guest.vtable ≡ other.vtable)
         report.command report.serial (run_of report)
