@@ -75,7 +75,7 @@ module _ {S O : Type 0} (left : S → Option (List ℕ)) (reads_failed : S → �
 
     -- a program was read and run
     module _ {Table : Type 0} {Behind : Table → Type 0} (some : 1 ≤ settings.threads) (few : settings.threads ≤ 16) (source source_now : S) (out out_now : O) (job : JobView) (threads_are : job.threads ≡ settings.threads) (steps_are : job.steps ≡ settings.steps) (serial_is : job.serial ≡ settings.serial) (sourced : IfSome (text_for settings.command (left source)) (λ text. text ≡ job.text)) (spelled : Spells job.text job.program) (unrefused : (why : Refusal) → IsSomeAnd (text_for settings.command (left source)) (IsRefused why) → ⊥) (unread : (blocks : ℕ) → settings.command ≡ Generating blocks → source_now ≡ source) (steady : reads_failed source_now ≡ reads_failed source) where
-      run-of : (told : End) (report : Report Table Behind) → Reports settings.command job report → EndsAs report.cause told → (HasGuests settings.command → report.cause ≢ causes.Memory → told ≢ end.Memory) → IsRunOf words (left source) told report
+      run-of : (told : End) (report : Report Table Behind) → Reports settings.command job report → EndsAs report.cause told → (HasGuests settings.command → settings.command ≢ Running output.Profile → report.cause ≢ causes.Memory → told ≢ end.Memory) → IsRunOf words (left source) told report
       run-of told report r ends memory =
           let is = settings-as report settings r.observes.command_is (r.observes.threads_are ∙ threads_are) (r.observes.steps_are ∙ steps_are) (r.observes.serial_is ∙ serial_is) in
           record {
@@ -93,7 +93,7 @@ module _ {S O : Type 0} (left : S → Option (List ℕ)) (reads_failed : S → �
             whole = λ serial other found. r.observes.to.whole serial found (r.stays (λ guests. other (subst HasGuests (sym r.observes.command_is) guests))).silent;
             silent_run = r.observes.to.whole;
             ended = ends;
-            memory = λ guests. memory (subst HasGuests r.observes.command_is guests);
+            memory = λ guests other. memory (subst HasGuests r.observes.command_is guests) (λ is. other (r.observes.command_is ∙ is));
             begun = r.observes.to.begun;
           }
 
@@ -111,7 +111,7 @@ module _ {S O : Type 0} (left : S → Option (List ℕ)) (reads_failed : S → �
             certificate = λ whole memory is. (filed whole memory (sym r.observes.command_is ∙ is)).certificate;
           }
 
-      runs-of : (told : End) (ran : Option (Report Table Behind)) → IfSome ran (Reports settings.command job) → IfSome ran (λ report. EndsAs report.cause told) → (HasGuests settings.command → IfSome ran (λ report. report.cause ≢ causes.Memory → told ≢ end.Memory)) → IfSome ran (IsRunOf words (left source) told)
+      runs-of : (told : End) (ran : Option (Report Table Behind)) → IfSome ran (Reports settings.command job) → IfSome ran (λ report. EndsAs report.cause told) → (HasGuests settings.command → settings.command ≢ Running output.Profile → IfSome ran (λ report. report.cause ≢ causes.Memory → told ≢ end.Memory)) → IfSome ran (IsRunOf words (left source) told)
       runs-of told None r ends memory = tt
       runs-of told (Some report) r ends memory = run-of told report r ends memory
 

@@ -43,6 +43,7 @@ mod laws;
 mod loaded;
 mod observing;
 mod outcome;
+mod profiling;
 mod program_tree;
 mod program_words;
 mod recording;

@@ -149,7 +149,7 @@ module _ {P : Type 0} (part_for : P → Record → Type 0) (masks : Masks) (both
       let once : h.finished ≡ length h.calls ∷ [] = ended ∙ ap (λ (all : List Item). length all ∷ []) (sym calls) in
       let whole = is-whole none in
       let heard : IsSplit both.masks.first both.masks.second h.calls stands.first.calls stands.second.calls =
-          subst (λ (w : Bool). IsHeard w both.masks.first both.masks.second h.calls stands.first.calls stands.second.calls) whole stands.joins.heard in
+      subst (λ (w : Bool). IsHeard w both.masks.first both.masks.second h.calls stands.first.calls stands.second.calls) whole stands.joins.heard in
       let counts = counted both.masks.first stands.first.calls h.calls (own_of_split both.masks.first both.masks.second h.calls stands.first.calls stands.second.calls heard).0 in
       let finished = ended-once both.masks.first_answer both.masks.first both.whole h stands.first.finished stands.first.calls whole once counts stands.joins.first_finished in
       heard-so is none items calls rest marks masks.first_answer (finished ∙ ap (λ (answer : ℕ). finished_at answer stands.first.calls) first-answer)

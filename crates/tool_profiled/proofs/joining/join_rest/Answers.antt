@@ -13,7 +13,7 @@ loop-part-preserved g c =
     let new = joined-fresh g.P.ToolPart.stands_for c.args.masks both _ _ c.new-in-Some.ensures.tools c.new.ensures c.new-in-Some.ensures.stands in
     record {
       parts = rw c.in_ok-push.ensures.items (join-more c.loop-part.joined.items both c.loop-part.waiting.items c.pop.new.self.items c.in-Some.part popped
-      (ap (λ (tool : Asked _). tool.0) c.new-in-Some.ensures.tools.first_is) ∙ c.loop-part.invariant.parts);
+          (ap (λ (tool : Asked _). tool.0) c.new-in-Some.ensures.tools.first_is) ∙ c.loop-part.invariant.parts);
       fresh = λ before.
           rw c.in_ok-push.ensures.items (All-push (IsFresh g.P.ToolPart.stands_for c.args.masks) c.loop-part.joined.items both (c.loop-part.invariant.fresh before) new);
     }
