@@ -29,15 +29,15 @@ pub(crate) fn do_command<
     let mut words = words;
     let storing = take_storing(&mut words);
     let Ok(lines) = Arc::new(alloc, Mutex::new(Lines::new(alloc))) else {
-        return told(End::Memory, err);
+        return tell_end(End::Memory, err);
     };
     let Ok(guests) = guests(*rt, alloc, &lines, storing) else {
-        return told(End::Memory, err);
+        return tell_end(End::Memory, err);
     };
     let top = top(rt, alloc, words.as_slice(), source, out, err, guests);
     if has_lines(&top) {
         if let Err(end) = write_lines(alloc, &lines.lock(rt), out) {
-            return told(end, err);
+            return tell_end(end, err);
         }
     }
     top.status
