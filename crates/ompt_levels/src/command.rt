@@ -88,7 +88,7 @@ fn write_lines<O: Sink>(alloc: Global, lines: &Lines, out: &mut O) -> Result<(),
 }
 
 /// Tells this end by its line, and gives its status, also where the line can't be written.
-pub(crate) fn told<E: Sink>(end: End, err: &mut E) -> u8
+pub(crate) fn tell_end<E: Sink>(end: End, err: &mut E) -> u8
     ensures { result ≡ status_of end }
 {
     let _line = write_all(err, end.line().as_str().as_bytes());

@@ -14,8 +14,9 @@
 //! region, where a task is created into the word of the task, and at the begin of an implicit task into the task's own. So later lines show
 //! what was stored.
 //!
-//! Proved is that it is safe, that it ends unless it waits, what `line_of` says: a line is that of `specs/LevelLine.antt`; and what `tell_end`
-//! says. That all lines are written, and in their order, is only tested: by the run of `stdin`, which has to write `stdout`, and by the test.
+//! Proved is that it is safe, that it ends unless it waits, what `line_of` says: a line is that of `specs/LevelLine.antt`, and what `tell_end`
+//! says: the status is that of the end. That all lines are written, and in their order, is only tested: by the run of `stdin`, which has to
+//! write `stdout`, and by the test.
 #![tactic(auto)]
 
 mod command;
