@@ -1,8 +1,5 @@
 //! What the two tools gather, and the guests that gather it.
 
-ghost use Rattle.std.specs.Prelude.{◌×◌, IfOk};
-ghost use Rattle.tool_api.specs.Registering.{AreAlways};
-
 use crate::profile::Profile;
 use crate::profiler::Profiler;
 use crate::task_profiler::TaskProfiler;

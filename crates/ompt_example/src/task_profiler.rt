@@ -48,7 +48,7 @@ impl<R: Wait + Copy + Send> GuestTool for TaskProfiler<R> {
         call: &Call,
         snapshot: &Snapshot,
     ) -> Result<Reply, Memory> {
-        if let Some(next) = task_begun(call) {
+        if let Some(next) = begun_task(call) {
             let start = TaskStart {
                 thread,
                 waited: u64::from(seq).saturating_sub(next.value),
@@ -63,7 +63,7 @@ impl<R: Wait + Copy + Send> GuestTool for TaskProfiler<R> {
 }
 
 /// The word of the explicit task that begins by this call, if one does.
-fn task_begun(call: &Call) -> Option<Word> {
+fn begun_task(call: &Call) -> Option<Word> {
     match *call {
         Call::TaskSchedule {
             status: TASK_SWITCH,

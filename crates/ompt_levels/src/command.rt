@@ -29,15 +29,15 @@ pub(crate) fn do_command<
     let mut words = words;
     let storing = take_storing(&mut words);
     let Ok(lines) = Arc::new(alloc, Mutex::new(Lines::new(alloc))) else {
-        return told(End::Memory, err);
+        return tell_end(End::Memory, err);
     };
     let Ok(guests) = guests(*rt, alloc, &lines, storing) else {
-        return told(End::Memory, err);
+        return tell_end(End::Memory, err);
     };
     let top = top(rt, alloc, words.as_slice(), source, out, err, guests);
     if has_lines(&top) {
         if let Err(end) = write_lines(alloc, &lines.lock(rt), out) {
-            return told(end, err);
+            return tell_end(end, err);
         }
     }
     top.status
@@ -88,7 +88,7 @@ fn write_lines<O: Sink>(alloc: Global, lines: &Lines, out: &mut O) -> Result<(),
 }
 
 /// Tells this end by its line, and gives its status, also where the line can't be written.
-pub(crate) fn told<E: Sink>(end: End, err: &mut E) -> u8
+pub(crate) fn tell_end<E: Sink>(end: End, err: &mut E) -> u8
     ensures { result ≡ status_of end }
 {
     let _line = write_all(err, end.line().as_str().as_bytes());

@@ -79,7 +79,7 @@ impl Storing {
     fn reply_to(self, seq: u32, call: &Call) -> Reply {
         let place = match self {
             Storing::Nothing => None,
-            Storing::Positions => begun(call),
+            Storing::Positions => begun_word(call),
         };
         Reply {
             first: place.map(|place| Store {
@@ -93,7 +93,7 @@ impl Storing {
 }
 
 /// The word of the region or the task that begins by this call, if one does.
-fn begun(call: &Call) -> Option<WordAt> {
+fn begun_word(call: &Call) -> Option<WordAt> {
     match *call {
         Call::ParallelBegin { .. } | Call::TaskCreate { .. } => Some(WordAt::Fresh),
         Call::ImplicitTask {

@@ -1,7 +1,5 @@
 //! The lines of a run.
 
-ghost use Rattle.std.specs.Prelude.{◌≡◌, IfOk};
-
 use std::alloc::{AllocError, Global};
 use std::collections::BTreeMap;
 

@@ -14,8 +14,9 @@
 //! region, where a task is created into the word of the task, and at the begin of an implicit task into the task's own. So later lines show
 //! what was stored.
 //!
-//! Proved is that it is safe, that it ends unless it waits, what `line_of` says: a line is that of `specs/LevelLine.antt`; and what `told`
-//! says. That all lines are written, and in their order, is only tested: by the run of `stdin`, which has to write `stdout`, and by the test.
+//! Proved is that it is safe, that it ends unless it waits, what `line_of` says: a line is that of `specs/LevelLine.antt`, and what `tell_end`
+//! says: the status is that of the end. That all lines are written, and in their order, is only tested: by the run of `stdin`, which has to
+//! write `stdout`, and by the test.
 #![tactic(auto)]
 
 mod command;
@@ -25,7 +26,7 @@ mod lines;
 #[cfg(test)]
 mod tests;
 
-use command::{do_command, told};
+use command::{do_command, tell_end};
 use ompt_cli::{End, own_words};
 use run_edges::{StdSink, StdSource};
 use std::process::ExitCode;
@@ -33,7 +34,7 @@ use std::process::ExitCode;
 fn main(rt: HostRuntime) -> ExitCode {
     let mut err = StdSink::new(rt.stderr());
     let Ok(words) = own_words(&rt) else {
-        return ExitCode::from(told(End::Memory, &mut err));
+        return ExitCode::from(tell_end(End::Memory, &mut err));
     };
     let mut source = StdSource::new(rt.stdin());
     let mut out = StdSink::new(rt.stdout());
