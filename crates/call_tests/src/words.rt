@@ -56,6 +56,13 @@ const REQUESTS: &[(&str, Request)] = &[
         }),
     ),
     (
+        "run --serial --profile",
+        Request::Run(Settings {
+            command: Command::Run(RunOutput::Profile),
+            ..RUN
+        }),
+    ),
+    (
         "record --threads 2 --serial",
         Request::Run(Settings {
             command: Command::Record,
@@ -121,6 +128,7 @@ const REQUESTS: &[(&str, Request)] = &[
     ("migrate", Request::Read(ReadCommand::Migrate)),
     ("check", Request::Read(ReadCommand::Check)),
     ("rerun", Request::Read(ReadCommand::Rerun)),
+    ("tasks", Request::Read(ReadCommand::Tasks)),
 ];
 
 /// Words that are refused.
@@ -141,6 +149,11 @@ const WRONG: &[&str] = &[
     "run --step 2",
     "run --history --history",
     "run --history run.history",
+    "run --history --profile",
+    "run --profile --threads 2 --history",
+    "run --profile --profile",
+    "list --profile",
+    "gen 5 --profile",
     "list --history",
     "timeline --history",
     "gen 5 --history",
@@ -155,6 +168,9 @@ const WRONG: &[&str] = &[
     "rerun --serial",
     "rerun --history",
     "rerun run.history",
+    "tasks run.trace",
+    "tasks --serial",
+    "tasks --profile",
     "profile --columns 20",
     "profile 4",
     "timeline --columns 9",
@@ -211,6 +227,11 @@ const SHOWN: &[(&str, &str)] = &[
         "Reads a history and says whether it is a legal run that ends as it says",
     ),
     ("rerun -V", "ompt-rerun 0.1.0"),
+    (
+        "tasks --help",
+        "Reads a trace that is nested and writes its task tree, its work and its span",
+    ),
+    ("tasks -V", "ompt-tasks 0.1.0"),
     (
         "profile --help",
         "Runs a program and writes how many calls of each callback there were",

@@ -7,6 +7,7 @@ ghost use Rattle.clap.specs.declared.builder.command.Command.TheViews.{out-Comma
 ghost use Rattle.ompt_words.specs.CommandLine.{generator, ompt, program, reader, reporters, run_command, runner, runners, timeline, trace_readers};
 
 use crate::arguments::{blocks, columns, history, profile, serial, steps, threads};
+use crate::help;
 use clap::Command;
 use std::alloc::{AllocError, Global};
 
@@ -24,14 +25,14 @@ pub(crate) fn ompt_command<'a>(alloc: Global) -> Result<Command<'a>, AllocError>
         line,
         "rerun",
         "Reads a history and says whether it is a legal run that ends as it says",
-        "Example: ompt rerun < run.history",
+        help::RERUN,
     )?;
     with_reader(
         alloc,
         line,
         "tasks",
         "Reads a trace that is nested and writes its task tree, its work and its span",
-        "Example: ompt tasks < run.trace",
+        help::TASKS,
     )
 }
 
@@ -46,21 +47,21 @@ fn trace_readers<'a>(alloc: Global) -> Result<Command<'a>, AllocError>
         line,
         "show",
         "Reads a trace and writes a line for each event, and one for the end",
-        "Example: ompt show < run.trace",
+        help::SHOW,
     )?;
     let line = with_reader(
         alloc,
         line,
         "migrate",
         "Reads a trace and writes it in the second version of the format",
-        "Example: ompt migrate < old.trace > new.trace",
+        help::MIGRATE,
     )?;
     with_reader(
         alloc,
         line,
         "check",
         "Reads a trace and says whether it is nested",
-        "Example: ompt check < run.trace",
+        help::CHECK,
     )
 }
 
@@ -75,7 +76,7 @@ fn reporters<'a>(alloc: Global) -> Result<Command<'a>, AllocError>
         line,
         "profile",
         "Runs a program and writes how many calls of each callback there were",
-        "Example: ompt profile --threads 2 < program.c",
+        help::PROFILE,
     )?;
     let line = with_timeline(alloc, line)?;
     with_generator(alloc, line)
@@ -93,14 +94,14 @@ fn runners<'a>(alloc: Global) -> Result<Command<'a>, AllocError>
         line,
         "list",
         "Runs a program and writes a line for each event",
-        "Example: ompt list --serial --threads 2 < program.c",
+        help::LIST,
     )?;
     with_runner(
         alloc,
         line,
         "record",
         "Runs a program and writes the trace of the run",
-        "Example: ompt record --threads 2 < program.c > run.trace",
+        help::RECORD,
     )
 }
 
@@ -209,7 +210,7 @@ fn run_command<'a>(alloc: Global) -> Result<Command<'a>, AllocError>
         alloc,
         "run",
         "Runs a program with the tools, and writes what it prints",
-        "Example: ompt run --serial --threads 2 --steps 5000 < program.c",
+        help::RUN,
     )?
     .arg(history(alloc))?
     .arg(profile(alloc))
@@ -224,7 +225,7 @@ fn timeline<'a>(alloc: Global) -> Result<Command<'a>, AllocError>
         alloc,
         "timeline",
         "Runs a program and writes the states of its threads over the run",
-        "Example: ompt timeline --threads 2 --columns 100 < program.c",
+        help::TIMELINE,
     )?
     .arg(columns(alloc))
 }
@@ -236,7 +237,7 @@ fn generator<'a>(alloc: Global) -> Result<Command<'a>, AllocError>
 {
     Command::new(alloc, "gen")
         .about("Generates a program, runs it serially, and writes a summary of the run")
-        .after_help("Example: ompt gen 40 --threads 2")
+        .after_help(help::GEN)
         .arg(blocks(alloc))?
         .arg(threads(alloc))
 }

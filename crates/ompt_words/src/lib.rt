@@ -22,6 +22,7 @@
 mod arguments;
 mod clap_command;
 mod fault;
+mod help;
 mod read_words;
 mod settings;
 
