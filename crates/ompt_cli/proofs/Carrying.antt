@@ -161,7 +161,7 @@ module _ {S O : Type 0} (left : S → Option (List ℕ)) (reads_failed : S → �
                   untouched = λ is. absurd (subst IsAfterRun is after);
                   unasked = λ no_run no_read. absurd (no_run asks-run);
                   unread = none-if _ shown has.nothing_shown;
-                  unread_trace = λ command ask none. absurd (not-read command ask);
+                  unread_input = λ command ask none. absurd (not-read command ask);
                   generates = λ other ask blocks is. unread blocks (ap (λ (of : Settings). of.command) (asked-is other ask) ∙ is);
                 };
           }
@@ -209,7 +209,7 @@ module _ {S O : Type 0} (left : S → Option (List ℕ)) (reads_failed : S → �
                 untouched = λ is. absurd (subst IsBeforeRun is before);
                 unasked = λ no_run no_read. absurd (no_run asks-run);
                 unread = tt;
-                unread_trace = λ command ask none. absurd (not-read command ask);
+                unread_input = λ command ask none. absurd (not-read command ask);
                 generates = λ other ask blocks is. unread blocks (ap (λ (of : Settings). of.command) (asked-is other ask) ∙ is);
               };
         }
@@ -273,7 +273,7 @@ module _ {S O : Type 0} (left : S → Option (List ℕ)) (reads_failed : S → �
                 untouched = λ is. absurd (subst IsReading is reading);
                 unasked = λ no_run no_read. absurd (no_read command (inr taken.read));
                 unread = tt;
-                unread_trace = λ other ask none. absurd cc;
+                unread_input = λ other ask none. absurd cc;
                 generates = λ settings ask. absurd (not-run (settings, ask));
               };
         }
@@ -328,7 +328,7 @@ module _ {S O : Type 0} (left : S → Option (List ℕ)) (reads_failed : S → �
                 untouched = λ same. (refl, refl);
                 unasked = λ no_run no_read. refl;
                 unread = tt;
-                unread_trace = λ command ask none. (refl, refl);
+                unread_input = λ command ask none. (refl, refl);
                 generates = λ settings ask blocks same. refl;
               };
         }
@@ -372,7 +372,7 @@ module _ {S O : Type 0} (left : S → Option (List ℕ)) (reads_failed : S → �
                 untouched = λ same. (refl, refl);
                 unasked = λ no_run no_read. refl;
                 unread = tt;
-                unread_trace = λ command ask none. (refl, refl);
+                unread_input = λ command ask none. (refl, refl);
                 generates = λ settings ask blocks same. refl;
               };
         }
@@ -419,7 +419,7 @@ module _ {S O : Type 0} (left : S → Option (List ℕ)) (reads_failed : S → �
                 untouched = λ same. absurd (subst IsShowing same shows);
                 unasked = λ no_run no_read. refl;
                 unread = refl;
-                unread_trace = λ command ask none. absurd (never (no-memory_read command ask));
+                unread_input = λ command ask none. absurd (never (no-memory_read command ask));
                 generates = λ settings ask blocks same. refl;
               };
         }
