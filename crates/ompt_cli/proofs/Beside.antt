@@ -24,10 +24,10 @@ use Rattle.tool_report.specs.Counts.{counts_of}
 use Rattle.tool_report.specs.Order.{AreKept}
 use Rattle.tool_profiled.specs.Hearing.{HasHeard, HasStarted}
 use Rattle.tool_profiled.specs.Joining.{AreJoined, Profiled, ProfiledFor, SameProfiled, nothing_counted, part_of, profile_of}
-use Rattle.tool_profiled.proofs.Hearing.{first-heard, marked, other-heard, other-hears, other-started, part-silent, part-started, profile-counts, run-answer, run-mask, unmarked}
-use Rattle.tool_profiled.proofs.Standing.{each-unmarked, first-is, first-marked, other-is, other-marked}
+use Rattle.tool_profiled.proofs.Hearing.{first-heard, with_mark, other-heard, other-hears, other-started, part-silent, part-started, profile-counts, run-answer, run-mask, nothing_said}
+use Rattle.tool_profiled.proofs.Standing.{each-unsaid, first-is, first-marked, other-is, other-marked}
 use Rattle.tool_profiled.proofs.Union.{in-union}
-use Rattle.ompt_cli.specs.Guests.{GuestsJoin, HandOut, HasCome, guests_of}
+use Rattle.ompt_cli.specs.Guests.{GuestsJoin, HandOut, ComesTo, guests_of}
 use Rattle.ompt_cli.specs.Runs.{RunsParts}
 use Rattle.ompt_cli.proofs.Calls.{called-finished, called-unheard, first-finished, first-unheard, same-first, same-missed}
 use Rattle.ompt_cli.proofs.Handing.{For, SamePart, as-many, fresh-quiet, guest-in, guest-out, guest-past, guest-same, none-in, none-out}
@@ -80,21 +80,21 @@ module _ {G : Type 0} {B : Type 0} (box : G → B) (stands : B → Record → Ty
   other-calls k g = (same-missed (heard_of run H (suc k)) (runs.missed (suc k)) (before g)).calls
 
   -- nothing is said of the guests: what the run has registered, and what the profiles have counted
-  unmarked-first : ProfiledFor PartFor (slice_index_or others 0 e) (after-first unmarked)
-  unmarked-first = runs.first e (before unmarked) (each-unmarked PartFor IsSame p ps masks joined joins 0 (omega (arith, asked-many)) e)
+  unsaid-first : ProfiledFor PartFor (slice_index_or others 0 e) (after-first nothing_said)
+  unsaid-first = runs.first e (before nothing_said) (each-unsaid PartFor IsSame p ps masks joined joins 0 (omega (arith, asked-many)) e)
 
-  unmarked-other : (k : ℕ) → suc k < length joined → ProfiledFor PartFor (slice_index_or others (suc k) e) (after-other k unmarked)
-  unmarked-other k below = runs.each (suc k) (omega arith) below e (before unmarked) (each-unmarked PartFor IsSame p ps masks joined joins (suc k) below e)
+  unsaid-other : (k : ℕ) → suc k < length joined → ProfiledFor PartFor (slice_index_or others (suc k) e) (after-other k nothing_said)
+  unsaid-other k below = runs.each (suc k) (omega arith) below e (before nothing_said) (each-unsaid PartFor IsSame p ps masks joined joins (suc k) below e)
 
   answers-one : runs.answer ≡ 1
   answers-one =
-      run-answer PartFor masks (slice_index_or others 0 e) (after-first unmarked) unmarked-first unmarked.started (first-within unmarked) (joins.was_asked p).profile_answer
-      runs.answer runs.registered (first-start unmarked)
+      run-answer PartFor masks (slice_index_or others 0 e) (after-first nothing_said) unsaid-first nothing_said.started (first-within nothing_said) (joins.was_asked p).profile_answer
+      runs.answer runs.registered (first-start nothing_said)
 
   mask-union : run.mask ≡ bit_or masks.first PROFILE_MASK
   mask-union =
-      runs.mask_is ∙ run-mask PartFor masks (slice_index_or others 0 e) (after-first unmarked) unmarked-first unmarked.started (first-within unmarked) (joins.was_asked p).profile_mask (joins.was_asked p).profile_answer
-      runs.answer runs.registered (first-start unmarked)
+      runs.mask_is ∙ run-mask PartFor masks (slice_index_or others 0 e) (after-first nothing_said) unsaid-first nothing_said.started (first-within nothing_said) (joins.was_asked p).profile_mask (joins.was_asked p).profile_answer
+      runs.answer runs.registered (first-start nothing_said)
 
   pub joint-mask : (number : ℕ) → is_registered run.mask number ≡ (is_registered (mask_of masks.first_answer (joins.was_asked p).registered) number || is_registered PROFILE_MASK number)
   joint-mask number =
@@ -103,9 +103,9 @@ module _ {G : Type 0} {B : Type 0} (box : G → B) (stands : B → Record → Ty
 
   counts-at : (k : ℕ) → k < length joined → profile_of (slice_index_or others k e) ≡ counts_of (map record_of (heard_of run H k))
   counts-at zero below =
-      profile-counts PartFor masks (slice_index_or others 0 e) (after-first unmarked) unmarked-first unmarked.started (first-within unmarked) (joins.was_asked p).profile_mask (heard_of run H 0) (first-calls unmarked)
+      profile-counts PartFor masks (slice_index_or others 0 e) (after-first nothing_said) unsaid-first nothing_said.started (first-within nothing_said) (joins.was_asked p).profile_mask (heard_of run H 0) (first-calls nothing_said)
   counts-at (suc k) below =
-      profile-counts PartFor masks (slice_index_or others (suc k) e) (after-other k unmarked) (unmarked-other k below) unmarked.started (other-within k unmarked) (joins.was_asked p).profile_mask (heard_of run H (suc k)) (other-calls k unmarked)
+      profile-counts PartFor masks (slice_index_or others (suc k) e) (after-other k nothing_said) (unsaid-other k below) nothing_said.started (other-within k nothing_said) (joins.was_asked p).profile_mask (heard_of run H (suc k)) (other-calls k nothing_said)
 
   pub profiles-kept : HearsOwn run H → AreKept counts_of (records_of run H) (map profile_of others)
   profiles-kept own =
@@ -156,32 +156,32 @@ module _ {G : Type 0} {B : Type 0} (box : G → B) (stands : B → Record → Ty
       start = record { answer = masks.first_answer; mask = (joins.was_asked p).registered }
 
       abbrev first-before : Record → Record
-      first-before h = marked (initialized h masks.first_answer (joins.was_asked p).registered)
+      first-before h = with_mark (initialized h masks.first_answer (joins.was_asked p).registered)
 
       marked-first : (h : Record) → IsUncalled h → PartFor p h → ProfiledFor PartFor (slice_index_or others 0 e) (after-first (first-before h))
       marked-first h fresh for = runs.first e (before (first-before h)) (first-marked PartFor IsSame p ps masks joined joins h fresh for e)
 
-      marked-other : (k : ℕ) → suc k < run.threads → (h : Record) → IsUncalled h → PartFor (slice_index_or ps k p) h → ProfiledFor PartFor (slice_index_or others (suc k) e) (after-other k (marked h))
+      marked-other : (k : ℕ) → suc k < run.threads → (h : Record) → IsUncalled h → PartFor (slice_index_or ps k p) h → ProfiledFor PartFor (slice_index_or others (suc k) e) (after-other k (with_mark h))
       marked-other k below h fresh for =
-          runs.each (suc k) (omega arith) (omega (arith, below, asked-many, each)) e (before (marked h)) (other-marked PartFor IsSame p ps masks joined joins k (omega (arith, below, each)) h fresh p for e)
+          runs.each (suc k) (omega arith) (omega (arith, below, asked-many, each)) e (before (with_mark h)) (other-marked PartFor IsSame p ps masks joined joins k (omega (arith, below, each)) h fresh p for e)
 
-      guest-begun : 0 < length guests → HasCome stands guests after 0 (λ (guest : B). HasStarted stands guest (start ∷ []))
+      guest-begun : 0 < length guests → ComesTo stands guests after 0 (λ (guest : B). HasStarted stands guest (start ∷ []))
       guest-begun more d h fresh for =
           let part : PartFor p h = guest-in box stands Same guests (p ∷ ps) rest out 0 d p h (omega arith) more for in
           other-started PartFor stands (part_of (slice_index_or others 0 e)) (slice_index_or after 0 d) (start ∷ []) (guest-at 0 d (omega (arith, each)) more)
           (part-started PartFor masks (slice_index_or others 0 e) (after-first (first-before h)) (marked-first h fresh part) (first-before h).started (first-within (first-before h))
           (start ∷ []) (marks start h.started fresh.started))
 
-      guest-unbegun : (k : ℕ) → 0 < k → k < run.threads → k < length guests → HasCome stands guests after k (λ (guest : B). HasStarted stands guest [])
+      guest-unbegun : (k : ℕ) → 0 < k → k < run.threads → k < length guests → ComesTo stands guests after k (λ (guest : B). HasStarted stands guest [])
       guest-unbegun zero some below more d h fresh for = absurd (omega (arith, some))
       guest-unbegun (suc k) some below more d h fresh for =
           let part : PartFor (slice_index_or ps k p) h = guest-in box stands Same guests (p ∷ ps) rest out (suc k) d p h (omega (arith, below, each)) more for in
           other-started PartFor stands (part_of (slice_index_or others (suc k) e)) (slice_index_or after (suc k) d) [] (guest-at (suc k) d below more)
-          (part-started PartFor masks (slice_index_or others (suc k) e) (after-other k (marked h)) (marked-other k below h fresh part) (marked h).started (other-within k (marked h))
+          (part-started PartFor masks (slice_index_or others (suc k) e) (after-other k (with_mark h)) (marked-other k below h fresh part) (with_mark h).started (other-within k (with_mark h))
           [] (ap (λ (starts : List Start). record { answer = 1; mask = 0 } ∷ starts) fresh.started))
 
       guest-heard : cause ≢ causes.Memory → 0 < length guests
-          → HasCome stands guests after 0 (λ (guest : B). HasHeard stands guest (start ∷ []) masks.first_answer (mask_of masks.first_answer (joins.was_asked p).registered) (heard_of run H 0))
+          → ComesTo stands guests after 0 (λ (guest : B). HasHeard stands guest (start ∷ []) masks.first_answer (mask_of masks.first_answer (joins.was_asked p).registered) (heard_of run H 0))
       guest-heard found more d h fresh for =
           let part : PartFor p h = guest-in box stands Same guests (p ∷ ps) rest out 0 d p h (omega arith) more for in
           let none = runs.all_heard found 0 (omega (arith, each)) in
@@ -192,14 +192,14 @@ module _ {G : Type 0} {B : Type 0} (box : G → B) (stands : B → Record → Ty
           (other-hears PartFor stands (part_of (slice_index_or others 0 e)) (slice_index_or after 0 d) (start ∷ []) masks.first_answer masks.first (heard_of run H 0) (guest-at 0 d (omega (arith, each)) more) heard)
 
       guest-hears : cause ≢ causes.Memory → (k : ℕ) → 0 < k → k < run.threads → k < length guests
-          → HasCome stands guests after k (λ (guest : B). HasHeard stands guest [] 0 (mask_of masks.first_answer (joins.was_asked p).registered) (heard_of run H k))
+          → ComesTo stands guests after k (λ (guest : B). HasHeard stands guest [] 0 (mask_of masks.first_answer (joins.was_asked p).registered) (heard_of run H k))
       guest-hears found zero some below more d h fresh for = absurd (omega (arith, some))
       guest-hears found (suc k) some below more d h fresh for =
           let part : PartFor (slice_index_or ps k p) h = guest-in box stands Same guests (p ∷ ps) rest out (suc k) d p h (omega (arith, below, each)) more for in
           let none = runs.all_heard found (suc k) below in
-          let heard = other-heard PartFor masks (slice_index_or others (suc k) e) (after-other k (marked h)) (marked-other k below h fresh part) (marked h).started (other-within k (marked h))
-          (joins.was_asked p).profile_mask (called-unheard (heard_of run H (suc k)) (runs.missed (suc k)) (before (marked h)) none) (heard_of run H (suc k)) (other-calls k (marked h))
-          (called-finished (heard_of run H (suc k)) (runs.missed (suc k)) (before (marked h)) none) [] (ap (λ (starts : List Start). record { answer = 1; mask = 0 } ∷ starts) fresh.started) in
+          let heard = other-heard PartFor masks (slice_index_or others (suc k) e) (after-other k (with_mark h)) (marked-other k below h fresh part) (with_mark h).started (other-within k (with_mark h))
+          (joins.was_asked p).profile_mask (called-unheard (heard_of run H (suc k)) (runs.missed (suc k)) (before (with_mark h)) none) (heard_of run H (suc k)) (other-calls k (with_mark h))
+          (called-finished (heard_of run H (suc k)) (runs.missed (suc k)) (before (with_mark h)) none) [] (ap (λ (starts : List Start). record { answer = 1; mask = 0 } ∷ starts) fresh.started) in
           subst (λ (mask : ℕ). HasHeard stands (slice_index_or after (suc k) d) [] 0 mask (heard_of run H (suc k))) (joins.was_asked p).mask_is
           (other-hears PartFor stands (part_of (slice_index_or others (suc k) e)) (slice_index_or after (suc k) d) [] 0 masks.first (heard_of run H (suc k)) (guest-at (suc k) d below more) heard)
 
@@ -213,8 +213,8 @@ module _ {G : Type 0} {B : Type 0} (box : G → B) (stands : B → Record → Ty
       without-guest (suc k) past below =
           let part = none-in box stands Same guests (p ∷ ps) rest out (suc k) p past (omega (arith, below, each)) in
           silent-each (heard_of run H (suc k))
-          (part-silent PartFor masks (slice_index_or others (suc k) e) (after-other k (marked nothing_called)) (marked-other k below nothing_called uncalled part) (marked nothing_called).started (other-within k (marked nothing_called))
-          (none-at (suc k) past below) (heard_of run H (suc k)) (other-calls k (marked nothing_called)) [] refl)
+          (part-silent PartFor masks (slice_index_or others (suc k) e) (after-other k (with_mark nothing_called)) (marked-other k below nothing_called uncalled part) (with_mark nothing_called).started (other-within k (with_mark nothing_called))
+          (none-at (suc k) past below) (heard_of run H (suc k)) (other-calls k (with_mark nothing_called)) [] refl)
 
       -- a part without a guest answers 0
       nobody-answers : (part asked : Handed G) → HandOut box [] (part ∷ ps) rest → IsSame part asked → (answer registered : ℕ) → ((h : Record) → PartFor part h → PartFor asked (initialized h answer registered)) → answer ≡ 0

@@ -24,20 +24,20 @@ use Rattle.tool_profiled.proofs.Silence.{silent-heard}
 use Rattle.tool_profiled.proofs.Union.{both-answer, union-mask}
 
 -- a record with a mark by which something is said of the part, and one by which nothing is
-abbrev pub marked : Record → Record
-marked h = record h { started = record { answer = 1; mask = 0 } ∷ h.started }
+abbrev pub with_mark : Record → Record
+with_mark h = record h { started = record { answer = 1; mask = 0 } ∷ h.started }
 
-abbrev pub unmarked : Record
-unmarked = record nothing_counted { started = record { answer = 0; mask = 0 } ∷ [] }
+abbrev pub nothing_said : Record
+nothing_said = record nothing_counted { started = record { answer = 0; mask = 0 } ∷ [] }
 
 -- what is joined stands for such a record of its part, and for the other one anyway
 pub fresh-marked : {P : Type 0} (part_for : P → Record → Type 0) (masks : Masks) (both : Profiled P) → IsFresh part_for masks both → (h : Record) → IsUnheard h → part_for (part_of both) h
-    → ProfiledFor part_for both (fresh_both masks (marked h) nothing_counted)
+    → ProfiledFor part_for both (fresh_both masks (with_mark h) nothing_counted)
 fresh-marked part_for masks both fresh h unheard for =
-    fresh (marked h) (record { calls = unheard.calls; finished = unheard.finished; unheard = unheard.unheard }) for
+    fresh (with_mark h) (record { calls = unheard.calls; finished = unheard.finished; unheard = unheard.unheard }) for
 
-pub fresh-unmarked : {P : Type 0} (part_for : P → Record → Type 0) (masks : Masks) (both : Profiled P) → IsFresh part_for masks both → ProfiledFor part_for both (fresh_both masks unmarked nothing_counted)
-fresh-unmarked part_for masks both fresh = fresh unmarked (record { calls = refl; finished = refl; unheard = refl }) tt
+pub fresh-unsaid : {P : Type 0} (part_for : P → Record → Type 0) (masks : Masks) (both : Profiled P) → IsFresh part_for masks both → ProfiledFor part_for both (fresh_both masks nothing_said nothing_counted)
+fresh-unsaid part_for masks both fresh = fresh nothing_said (record { calls = refl; finished = refl; unheard = refl }) tt
 
 -- a start, where there is none
 none : Start
