@@ -4,17 +4,17 @@ use Rattle.std.proofs.lemmas.List.{get_or-map}
 use Rattle.tool_api.specs.Record.{IsUncalled, Record, initialized}
 use Rattle.tool_both.specs.declared.masks.Masks.{Masks}
 use Rattle.tool_both.specs.Tools.{fresh_both}
-use Rattle.tool_profiled.specs.Joining.{AreJoined, Profiled, ProfiledFor, nothing_counted, part_of}
+use Rattle.tool_profiled.specs.Joining.{AreJoined, Profiled, ProfiledFor, nothing_counted, part_in}
 use Rattle.tool_profiled.proofs.Hearing.{fresh-marked, fresh-unsaid, with_mark, nothing_said}
 
 module _ {P : Type 0} (part_for : P → Record → Type 0) (Same : P → P → Type 0) (p : P) (ps : List P) (masks : Masks) (joined : List (Profiled P)) (joins : AreJoined part_for Same (p ∷ ps) masks joined) where
   -- the first holds the part that was asked
-  pub first-is : (e : Profiled P) → part_of (slice_index_or joined 0 e) ≡ joins.asked
-  first-is e = sym (get_or-map part_of joined 0 e joins.asked (omega (arith, joins.as_many))) ∙ ap (λ (parts : List P). slice_index_or parts 0 joins.asked) joins.parts_are
+  pub first-is : (e : Profiled P) → part_in (slice_index_or joined 0 e) ≡ joins.asked
+  first-is e = sym (get_or-map part_in joined 0 e joins.asked (omega (arith, joins.as_many))) ∙ ap (λ (parts : List P). slice_index_or parts 0 joins.asked) joins.parts_are
 
   -- and the others hold the parts as they were
-  pub other-is : (k : ℕ) (d : P) (e : Profiled P) → k < length ps → part_of (slice_index_or joined (suc k) e) ≡ slice_index_or ps k d
-  other-is k d e below = sym (get_or-map part_of joined (suc k) e d (omega (arith, below, joins.as_many))) ∙ ap (λ (parts : List P). slice_index_or parts (suc k) d) joins.parts_are
+  pub other-is : (k : ℕ) (d : P) (e : Profiled P) → k < length ps → part_in (slice_index_or joined (suc k) e) ≡ slice_index_or ps k d
+  other-is k d e below = sym (get_or-map part_in joined (suc k) e d (omega (arith, below, joins.as_many))) ∙ ap (λ (parts : List P). slice_index_or parts (suc k) d) joins.parts_are
 
   -- each stands for a record with a mark, where its part does without it, and for the other one anyway
   pub first-marked : (h : Record) → IsUncalled h → part_for p h → (e : Profiled P)
