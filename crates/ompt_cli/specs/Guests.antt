@@ -39,9 +39,9 @@ pub record GuestsServe {B : Type 0} (stands_for : B → Record → Type 0) (Same
   pub same_types : (k : ℕ) (d : B) → k < length guests → Same (slice_index_or guests k d) (slice_index_or after k d)
   pub guestless : (k : ℕ) → length guests ≤ k → k < run.threads → AreSilent (heard_of run history k)
 
--- what guest k has come to in a run before which it wasn't called
-abbrev pub HasCome : {B : Type 0} → (B → Record → Type 0) → List B → List B → ℕ → (B → Type 0) → Type 0
-HasCome {B} stands_for guests after k Has = (d : B) (h : Record) → IsUncalled h → stands_for (slice_index_or guests k d) h → Has (slice_index_or after k d)
+-- what guest k comes to in a run before which it wasn't called
+abbrev pub ComesTo : {B : Type 0} → (B → Record → Type 0) → List B → List B → ℕ → (B → Type 0) → Type 0
+ComesTo {B} stands_for guests after k Has = (d : B) (h : Record) → IsUncalled h → stands_for (slice_index_or guests k d) h → Has (slice_index_or after k d)
 
 -- The same after a run beside profiles, of guests that weren't called before: guest 0 was started, with this answer and these callbacks registered, and no other
 -- guest was. What the run has registered is what guest 0 did, where it is active, and the profile. Where the run found memory, guest t was called for exactly
@@ -53,12 +53,12 @@ pub record GuestsJoin {B : Type 0} (stands_for : B → Record → Type 0) (Same 
   pub registered : ℕ
   pub mask_is : (number : ℕ) → is_registered run.mask number ≡ (is_registered (mask_of answer registered) number || is_registered PROFILE_MASK number)
   pub nobody : length guests ≡ 0 → answer ≡ 0
-  pub begun : 0 < length guests → HasCome stands_for guests after 0 (λ guest. HasStarted stands_for guest (record { answer = answer; mask = registered } ∷ []))
-  pub unbegun : (k : ℕ) → 0 < k → k < run.threads → k < length guests → HasCome stands_for guests after k (λ guest. HasStarted stands_for guest [])
+  pub begun : 0 < length guests → ComesTo stands_for guests after 0 (λ guest. HasStarted stands_for guest (record { answer = answer; mask = registered } ∷ []))
+  pub unbegun : (k : ℕ) → 0 < k → k < run.threads → k < length guests → ComesTo stands_for guests after k (λ guest. HasStarted stands_for guest [])
   pub first : cause ≢ causes.Memory → 0 < length guests →
-      HasCome stands_for guests after 0 (λ guest. HasHeard stands_for guest (record { answer = answer; mask = registered } ∷ []) answer (mask_of answer registered) (heard_of run history 0))
+      ComesTo stands_for guests after 0 (λ guest. HasHeard stands_for guest (record { answer = answer; mask = registered } ∷ []) answer (mask_of answer registered) (heard_of run history 0))
   pub others : cause ≢ causes.Memory → (k : ℕ) → 0 < k → k < run.threads → k < length guests →
-      HasCome stands_for guests after k (λ guest. HasHeard stands_for guest [] 0 (mask_of answer registered) (heard_of run history k))
+      ComesTo stands_for guests after k (λ guest. HasHeard stands_for guest [] 0 (mask_of answer registered) (heard_of run history k))
   pub rest : (k : ℕ) (d : B) → run.threads ≤ k → slice_index_or after k d ≡ slice_index_or guests k d
   pub same_types : (k : ℕ) (d : B) → k < length guests → Same (slice_index_or guests k d) (slice_index_or after k d)
   pub guestless : (k : ℕ) → length guests ≤ k → k < run.threads → AreSilent (heard_of run history k)

@@ -19,25 +19,25 @@ use Rattle.tool_both.proofs.Splits.{counted, own_of_split}
 use Rattle.tool_report.specs.Counts.{counts_of}
 use Rattle.tool_profiled.specs.Asking.{MarkedBy}
 use Rattle.tool_profiled.specs.Hearing.{HasHeard, HasStarted, finished_at}
-use Rattle.tool_profiled.specs.Joining.{IsFresh, Profiled, ProfiledFor, nothing_counted, part_of, profile_of}
+use Rattle.tool_profiled.specs.Joining.{IsFresh, Profiled, ProfiledFor, nothing_counted, part_in, profile_in}
 use Rattle.tool_profiled.proofs.Silence.{silent-heard}
 use Rattle.tool_profiled.proofs.Union.{both-answer, union-mask}
 
 -- a record with a mark by which something is said of the part, and one by which nothing is
-abbrev pub marked : Record → Record
-marked h = record h { started = record { answer = 1; mask = 0 } ∷ h.started }
+abbrev pub with_mark : Record → Record
+with_mark h = record h { started = record { answer = 1; mask = 0 } ∷ h.started }
 
-abbrev pub unmarked : Record
-unmarked = record nothing_counted { started = record { answer = 0; mask = 0 } ∷ [] }
+abbrev pub nothing_said : Record
+nothing_said = record nothing_counted { started = record { answer = 0; mask = 0 } ∷ [] }
 
 -- what is joined stands for such a record of its part, and for the other one anyway
-pub fresh-marked : {P : Type 0} (part_for : P → Record → Type 0) (masks : Masks) (both : Profiled P) → IsFresh part_for masks both → (h : Record) → IsUnheard h → part_for (part_of both) h
-    → ProfiledFor part_for both (fresh_both masks (marked h) nothing_counted)
+pub fresh-marked : {P : Type 0} (part_for : P → Record → Type 0) (masks : Masks) (both : Profiled P) → IsFresh part_for masks both → (h : Record) → IsUnheard h → part_for (part_in both) h
+    → ProfiledFor part_for both (fresh_both masks (with_mark h) nothing_counted)
 fresh-marked part_for masks both fresh h unheard for =
-    fresh (marked h) (record { calls = unheard.calls; finished = unheard.finished; unheard = unheard.unheard }) for
+    fresh (with_mark h) (record { calls = unheard.calls; finished = unheard.finished; unheard = unheard.unheard }) for
 
-pub fresh-unmarked : {P : Type 0} (part_for : P → Record → Type 0) (masks : Masks) (both : Profiled P) → IsFresh part_for masks both → ProfiledFor part_for both (fresh_both masks unmarked nothing_counted)
-fresh-unmarked part_for masks both fresh = fresh unmarked (record { calls = refl; finished = refl; unheard = refl }) tt
+pub fresh-unsaid : {P : Type 0} (part_for : P → Record → Type 0) (masks : Masks) (both : Profiled P) → IsFresh part_for masks both → ProfiledFor part_for both (fresh_both masks nothing_said nothing_counted)
+fresh-unsaid part_for masks both fresh = fresh nothing_said (record { calls = refl; finished = refl; unheard = refl }) tt
 
 -- a start, where there is none
 none : Start
@@ -107,13 +107,13 @@ module _ {P : Type 0} (part_for : P → Record → Type 0) (masks : Masks) (both
   second-owns is =
       subst (λ (mask : ℕ). AreOwn mask stands.second.calls h.calls) (second-mask ∙ is) (second-of both.whole both.masks.first both.masks.second h.calls stands.first.calls stands.second.calls stands.joins.heard)
 
-  pub profile-counts : masks.second ≡ PROFILE_MASK → (items : List Item) → h.calls ≡ items → profile_of both ≡ counts_of (map record_of items)
+  pub profile-counts : masks.second ≡ PROFILE_MASK → (items : List Item) → h.calls ≡ items → profile_in both ≡ counts_of (map record_of items)
   profile-counts is items calls = stands.is_second.events ∙ ap counts_of (same-records stands.second.calls h.calls (second-owns is) ∙ ap (map record_of) calls)
 
   -- the part was started so
-  pub part-started : (rest : List Start) → started ≡ record { answer = 1; mask = 0 } ∷ rest → HasStarted part_for (part_of both) rest
+  pub part-started : (rest : List Start) → started ≡ record { answer = 1; mask = 0 } ∷ rest → HasStarted part_for (part_in both) rest
   part-started rest is =
-      record { h = record stands.first { started = rest }; started_is = refl; stands = subst (MarkedBy part_for (part_of both) stands.first) (started-is ∙ is) stands.is_first }
+      record { h = record stands.first { started = rest }; started_is = refl; stands = subst (MarkedBy part_for (part_in both) stands.first) (started-is ∙ is) stands.is_first }
 
   -- no call was lost, so both heard of the same calls
   is-whole : h.unheard ≡ 0 → both.whole ≡ true
@@ -130,7 +130,7 @@ module _ {P : Type 0} (part_for : P → Record → Type 0) (masks : Masks) (both
 
   -- and the part was called for its own, and finished so
   heard-so : masks.second ≡ PROFILE_MASK → h.unheard ≡ 0 → (items : List Item) → h.calls ≡ items → (rest : List Start) → started ≡ record { answer = 1; mask = 0 } ∷ rest
-      → (active : ℕ) → stands.first.finished ≡ finished_at active stands.first.calls → HasHeard part_for (part_of both) rest active masks.first items
+      → (active : ℕ) → stands.first.finished ≡ finished_at active stands.first.calls → HasHeard part_for (part_in both) rest active masks.first items
   heard-so is none items calls rest marks active finished =
       let lost : stands.first.unheard ≡ 0 = omega (arith, stands.joins.unheard, none) in
       record {
@@ -139,12 +139,12 @@ module _ {P : Type 0} (part_for : P → Record → Type 0) (masks : Masks) (both
         within = stands.first.within;
         silent = stands.is_second.silent;
         split = splits is none items calls;
-        stands = rw (← finished, ← lost) (subst (MarkedBy part_for (part_of both) stands.first) (started-is ∙ marks) stands.is_first);
+        stands = rw (← finished, ← lost) (subst (MarkedBy part_for (part_in both) stands.first) (started-is ∙ marks) stands.is_first);
       }
 
   -- the part of a run that was started and finished
   pub first-heard : masks.second ≡ PROFILE_MASK → h.unheard ≡ 0 → (items : List Item) → h.calls ≡ items → h.finished ≡ length items ∷ [] → (rest : List Start) → started ≡ record { answer = 1; mask = 0 } ∷ rest
-      → HasHeard part_for (part_of both) rest masks.first_answer masks.first items
+      → HasHeard part_for (part_in both) rest masks.first_answer masks.first items
   first-heard is none items calls ended rest marks =
       let once : h.finished ≡ length h.calls ∷ [] = ended ∙ ap (λ (all : List Item). length all ∷ []) (sym calls) in
       let whole = is-whole none in
@@ -156,14 +156,14 @@ module _ {P : Type 0} (part_for : P → Record → Type 0) (masks : Masks) (both
 
   -- and one that wasn't
   pub other-heard : masks.second ≡ PROFILE_MASK → h.unheard ≡ 0 → (items : List Item) → h.calls ≡ items → h.finished ≡ [] → (rest : List Start) → started ≡ record { answer = 1; mask = 0 } ∷ rest
-      → HasHeard part_for (part_of both) rest 0 masks.first items
+      → HasHeard part_for (part_in both) rest 0 masks.first items
   other-heard is none items calls never rest marks =
       heard-so is none items calls rest marks 0 (ended-never both.masks.first_answer both.masks.first both.whole h stands.first.finished (is-whole none) never stands.joins.first_finished)
 
   -- nothing was stored where the part stores nothing
-  pub part-silent : ((r : Record) → part_for (part_of both) r → StoresNothing r.calls) → (items : List Item) → h.calls ≡ items → (rest : List Start) → started ≡ record { answer = 1; mask = 0 } ∷ rest → StoresNothing items
+  pub part-silent : ((r : Record) → part_for (part_in both) r → StoresNothing r.calls) → (items : List Item) → h.calls ≡ items → (rest : List Start) → started ≡ record { answer = 1; mask = 0 } ∷ rest → StoresNothing items
   part-silent silent items calls rest marks =
-      let one = silent (record stands.first { started = rest }) (subst (MarkedBy part_for (part_of both) stands.first) (started-is ∙ marks) stands.is_first) in
+      let one = silent (record stands.first { started = rest }) (subst (MarkedBy part_for (part_in both) stands.first) (started-is ∙ marks) stands.is_first) in
       subst StoresNothing calls (silent-heard both.whole both.masks.first both.masks.second h.calls stands.first.calls stands.second.calls stands.joins.heard one stands.is_second.silent)
 
   -- the mask of the run whose first part this is

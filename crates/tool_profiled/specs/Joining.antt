@@ -16,12 +16,12 @@ use Rattle.tool_profiled.specs.Asking.{AskedFor}
 abbrev pub Profiled : Type 0 → Type 0
 Profiled P = Both (Asked P) (List ℕ)
 
--- the part, and the profile
-abbrev pub part_of : {P : Type 0} → Profiled P → P
-part_of both = both.first.0
+-- the part in it, and the profile in it
+abbrev pub part_in : {P : Type 0} → Profiled P → P
+part_in both = both.first.0
 
-abbrev pub profile_of : {P : Type 0} → Profiled P → List ℕ
-profile_of both = both.second
+abbrev pub profile_in : {P : Type 0} → Profiled P → List ℕ
+profile_in both = both.second
 
 -- what a part that is joined with a profile stands for, where the part stands for records by this relation
 abbrev pub ProfiledFor : {P : Type 0} → (P → Record → Type 0) → Profiled P → Record → Type 0
@@ -29,7 +29,7 @@ ProfiledFor part_for both h = BothFor (λ asked g. AskedFor part_for asked.0 g) 
 
 -- it stays what it is: the part does, by a relation that is given
 abbrev pub SameProfiled : {P : Type 0} → (P → P → Type 0) → Profiled P → Profiled P → Type 0
-SameProfiled Same both other = Same (part_of both) (part_of other)
+SameProfiled Same both other = Same (part_in both) (part_in other)
 
 -- the record of a profile before it is told anything
 abbrev pub nothing_counted : Record
@@ -37,7 +37,7 @@ nothing_counted = record { started = []; calls = []; finished = []; unheard = 0;
 
 -- nothing was told yet to a part that is joined with a profile, and they have these registrations
 abbrev pub IsFresh : {P : Type 0} → (P → Record → Type 0) → Masks → Profiled P → Type 0
-IsFresh part_for masks both = (g : Record) → IsUnheard g → AskedFor part_for (part_of both) g → ProfiledFor part_for both (fresh_both masks g nothing_counted)
+IsFresh part_for masks both = (g : Record) → IsUnheard g → AskedFor part_for (part_in both) g → ProfiledFor part_for both (fresh_both masks g nothing_counted)
 
 -- A part was asked for its registration, once, and a profile with it, which registered the whole profile. These are their registrations, and what the part
 -- is since.
@@ -54,7 +54,7 @@ pub record AreJoined {P : Type 0} (part_for : P → Record → Type 0) (Same : P
   pub asked : P
   pub was_asked : (d : P) → WasAsked part_for Same (slice_index_or parts 0 d) masks asked
   pub as_many : length joined ≡ length parts
-  pub parts_are : map part_of joined ≡ asked ∷ drop 1 parts
+  pub parts_are : map part_in joined ≡ asked ∷ drop 1 parts
   pub fresh : All (IsFresh part_for masks) joined
 
 -- there is room for so many in this list, and nothing in it

@@ -2,7 +2,7 @@
 
 ghost use Rattle.std.specs.Prelude.{◌≡◌, ◌≤◌, ◌++◌, All, IfOk, OnOk, length, map, reverse};
 ghost use Rattle.tool_api.specs.Registering.{AreAlways};
-ghost use Rattle.tool_profiled.specs.Joining.{AreJoined, HasRoom, IsFresh, WasAsked, part_of};
+ghost use Rattle.tool_profiled.specs.Joining.{AreJoined, HasRoom, IsFresh, WasAsked, part_in};
 
 use crate::asked::Asked;
 use crate::parting::Parted;
@@ -56,7 +56,7 @@ pub fn join_all<P: ToolPart>(alloc: Global, parts: Vec<P>) -> Result<Joined<P>, 
 
 /// Asks the part and a profile for their registrations, and joins them.
 fn first_joined<P: ToolPart>(part: P) -> First<P>
-    ensures asked { WasAsked P.stands_for P.same part result.masks (part_of result.both) }
+    ensures asked { WasAsked P.stands_for P.same part result.masks (part_in result.both) }
     ensures fresh { IsFresh P.stands_for result.masks result.both }
     ensures always { AreAlways result.masks.first × AreAlways result.masks.second }
 {
@@ -76,7 +76,7 @@ fn join_rest<P: ToolPart>(
     joined: &mut Vec<Profiled<P>>,
 ) -> Result<(), AllocError>
     requires always { AreAlways masks.first × AreAlways masks.second }
-    ensures parts { OnOk result (map part_of joined.new.items ≡ map part_of joined.old.items ++ reverse waiting.old.items) }
+    ensures parts { OnOk result (map part_in joined.new.items ≡ map part_in joined.old.items ++ reverse waiting.old.items) }
     ensures fresh { OnOk result (All (IsFresh P.stands_for masks) joined.old.items → All (IsFresh P.stands_for masks) joined.new.items) }
 {
     while let Some(part) = waiting.pop() {

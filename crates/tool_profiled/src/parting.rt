@@ -1,7 +1,7 @@
 //! Parts and profiles that are parted after a run.
 
 ghost use Rattle.std.specs.Prelude.{◌≡◌, ◌≤◌, ◌+◌, ◌++◌, ◌∷◌, [], IfOk, length, map, vec_capacity, vec_len};
-ghost use Rattle.tool_profiled.specs.Joining.{HasRoom, part_of, profile_of};
+ghost use Rattle.tool_profiled.specs.Joining.{HasRoom, part_in, profile_in};
 
 use crate::joining::Profiled;
 use std::alloc::{AllocError, Global};
@@ -21,8 +21,8 @@ pub struct Parted<P> {
 pub fn part_all<P: ToolPart>(room: Parted<P>, joined: Vec<Profiled<P>>) -> Parted<P>
     requires parts { HasRoom (length joined.items) room.parts }
     requires profiles { HasRoom (length joined.items) room.profiles }
-    ensures parts { result.parts.items ≡ map part_of joined.items }
-    ensures profiles { result.profiles.items ≡ map profile_of joined.items }
+    ensures parts { result.parts.items ≡ map part_in joined.items }
+    ensures profiles { result.profiles.items ≡ map profile_in joined.items }
 {
     let (mut room, mut waiting) = (room, joined);
     waiting.reverse();
@@ -48,8 +48,8 @@ impl<P: ToolPart> Parted<P> {
     fn take(&mut self, both: Profiled<P>)
         requires parts { vec_len self.old.parts + 1 ≤ vec_capacity self.old.parts }
         requires profiles { vec_len self.old.profiles + 1 ≤ vec_capacity self.old.profiles }
-        ensures parts { self.new.parts.items ≡ self.old.parts.items ++ part_of both ∷ [] }
-        ensures profiles { self.new.profiles.items ≡ self.old.profiles.items ++ profile_of both ∷ [] }
+        ensures parts { self.new.parts.items ≡ self.old.parts.items ++ part_in both ∷ [] }
+        ensures profiles { self.new.profiles.items ≡ self.old.profiles.items ++ profile_in both ∷ [] }
         ensures part_room { vec_capacity self.old.parts ≤ vec_capacity self.new.parts }
         ensures profile_room { vec_capacity self.old.profiles ≤ vec_capacity self.new.profiles }
     {
