@@ -1,5 +1,5 @@
 -- Records of the same starts and calls.
-use Rattle.std.proofs.Common.{◌≡◌, ℕ, ◌==◌, Bool, true, false, if◌then◌else◌, List, refl, ◌∙◌}
+use Rattle.std.proofs.Common.{◌≡◌, ℕ, ◌==◌, ◌++◌, Bool, true, false, if◌then◌else◌, List, [], ◌∷◌, length, refl, ◌∙◌}
 use Rattle.ompt_calls.specs.Item.{Item}
 use Rattle.tool_api.specs.Record.{Record, initialized, finalized}
 use Rattle.team_run.specs.Serving.{served, finished_by}
@@ -35,3 +35,17 @@ same-first answer registered items missed h =
       calls = ended.calls ∙ called.calls;
       within = ended.within ∙ called.within;
     }
+
+-- how often the parts were finished where none missed an event: the first once after all its calls, where it answered 1, and the others as often as before
+pub first-finished : (answer registered : ℕ) (items : List Item) (missed : Bool) (h : Record) → answer ≡ 1 → missed ≡ false → (record_of_first answer registered items missed h).finished ≡ h.finished ++ length (h.calls ++ items) ∷ []
+first-finished answer registered items missed h one none = rw (one, none) refl
+
+pub called-finished : (items : List Item) (missed : Bool) (h : Record) → missed ≡ false → (called_for items missed h).finished ≡ h.finished
+called-finished items missed h none = rw none refl
+
+-- and no call was lost
+pub first-unheard : (answer registered : ℕ) (items : List Item) (missed : Bool) (h : Record) → answer ≡ 1 → missed ≡ false → (record_of_first answer registered items missed h).unheard ≡ h.unheard
+first-unheard answer registered items missed h one none = rw (one, none) refl
+
+pub called-unheard : (items : List Item) (missed : Bool) (h : Record) → missed ≡ false → (called_for items missed h).unheard ≡ h.unheard
+called-unheard items missed h none = rw none refl

@@ -75,7 +75,7 @@ module _ {S O : Type 0} (left : S → Option (List ℕ)) (reads_failed : S → �
 
     -- a program was read and run
     module _ {Table : Type 0} {Behind : Table → Type 0} (some : 1 ≤ settings.threads) (few : settings.threads ≤ 16) (source source_now : S) (out out_now : O) (job : JobView) (threads_are : job.threads ≡ settings.threads) (steps_are : job.steps ≡ settings.steps) (serial_is : job.serial ≡ settings.serial) (sourced : IfSome (text_for settings.command (left source)) (λ text. text ≡ job.text)) (spelled : Spells job.text job.program) (unrefused : (why : Refusal) → IsSomeAnd (text_for settings.command (left source)) (IsRefused why) → ⊥) (unread : (blocks : ℕ) → settings.command ≡ Generating blocks → source_now ≡ source) (steady : reads_failed source_now ≡ reads_failed source) where
-      run-of : (told : End) (report : Report Table Behind) → Reports settings.command job report → EndsAs report.cause told → (HasGuests settings.command → report.cause ≢ causes.Memory → told ≢ end.Memory) → IsRunOf words (left source) told report
+      run-of : (told : End) (report : Report Table Behind) → Reports settings.command job report → EndsAs report.cause told → (HasGuests settings.command → settings.command ≢ Running output.Profile → report.cause ≢ causes.Memory → told ≢ end.Memory) → IsRunOf words (left source) told report
       run-of told report r ends memory =
           let is = settings-as report settings r.observes.command_is (r.observes.threads_are ∙ threads_are) (r.observes.steps_are ∙ steps_are) (r.observes.serial_is ∙ serial_is) in
           record {
@@ -93,7 +93,7 @@ module _ {S O : Type 0} (left : S → Option (List ℕ)) (reads_failed : S → �
             whole = λ serial other found. r.observes.to.whole serial found (r.stays (λ guests. other (subst HasGuests (sym r.observes.command_is) guests))).silent;
             silent_run = r.observes.to.whole;
             ended = ends;
-            memory = λ guests. memory (subst HasGuests r.observes.command_is guests);
+            memory = λ guests other. memory (subst HasGuests r.observes.command_is guests) (λ is. other (r.observes.command_is ∙ is));
             begun = r.observes.to.begun;
           }
 
@@ -111,7 +111,7 @@ module _ {S O : Type 0} (left : S → Option (List ℕ)) (reads_failed : S → �
             certificate = λ whole memory is. (filed whole memory (sym r.observes.command_is ∙ is)).certificate;
           }
 
-      runs-of : (told : End) (ran : Option (Report Table Behind)) → IfSome ran (Reports settings.command job) → IfSome ran (λ report. EndsAs report.cause told) → (HasGuests settings.command → IfSome ran (λ report. report.cause ≢ causes.Memory → told ≢ end.Memory)) → IfSome ran (IsRunOf words (left source) told)
+      runs-of : (told : End) (ran : Option (Report Table Behind)) → IfSome ran (Reports settings.command job) → IfSome ran (λ report. EndsAs report.cause told) → (HasGuests settings.command → settings.command ≢ Running output.Profile → IfSome ran (λ report. report.cause ≢ causes.Memory → told ≢ end.Memory)) → IfSome ran (IsRunOf words (left source) told)
       runs-of told None r ends memory = tt
       runs-of told (Some report) r ends memory = run-of told report r ends memory
 
@@ -161,7 +161,7 @@ module _ {S O : Type 0} (left : S → Option (List ℕ)) (reads_failed : S → �
                   untouched = λ is. absurd (subst IsAfterRun is after);
                   unasked = λ no_run no_read. absurd (no_run asks-run);
                   unread = none-if _ shown has.nothing_shown;
-                  unread_trace = λ command ask none. absurd (not-read command ask);
+                  unread_input = λ command ask none. absurd (not-read command ask);
                   generates = λ other ask blocks is. unread blocks (ap (λ (of : Settings). of.command) (asked-is other ask) ∙ is);
                 };
           }
@@ -209,7 +209,7 @@ module _ {S O : Type 0} (left : S → Option (List ℕ)) (reads_failed : S → �
                 untouched = λ is. absurd (subst IsBeforeRun is before);
                 unasked = λ no_run no_read. absurd (no_run asks-run);
                 unread = tt;
-                unread_trace = λ command ask none. absurd (not-read command ask);
+                unread_input = λ command ask none. absurd (not-read command ask);
                 generates = λ other ask blocks is. unread blocks (ap (λ (of : Settings). of.command) (asked-is other ask) ∙ is);
               };
         }
@@ -273,7 +273,7 @@ module _ {S O : Type 0} (left : S → Option (List ℕ)) (reads_failed : S → �
                 untouched = λ is. absurd (subst IsReading is reading);
                 unasked = λ no_run no_read. absurd (no_read command (inr taken.read));
                 unread = tt;
-                unread_trace = λ other ask none. absurd cc;
+                unread_input = λ other ask none. absurd cc;
                 generates = λ settings ask. absurd (not-run (settings, ask));
               };
         }
@@ -328,7 +328,7 @@ module _ {S O : Type 0} (left : S → Option (List ℕ)) (reads_failed : S → �
                 untouched = λ same. (refl, refl);
                 unasked = λ no_run no_read. refl;
                 unread = tt;
-                unread_trace = λ command ask none. (refl, refl);
+                unread_input = λ command ask none. (refl, refl);
                 generates = λ settings ask blocks same. refl;
               };
         }
@@ -372,7 +372,7 @@ module _ {S O : Type 0} (left : S → Option (List ℕ)) (reads_failed : S → �
                 untouched = λ same. (refl, refl);
                 unasked = λ no_run no_read. refl;
                 unread = tt;
-                unread_trace = λ command ask none. (refl, refl);
+                unread_input = λ command ask none. (refl, refl);
                 generates = λ settings ask blocks same. refl;
               };
         }
@@ -419,7 +419,7 @@ module _ {S O : Type 0} (left : S → Option (List ℕ)) (reads_failed : S → �
                 untouched = λ same. absurd (subst IsShowing same shows);
                 unasked = λ no_run no_read. refl;
                 unread = refl;
-                unread_trace = λ command ask none. absurd (never (no-memory_read command ask));
+                unread_input = λ command ask none. absurd (never (no-memory_read command ask));
                 generates = λ settings ask blocks same. refl;
               };
         }

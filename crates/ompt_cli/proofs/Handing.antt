@@ -42,15 +42,15 @@ same-tail Same x y xs ys same = record { each = λ k d below. same.each (suc k) 
 
 module _ {G : Type 0} {B : Type 0} (box : G → B) (stands : B → Record → Type 0) (Same : B → B → Type 0) where
   -- two parts that are the same: that hold the same guest, or none
-  abbrev SamePart : Handed G → Handed G → Type 0
+  abbrev pub SamePart : Handed G → Handed G → Type 0
   SamePart part other = SameHanded (λ guest after. Same (box guest) (box after)) part other
 
   -- what a part stands for: what its guest does
-  abbrev For : Handed G → Record → Type 0
+  abbrev pub For : Handed G → Record → Type 0
   For part h = HandedFor (λ guest h. stands (box guest) h) part h
 
   -- the guests are as many as they were
-  as-many : (guests : List B) (parts after : List (Handed G)) (rest : List B) → HandOut box guests parts rest → length after ≡ length parts → AreSame SamePart parts after → length (guests_of box after ++ rest) ≡ length guests
+  pub as-many : (guests : List B) (parts after : List (Handed G)) (rest : List B) → HandOut box guests parts rest → length after ≡ length parts → AreSame SamePart parts after → length (guests_of box after ++ rest) ≡ length guests
   as-many guests [] [] rest out same kinds = ap length (sym out)
   as-many guests [] (a ∷ after) rest out same kinds = absurd (omega (arith, same))
   as-many guests (p ∷ parts) [] rest out same kinds = absurd (omega (arith, same))
@@ -62,7 +62,7 @@ module _ {G : Type 0} {B : Type 0} (box : G → B) (stands : B → Record → Ty
   as-many (b ∷ guests) (held.Quiet q ∷ parts) (a ∷ after) rest out same kinds = absurd out
 
   -- the part of a guest stands for what the guest does
-  guest-in : (guests : List B) (parts : List (Handed G)) (rest : List B) → HandOut box guests parts rest → (k : ℕ) (d : B) (e : Handed G) (h : Record) → k < length parts → k < length guests → stands (slice_index_or guests k d) h → For (slice_index_or parts k e) h
+  pub guest-in : (guests : List B) (parts : List (Handed G)) (rest : List B) → HandOut box guests parts rest → (k : ℕ) (d : B) (e : Handed G) (h : Record) → k < length parts → k < length guests → stands (slice_index_or guests k d) h → For (slice_index_or parts k e) h
   guest-in guests [] rest out k d e h below some for = absurd (omega (arith, below))
   guest-in [] (held.Guest g ∷ parts) rest out k d e h below some for = absurd out
   guest-in (b ∷ guests) (held.Guest g ∷ parts) rest out zero d e h below some for = subst (λ (b : B). stands b h) (sym out.0) for
@@ -71,7 +71,7 @@ module _ {G : Type 0} {B : Type 0} (box : G → B) (stands : B → Record → Ty
   guest-in (b ∷ guests) (held.Quiet q ∷ parts) rest out k d e h below some for = absurd out
 
   -- and afterwards the guest for what the part does
-  guest-out : (guests : List B) (parts after : List (Handed G)) (rest : List B) → HandOut box guests parts rest → length after ≡ length parts → AreSame SamePart parts after → (k : ℕ) (d : B) (e : Handed G) (h : Record) → k < length parts → k < length guests → For (slice_index_or after k e) h → stands (slice_index_or (guests_of box after ++ rest) k d) h
+  pub guest-out : (guests : List B) (parts after : List (Handed G)) (rest : List B) → HandOut box guests parts rest → length after ≡ length parts → AreSame SamePart parts after → (k : ℕ) (d : B) (e : Handed G) (h : Record) → k < length parts → k < length guests → For (slice_index_or after k e) h → stands (slice_index_or (guests_of box after ++ rest) k d) h
   guest-out guests [] after rest out same kinds k d e h below some for = absurd (omega (arith, below))
   guest-out guests (p ∷ parts) [] rest out same kinds k d e h below some for = absurd (omega (arith, same))
   guest-out [] (p ∷ parts) (a ∷ after) rest out same kinds k d e h below some for = absurd (omega (arith, some))
@@ -82,7 +82,7 @@ module _ {G : Type 0} {B : Type 0} (box : G → B) (stands : B → Record → Ty
   guest-out (b ∷ guests) (held.Quiet q ∷ parts) (a ∷ after) rest out same kinds k d e h below some for = absurd out
 
   -- those past the parts are as they were
-  guest-past : (guests : List B) (parts after : List (Handed G)) (rest : List B) → HandOut box guests parts rest → length after ≡ length parts → AreSame SamePart parts after → (k : ℕ) (d : B) → length parts ≤ k → slice_index_or (guests_of box after ++ rest) k d ≡ slice_index_or guests k d
+  pub guest-past : (guests : List B) (parts after : List (Handed G)) (rest : List B) → HandOut box guests parts rest → length after ≡ length parts → AreSame SamePart parts after → (k : ℕ) (d : B) → length parts ≤ k → slice_index_or (guests_of box after ++ rest) k d ≡ slice_index_or guests k d
   guest-past guests [] [] rest out same kinds k d past = ap (λ guests. slice_index_or guests k d) (sym out)
   guest-past guests [] (a ∷ after) rest out same kinds k d past = absurd (omega (arith, same))
   guest-past guests (p ∷ parts) [] rest out same kinds k d past = absurd (omega (arith, same))
@@ -97,7 +97,7 @@ module _ {G : Type 0} {B : Type 0} (box : G → B) (stands : B → Record → Ty
   guest-past (b ∷ guests) (held.Quiet q ∷ parts) (a ∷ after) rest out same kinds (suc k) d past = absurd out
 
   -- and each guest is the tool that it was
-  guest-same : ((guest : B) → Same guest guest) → (guests : List B) (parts after : List (Handed G)) (rest : List B) → HandOut box guests parts rest → length after ≡ length parts → AreSame SamePart parts after → (k : ℕ) (d : B) → k < length guests → Same (slice_index_or guests k d) (slice_index_or (guests_of box after ++ rest) k d)
+  pub guest-same : ((guest : B) → Same guest guest) → (guests : List B) (parts after : List (Handed G)) (rest : List B) → HandOut box guests parts rest → length after ≡ length parts → AreSame SamePart parts after → (k : ℕ) (d : B) → k < length guests → Same (slice_index_or guests k d) (slice_index_or (guests_of box after ++ rest) k d)
   guest-same itself [] parts after rest out same kinds k d below = absurd (omega (arith, below))
   guest-same itself (b ∷ guests) [] [] rest out same kinds k d below = subst (λ rest. Same (slice_index_or (b ∷ guests) k d) (slice_index_or rest k d)) out (itself (slice_index_or (b ∷ guests) k d))
   guest-same itself (b ∷ guests) [] (a ∷ after) rest out same kinds k d below = absurd (omega (arith, same))
@@ -114,7 +114,7 @@ module _ {G : Type 0} {B : Type 0} (box : G → B) (stands : B → Record → Ty
       let each : StartedWith 0 0 (record { answer = answer; mask = registered } ∷ []) = subst (λ starts. StartedWith 0 0 starts) (same.started ∙ started) for.started in
       (each 0 (record { answer = 0; mask = 0 }) (omega arith)).0
 
-  fresh-quiet : (quiet : Quiet) → QuietFor quiet nothing_called
+  pub fresh-quiet : (quiet : Quiet) → QuietFor quiet nothing_called
   fresh-quiet quiet = record { started = λ k d below. absurd (omega (arith, below)); silent = λ k d below. absurd (omega (arith, below)); heard = refl; alone = refl }
 
   first-answer : (serial : Bool) (run : Run) (cause : Cause) (H : List Entry) (parts after : List (Handed G)) (rest : List B) → 1 ≤ length parts → HandOut box [] parts rest → length after ≡ length parts → AreSame SamePart parts after → (runs : RunsParts For serial run cause H parts after) → runs.answer ≡ 0
@@ -126,7 +126,7 @@ module _ {G : Type 0} {B : Type 0} (box : G → B) (stands : B → Record → Ty
       quiet-answer runs.answer runs.registered _ _ a (same-first runs.answer runs.registered (heard_of run H 0) (runs.missed 0) nothing_called) refl (runs.first (held.Quiet q) nothing_called (fresh-quiet q))
 
   -- the part of a thread past the guests is none
-  none-in : (guests : List B) (parts : List (Handed G)) (rest : List B) → HandOut box guests parts rest → (k : ℕ) (e : Handed G) → length guests ≤ k → k < length parts → For (slice_index_or parts k e) nothing_called
+  pub none-in : (guests : List B) (parts : List (Handed G)) (rest : List B) → HandOut box guests parts rest → (k : ℕ) (e : Handed G) → length guests ≤ k → k < length parts → For (slice_index_or parts k e) nothing_called
   none-in guests [] rest out k e past below = absurd (omega (arith, below))
   none-in [] (held.Guest g ∷ parts) rest out k e past below = absurd out
   none-in [] (held.Quiet q ∷ parts) rest out zero e past below = fresh-quiet q
@@ -136,7 +136,7 @@ module _ {G : Type 0} {B : Type 0} (box : G → B) (stands : B → Record → Ty
   none-in (b ∷ guests) (held.Quiet q ∷ parts) rest out k e past below = absurd out
 
   -- and afterwards it stands for calls alone that stored nothing
-  none-out : (guests : List B) (parts after : List (Handed G)) (rest : List B) → HandOut box guests parts rest → length after ≡ length parts → AreSame SamePart parts after → (k : ℕ) (e : Handed G) (h : Record) → length guests ≤ k → k < length parts → For (slice_index_or after k e) h → StoresNothing h.calls
+  pub none-out : (guests : List B) (parts after : List (Handed G)) (rest : List B) → HandOut box guests parts rest → length after ≡ length parts → AreSame SamePart parts after → (k : ℕ) (e : Handed G) (h : Record) → length guests ≤ k → k < length parts → For (slice_index_or after k e) h → StoresNothing h.calls
   none-out guests [] after rest out same kinds k e h past below for = absurd (omega (arith, below))
   none-out guests (p ∷ parts) [] rest out same kinds k e h past below for = absurd (omega (arith, same))
   none-out [] (held.Guest g ∷ parts) (a ∷ after) rest out same kinds k e h past below for = absurd out

@@ -128,6 +128,21 @@ module _ {A : Type 0} (keep : List EventRecord → A) where
       let calls : h.calls ++ items ≡ items = ap (λ calls. calls ++ items) none in
       record { events = subst (λ calls. kept ≡ keep (map record_of calls)) calls for.events; silent = silent-each items (subst StoresNothing calls for.silent) }
 
+-- parts that each keep their thread's share keep the run's records
+pub kept-shares : {A : Type 0} (keep : List EventRecord → A) (run : Run) (H : List Entry) (threads : ℕ) (parts : List A) → length parts ≡ threads
+    → ((k : ℕ) (d : A) → k < threads → slice_index_or parts k d ≡ keep (map record_of (heard_of run H k))) → run.threads ≡ threads → HearsOwn run H → AreKept keep (records_of run H) parts
+kept-shares {A} keep run H threads parts as_many each same own =
+    let share = λ (k : ℕ). map record_of (heard_of run H k) in
+    let many : length (shares_of run H threads) ≡ threads = length-map-range_with_len share 0 threads in
+    record {
+      shares = shares_of run H threads;
+      shared = heard-shared run H threads same own;
+      kept = same_lists parts (map keep (shares_of run H threads)) (omega (arith, as_many, length-map (shares_of run H threads) keep, many))
+          (λ k d below. each k d (omega (arith, below, as_many))
+          ∙ ap keep (sym (get_or-map-range_with_len share 0 threads k k [] (omega (arith, below, as_many)) (omega arith)))
+          ∙ sym (get_or-map keep (shares_of run H threads) k [] d (omega (arith, below, as_many, many))));
+    }
+
 module _ {A : Type 0} (keep : List EventRecord → A) (serial : Bool) (run : Run) (cause : Cause) (H : List Entry) (threads : ℕ) (parts : List A) (some : 1 ≤ threads) (runs : RunsParts (KeeperFor keep) serial run cause H (replicate threads (keep [])) parts) where
   pub as_many : length parts ≡ threads
   as_many = runs.as_many ∙ length-replicate threads (keep [])
@@ -160,17 +175,7 @@ module _ {A : Type 0} (keep : List EventRecord → A) (serial : Bool) (run : Run
 
   -- each part kept its share of the run's records
   pub parts-kept : run.threads ≡ threads → HearsOwn run H → AreKept keep (records_of run H) parts
-  parts-kept same own =
-      let share = λ (k : ℕ). map record_of (heard_of run H k) in
-      let many : length (shares_of run H threads) ≡ threads = length-map-range_with_len share 0 threads in
-      record {
-        shares = shares_of run H threads;
-        shared = heard-shared run H threads same own;
-        kept = same_lists parts (map keep (shares_of run H threads)) (omega (arith, as_many, length-map (shares_of run H threads) keep, many))
-            (λ k d below. (keeps k d (omega (arith, below, as_many))).events
-            ∙ ap keep (sym (get_or-map-range_with_len share 0 threads k k [] (omega (arith, below, as_many)) (omega arith)))
-            ∙ sym (get_or-map keep (shares_of run H threads) k [] d (omega (arith, below, as_many, many))));
-      }
+  parts-kept same own = kept-shares keep run H threads parts as_many (λ k d below. (keeps k d below).events) same own
 
 -- a part that keeps all keeps its share
 pub kept-shared : (events : List EventRecord) (parts : List (List EventRecord)) → AreKept (λ (events : List EventRecord). events) events parts → AreShared events parts

@@ -16,3 +16,4 @@ pub mod NestedRuns
 pub mod Filing
 pub mod Carrying
 pub mod Certified
+pub mod Beside

@@ -68,6 +68,16 @@ module _ (text : List ℕ) where
       subst (λ (end : Spot). rule_fault_in (root_tree program) end (main_of text is.tokens) ≡ known) is.end_is
       (subst (λ main. rule_fault_in (root_tree program) program.end main ≡ known) is.main_is same)
 
+  -- programs that it spells differ in the numbers of their nodes alone
+  pub programs-alike : (one other : TreeView) → Spells text one → Spells text other → AreAlike one other
+  programs-alike one other first second =
+      let same = reads-one text first.read.tokens second.read.tokens first.read.has.read second.read.has.read in
+      record {
+        root = tree_one text (root_tree one) (root_tree other) first.read.has.tree_is second.read.has.tree_is;
+        end = first.read.end_is ∙ ap end_of same ∙ sym second.read.end_is;
+        main = first.read.main_is ∙ ap (main_of text) same ∙ sym second.read.main_is;
+      }
+
   -- and for nothing where it spells a program
   pub program-not_refused : (why : Refusal) → IsProgram text → IsRefused why text → ⊥
   program-not_refused (Tokens found) program other = reads-no_end text program.1.read.tokens found program.1.read.has.read other.1
@@ -174,13 +184,3 @@ text-judged text = by (ltb 65536 (length text)) refl
     by : (long : Bool) → ltb 65536 (length text) ≡ long → IsProgram text ⊎ ((why : Refusal) × IsRefused why text)
     by true is = inr (TooLong, ltb-true 65536 (length text) is)
     by false is = by-tokens text (ltb-false 65536 (length text) is) (read-or-ended text)
-
-  -- programs that it spells differ in the numbers of their nodes alone
-  pub programs-alike : (one other : TreeView) → Spells text one → Spells text other → AreAlike one other
-  programs-alike one other first second =
-      let same = reads-one text first.read.tokens second.read.tokens first.read.has.read second.read.has.read in
-      record {
-        root = tree_one text (root_tree one) (root_tree other) first.read.has.tree_is second.read.has.tree_is;
-        end = first.read.end_is ∙ ap end_of same ∙ sym second.read.end_is;
-        main = first.read.main_is ∙ ap (main_of text) same ∙ sym second.read.main_is;
-      }

@@ -1,5 +1,5 @@
 -- What a command does: what its words and its text decide, what it reports of its run, and what it writes.
-use Rattle.std.specs.Prelude.{ℕ, ◌≤◌, length, ◌≡◌, ◌≢◌, ◌⊎◌, ⊤, IsSome, IsSomeAnd, List, [], Option, Some, None, string_bytes}
+use Rattle.std.specs.Prelude.{ℕ, ◌≤◌, length, ◌≡◌, ◌≢◌, ◌⊎◌, ⊤, IsSome, IsSomeAnd, List, [], ◌++◌, Option, Some, None, string_bytes}
 use Rattle.std.specs.Io.KnownBytes.{Appends, Keeps}
 use Rattle.std.specs.declared.string.String.{String}
 use Rattle.run_edges.specs.Edges.{AppendsFront, Rose}
@@ -53,7 +53,7 @@ HasGuests (Running what) = ⊤
 HasGuests (Generating blocks) = ⊥
 
 -- what a command writes of its run of the program of this text, which ended in this cause: a listing a line for each record, a recording the trace, a
--- profile the counts, a timeline the states, `run` what the program printed or the history file, and `gen` the summary
+-- profile the counts, a timeline the states, `run` what the program printed, the history file, or what was printed and then the counts, and `gen` the summary
 abbrev pub written_by : Command → List ℕ → Run → Cause → List Entry → List ℕ
 written_by Listing text run cause history = lines_of (records_of run history)
 written_by Recording text run cause history = spelling (fields_of (trace_of run cause history))
@@ -61,6 +61,7 @@ written_by Profiling text run cause history = profile_of (records_of run history
 written_by (Timelining columns) text run cause history = timeline_of columns (records_of run history)
 written_by (Running output.Printed) text run cause history = (after run history).world.store.text
 written_by (Running output.History) text run cause history = history_spelling (history_fields (file_of text run cause history))
+written_by (Running output.Profile) text run cause history = (after run history).world.store.text ++ profile_of (records_of run history)
 written_by (Generating blocks) text run cause history = summary_of (generated blocks) (records_of run history) (after run history).world.store.text
 
 -- what a command writes of its run, if there was one

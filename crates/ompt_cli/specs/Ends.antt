@@ -82,7 +82,7 @@ trace_refusal_text refusal = codes "trace refused " ++ decimal (number_of_reason
 abbrev pub history_refusal_text : HistoryReason → ℕ → List ℕ
 history_refusal_text reason offset = codes "history refused " ++ decimal (number_of_history_reason reason) ++ codes " at " ++ decimal offset
 
--- the line that tells the first entry of a file behind which its history is illegal, without its newline
+-- the line that tells how many first entries of an illegal history are legal together, without its newline
 abbrev pub illegal_text : ℕ → List ℕ
 illegal_text place = codes "illegal at " ++ decimal place
 

@@ -1,6 +1,8 @@
 -- What guests stand for after a run: guest t was the part of thread t.
-use Rattle.std.specs.Prelude.{ℕ, ◌≡◌, ◌≢◌, ◌<◌, ◌≤◌, Bool, false, List, [], ◌∷◌, length, slice_index_or}
-use Rattle.tool_api.specs.Record.{Record}
+use Rattle.std.specs.Prelude.{ℕ, ◌≡◌, ◌≢◌, ◌<◌, ◌≤◌, ◌||◌, Bool, false, List, [], ◌∷◌, length, slice_index_or}
+use Rattle.omp_codes.specs.declared.callbacks.TheConstants.{PROFILE_MASK}
+use Rattle.ompt_calls.specs.Number.{is_registered}
+use Rattle.tool_api.specs.Record.{IsUncalled, Record}
 use Rattle.tool_api.specs.declared.handed.Handed.{Handed}
 use Rattle.tool_api.specs.declared.handed.Handed.TheVariants as held
 use Rattle.omp_model.specs.declared.cause.Cause.{Cause}
@@ -12,8 +14,10 @@ use Rattle.team_run.specs.Serving.{Becomes}
 use Rattle.tool_api.specs.Registering.{mask_of}
 use Rattle.team_run.specs.Standing.{AreSilent}
 use Rattle.thread_run.specs.Driving.{called_for, record_of_first}
+use Rattle.tool_profiled.specs.Hearing.{HasHeard, HasStarted}
 use Rattle.ompt_words.specs.declared.settings.Command.{Command}
 use Rattle.ompt_words.specs.declared.settings.Command.TheVariants.{Generate as Generating, List as Listing, Profile as Profiling, Record as Recording, Run as Running, Timeline as Timelining}
+use Rattle.ompt_words.specs.declared.settings.RunOutput.TheVariants as output
 use Rattle.ompt_cli.specs.Runs.{AreMissed}
 
 -- guest 0 was started, with this answer and these callbacks registered, called for what thread 0 heard, and finished after all
@@ -35,6 +39,30 @@ pub record GuestsServe {B : Type 0} (stands_for : B → Record → Type 0) (Same
   pub same_types : (k : ℕ) (d : B) → k < length guests → Same (slice_index_or guests k d) (slice_index_or after k d)
   pub guestless : (k : ℕ) → length guests ≤ k → k < run.threads → AreSilent (heard_of run history k)
 
+-- what guest k comes to in a run before which it wasn't called
+abbrev pub ComesTo : {B : Type 0} → (B → Record → Type 0) → List B → List B → ℕ → (B → Type 0) → Type 0
+ComesTo {B} stands_for guests after k Has = (d : B) (h : Record) → IsUncalled h → stands_for (slice_index_or guests k d) h → Has (slice_index_or after k d)
+
+-- The same after a run beside profiles, of guests that weren't called before: guest 0 was started, with this answer and these callbacks registered, and no other
+-- guest was. What the run has registered is what guest 0 did, where it is active, and the profile. Where the run found memory, guest t was called for exactly
+-- those items of what thread t heard that are in the guests' mask, and guest 0 finished after all that where it is active. Those past the threads are as they
+-- were, and nothing is stored on a thread without a guest. Each is of the type that was handed in
+pub record GuestsJoin {B : Type 0} (stands_for : B → Record → Type 0) (Same : B → B → Type 0) (run : Run) (cause : Cause) (history : List Entry) (guests after : List B) : Type 0 where
+  pub as_many : length after ≡ length guests
+  pub answer : ℕ
+  pub registered : ℕ
+  pub mask_is : (number : ℕ) → is_registered run.mask number ≡ (is_registered (mask_of answer registered) number || is_registered PROFILE_MASK number)
+  pub nobody : length guests ≡ 0 → answer ≡ 0
+  pub begun : 0 < length guests → ComesTo stands_for guests after 0 (λ guest. HasStarted stands_for guest (record { answer = answer; mask = registered } ∷ []))
+  pub unbegun : (k : ℕ) → 0 < k → k < run.threads → k < length guests → ComesTo stands_for guests after k (λ guest. HasStarted stands_for guest [])
+  pub first : cause ≢ causes.Memory → 0 < length guests →
+      ComesTo stands_for guests after 0 (λ guest. HasHeard stands_for guest (record { answer = answer; mask = registered } ∷ []) answer (mask_of answer registered) (heard_of run history 0))
+  pub others : cause ≢ causes.Memory → (k : ℕ) → 0 < k → k < run.threads → k < length guests →
+      ComesTo stands_for guests after k (λ guest. HasHeard stands_for guest [] 0 (mask_of answer registered) (heard_of run history k))
+  pub rest : (k : ℕ) (d : B) → run.threads ≤ k → slice_index_or after k d ≡ slice_index_or guests k d
+  pub same_types : (k : ℕ) (d : B) → k < length guests → Same (slice_index_or guests k d) (slice_index_or after k d)
+  pub guestless : (k : ℕ) → length guests ≤ k → k < run.threads → AreSilent (heard_of run history k)
+
 -- what guests stand for after a command: all but `run` leave them as they were
 abbrev pub GuestsAfter : {B : Type 0} → (B → Record → Type 0) → (B → B → Type 0) → Command → Bool → Run → Cause → List Entry → List B → List B → Type 0
 GuestsAfter stands_for Same Listing serial run cause history guests after = after ≡ guests
@@ -42,7 +70,9 @@ GuestsAfter stands_for Same Recording serial run cause history guests after = af
 GuestsAfter stands_for Same Profiling serial run cause history guests after = after ≡ guests
 GuestsAfter stands_for Same (Timelining columns) serial run cause history guests after = after ≡ guests
 GuestsAfter stands_for Same (Generating blocks) serial run cause history guests after = after ≡ guests
-GuestsAfter stands_for Same (Running output) serial run cause history guests after = GuestsServe stands_for Same serial run cause history guests after
+GuestsAfter stands_for Same (Running output.Printed) serial run cause history guests after = GuestsServe stands_for Same serial run cause history guests after
+GuestsAfter stands_for Same (Running output.History) serial run cause history guests after = GuestsServe stands_for Same serial run cause history guests after
+GuestsAfter stands_for Same (Running output.Profile) serial run cause history guests after = GuestsJoin stands_for Same run cause history guests after
 
 -- the guests that these parts hold, in order
 abbrev pub guests_of : {G : Type 0} {B : Type 0} → (G → B) → List (Handed G) → List B

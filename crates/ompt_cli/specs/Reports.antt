@@ -53,14 +53,14 @@ pub record Reports {Table : Type 0} {Behind : Table → Type 0} (command : Comma
   pub stays : ¬ HasGuests command → StaysSilent report
 
 -- a command has run this job, and says nothing else: its run is reported, unless memory failed before, and its end is the run's, unless a write or memory
--- fails. `run` needs no memory after its run, what is recorded is a trace, and a history file is a certificate
+-- fails. `run` without a profile needs no memory after its run, what is recorded is a trace, and a history file is a certificate
 pub record HasRun {Table : Type 0} {Behind : Table → Type 0} (command : Command) (job : JobView) (end : End) (shown : Option (String Global)) (read : Option ReadCommand) (ran : Option (Report Table Behind)) : Type 0 where
   pub nothing_shown : IsNone shown
   pub nothing_read : IsNone read
   pub report : IfSome ran (Reports command job)
   pub ended : IfSome ran (λ report. EndsAs report.cause end)
   pub missing : IsNone ran → end ≡ Memory
-  pub memory : HasGuests command → IfSome ran (λ report. report.cause ≢ cause.Memory → end ≢ Memory)
+  pub memory : HasGuests command → command ≢ Running output.Profile → IfSome ran (λ report. report.cause ≢ cause.Memory → end ≢ Memory)
   pub traced : end ≢ WriteFault → end ≢ Memory → command ≡ Recording → IfSome ran (λ report. IsTrace (trace_of (run_of report) report.cause report.history))
   pub certified : end ≢ WriteFault → end ≢ Memory → command ≡ Running output.History → IfSome ran HasCertificate
 

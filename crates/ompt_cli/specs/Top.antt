@@ -26,7 +26,7 @@ use Rattle.ompt_cli.specs.Commands.{EndsAs, HasOutput, HasWritten, IsReading, Is
 use Rattle.ompt_cli.specs.Runs.{AreOutside, IsReturn, IsWhole}
 use Rattle.ompt_cli.specs.Histories.{file_of_report}
 use Rattle.ompt_cli.specs.Text.{IsProgram, IsRefused, Spells, text_for}
-use Rattle.ompt_cli.specs.Traces.{HasReadTrace, IsNested}
+use Rattle.ompt_cli.specs.Traces.{HasReadInput, IsNested}
 use Rattle.ompt_cli.specs.Words.{AskFor, AskForRun, AskToRead}
 use Rattle.ompt_cli.specs.declared.end.End.{End}
 use Rattle.ompt_cli.specs.declared.end.End.TheVariants.{Ended, Shown, Usage, Refused, ReadFault, WriteFault, Memory}
@@ -70,7 +70,7 @@ pub record IsRunOf {Table : Type 0} {Behind : Table → Type 0} (words : List (L
   pub whole : report.serial ≡ true → ¬ HasGuests report.command → report.cause ≢ causes.Memory → report.history ≡ history_of_serial (run_of report)
   pub silent_run : report.serial ≡ true → report.cause ≢ causes.Memory → HearsSilent (run_of report) report.history → report.history ≡ history_of_serial (run_of report)
   pub ended : EndsAs report.cause end
-  pub memory : HasGuests report.command → report.cause ≢ causes.Memory → end ≢ Memory
+  pub memory : HasGuests report.command → report.command ≢ Running output.Profile → report.cause ≢ causes.Memory → end ≢ Memory
   pub begun : report.cause ≡ causes.Memory → report.history ≢ []
 
 -- What is recorded of a run is a trace of the format. Where the parts of a run are no guests, the trace of the run, written or not, breaks no rule of the
@@ -101,7 +101,7 @@ pub record StaysUntouched {S O : Type 0} (words : List (List ℕ)) (end : End) (
   pub untouched : end ≡ Usage → (source_now ≡ source) × (out_now ≡ out)
   pub unasked : ¬ AskForRun words → ((command : ReadCommand) → ¬ AskToRead words command) → source_now ≡ source
   pub unread : IfSome shown (λ text. source_now ≡ source)
-  pub unread_trace : (command : ReadCommand) → AskToRead words command → IsNone read → (source_now ≡ source) × (out_now ≡ out)
+  pub unread_input : (command : ReadCommand) → AskToRead words command → IsNone read → (source_now ≡ source) × (out_now ≡ out)
   pub generates : (settings : Settings) → AskFor words settings → (blocks : ℕ) → settings.command ≡ Generating blocks → source_now ≡ source
 
 -- All that a command says but the line of its end and the guests, as `top` has it, clause by clause. Over what the source has left, what the output holds, and
@@ -109,7 +109,7 @@ pub record StaysUntouched {S O : Type 0} (words : List (List ℕ)) (end : End) (
 pub record CarriesOut {S O Table : Type 0} {Behind : Table → Type 0} (left : S → Option (List ℕ)) (reads_failed : S → ℕ) (held : O → Option (List ℕ)) (writes_failed : O → ℕ) (typed : List (List ℕ)) (end : End) (shown : Option (String Global)) (read_by : Option ReadCommand) (ran_as : Option (Report Table Behind)) (source source_now : S) (out out_now : O) : Type 0 where
   pub words : FollowsWords typed end shown read_by ran_as
   pub ran : IfSome ran_as (IsRunOf typed (left source) end)
-  pub read : IfSome read_by (λ command. HasReadTrace command end (left source) (left source_now) (held out) (held out_now))
+  pub read : IfSome read_by (λ command. HasReadInput command end (left source) (left source_now) (held out) (held out_now))
   pub text : JudgesText typed (left source) end read_by
   pub written : IsNone read_by → HasWritten end (out_of shown ran_as) (held out) (held out_now)
   pub recorded : IfSome ran_as (HasTrace end)

@@ -76,7 +76,7 @@ HasRead Tasks end left rest held after = HasTasks end left rest held after
 
 -- What a command that reads has read and written, by how it ended: the trace or the file was read to its end, or it is refused, isn't nested or isn't legal,
 -- or a read, a write or memory failed. No trace is refused, no nested one has a breach, and `migrate` takes no memory. Each certificate is found to be one.
-pub record HasReadTrace (command : ReadCommand) (end : End) (left rest held after : Option (List ℕ)) : Type 0 where
+pub record HasReadInput (command : ReadCommand) (end : End) (left rest held after : Option (List ℕ)) : Type 0 where
   pub copied : HasRead command end left rest held after
   pub unrefused : (trace : Trace) → IsSomeAnd left (Writes trace) → (refusal : Refusal) → end ≢ TraceRefused refusal
   pub unbroken : (trace : Trace) → IsSomeAnd left (Writes trace) → IsNested trace → (breach : Breach) → end ≢ Broken breach

@@ -3,9 +3,10 @@
 //! [`top`] does what the words say, as `ompt_words` reads them. Five commands read a program from a source and run it: `list` writes a
 //! line for each event to an output; `record` writes the trace of the run; `profile` writes how many calls of each callback there were;
 //! `timeline` writes the states of the threads; `run` calls guests, which are tools, at the events of their threads, and writes what the
-//! program printed, or with `--history` the run's history (`history_file`). `gen` makes a program, runs it, and writes a summary. Three
+//! program printed, or with `--history` the run's history (`history_file`). With `--profile` each guest is called beside a profile
+//! (`tool_profiled`), and the counts follow what was printed. `gen` makes a program, runs it, and writes a summary. Four
 //! commands read a trace from the source: `show` writes a line for each event and one for the end, `migrate` writes the trace in the second
-//! version of the format, and `check` says whether it is nested. `rerun` reads a history, and says whether it is a legal run of its program
+//! version of the format, `check` says whether it is nested, and `tasks` writes the task tree of one that is (`tool_tasks`). `rerun` reads a history, and says whether it is a legal run of its program
 //! that ends as it says. Where the end isn't a good one, one line goes to standard error. Its contract says, over any source and any sinks, what
 //! each end comes with, that what ran is one legal run of the program, what the outputs gain, and what the guests were called for. Words
 //! that ask for help or the version have a text written to the output in its place.
@@ -43,8 +44,10 @@ mod laws;
 mod loaded;
 mod observing;
 mod outcome;
+mod profiling;
 mod program_tree;
 mod program_words;
+mod read_commands;
 mod recording;
 mod report;
 mod reporting;
@@ -56,7 +59,6 @@ mod settings_run;
 mod task_tree;
 mod text;
 mod top_call;
-mod trace_commands;
 mod writing;
 
 pub use end::{End, Refusal};

@@ -15,7 +15,8 @@ pub struct Report {
     pub cause: Cause,
     /// The tree of the program that ran and its text, for contracts.
     pub program: ProgramTree,
-    /// The callbacks that were registered, bit n for number n: for all commands but `run` [`PROFILE_MASK`](omp_codes::PROFILE_MASK).
+    /// The callbacks that were registered, bit n for number n: for all commands but `run` [`PROFILE_MASK`](omp_codes::PROFILE_MASK), and for `run` what guest 0
+    /// registered, where it is active, with those of the profile beside it where that is asked for.
     pub mask: u64,
     /// How many threads there might be.
     pub threads: u8,

@@ -1,9 +1,10 @@
-//! The command `run`: it runs the program with the guests as the parts of its threads, and writes what it prints, or the history of its run.
+//! The command `run`: it runs the program with the guests as the parts of its threads, and writes what it prints, with the counts of a profile where
+//! they are asked for, or the history of its run.
 
 ghost use Rattle.std.specs.Prelude.{◌≡◌, IfOk, IfSome};
 ghost use Rattle.omp_model.specs.Legal.{after};
 ghost use Rattle.ompt_cli.specs.Commands.{CountsFaults, HasWritten, run_of, run_text};
-ghost use Rattle.ompt_cli.specs.Guests.{GuestsServe};
+ghost use Rattle.ompt_cli.specs.Guests.{GuestsAfter, GuestsServe};
 ghost use Rattle.ompt_cli.specs.Reports.{HasRun, Observes};
 
 use crate::end::End;
@@ -12,6 +13,7 @@ use crate::history_writing::write_history_of_run;
 use crate::job::Job;
 use crate::observing::Observed;
 use crate::outcome::{Outcome, having_run, without_run};
+use crate::profiling::run_profiled;
 use crate::report::Report;
 use crate::runner::Runner;
 use crate::writing::write_run;
@@ -39,8 +41,8 @@ pub(crate) fn run<X: Runner, O: Sink>(
     requires { X.may_run runner.now job.serial }
     ensures ran { HasRun (Command.Run output) job result.end result.shown result.read result.ran }
     ensures guests { IfSome result.ran (λ report.
-        GuestsServe (λ guest h. (GuestTool-box guest).stands_for guest.value h) (λ guest other. guest.vtable ≡ other.vtable)
-        report.serial (run_of report) report.cause report.history
+        GuestsAfter (λ guest h. (GuestTool-box guest).stands_for guest.value h) (λ guest other. guest.vtable ≡ other.vtable)
+        (Command.Run output) report.serial (run_of report) report.cause report.history
         guests.items report.guests.items) }
     ensures written { HasWritten result.end (run_text result.ran) (O.held out.old) (O.held out.new) }
     ensures faults { CountsFaults result.end End.WriteFault (O.faults out.old) (O.faults out.new) }
@@ -48,6 +50,7 @@ pub(crate) fn run<X: Runner, O: Sink>(
     match output {
         RunOutput::Printed => run_printed(runner, alloc, job, guests, out),
         RunOutput::History => run_history(runner, alloc, job, guests, out),
+        RunOutput::Profile => run_profiled(runner, alloc, job, guests, out),
     }
 }
 

@@ -2,6 +2,7 @@
 
 ghost use Rattle.std.specs.Prelude.{◌≡◌, Bool, IfOk, length};
 ghost use Rattle.tool_api.specs.Handed.{HandedFor, SameHanded};
+ghost use Rattle.tool_profiled.specs.Joining.{ProfiledFor, SameProfiled};
 ghost use Rattle.tool_report.specs.Counts.{counts_of};
 ghost use Rattle.tool_report.specs.Moments.{moments_of};
 ghost use Rattle.ompt_cli.specs.Reports.{HasKept, HasObserved};
@@ -15,6 +16,7 @@ use std::alloc::{AllocError, Global};
 use std::sync::Wait;
 use std::thread::Threads;
 use tool_api::{GuestTool, Handed};
+use tool_profiled::Profiled;
 use tool_report::{Profile, Recorder, Timeline};
 
 /// What makes runs of jobs: [`Alone`] of serial ones, and [`WithThreads`] of all. It has a method for each kind of parts, and each reports the
@@ -72,6 +74,20 @@ pub(crate) trait Runner {
         ensures { IfOk result (λ observed. HasObserved
             (HandedFor (λ guest h. (GuestTool-box guest.0).stands_for guest.0.value h)) (SameHanded (λ guest other. guest.0.vtable ≡ other.0.vtable))
             (Command.Run output) job observed.report parts.items observed.parts.items observed.text.items) };
+
+    /// Runs the job of the command `run` with these parts, which are joined with profiles. The report has no guests.
+    fn run_joined(
+        &self,
+        alloc: Global,
+        job: Job,
+        parts: Vec<Profiled<Handed<GuestPart>>>,
+    ) -> Result<Observed<Profiled<Handed<GuestPart>>>, AllocError>
+        requires kind { Self.may_run self.now job.serial }
+        requires parts { length parts.items ≡ job.threads }
+        ensures { IfOk result (λ observed. HasObserved
+            (ProfiledFor (HandedFor (λ guest h. (GuestTool-box guest.0).stands_for guest.0.value h)))
+            (SameProfiled (SameHanded (λ guest other. guest.0.vtable ≡ other.0.vtable)))
+            (Command.Run RunOutput.Profile) job observed.report parts.items observed.parts.items observed.text.items) };
 }
 
 /// It makes serial runs, and waits for nobody.
@@ -124,6 +140,21 @@ impl Runner for Alone {
         parts: Vec<Handed<GuestPart>>,
     ) -> Result<Observed<Handed<GuestPart>>, AllocError> {
         observe_alone(alloc, Command::Run(output), job, parts, Vec::new(alloc))
+    }
+
+    fn run_joined(
+        &self,
+        alloc: Global,
+        job: Job,
+        parts: Vec<Profiled<Handed<GuestPart>>>,
+    ) -> Result<Observed<Profiled<Handed<GuestPart>>>, AllocError> {
+        observe_alone(
+            alloc,
+            Command::Run(RunOutput::Profile),
+            job,
+            parts,
+            Vec::new(alloc),
+        )
     }
 }
 
@@ -180,6 +211,22 @@ impl<'a, R: Threads + Wait + Sync> Runner for WithThreads<'a, R> {
             self.0,
             alloc,
             Command::Run(output),
+            job,
+            parts,
+            Vec::new(alloc),
+        )
+    }
+
+    fn run_joined(
+        &self,
+        alloc: Global,
+        job: Job,
+        parts: Vec<Profiled<Handed<GuestPart>>>,
+    ) -> Result<Observed<Profiled<Handed<GuestPart>>>, AllocError> {
+        observe(
+            self.0,
+            alloc,
+            Command::Run(RunOutput::Profile),
             job,
             parts,
             Vec::new(alloc),

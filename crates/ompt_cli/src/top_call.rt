@@ -6,15 +6,15 @@ ghost use Rattle.ompt_cli.specs.Commands.{CountsFaults, HasWritten, out_of, run_
 ghost use Rattle.ompt_cli.specs.Ends.{TellsEnd};
 ghost use Rattle.ompt_cli.specs.Guests.{GuestsAfter};
 ghost use Rattle.ompt_cli.specs.Top.{CarriesOut, FollowsWords, HasTrace, IsRunOf, JudgesText, ShowsFaults, StaysUntouched};
-ghost use Rattle.ompt_cli.specs.Traces.{HasReadTrace};
+ghost use Rattle.ompt_cli.specs.Traces.{HasReadInput};
 ghost use Rattle.ompt_cli.specs.Words.{AreFaulty, AreInRange, AreTakenAs, texts};
 
 use crate::end::End;
 use crate::outcome::{Outcome, having_read, having_shown, without_run};
+use crate::read_commands::read_input;
 use crate::report::{ByThreads, Top};
 use crate::runner::{Alone, WithThreads};
 use crate::settings_run::run_settings;
-use crate::trace_commands::read_input;
 use ompt_words::{ReadCommand, Request, WordsFault, request_of};
 use run_edges::{Sink, Source, write_all};
 use std::alloc::Global;
@@ -47,14 +47,15 @@ pub fn top<R: Threads + Wait + Sync, S: Source, O: Sink, E: Sink>(
     ensures words { FollowsWords (texts words.now) result.end result.shown result.read result.ran }
     // What ran is the program that the words and the source say, in one legal run that ends in the cause that is reported.
     ensures ran { IfSome result.ran (IsRunOf (texts words.now) (S.left source.old) result.end) }
-    // Guest t was called for what thread t heard, in its order, and for nothing else but a call that found no memory, which ends the run.
+    // Guest t was called for what thread t heard, in its order, beside a profile for what the guests registered of that, and for nothing else but a call
+    // that found no memory, which ends the run.
     ensures guests { IfSome result.ran (λ report.
         GuestsAfter (λ guest h. (GuestTool-box guest).stands_for guest.value h) (λ guest other. guest.vtable ≡ other.vtable)
         report.command report.serial (run_of report)
         report.cause report.history guests.items report.guests.items) }
     // Where a trace or a history file was read, the end says what was read and written of it.
     ensures read { IfSome result.read (λ command.
-        HasReadTrace command result.end (S.left source.old) (S.left source.new) (O.held out.old) (O.held out.new)) }
+        HasReadInput command result.end (S.left source.old) (S.left source.new) (O.held out.old) (O.held out.new)) }
     // A text that was to run is refused exactly for a reason that it has.
     ensures text { JudgesText (texts words.now) (S.left source.old) result.end result.read }
     // Where neither is read, what is written is the text that was asked for, or what the command writes of its run.

@@ -1,47 +1,40 @@
-//! A tool from start to end: the commands of `ompt`, where `run` is followed by the report of a tool.
+//! Two tools from start to end: the commands of `ompt`, where `run` is followed by the reports of both.
 //!
-//! [`Profiler`] is the tool. Each thread has one as its guest, and all of them add to one [`Profile`], which `main` writes behind what the
-//! program printed. With `--history`, and for the other commands, nothing is reported.
+//! [`Profiler`](profiler::Profiler) is the first tool, and [`TaskProfiler`](task_profiler::TaskProfiler) the second one. Each registers
+//! callbacks of its own. A thread's guest is both in one, [`TwoTools`](two_tools::TwoTools). What they hear is [`Gathered`] from all threads,
+//! and `main` writes it behind what the program printed. With `--history`, and for the other commands, nothing is reported.
 //!
-//! Proved is that it is safe, that it ends unless it waits for the lock, and what [`ended`], `Profile::add_region` and `Profile::add_wait`
-//! say. That the profile has all that was heard, and that the report is as it should be, is only tested: by the run of `stdin`, which has
-//! to write `stdout`.
+//! Proved is that it is safe, that it ends unless it waits for a lock, and what [`ended`], `Profile::add_region` and `Profile::add_wait`
+//! say; and that the guest of a thread stands for what `tool_both` says of two tools. That the reports have all that was heard, and that they
+//! are as they should be, is only tested: by the run of `stdin`, which has to write `stdout`.
 #![tactic(auto)]
 
 ghost use Rattle.std.specs.Prelude.{◌≡◌};
 ghost use Rattle.std.specs.Process.{exit_status};
 ghost use Rattle.ompt_cli.specs.Ends.{status_of};
 
+mod gathered;
 mod profile;
 mod profiler;
+mod task_profiler;
+mod task_starts;
+mod two_tools;
 
+use gathered::Gathered;
 use ompt_cli::{Command, End, RunOutput, Top, own_words, top};
-use profile::Profile;
-use profiler::Profiler;
 use run_edges::{Sink, StdSink, StdSource, write_all};
-use std::alloc::Global;
+use std::alloc::{AllocError, Global};
 use std::process::ExitCode;
-use std::sync::{Arc, Mutex};
-use tool_api::GuestTool;
+use std::sync::Wait;
 
 fn main(rt: HostRuntime) -> ExitCode {
     let mut err = StdSink::new(rt.stderr());
-    let Ok(profile) = Arc::new(rt.alloc(), Mutex::new(Profile::new(rt.alloc()))) else {
+    let Ok(gathered) = Gathered::new(rt.alloc()) else {
         return ended(End::Memory, &mut err);
     };
-    // A guest for each thread that there may be.
-    let mut guests: Vec<Box<dyn GuestTool>> = Vec::new(rt.alloc());
-    for _thread in 0..16 {
-        let Ok(shared) = Arc::try_clone(&profile) else {
-            return ended(End::Memory, &mut err);
-        };
-        let Ok(guest) = Box::new(rt.alloc(), Profiler::new(rt, shared)) else {
-            return ended(End::Memory, &mut err);
-        };
-        let Ok(()) = guests.push(guest) else {
-            return ended(End::Memory, &mut err);
-        };
-    }
+    let Ok(guests) = gathered.guests(rt.alloc(), rt) else {
+        return ended(End::Memory, &mut err);
+    };
     let Ok(words) = own_words(&rt) else {
         return ended(End::Memory, &mut err);
     };
@@ -57,28 +50,41 @@ fn main(rt: HostRuntime) -> ExitCode {
         guests,
     );
     if has_report(&top) {
-        if let Err(end) = report(rt.alloc(), &profile.lock(&rt), &mut out) {
+        if let Err(end) = report(&rt, rt.alloc(), &gathered, &mut out) {
             return ended(end, &mut err);
         }
     }
     ExitCode::from(top.status)
 }
 
-/// Whether the command has printed what a program printed, so that the report may stand behind it.
+/// Whether the command has printed what a program printed, so that the reports may stand behind it.
 fn has_report(top: &Top) -> bool {
     match &top.ran {
-        Some(report) => {
-            report.command == Command::Run(RunOutput::Printed)
-                && top.end != End::Memory
-                && top.end != End::WriteFault
-        }
+        Some(report) => match report.command {
+            Command::Run(RunOutput::History) => false,
+            Command::Run(_) => top.end != End::Memory && top.end != End::WriteFault,
+            _ => false,
+        },
         None => false,
     }
 }
 
-/// Writes the report of this profile.
-fn report<O: Sink>(alloc: Global, profile: &Profile, out: &mut O) -> Result<(), End> {
-    let text = profile.to_string(alloc).map_err(|_| End::Memory)?;
+/// Writes the reports of both tools, the first one's first.
+fn report<R: Wait, O: Sink>(
+    rt: &R,
+    alloc: Global,
+    gathered: &Gathered,
+    out: &mut O,
+) -> Result<(), End> {
+    let profile = gathered.profile.lock(rt).to_string(alloc);
+    write_text(profile, out)?;
+    let starts = gathered.starts.lock(rt).to_string(alloc);
+    write_text(starts, out)
+}
+
+/// Writes this text, if there was memory for it.
+fn write_text<O: Sink>(text: Result<String, AllocError>, out: &mut O) -> Result<(), End> {
+    let text = text.map_err(|_| End::Memory)?;
     write_all(out, text.as_str().as_bytes()).map_err(|_| End::WriteFault)
 }
 

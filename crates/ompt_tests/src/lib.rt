@@ -3,6 +3,8 @@
 #![tactic(auto)]
 
 #[cfg(test)]
+mod beside_profiles;
+#[cfg(test)]
 mod checking;
 #[cfg(test)]
 mod counts;

@@ -12,7 +12,7 @@ use std::test::Fail;
 const REGIONS_AND_WORK: u64 = 0x10_0008;
 
 /// A single in a region of one.
-const SINGLE: &[u8] = b"int main(void) {
+pub(crate) const SINGLE: &[u8] = b"int main(void) {
 #pragma omp parallel num_threads(1)
 #pragma omp single nowait
 ;
@@ -39,7 +39,7 @@ fn work(endpoint: u32, task: Word) -> Call {
 }
 
 /// What the guest hears: the region begins, and its member begins and ends the work of the single.
-fn heard_of_work() -> [(u32, Call); 3] {
+pub(crate) fn heard_of_work() -> [(u32, Call); 3] {
     let begins = Call::ParallelBegin {
         task: ONE,
         frame: Frame {
@@ -55,7 +55,7 @@ fn heard_of_work() -> [(u32, Call); 3] {
 }
 
 /// Entries of the run, with their positions. Those at 7 and 8 are the begin of the member's task, which isn't registered.
-const ENTRIES: &[(usize, u8, What)] = &[
+pub(crate) const ENTRIES: &[(usize, u8, What)] = &[
     (4, 0, What::Go),
     (5, 0, What::Put(Target::Parallel(2), 77)),
     (6, 0, What::Back),
@@ -69,7 +69,7 @@ const ENTRIES: &[(usize, u8, What)] = &[
 ];
 
 /// It hears of regions and work, and stores into both.
-const STORING: Habits = Habits {
+pub(crate) const STORING: Habits = Habits {
     mask: REGIONS_AND_WORK,
     stores: 77,
     stores_at_work: 100,

@@ -137,7 +137,7 @@ HasFoundNumber found (Generate blocks) = blocks ≡ number_in 1 400 1 (one_text 
 -- it is that of the words
 number_matched : (words : List Text) (found : Found) (command : Command) → ((id : Text) → one_text found id ≡ matched_text words id) → HasFoundNumber found command → HasMatchedNumber words command
 number_matched words found Listing texts number = tt
-number_matched words found (Run output) texts number = 
+number_matched words found (Run output) texts number =
     subst (λ (history : Bool). IsOutput output history (flag_in (matched_text words (codes "profile")))) (ap flag_in (texts (codes "history")))
     (subst (IsOutput output (flag_in (one_text found (codes "history")))) (ap flag_in (texts (codes "profile"))) number)
 number_matched words found Record texts number = tt

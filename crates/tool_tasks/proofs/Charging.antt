@@ -10,7 +10,7 @@ use Rattle.tool_tasks.specs.declared.key.Key.TheVariants.{Next, Begun, Left, Cre
 use Rattle.tool_tasks.specs.declared.reaches.Link.{Link}
 use Rattle.tool_tasks.specs.declared.reaches.Reach.{Reach}
 use Rattle.tool_tasks.specs.declared.reaches.Reaches.{Reaches}
-use Rattle.tool_tasks.specs.Leads.{gives, has_key, is_key, same_key, with_three}
+use Rattle.tool_tasks.specs.Keys.{gives, has_key, is_key, same_key, with_three}
 use Rattle.tool_tasks.specs.Reaching.{is_charged}
 use Rattle.tool_tasks.specs.Holding.{Adds, Ends, EndsFor, EndsIn, HoldsEnds, HoldsReaches, IsWalk, number_of}
 use Rattle.tool_tasks.proofs.Giving.{IsCharged, after_charge, keys_given, keys_taken}

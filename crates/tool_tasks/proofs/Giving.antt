@@ -16,7 +16,8 @@ use Rattle.tool_tasks.specs.declared.reaches.Reach.{Reach}
 use Rattle.tool_tasks.specs.declared.reaches.Reaches.{Reaches}
 use Rattle.tool_tasks.specs.Charge.{charged_task, charges_of, one_if}
 use Rattle.tool_tasks.specs.Holding.{AreAllShort, AreShort, GivesAll, GivesKey, HoldsBests, HoldsNodes, HoldsReaches, IsShortKey, is_given, is_number, length_at, length_for, node_at, number_of, unlinked}
-use Rattle.tool_tasks.specs.Leads.{given_by, gives, has_key, key_of, next_given, next_taken, parent_next, parent_of, taken_by, takes, undeferred_flags, with_three, with_two}
+use Rattle.tool_tasks.specs.Keys.{given_by, gives, has_key, key_of, next_given, next_taken, parent_next, taken_by, takes, with_three, with_two}
+use Rattle.tool_tasks.specs.Leads.{parent_of, undeferred_flags}
 use Rattle.tool_tasks.specs.Reaching.{best, is_charged, most, reach, span_of}
 use Rattle.tool_tasks.specs.Tree.{Origin, origin_of}
 use Rattle.tool_tasks.proofs.Charged.{no_charges, no_zero_charges}

@@ -12,3 +12,4 @@ pub mod Charging
 pub mod Collected
 pub mod Rising
 pub mod Orders
+pub mod Cases

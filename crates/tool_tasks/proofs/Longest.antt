@@ -5,9 +5,11 @@ use Rattle.std.proofs.lemmas.List.{length-append, reverse-append, reverse-revers
 use Rattle.ompt_calls.specs.declared.event.EventRecord.{EventRecord}
 use Rattle.trace_check.proofs.Firsts.{Apart, apart, earlier as comes_before, later as comes_after, same as comes_at}
 use Rattle.tool_tasks.specs.declared.key.Key.{Key}
-use Rattle.tool_tasks.specs.Leads.{gives, has_key, is_among_keys, leads, takes}
+use Rattle.tool_tasks.specs.Keys.{gives, has_key, is_among_keys, leads_by_keys, takes}
+use Rattle.tool_tasks.specs.Leads.{leads}
 use Rattle.tool_tasks.specs.Reaching.{best, is_charged, most, reach, span_of}
 use Rattle.tool_tasks.specs.Span.{AreRising, IsChain, IsCharged, IsSpan, Leads}
+use Rattle.tool_tasks.proofs.Cases.{same_leads}
 
 -- ---- the greatest at some keys
 
@@ -163,7 +165,7 @@ span_found (event ∷ past) n is = by-test (is_charged past event) refl is (λ s
 -- ---- an event that is led to reaches further
 
 reaches_further : (between before : List EventRecord) (event later : EventRecord) → is_charged before event ≡ true
-    → leads before event (between ++ event ∷ before) later ≡ true → reach before event + 1 ≤ reach (between ++ event ∷ before) later
+    → leads_by_keys before event (between ++ event ∷ before) later ≡ true → reach before event + 1 ≤ reach (between ++ event ∷ before) later
 reaches_further between before event later charged led =
     let below : reach before event ≤ most (λ (taken : Key). best taken (between ++ event ∷ before)) (takes (between ++ event ∷ before) later) =
     some_taken (λ (taken : Key). best taken (between ++ event ∷ before)) (reach before event) (gives before event) (takes (between ++ event ∷ before) later) led
@@ -239,7 +241,8 @@ led_further events seq next n rising at led = record {
         let turn : reverse (led.before ++ led.event ∷ led.between) ≡ reverse led.between ++ led.event ∷ reverse led.before = turned led.before led.between led.event in
         let more : reach (reverse led.before) led.event + 1 ≤ reach (reverse led.between ++ led.event ∷ reverse led.before) led.later =
         reaches_further (reverse led.between) (reverse led.before) led.event led.later led.charged
-        (subst (λ (past : List EventRecord). leads (reverse led.before) led.event past led.later ≡ true) turn led.leads) in
+        (subst (λ (past : List EventRecord). leads_by_keys (reverse led.before) led.event past led.later ≡ true) turn
+        (sym (same_leads (reverse led.before) (reverse (led.before ++ led.event ∷ led.between)) led.event led.later) ∙ led.leads)) in
         subst (λ (past : List EventRecord). n + 1 ≤ reach past led.later) (sym turn) (omega arith)
 
 within_span : (events : List EventRecord) (seq n : ℕ) → IsAt events seq n → n ≤ span_of (reverse events)
@@ -293,7 +296,7 @@ in_order events newer before event is = sym (reverse-reverse events) ∙ (ap rev
 
 pub leads_to : (events newer before between older : List EventRecord) (event earlier : EventRecord)
     → reverse events ≡ newer ++ event ∷ before → before ≡ between ++ earlier ∷ older
-    → is_charged before event ≡ true → is_charged older earlier ≡ true → leads older earlier before event ≡ true → Leads events earlier.seq event.seq
+    → is_charged before event ≡ true → is_charged older earlier ≡ true → leads_by_keys older earlier before event ≡ true → Leads events earlier.seq event.seq
 leads_to events newer before between older event earlier is before_is charged earlier_charged led = record {
   before = reverse older;
   event = earlier;
@@ -306,7 +309,7 @@ leads_to events newer before between older event earlier is before_is charged ea
   charged = subst (λ (past : List EventRecord). is_charged past earlier ≡ true) (sym (reverse-reverse older)) earlier_charged;
   later_charged = subst (λ (past : List EventRecord). is_charged past event ≡ true) back charged;
   leads = subst (λ (past : List EventRecord). leads past earlier (reverse (reverse older ++ earlier ∷ reverse between)) event ≡ true) (sym (reverse-reverse older))
-      (subst (λ (past : List EventRecord). leads older earlier past event ≡ true) back led);
+      (subst (λ (past : List EventRecord). leads older earlier past event ≡ true) back (same_leads older before earlier event ∙ led));
 }
   where
     back : before ≡ reverse (reverse older ++ earlier ∷ reverse between)
@@ -319,7 +322,7 @@ record IsBefore (events : List EventRecord) (before : List EventRecord) (event :
   between : List EventRecord
   before_is : before ≡ between ++ earlier ∷ older
   charged : is_charged older earlier ≡ true
-  led : leads older earlier before event ≡ true
+  led : leads_by_keys older earlier before event ≡ true
   reach_is : reach older earlier ≡ m
 
 goes_on : (events before : List EventRecord) (event : EventRecord) (m : ℕ) → most (λ (taken : Key). best taken before) (takes before event) ≡ suc m → IsBefore events before event (suc m)

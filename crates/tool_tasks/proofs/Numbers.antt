@@ -3,7 +3,7 @@ use Rattle.std.proofs.Common.{◌≡◌, ℕ, ◌+◌, ◌*◌, ◌<◌, ◌==�
 use Rattle.std.proofs.lemmas.Bool.{eqb-true, eq-eqb}
 use Rattle.tool_tasks.specs.declared.key.Key.{Key}
 use Rattle.tool_tasks.specs.declared.key.Key.TheVariants.{Next, Begun, Left, Created, Child, Ended, Wait}
-use Rattle.tool_tasks.specs.Leads.{is_key, same_key}
+use Rattle.tool_tasks.specs.Keys.{is_key, same_key}
 use Rattle.tool_tasks.specs.Holding.{AreShort, IsShortKey, is_number, number_in, number_of}
 
 -- the parts of a number

@@ -13,7 +13,7 @@ use Rattle.tool_tasks.specs.declared.key.Key.TheVariants.{Next, Begun, Left, Cre
 use Rattle.tool_tasks.specs.declared.reaches.Link.{Link}
 use Rattle.tool_tasks.specs.declared.reaches.Reach.{Reach}
 use Rattle.tool_tasks.specs.declared.reaches.Reaches.{Reaches}
-use Rattle.tool_tasks.specs.Leads.{gives, has_key, is_among_keys, same_key, takes}
+use Rattle.tool_tasks.specs.Keys.{gives, has_key, is_among_keys, same_key, takes}
 use Rattle.tool_tasks.specs.Reaching.{is_charged}
 use Rattle.tool_tasks.specs.Span.{IsChain, IsCharged, Leads}
 use Rattle.tool_tasks.specs.Holding.{Adds, AreShort, Ends, EndsIn, HoldsEnds, IsBack, IsShortKey, IsWalk, link_at, number_of, or_nowhere, reach_for, walk_on, walked}

@@ -18,7 +18,8 @@ use Rattle.tool_tasks.specs.declared.reaches.Reaches.{Reaches}
 use Rattle.tool_tasks.specs.declared.stacks.StackFrame.{StackFrame}
 use Rattle.tool_tasks.specs.declared.stacks.Stacks.{Stacks}
 use Rattle.tool_tasks.specs.Charge.{charges_of, one_if, tasks_on, work_of}
-use Rattle.tool_tasks.specs.Leads.{ends_of, gives, has_key, joined_region, region_of}
+use Rattle.tool_tasks.specs.Keys.{gives, has_key}
+use Rattle.tool_tasks.specs.Leads.{ends_of, joined_region, region_of}
 use Rattle.tool_tasks.specs.Reaching.{best, is_charged, span_of}
 use Rattle.tool_tasks.specs.Span.{AreRising, IsCharged, Leads}
 use Rattle.tool_tasks.specs.Tree.{Origin, children_from, encountering_task, first_or_zero, node_of, or_zero, origin_of, sibling_after}

@@ -1,12 +1,9 @@
--- When a charged event leads to a later one: it gives a key that the later one takes. The events before an event stand with the newest first.
-use Rattle.std.specs.Prelude.{ℕ, ◌+◌, ◌==◌, ◌&&◌, Bool, false, not, List, [], ◌∷◌, Option, Some, None, if◌then◌else◌}
-use Rattle.std.specs.List.{list_any}
+-- When a charged event leads to a later one: eight cases. The events before an event stand with the newest first.
+use Rattle.std.specs.Prelude.{ℕ, ◌+◌, ◌==◌, ◌&&◌, ◌||◌, Bool, false, not, List, [], ◌∷◌, Option, Some, None, if◌then◌else◌}
 use Rattle.ompt_calls.specs.declared.call.Call.{Call}
-use Rattle.ompt_calls.specs.declared.call.Call.TheVariants.{ImplicitTask, ParallelBegin, ParallelEnd, SyncRegionWait, TaskCreate, TaskSchedule}
+use Rattle.ompt_calls.specs.declared.call.Call.TheVariants.{ImplicitTask, SyncRegionWait, TaskCreate}
 use Rattle.ompt_calls.specs.declared.event.EventRecord.{EventRecord}
-use Rattle.trace_check.specs.Before.{is_barrier, is_just, waits_of}
-use Rattle.tool_tasks.specs.declared.key.Key.{Key}
-use Rattle.tool_tasks.specs.declared.key.Key.TheVariants.{Next, Begun, Left, Created, Child, Ended, Wait}
+use Rattle.trace_check.specs.Before.{is_barrier, is_just, left_task, region_begun, region_ended, task_completed, task_started, waiter, waits_of}
 use Rattle.tool_tasks.specs.declared.making.Making.{Making}
 use Rattle.tool_tasks.specs.declared.making.Making.TheVariants.{Implicit, Explicit}
 use Rattle.tool_tasks.specs.Charge.{charged_task, charges_of, one_if}
@@ -42,110 +39,111 @@ abbrev pub ends_of : ℕ → List EventRecord → ℕ
 ends_of task [] = 0
 ends_of task (event ∷ past) = ends_of task past + one_if (is_just task (ended_wait event.call))
 
--- ---- keys that an event gives
+-- ---- readings of an event: what it is about, where it is about such a thing
 
-abbrev pub key_of : (ℕ → Key) → Option ℕ → Option Key
-key_of key None = None
-key_of key (Some n) = Some (key n)
+-- of what a first reading is about
+abbrev pub and_then : {A : Type 0} → Option ℕ → (ℕ → Option A) → Option A
+and_then None reading = None
+and_then (Some n) reading = reading n
 
--- An event charged to a task gives the place of the task's next one.
-abbrev pub next_given : List EventRecord → Option ℕ → Option Key
-next_given past None = None
-next_given past (Some task) = Some (Next task (charges_of task past + 1))
+-- with a number
+abbrev pub numbered : Option ℕ → (ℕ → ℕ) → Option (ℕ × ℕ)
+numbered None number = None
+numbered (Some n) number = Some (n, number n)
 
--- the parent of a task
+-- the task to which an event is charged, with how many events were charged to it before, and with how many are now
+abbrev pub place_of : List EventRecord → EventRecord → Option (ℕ × ℕ)
+place_of past event = numbered (charged_task past event) (λ (task : ℕ). charges_of task past)
+
+abbrev pub place_after : List EventRecord → EventRecord → Option (ℕ × ℕ)
+place_after past event = numbered (charged_task past event) (λ (task : ℕ). charges_of task past + 1)
+
+-- the region of which an implicit task begins, or ends
+abbrev pub region_entered : Call → Option ℕ
+region_entered (ImplicitTask endpoint region task actual index flags) = if (endpoint == 1) && not (flags == 1) then Some region.identity else None
+region_entered other = None
+
+abbrev pub region_left : List EventRecord → Call → Option ℕ
+region_left past call = and_then (left_task call) (λ (task : ℕ). joined_region task past)
+
+-- the task that is created
+abbrev pub task_created : Call → Option ℕ
+task_created (TaskCreate task frame fresh flags has_dependences codeptr) = Some fresh.identity
+task_created other = None
+
+-- the parent and the region of the task that is complete
 abbrev pub parent_of : Option Origin → Option ℕ
 parent_of None = None
 parent_of (Some origin) = Some origin.parent
 
--- A task that was undeferred, when it is complete, gives the place of its parent's next event. These are its flags: explicit and undeferred.
+abbrev pub parent_completed : List EventRecord → Call → Option ℕ
+parent_completed past call = and_then (task_completed call) (λ (task : ℕ). parent_of (origin_of task past))
+
+abbrev pub region_completed : List EventRecord → Call → Option ℕ
+region_completed past call = and_then (task_completed call) (λ (task : ℕ). region_of task past)
+
+-- the parent of the task that is complete, if this one was undeferred, with how many events are charged to the parent by then. These are the flags of
+-- such a task: explicit and undeferred
 abbrev pub undeferred_flags : ℕ
 undeferred_flags = 0x08000004
 
-abbrev pub parent_next : List EventRecord → EventRecord → Option Origin → Option Key
-parent_next past event None = None
-parent_next past event (Some origin) =
-    if origin.flags == undeferred_flags then Some (Next origin.parent (charges_of origin.parent (event ∷ past))) else None
+abbrev pub parent_if_undeferred : Option Origin → Option ℕ
+parent_if_undeferred None = None
+parent_if_undeferred (Some origin) = if origin.flags == undeferred_flags then Some origin.parent else None
 
--- what the completion of a task gives, and the begin of its wait at a barrier
-abbrev pub given_by_completion : List EventRecord → EventRecord → ℕ → Option Key × Option Key × Option Key
-given_by_completion past event task =
-    (key_of Child (parent_of (origin_of task past)), key_of Ended (region_of task past), parent_next past event (origin_of task past))
+abbrev pub place_freed : List EventRecord → EventRecord → Call → Option (ℕ × ℕ)
+place_freed past event call =
+    and_then (task_completed call) (λ (task : ℕ). numbered (parent_if_undeferred (origin_of task past)) (λ (parent : ℕ). charges_of parent (event ∷ past)))
 
-abbrev pub given_by_wait : List EventRecord → ℕ → Option Key
-given_by_wait past task = key_of (λ (region : ℕ). Wait region (waits_of task past)) (region_of task past)
+-- the task whose wait at a taskwait ends: kind 5
+abbrev pub taskwait_ended : Call → Option ℕ
+taskwait_ended (SyncRegionWait kind endpoint region task codeptr) = if (endpoint == 2) && (kind == 5) then Some task.identity else None
+taskwait_ended other = None
 
--- what the begin of a region gives, the end of an implicit task, a creation, the completion of a task, and the begin of a wait at a barrier
-abbrev pub given_by : List EventRecord → EventRecord → Call → Option Key × Option Key × Option Key
-given_by past event (ParallelBegin task frame region requested flags codeptr) = (Some (Begun region.identity), None, None)
-given_by past event (ImplicitTask endpoint region task actual index flags) =
-    (if endpoint == 2 then key_of Left (joined_region task.identity past) else None, None, None)
-given_by past event (TaskCreate task frame fresh flags has_dependences codeptr) = (Some (Created fresh.identity), None, None)
-given_by past event (TaskSchedule prior status next) = if status == 1 then given_by_completion past event prior.identity else (None, None, None)
-given_by past event (SyncRegionWait kind endpoint region task codeptr) =
-    (if (endpoint == 1) && is_barrier kind then given_by_wait past task.identity else None, None, None)
-given_by past event other = (None, None, None)
+-- the region at whose barrier the wait of an implicit task ends. That of the initial task is 1
+abbrev pub barrier_ended : List EventRecord → Call → Option ℕ
+barrier_ended past call = and_then (ended_wait call) (λ (task : ℕ). joined_region task past)
 
-abbrev pub with_three : Option Key → Option Key × Option Key × Option Key → List (Option Key)
-with_three next keys = next ∷ keys.0 ∷ keys.1 ∷ keys.2 ∷ []
+-- the region of the task that begins a wait at a barrier, with how many it began before; and that at whose barrier the wait of an implicit task ends,
+-- with how many waits this task ended before
+abbrev pub wait_begun : List EventRecord → Call → Option (ℕ × ℕ)
+wait_begun past call = and_then (waiter call) (λ (task : ℕ). numbered (region_of task past) (λ (region : ℕ). waits_of task past))
 
-abbrev pub gives : List EventRecord → EventRecord → List (Option Key)
-gives past event = with_three (next_given past (charged_task past event)) (given_by past event event.call)
+abbrev pub wait_ended : List EventRecord → Call → Option (ℕ × ℕ)
+wait_ended past call = and_then (ended_wait call) (λ (task : ℕ). numbered (joined_region task past) (λ (region : ℕ). ends_of task past))
 
--- ---- keys that an event takes
-
-abbrev pub next_taken : List EventRecord → Option ℕ → Option Key
-next_taken past None = None
-next_taken past (Some task) = Some (Next task (charges_of task past))
-
--- what the end of a task's wait takes: a taskwait is of kind 5
-abbrev pub taken_by_wait : List EventRecord → ℕ → ℕ → Option Key × Option Key
-taken_by_wait past kind task =
-    if kind == 5 then (Some (Child task), None)
-    else if is_barrier kind
-    then (key_of Ended (joined_region task past), key_of (λ (region : ℕ). Wait region (ends_of task past)) (joined_region task past))
-    else (None, None)
-
--- what the begin of an implicit task takes, and the end of the initial one, the end of a region, a switch to a task, and the end of a wait
-abbrev pub taken_by : List EventRecord → Call → Option Key × Option Key
-taken_by past (ImplicitTask endpoint region task actual index flags) =
-    if (endpoint == 1) && not (flags == 1) then (Some (Begun region.identity), None)
-    else if (endpoint == 2) && (flags == 1) then (Some (Ended 1), None)
-    else (None, None)
-taken_by past (ParallelEnd region task flags codeptr) = (Some (Left region.identity), None)
-taken_by past (TaskSchedule prior status next) = if status == 7 then (Some (Created next.identity), None) else (None, None)
-taken_by past (SyncRegionWait kind endpoint region task codeptr) = if endpoint == 2 then taken_by_wait past kind task.identity else (None, None)
-taken_by past other = (None, None)
-
-abbrev pub with_two : Option Key → Option Key × Option Key → List (Option Key)
-with_two next keys = next ∷ keys.0 ∷ keys.1 ∷ []
-
-abbrev pub takes : List EventRecord → EventRecord → List (Option Key)
-takes past event = with_two (next_taken past (charged_task past event)) (taken_by past event.call)
+-- region 1, where the initial task ends
+abbrev pub initial_ended : Call → Option ℕ
+initial_ended (ImplicitTask endpoint region task actual index flags) = if (endpoint == 2) && (flags == 1) then Some 1 else None
+initial_ended other = None
 
 -- ---- an event leads to a later one
 
-abbrev pub same_key : Key → Key → Bool
-same_key (Next task n) (Next other m) = (task == other) && (n == m)
-same_key (Begun region) (Begun other) = region == other
-same_key (Left region) (Left other) = region == other
-same_key (Created task) (Created other) = task == other
-same_key (Child parent) (Child other) = parent == other
-same_key (Ended region) (Ended other) = region == other
-same_key (Wait region n) (Wait other m) = (region == other) && (n == m)
-same_key key other = false
+-- two readings are there, and the same
+abbrev pub same : Option ℕ → Option ℕ → Bool
+same (Some n) (Some m) = m == n
+same first second = false
 
-abbrev pub is_key : Key → Option Key → Bool
-is_key key None = false
-is_key key (Some other) = same_key key other
+abbrev pub same_two : Option (ℕ × ℕ) → Option (ℕ × ℕ) → Bool
+same_two (Some n) (Some m) = (m.0 == n.0) && (m.1 == n.1)
+same_two first second = false
 
-abbrev pub has_key : Key → List (Option Key) → Bool
-has_key key keys = list_any (is_key key) keys
-
-abbrev pub is_among_keys : List (Option Key) → Option Key → Bool
-is_among_keys keys None = false
-is_among_keys keys (Some key) = has_key key keys
-
--- an event with these before it leads to one with those before it
+-- An event with these before it leads to one with those before it: in any of eight cases.
+--  1  They are consecutive events of one task.
+--  2  A region begins, and an implicit task of it.
+--  3  An implicit task of a region ends, and the region.
+--  4  A task is created, and begins.
+--  5  A task is complete, and a wait for it ends: at a taskwait of its parent, or at a barrier of an implicit task of its region.
+--  6  A task begins its k-th wait at a barrier, and an implicit task of the same region ends its k-th.
+--  7  An undeferred task is complete, and this is the next event of its parent.
+--  8  A task of region 1 is complete, and the initial task ends.
 abbrev pub leads : List EventRecord → EventRecord → List EventRecord → EventRecord → Bool
-leads before event past later = list_any (is_among_keys (gives before event)) (takes past later)
+leads before event past later =
+    same_two (place_after before event) (place_of past later)
+    || (same (region_begun event.call) (region_entered later.call)
+    || (same (region_left before event.call) (region_ended later.call)
+    || (same (task_created event.call) (task_started later.call)
+    || ((same (parent_completed before event.call) (taskwait_ended later.call) || same (region_completed before event.call) (barrier_ended past later.call))
+    || (same_two (wait_begun before event.call) (wait_ended past later.call)
+    || (same_two (place_freed before event event.call) (place_of past later)
+    || same (region_completed before event.call) (initial_ended later.call)))))))

@@ -3,6 +3,7 @@ pub mod Tree
 pub mod Leads
 pub mod Span
 pub mod Text
+pub mod Keys
 pub mod Reaching
 pub mod Holding
 pub mod Collecting

@@ -4,7 +4,7 @@ use Rattle.std.specs.Prelude.{ℕ, ◌+◌, ◌&&◌, Bool, max, List, [], ◌�
 use Rattle.ompt_calls.specs.declared.event.EventRecord.{EventRecord}
 use Rattle.tool_tasks.specs.declared.key.Key.{Key}
 use Rattle.tool_tasks.specs.Charge.{charged_task}
-use Rattle.tool_tasks.specs.Leads.{gives, has_key, takes}
+use Rattle.tool_tasks.specs.Keys.{gives, has_key, takes}
 
 -- the greatest number at some of these keys
 abbrev pub most : (Key → ℕ) → List (Option Key) → ℕ

@@ -6,7 +6,8 @@ ghost use Rattle.trace_check.specs.Checking.{Unbroken};
 ghost use Rattle.trace_check.specs.Rules.{first_broken};
 ghost use Rattle.tool_tasks.specs.Charge.{charges_of};
 ghost use Rattle.tool_tasks.specs.Holding.{HoldsNodes, HoldsTasks, node_at};
-ghost use Rattle.tool_tasks.specs.Leads.{given_by, given_by_completion, given_by_wait, joined_region, key_of, region_of, taken_by, taken_by_wait};
+ghost use Rattle.tool_tasks.specs.Keys.{given_by, given_by_completion, given_by_wait, key_of, taken_by, taken_by_wait};
+ghost use Rattle.tool_tasks.specs.Leads.{joined_region, region_of};
 ghost use Rattle.tool_tasks.specs.declared.key.Key.TheVariants.{Ended, Left, Next};
 ghost use Rattle.tool_tasks.specs.Tree.{origin_of};
 

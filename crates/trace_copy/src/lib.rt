@@ -14,6 +14,8 @@
 //!   answered for the second version;
 //! - the call returns, as `read_items` does.
 //!
+//! [`line_of_end`] is the line of an end mark, which others write too.
+//!
 //! Its memory doesn't grow with the trace: that isn't proved, but plain in the code.
 #![tactic(auto)]
 

@@ -6,4 +6,4 @@ use Rattle.ompt_cli.proofs.rerunning.judge.Goals as goal
 pub returns-in-Ok-clause-certified : goal.returns-in-Ok-clause-certified
 returns-in-Ok-clause-certified g c = λ certifies.
     let spelled = subst (λ text. Spells text c.in-Ok.program) c.bytes.ensures c.in-Ok.ensures.program in
-    c.judge_program.ensures.certified (certificate-of c.args.file.now certifies.0 c.in-Ok.program certifies.1.0 spelled certifies.1.1)
+    c.judge_program.ensures.certified (certificate-of c.args.file.now certifies.0 c.in-Ok.program certifies.1 spelled certifies.2)

@@ -10,7 +10,7 @@ returns-clause-ran g c =
       report = record { observes = c.in-Ok-serve.ensures.observes; stays = λ other. absurd (other tt) };
       ended = c.write_history_of_run.ensures.end;
       missing = λ none. absurd cc;
-      memory = λ guests found. c.write_history_of_run.ensures.memory found;
+      memory = λ guests other found. c.write_history_of_run.ensures.memory found;
       traced = λ whole memory is. absurd cc;
       certified = λ whole memory is. c.write_history_of_run.ensures.certified whole memory;
     })

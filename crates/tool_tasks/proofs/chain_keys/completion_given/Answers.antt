@@ -1,7 +1,8 @@
 use Rattle.std.proofs.Common.{◌≡◌, ◌∷◌, Option, None, sym, ◌∙◌, ap}
 use Rattle.tool_tasks.specs.declared.key.Key.TheVariants.{Child}
 use Rattle.tool_tasks.specs.Charge.{charges_of}
-use Rattle.tool_tasks.specs.Leads.{key_of, parent_next, parent_of}
+use Rattle.tool_tasks.specs.Keys.{key_of, parent_next}
+use Rattle.tool_tasks.specs.Leads.{parent_of}
 use Rattle.tool_tasks.specs.Tree.{Origin, origin_of}
 use Rattle.tool_tasks.proofs.chain_keys.completion_given.Goals as goal
 use Rattle.tool_tasks.proofs.Giving.{completed, completed_none, node_is, three}

@@ -1,0 +1,114 @@
+//! The command `run` with a profile: the guests are called beside profiles, and what the program prints is followed by the counts.
+
+ghost use Rattle.std.specs.Prelude.{◌≡◌, ◌++◌, IfOk, IfSome, List};
+ghost use Rattle.omp_model.specs.Legal.{after};
+ghost use Rattle.omp_model.specs.Records.{records_of};
+ghost use Rattle.ompt_calls.specs.declared.event.EventRecord.{EventRecord};
+ghost use Rattle.tool_report.specs.Counts.{counts_of};
+ghost use Rattle.tool_report.specs.Order.{AreKept};
+ghost use Rattle.tool_report.specs.Profile.{profile_of};
+ghost use Rattle.ompt_cli.specs.Commands.{CountsFaults, HasWritten, run_of, run_text};
+ghost use Rattle.ompt_cli.specs.Guests.{GuestsJoin};
+ghost use Rattle.ompt_cli.specs.Reports.{HasRun, Observes};
+
+use crate::end::End;
+use crate::guests::{Handing, hand_out_all, take_back_all};
+use crate::job::Job;
+use crate::observing::Observed;
+use crate::outcome::{Outcome, having_run, without_run};
+use crate::report::Report;
+use crate::runner::Runner;
+use crate::writing::write_made;
+use ompt_words::{Command, RunOutput};
+use run_edges::Sink;
+use std::alloc::{AllocError, Global};
+use tool_api::GuestTool;
+use tool_profiled::{Joined, Parted, join_all, part_all};
+use tool_report::{Profile, profile_text};
+
+/// What a run with guests beside profiles gave: its report, in which the guests are back, the bytes that the program printed, and the profiles by thread.
+#[derive(Drop)]
+struct CountedRun {
+    report: Report,
+    text: Vec<u8>,
+    profiles: Vec<Profile>,
+}
+
+/// Runs the job, and writes what the program printed, and then how many calls of each callback there were. Guest t is the part of thread t beside a profile.
+pub(crate) fn run_profiled<X: Runner, O: Sink>(
+    runner: &X,
+    alloc: Global,
+    job: Job,
+    guests: Vec<Box<dyn GuestTool>>,
+    out: &mut O,
+) -> Outcome
+    requires { X.may_run runner.now job.serial }
+    ensures ran { HasRun (Command.Run RunOutput.Profile) job result.end result.shown result.read result.ran }
+    ensures guests { IfSome result.ran (λ report.
+        GuestsJoin (λ guest h. (GuestTool-box guest).stands_for guest.value h) (λ guest other. guest.vtable ≡ other.vtable)
+        (run_of report) report.cause report.history
+        guests.items report.guests.items) }
+    ensures written { HasWritten result.end (run_text result.ran) (O.held out.old) (O.held out.new) }
+    ensures faults { CountsFaults result.end End.WriteFault (O.faults out.old) (O.faults out.new) }
+{
+    let Ok(counted) = serve_profiled(runner, alloc, job, guests) else {
+        return without_run(End::Memory);
+    };
+    let CountedRun {
+        report,
+        text,
+        profiles,
+    } = counted;
+    let made = with_profile(alloc, text, &profiles);
+    let end = write_made(report.cause, made, out);
+    having_run(end, report)
+}
+
+/// This text, and behind it the report of what these profiles counted.
+fn with_profile(
+    alloc: Global,
+    printed: Vec<u8>,
+    profiles: &[Profile],
+) -> Result<Vec<u8>, AllocError>
+    ensures { IfOk result (λ text. (events : List EventRecord) → AreKept counts_of events profiles.now → text.items ≡ printed.items ++ profile_of events) }
+{
+    let mut text = printed;
+    let counts = profile_text(alloc, profiles)?;
+    text.extend_from_slice(counts.as_slice())?;
+    Ok(text)
+}
+
+/// Runs the job with the guests beside profiles. A run that found no memory for its first entry is none.
+fn serve_profiled<X: Runner>(
+    runner: &X,
+    alloc: Global,
+    job: Job,
+    guests: Vec<Box<dyn GuestTool>>,
+) -> Result<CountedRun, AllocError>
+    requires { X.may_run runner.now job.serial }
+    ensures observes { IfOk result (λ counted. Observes (Command.Run RunOutput.Profile) job counted.report) }
+    ensures guests { IfOk result (λ counted.
+        GuestsJoin (λ guest h. (GuestTool-box guest).stands_for guest.value h) (λ guest other. guest.vtable ≡ other.vtable)
+        (run_of counted.report) counted.report.cause counted.report.history
+        guests.items counted.report.guests.items) }
+    ensures printed { IfOk result (λ counted. counted.text.items ≡ (after (run_of counted.report) counted.report.history).world.store.text) }
+    ensures counted { IfOk result (λ counted. AreKept counts_of (records_of (run_of counted.report) counted.report.history) counted.profiles.items) }
+{
+    let Handing { parts, waiting } = hand_out_all(alloc, job.threads, guests)?;
+    let Joined { parts, room, .. } = join_all(alloc, parts)?;
+    let Observed {
+        report,
+        parts,
+        text,
+    } = runner.run_joined(alloc, job, parts)?;
+    let Parted { parts, profiles } = part_all(room, parts);
+    let report = Report {
+        guests: take_back_all(parts, waiting),
+        ..report
+    };
+    Ok(CountedRun {
+        report,
+        text,
+        profiles,
+    })
+}

@@ -1,0 +1,50 @@
+//! The line of a call: what its inquiries are answered.
+
+ghost use Rattle.std.specs.Prelude.{◌≡◌, ◌++◌, IfOk};
+ghost use Rattle.ompt_levels.specs.LevelLine.{line_text, regions_text, tasks_text};
+
+use ompt_calls::{RegionLevels, Snapshot, TaskLevels};
+use std::alloc::{AllocError, Global};
+
+/// The line of a call at this position of the history, on this thread. It has the thread's state and wait identifier, then each level of
+/// tasks and then each of regions, the innermost first, with one space between and a newline at its end.
+pub(crate) fn line_of(
+    alloc: Global,
+    seq: u32,
+    thread: u8,
+    snapshot: &Snapshot,
+) -> Result<Vec<u8>, AllocError>
+    ensures { IfOk result (λ line. line.items ≡ line_text seq thread snapshot.now) }
+{
+    let (state, wait_id) = snapshot.get_state();
+    let mut line = format!(in alloc; "{seq} {thread} {state} {wait_id}")?.into_bytes();
+    add_tasks(&mut line, alloc, &snapshot.tasks)?;
+    add_regions(&mut line, alloc, &snapshot.regions)?;
+    line.push(b'\n')?;
+    Ok(line)
+}
+
+/// Adds the levels of tasks to the line.
+fn add_tasks(line: &mut Vec<u8>, alloc: Global, levels: &TaskLevels) -> Result<(), AllocError>
+    ensures { IfOk result (λ done. line.new.items ≡ line.old.items ++ tasks_text levels.now) }
+{
+    for level in &levels.0 {
+        let text = format!(in alloc;
+            " task {} {} {} {} {}",
+            level.flags, level.word, level.frame, level.region, level.index
+        )?;
+        line.extend_from_slice(text.as_str().as_bytes())?;
+    }
+    Ok(())
+}
+
+/// Adds the levels of regions to the line.
+fn add_regions(line: &mut Vec<u8>, alloc: Global, levels: &RegionLevels) -> Result<(), AllocError>
+    ensures { IfOk result (λ done. line.new.items ≡ line.old.items ++ regions_text levels.now) }
+{
+    for level in &levels.0 {
+        let text = format!(in alloc; " region {} {}", level.word, level.team)?;
+        line.extend_from_slice(text.as_str().as_bytes())?;
+    }
+    Ok(())
+}

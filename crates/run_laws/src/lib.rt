@@ -1,0 +1,14 @@
+//! What follows from the definitions of a run, in the rules' own words.
+//!
+//! Proved, as laws of the definitions:
+//!
+//! - [`histories_are_bounded`]: a legal history has at most 524,288 turns and 2,621,440 entries;
+//! - [`replies_fix_a_serial_run`]: a serial run is a function of what its tools store. Two serial histories to the end in which the same is
+//!   stored after each turn, and so within each callback, are the same.
+//!
+//! The crate has no code that runs.
+#![tactic(auto)]
+
+mod laws;
+
+pub use laws::{histories_are_bounded, replies_fix_a_serial_run};
