@@ -7,6 +7,7 @@ ghost use Rattle.omp_model.specs.Legal.{Legal, after};
 ghost use Rattle.omp_model.specs.Serial.{WholeSerial};
 ghost use Rattle.omp_model.specs.State.{Run};
 ghost use Rattle.omp_model.specs.Turn.{turn};
+ghost use Rattle.run_laws.specs.Answers.{AnsweredRun, Answering, Answers, MayAnswer};
 ghost use Rattle.run_laws.specs.LastStored.{last_stored, word_of};
 ghost use Rattle.run_laws.specs.Replies.{replies_of};
 ghost use Rattle.run_laws.specs.Turns.{turns_of};
@@ -31,4 +32,13 @@ pub fn words_are_last_stored()
         word_of (after run history).world target ≡ last_stored target history }
     ensures told { (run : Run) (history : List Entry) (t : ℕ) (target : Target) → Legal run history →
         word_of (turn run (after run history) t).state.world target ≡ last_stored target history }
+{}
+
+/// For given stores after each event there is one serial history to the end. They are given as answers: to each event, by the history up to its turn, a list of
+/// stores that may stand there in turn. So an answer has at most three stores, each of a thread, region or task that was made, and none where no tool is told
+/// of the event. The run has at least one thread.
+pub fn answers_make_one_serial_run()
+    ensures there_is { (run : Run) (answer : Answering) → 1 ≤ run.threads → MayAnswer run answer → AnsweredRun run answer }
+    ensures one { (run : Run) (answer : Answering) (history other : List Entry) → WholeSerial run history → WholeSerial run other →
+        Answers run answer history → Answers run answer other → history ≡ other }
 {}
