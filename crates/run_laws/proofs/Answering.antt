@@ -1,12 +1,11 @@
 -- What the tools store after each event fixes one serial history to the end.
-use Rattle.std.proofs.Common.{ℕ, zero, suc, ◌≡◌, ◌≤◌, ◌<◌, ◌+◌, ◌==◌, ◌++◌, Bool, true, false, if◌then◌else◌, List, [], ◌∷◌, Option, Some, None, length, slice_set, refl, sym, ap, ap₂, ◌∙◌, subst, append_assoc, append-nil, eq-eqb, arith}
+use Rattle.std.proofs.Common.{ℕ, zero, suc, ◌≡◌, ◌≤◌, ◌<◌, ◌+◌, ◌++◌, true, List, [], ◌∷◌, Option, Some, None, length, refl, sym, ap, ap₂, ◌∙◌, subst, append_assoc, append-nil, eq-eqb, arith}
 use Rattle.std.specs.Prelude.{IsSome, is_some, slice_index_or}
 use Rattle.std.proofs.lemmas.List.{get_or-set_same}
 use Rattle.ompt_calls.specs.declared.snapshot.Target.{Target}
 use Rattle.ompt_calls.specs.Snapshot.{Stored}
 use Rattle.omp_model.specs.declared.event.Callback.{Callback}
 use Rattle.omp_model.specs.declared.event.Event.{Event}
-use Rattle.omp_model.specs.declared.event.Halt.{Halt}
 use Rattle.omp_model.specs.declared.event.Outcome.{Outcome}
 use Rattle.omp_model.specs.declared.event.Outcome.TheVariants.{Idle, Quiet, Happens, Halts}
 use Rattle.omp_model.specs.declared.history.Entry.{Entry}
@@ -17,12 +16,12 @@ use Rattle.omp_model.specs.Heard.{stores_at, stores_in}
 use Rattle.omp_model.specs.Legal.{AllowsFrom, Legal, after, after_from, back, does, entered, may, put, put_from}
 use Rattle.omp_model.specs.Serial.{Follows, Leads, Visit, WholeSerial, first_enabled, go_of, inside_after, moved, onward, onward_from, start}
 use Rattle.omp_model.specs.State.{Run, State, first, pending_at}
-use Rattle.omp_model.specs.Storing.{MayStore, back_at, go_at, put_all, put_at, puts_at}
+use Rattle.omp_model.specs.Storing.{MayStore, back_at, go_at, put_all, put_at}
 use Rattle.omp_model.specs.Turn.{called, enabled, turn}
 use Rattle.omp_model.proofs.Later.{at-set}
 use Rattle.omp_model.proofs.MadeRuns.{made-after}
 use Rattle.omp_model.proofs.Recording.{first_enabled-below, first_enabled-enabled, put_all-halt, put_all-turns, reply-legal, reply_at}
-use Rattle.omp_model.proofs.Turns.{back-halt, back-turns, turn-below, turn-goes, turn-halts, turn-not_idle, turn-pending, turns-rise}
+use Rattle.omp_model.proofs.Turns.{back-halt, back-turns, turn-below, turn-goes, turn-not_idle, turn-pending, turns-rise}
 use Rattle.run_laws.specs.Answers.{AnsweredRun, Answering, Answers, MayAnswer}
 use Rattle.run_laws.proofs.Serial.{entry_of, never-both, none-follows}
 

@@ -1,5 +1,5 @@
 -- After a legal history each word is the last one that was put there, or 0.
-use Rattle.std.proofs.Common.{ℕ, zero, suc, ◌≡◌, ◌<◌, ◌-◌, ◌==◌, ◌&&◌, Bool, true, false, if◌then◌else◌, List, [], ◌∷◌, length, Option, Some, None, replicate, slice_set, slice_index_or, refl, sym, ap, ◌∙◌, subst}
+use Rattle.std.proofs.Common.{ℕ, zero, suc, ◌≡◌, ◌<◌, ◌-◌, ◌==◌, ◌&&◌, Bool, true, false, if◌then◌else◌, List, [], ◌∷◌, length, Option, Some, None, refl, ap, ◌∙◌}
 use Rattle.std.specs.Prelude.{unwrap_or, nat_lt}
 use Rattle.std.proofs.lemmas.Bool.{and_parts, ltb-true}
 use Rattle.ompt_calls.specs.declared.snapshot.Target.{Target}
@@ -17,7 +17,7 @@ use Rattle.omp_model.specs.Words.{is_made, is_made_identity, stored}
 use Rattle.omp_model.proofs.MadeRuns.{at-replicate}
 use Rattle.omp_model.proofs.Moves.{thread-within}
 use Rattle.omp_model.proofs.Reading.{read-set}
-use Rattle.run_laws.specs.LastStored.{is_same_target, last_put, last_stored, put_in, word_of}
+use Rattle.run_laws.specs.LastStored.{last_put, last_stored, put_in, word_of}
 use Rattle.run_laws.proofs.SameWords.{same-back, same-turn}
 
 -- an identity that was given out

@@ -1,5 +1,5 @@
 -- A turn and the return of a callback keep the words of all threads, regions and tasks.
-use Rattle.std.proofs.Common.{ℕ, zero, suc, ◌≡◌, ◌++◌, Bool, true, false, if◌then◌else◌, List, [], ◌∷◌, Option, Some, None, slice_index_or, length, refl, subst, ap, ◌∙◌}
+use Rattle.std.proofs.Common.{ℕ, zero, suc, ◌≡◌, Bool, true, false, if◌then◌else◌, List, [], ◌∷◌, Option, Some, None, slice_index_or, length, refl, subst, ap, ◌∙◌}
 use Rattle.ompt_calls.specs.declared.snapshot.Target.{Target}
 use Rattle.ompt_calls.specs.declared.snapshot.Target.TheVariants as target
 use Rattle.c_syntax.specs.language.Tree.{Tree}
@@ -26,18 +26,16 @@ use Rattle.omp_model.specs.declared.event.Event.TheVariants as event
 use Rattle.omp_model.specs.declared.event.Halt.{Halt}
 use Rattle.omp_model.specs.declared.event.Outcome.{Outcome}
 use Rattle.omp_model.specs.declared.event.Outcome.TheVariants as outcome
-use Rattle.omp_model.specs.declared.parts.RegionHead.{RegionHead}
-use Rattle.omp_model.specs.Alike.{QuietWorld}
-use Rattle.omp_model.specs.Changes.{all_summoned, destroyed, emptied, finished, forked, initialised, is_fresh, made, member_begun, met, opened, owned_by, pushed, popped, readied, region_made, staged, started, summoned, taken_up, task_made, with_code, with_head, with_team}
+use Rattle.omp_model.specs.Changes.{all_summoned, destroyed, emptied, finished, forked, initialised, is_fresh, member_begun, opened, owned_by, pushed, popped, readied, region_made, started, summoned, taken_up, task_made, with_code, with_team}
 use Rattle.omp_model.specs.Gates.{is_barrier}
-use Rattle.omp_model.specs.Going.{Going, Halts, Happens, Nothing, after_creation, after_fork, after_member, after_meeting_at, after_sync, effect_of, effect_of_point, event_of_point, fault_of, fault_of_point, going_beside, going_by, going_in_code, kind_of_task, member_code, past_point, team_size, told, unless}
-use Rattle.omp_model.specs.Members.{current, current_index, current_region, is_member, is_outermost, member_index, moment_of, view_of}
+use Rattle.omp_model.specs.Going.{Going, Halts, Happens, Nothing, after_creation, after_fork, after_member, after_meeting_at, after_sync, effect_of, effect_of_point, event_of_point, fault_of, fault_of_point, going_by, going_in_code, kind_of_task, member_code, past_point, team_size, told, unless}
+use Rattle.omp_model.specs.Members.{current, current_region, is_member, is_outermost, moment_of, view_of}
 use Rattle.omp_model.specs.Returning.{after_created, after_wait_begun, at_back}
-use Rattle.omp_model.specs.Silent.{Goes, Silence, Stops, answer_to, answered, share_taken, silence_of, silent_step, team_after}
+use Rattle.omp_model.specs.Silent.{answer_to, answered, share_taken, silence_of, silent_step, team_after}
 use Rattle.omp_model.specs.State.{Region, Run, State, Task, Thread, World, fresh_region, is_under_way, no_region, no_task, pooled_at, region_at, task_at, task_with, thread_at, unmade, with_region, with_task, with_thread}
 use Rattle.omp_model.specs.Turn.{turn}
 use Rattle.omp_model.proofs.Reading.{read-more, read-same}
-use Rattle.omp_model.proofs.Turning.{AfterSilence, Beside, GoFrom, GoOf, OfCode, Turned, of-turn}
+use Rattle.omp_model.proofs.Turning.{AfterSilence, Beside, GoOf, OfCode, Turned, of-turn}
 use Rattle.omp_model.specs.Changes.{gone_past, gone_to, sharing}
 use Rattle.run_laws.specs.LastStored.{word_of}
 
