@@ -1,2 +1,5 @@
+pub mod Answering
 pub mod Bounds
+pub mod SameWords
+pub mod LastStored
 pub mod Serial

@@ -8,7 +8,7 @@ use Rattle.omp_model.specs.State.{Run}
 use Rattle.run_laws.specs.Replies.{Replies, Reply, replies_of, with_entry}
 
 -- an entry
-abbrev entry_of : ℕ → What → Entry
+abbrev pub entry_of : ℕ → What → Entry
 entry_of t what = record { thread = t; what = what }
 
 -- where nothing may stand next no thread is inside a callback
@@ -16,7 +16,7 @@ never-inside : (run : Run) (v : Visit) (t : ℕ) → v.inside ≡ Some t → onw
 never-inside run v t inside none = let is : onward_from run v (Some t) ≡ None = subst (λ (inside : Option ℕ). onward_from run v inside ≡ None) inside none in cc
 
 -- so nothing stands there
-none-follows : (run : Run) (v : Visit) (t : ℕ) (what : What) → onward run v ≡ None → Follows run v t what → ⊥
+pub none-follows : (run : Run) (v : Visit) (t : ℕ) (what : What) → onward run v ≡ None → Follows run v t what → ⊥
 none-follows run v t Go none is = let wrong = sym none ∙ is in cc
 none-follows run v t (Put target word) none is = never-inside run v t is none
 none-follows run v t Back none is = let wrong = sym none ∙ is in cc
@@ -45,7 +45,7 @@ abbrev what_of : Option Entry → What
 what_of None = Back
 what_of (Some entry) = entry.what
 
-never-both : (t s : ℕ) → Some (entry_of t Go) ≡ Some (entry_of s Back) → ⊥
+pub never-both : (t s : ℕ) → Some (entry_of t Go) ≡ Some (entry_of s Back) → ⊥
 never-both t s same = let wrong : Go ≡ Back = ap what_of same in cc
 
 -- the first entries of two such histories
