@@ -192,7 +192,7 @@ module _ (run : Run) (answer : Answering) where
       let answers_too = subst (λ (one : Entry). AnswersFrom v.state front (one ∷ others)) (sym same) there in
       let alike_too = subst (λ (one : Entry). StoreAlike v.inside (entry ∷ rest) (one ∷ others)) (sym same) alike in
       let then_ = one-from (moved run v entry) last end (front ++ entry ∷ []) rest others leads.1 leads_too.1 ended none (answers-moved v (front ++ entry ∷ []) rest entry here.1) (answers-moved v (front ++ entry ∷ []) others entry answers_too.1)
-          (alike-next v front entry.thread entry.what rest others leads.0 alike_too here.0 answers_too.0) in
+      (alike-next v front entry.thread entry.what rest others leads.0 alike_too here.0 answers_too.0) in
       ap₂ (λ (one : Entry) (more : List Entry). one ∷ more) same then_
 
   pub one-answered : (history other : List Entry) → WholeSerial run history → WholeSerial run other → Answers run answer history → Answers run answer other → history ≡ other

@@ -13,4 +13,7 @@
 
 mod laws;
 
-pub use laws::{answers_make_one_serial_run, histories_are_bounded, replies_fix_a_serial_run, words_are_last_stored};
+pub use laws::{
+    answers_make_one_serial_run, histories_are_bounded, replies_fix_a_serial_run,
+    words_are_last_stored,
+};
