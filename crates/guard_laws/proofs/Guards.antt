@@ -1,7 +1,6 @@
 -- The end of a region names it, and a member has its code.
 use Rattle.std.proofs.Common.{ℕ, ◌≡◌, ◌≤◌, ◌==◌, Bool, true, false, if◌then◌else◌, List, [], ◌∷◌, slice_index_or, refl, sym, ap, ◌∙◌, subst, arith}
 use Rattle.std.proofs.lemmas.Bool.{true≢false}
-use Rattle.omp_codes.specs.declared.callbacks.TheConstants.{PROFILE_MASK}
 use Rattle.c_check.specs.Checked.{Checked}
 use Rattle.c_model.specs.declared.point.SyncStage.TheVariants as stage
 use Rattle.c_model.specs.Formed.{IsProgramFormed}
@@ -9,6 +8,7 @@ use Rattle.c_model.specs.Task.{Item}
 use Rattle.c_model.specs.Task.Item.{Forked}
 use Rattle.c_model.specs.Task.Item.{Sync as SyncItem}
 use Rattle.code_brackets.proofs.ReturnPrograms.{returns_outside}
+use Rattle.omp_model.specs.declared.event.Event.{Event}
 use Rattle.omp_model.specs.declared.event.Event.TheVariants.{MemberBegin, ParallelEnd}
 use Rattle.omp_model.specs.declared.event.Outcome.TheVariants.{Happens}
 use Rattle.omp_model.specs.declared.history.Entry.{Entry}
@@ -19,11 +19,12 @@ use Rattle.omp_model.specs.Made.{IsForkedRegion}
 use Rattle.omp_model.specs.Members.{current, member_index}
 use Rattle.omp_model.specs.State.{Run, State, Thread, region_at, task_at, thread_at}
 use Rattle.omp_model.specs.Touching.{joined_by}
-use Rattle.omp_model.specs.Turn.{enabled, turn}
+use Rattle.omp_model.specs.Turn.{Turn, enabled, turn}
 use Rattle.nested_runs.specs.Known.{HasForked, HoldsRegion}
 use Rattle.nested_runs.specs.Knows.{IsWholeRun}
 use Rattle.nested_runs.specs.Standing.{stand_among, stand_at}
 use Rattle.nested_runs.specs.Standing.Stand.{AtFork}
+use Rattle.guard_laws.proofs.Masks.{all_told, legal-told, told-after, told-next}
 use Rattle.guard_laws.proofs.KnownStates.{KnownGo, known-event}
 
 -- the end of a region stands next in the code
@@ -64,17 +65,29 @@ module _ (run : Run) (S next : State) (t r : ℕ) where
       let same : stand_at next.world (region_at W r).head.task ≡ AtFork = go.touches.stands (region_at W r).head.task (λ of_code is. absurd (true≢false (sym of_code))) ∙ holds.stand in
       forked-stands (task_at next.world (region_at next.world r).head.task).code.todo (ap (stand_at next.world) head ∙ same)
 
-module _ (run : Run) (history : List Entry) (t r : ℕ) (some : 1 ≤ run.threads) (few : run.threads ≤ 16) (whole : run.mask ≡ PROFILE_MASK) (checked : Checked run.program)
-    (formed : IsProgramFormed run.program) (legal : Legal run history) (goes : enabled (after run history) t ≡ true) where
-  is-whole : IsWholeRun run
-  is-whole = record { some = some; few = few; whole = whole; returns = returns_outside run.program checked formed }
+module _ (run : Run) (history : List Entry) (t r : ℕ) (some : 1 ≤ run.threads) (few : run.threads ≤ 16) (checked : Checked run.program) (formed : IsProgramFormed run.program)
+    (legal : Legal run history) (goes : enabled (after run history) t ≡ true) where
+  is-whole : IsWholeRun (all_told run)
+  is-whole = record { some = some; few = few; whole = refl; returns = returns_outside run.program checked formed }
+
+  -- what is known of an event where all callbacks are registered
+  told-event : (e : Event) → (turn run (after run history) t).outcome ≡ Happens e →
+      KnownGo (all_told run) (after (all_told run) history) (turn (all_told run) (after (all_told run) history) t).state t e
+  told-event e happens =
+      known-event (all_told run) history t e is-whole (legal-told run is-whole history legal)
+      (ap (λ (S : State). enabled S t) (told-after run history) ∙ goes)
+      (ap (λ (one : Turn). one.outcome) (told-next run history t) ∙ happens)
 
   pub end-names : (codeptr : ℕ) → (turn run (after run history) t).outcome ≡ Happens (ParallelEnd r codeptr) →
       let W = (turn run (after run history) t).state.world in IsForkedRegion W r × ((region_at W r).head.task ≡ current W t)
   end-names codeptr happens =
-      end-named run (after run history) (turn run (after run history) t).state t r codeptr (known-event run history t (ParallelEnd r codeptr) is-whole legal goes happens)
+      let next = (turn (all_told run) (after (all_told run) history) t).state in
+      subst (λ (one : Turn). let W = one.state.world in IsForkedRegion W r × ((region_at W r).head.task ≡ current W t)) (told-next run history t)
+      (end-named (all_told run) (after (all_told run) history) next t r codeptr (told-event (ParallelEnd r codeptr) happens))
 
   pub member-has : (k : ℕ) → (turn run (after run history) t).outcome ≡ Happens (MemberBegin r k) →
       let W = (turn run (after run history) t).state.world in has_forked (task_at W (region_at W r).head.task).code.todo ≡ true
   member-has k happens =
-      member-coded run (after run history) (turn run (after run history) t).state t r k (known-event run history t (MemberBegin r k) is-whole legal goes happens)
+      let next = (turn (all_told run) (after (all_told run) history) t).state in
+      subst (λ (one : Turn). let W = one.state.world in has_forked (task_at W (region_at W r).head.task).code.todo ≡ true) (told-next run history t)
+      (member-coded (all_told run) (after (all_told run) history) next t r k (told-event (MemberBegin r k) happens))

@@ -1,7 +1,6 @@
 //! What follows from the definitions alone: each law is the contract of a function with an empty body.
 
 ghost use Rattle.std.specs.Prelude.{ℕ, ◌≡◌, ◌≤◌, List, true};
-ghost use Rattle.omp_codes.specs.declared.callbacks.TheConstants.{PROFILE_MASK};
 ghost use Rattle.c_check.specs.Checked.{Checked};
 ghost use Rattle.c_model.specs.Formed.{IsProgramFormed};
 ghost use Rattle.omp_model.specs.declared.event.Event.TheVariants.{MemberBegin, ParallelEnd};
@@ -15,10 +14,9 @@ ghost use Rattle.omp_model.specs.State.{Run, region_at, task_at};
 ghost use Rattle.omp_model.specs.Turn.{enabled, turn};
 
 /// Where the end of a parallel region has just occurred after a legal history, it names a region that was forked, and the thread's current task is the one
-/// that has forked it. So no region ends that is none. The run has 1 to 16 threads and the callbacks of the profile registered, and its program breaks no
-/// rule.
+/// that has forked it. So no region ends that is none. The run has 1 to 16 threads, and its program breaks no rule.
 pub fn region_ends_name_regions()
-    ensures { (run : Run) (history : List Entry) (t r codeptr : ℕ) → 1 ≤ run.threads → run.threads ≤ 16 → run.mask ≡ PROFILE_MASK →
+    ensures { (run : Run) (history : List Entry) (t r codeptr : ℕ) → 1 ≤ run.threads → run.threads ≤ 16 →
         Checked run.program → IsProgramFormed run.program → Legal run history → enabled (after run history) t ≡ true →
         (turn run (after run history) t).outcome ≡ Happens (ParallelEnd r codeptr) →
         let W = (turn run (after run history) t).state.world in IsForkedRegion W r × ((region_at W r).head.task ≡ current W t) }
@@ -26,9 +24,9 @@ pub fn region_ends_name_regions()
 
 /// Where a member of a team has just begun after a legal history, the end of its region stands next in the code of the task that has forked the region: this
 /// is where a member's code is taken from, and the beginning leaves that code as it is. So no member begins without its region's code. The run has 1 to 16
-/// threads and the callbacks of the profile registered, and its program breaks no rule.
+/// threads, and its program breaks no rule.
 pub fn members_have_code()
-    ensures { (run : Run) (history : List Entry) (t r k : ℕ) → 1 ≤ run.threads → run.threads ≤ 16 → run.mask ≡ PROFILE_MASK →
+    ensures { (run : Run) (history : List Entry) (t r k : ℕ) → 1 ≤ run.threads → run.threads ≤ 16 →
         Checked run.program → IsProgramFormed run.program → Legal run history → enabled (after run history) t ≡ true →
         (turn run (after run history) t).outcome ≡ Happens (MemberBegin r k) →
         let W = (turn run (after run history) t).state.world in has_forked (task_at W (region_at W r).head.task).code.todo ≡ true }

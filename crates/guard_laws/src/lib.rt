@@ -1,8 +1,7 @@
 //! What the guards in the definitions of a run leave out never comes up.
 //!
 //! The definitions of a run answer in each state, also in states that no run comes to: a region may end where none was forked, and a member may begin
-//! where there is no code for it. Here these cases are shown to be none of a run with the callbacks of the profile registered, of a program that breaks
-//! no rule.
+//! where there is no code for it. Here these cases are shown to be none of a run of a program that breaks no rule, whichever callbacks are registered.
 //!
 //! Proved, as laws of the definitions:
 //!
