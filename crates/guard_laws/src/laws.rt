@@ -2,6 +2,7 @@
 
 ghost use Rattle.std.specs.Prelude.{ℕ, ◌≡◌, ◌≤◌, List, true};
 ghost use Rattle.c_check.specs.Checked.{Checked};
+ghost use Rattle.c_model.specs.Begin.{member_task};
 ghost use Rattle.c_model.specs.Formed.{IsProgramFormed};
 ghost use Rattle.omp_model.specs.declared.event.Event.TheVariants.{MemberBegin, ParallelEnd};
 ghost use Rattle.omp_model.specs.declared.event.Outcome.TheVariants.{Happens};
@@ -22,12 +23,16 @@ pub fn region_ends_name_regions()
         let W = (turn run (after run history) t).state.world in IsForkedRegion W r × ((region_at W r).head.task ≡ current W t) }
 {}
 
-/// Where a member of a team has just begun after a legal history, the end of its region stands next in the code of the task that has forked the region: this
-/// is where a member's code is taken from, and the beginning leaves that code as it is. So no member begins without its region's code. The run has 1 to 16
-/// threads, and its program breaks no rule.
+/// Where a member of a team has just begun after a legal history, the end of its region stands next in the code of the task that has forked the region, and
+/// its own code is what this code has for a member. So no member begins without its region's code. The run has 1 to 16 threads, and its program breaks no
+/// rule.
 pub fn members_have_code()
-    ensures { (run : Run) (history : List Entry) (t r k : ℕ) → 1 ≤ run.threads → run.threads ≤ 16 →
-        Checked run.program → IsProgramFormed run.program → Legal run history → enabled (after run history) t ≡ true →
+    ensures stands { (run : Run) (history : List Entry) (t r k : ℕ) → 1 ≤ run.threads → run.threads ≤ 16 → Checked run.program →
+        IsProgramFormed run.program → Legal run history → enabled (after run history) t ≡ true →
         (turn run (after run history) t).outcome ≡ Happens (MemberBegin r k) →
         let W = (turn run (after run history) t).state.world in has_forked (task_at W (region_at W r).head.task).code.todo ≡ true }
+    ensures code { (run : Run) (history : List Entry) (t r k : ℕ) → 1 ≤ run.threads → run.threads ≤ 16 → Checked run.program →
+        IsProgramFormed run.program → Legal run history → enabled (after run history) t ≡ true →
+        (turn run (after run history) t).outcome ≡ Happens (MemberBegin r k) →
+        let W = (turn run (after run history) t).state.world in (task_at W k).code ≡ member_task (task_at W (region_at W r).head.task).code }
 {}

@@ -6,7 +6,8 @@
 //! Proved, as laws of the definitions:
 //!
 //! - [`region_ends_name_regions`]: the end of a parallel region names a region that was forked, and its encountering task is the thread's current one;
-//! - [`members_have_code`]: where a member begins, the end of its region stands next in the code of the task that has forked the region.
+//! - [`members_have_code`]: where a member begins, the end of its region stands next in the code of the task that has forked the region, and the
+//!   member has the code that this one has for it.
 //!
 //! The crate has no code that runs.
 #![tactic(auto)]
