@@ -47,9 +47,8 @@ module _ (run : Run) (S next : State) (t r : ℕ) where
       let forked : HasForked W (current W t) = go.knows.seats.forks (current W t) go.comes.0.stand in
       let region = go.comes.1.region in
       let head = ap (λ (head : RegionHead). head.task) (go.touches.world.head r)
-          ∙ either-task (r == r) (record (region_at W r).head { ended = true }) (region_at W r).head refl in
-      let own : current next.world t ≡ current W t = ap (λ (thread : Thread). slice_index_or thread.stack 0 0) go.touches.world.own in
-      (
+      ∙ either-task (r == r) (record (region_at W r).head { ended = true }) (region_at W r).head refl in
+      let own : current next.world t ≡ current W t = ap (λ (thread : Thread). slice_index_or thread.stack 0 0) go.touches.world.own in (
         record { made = record { some = omega (arith, region, forked.region.forked); below = omega (arith, region, forked.region.made, go.touches.world.regions) }; forked = omega (arith, region, forked.region.forked) },
         head ∙ ap (λ (r : ℕ). (region_at W r).head.task) region ∙ forked.task ∙ sym own,
       )
@@ -61,7 +60,7 @@ module _ (run : Run) (S next : State) (t r : ℕ) where
       let invited = go.knows.seats.invited t (omega (arith, go.comes.region, go.comes.some)) in
       let holds : HoldsRegion W r = subst (HoldsRegion W) go.comes.region (go.knows.seats.holds (thread_at W t).invited invited.region) in
       let head : (region_at next.world r).head.task ≡ (region_at W r).head.task = ap (λ (head : RegionHead). head.task) (go.touches.world.head r)
-          ∙ either-task (r == r) (joined_by (region_at W r).head (member_index W t r) k) (region_at W r).head refl in
+      ∙ either-task (r == r) (joined_by (region_at W r).head (member_index W t r) k) (region_at W r).head refl in
       let same : stand_at next.world (region_at W r).head.task ≡ AtFork = go.touches.stands (region_at W r).head.task (λ of_code is. absurd (true≢false (sym of_code))) ∙ holds.stand in
       forked-stands (task_at next.world (region_at next.world r).head.task).code.todo (ap (stand_at next.world) head ∙ same)
 
