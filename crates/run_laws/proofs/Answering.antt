@@ -43,7 +43,7 @@ same-first target place word value rest others same =
 
 module _ (run : Run) (answer : Answering) where
   abbrev AnswersAt : State → List Entry → ℕ → What → List Entry → Type 0
-  AnswersAt S front t Go rest = AnswersOutcome (answer (front ++ go_at t ∷ [])) t (turn run S t).outcome rest
+  AnswersAt S front t Go rest = AnswersOutcome (answer front t) t (turn run S t).outcome rest
   AnswersAt S front t (Put target word) rest = Unit {0}
   AnswersAt S front t Back rest = Unit {0}
 
@@ -68,12 +68,12 @@ module _ (run : Run) (answer : Answering) where
 
   -- from the front on, at an event after these entries
   answered-behind : (S : State) (before front rest : List Entry) (t : ℕ) (event : Event) → AnswersFrom S before (front ++ go_at t ∷ rest) →
-      (turn run (after_from run S front) t).outcome ≡ Happens event → stores_in t rest ≡ answer ((before ++ front) ++ go_at t ∷ [])
+      (turn run (after_from run S front) t).outcome ≡ Happens event → stores_in t rest ≡ answer (before ++ front) t
   answered-behind S before [] rest t event so is =
-      at-event (answer (before ++ go_at t ∷ [])) t (turn run S t).outcome event rest is so.0 ∙ ap (λ (front : List Entry). answer (front ++ go_at t ∷ [])) (sym (append-nil before))
+      at-event (answer before t) t (turn run S t).outcome event rest is so.0 ∙ ap (λ (front : List Entry). answer front t) (sym (append-nil before))
   answered-behind S before (entry ∷ front) rest t event so is =
       answered-behind (entered run S entry) (before ++ entry ∷ []) front rest t event so.1 is
-      ∙ ap (λ (front : List Entry). answer (front ++ go_at t ∷ [])) (append_assoc before (entry ∷ []) front)
+      ∙ ap (λ (front : List Entry). answer front t) (append_assoc before (entry ∷ []) front)
 
   pub answers-each : (history : List Entry) → AnswersFrom (first run) [] history → Answers run answer history
   answers-each history so front rest t event is happens =
@@ -86,7 +86,7 @@ module _ (run : Run) (answer : Answering) where
   each-at : (history front rest : List Entry) (S : State) (t : ℕ) (what : What) → Answers run answer history → history ≡ front ++ entry_of t what ∷ rest → after run front ≡ S →
       AnswersAt S front t what rest
   each-at history front rest S t Go so is reached =
-      event-at (answer (front ++ go_at t ∷ [])) t (turn run S t).outcome rest
+      event-at (answer front t) t (turn run S t).outcome rest
       (λ event happens. so front rest t event is (ap (λ (S : State). (turn run S t).outcome) reached ∙ happens))
   each-at history front rest S t (Put target word) so is reached = tt
   each-at history front rest S t Back so is reached = tt
@@ -166,7 +166,7 @@ module _ (run : Run) (answer : Answering) where
       StoreAlike v.inside (entry_of t what ∷ rest) (entry_of t what ∷ others) → AnswersAt v.state front t what rest → AnswersAt v.state front t what others →
       StoreAlike (moved run v (entry_of t what)).inside rest others
   alike-next v front t Go rest others one alike here there =
-      alike-outcome (answer (front ++ go_at t ∷ [])) t (turn run v.state t).outcome rest others here there
+      alike-outcome (answer front t) t (turn run v.state t).outcome rest others here there
   alike-next v front t (Put target word) rest others one alike here there = λ u is.
       let same : t ≡ u = let both : Some t ≡ Some u = sym one ∙ is in cc in
       let stores = alike-own t t (Put target word) (Put target word) rest others refl (alike t one) in
@@ -315,13 +315,13 @@ module _ (run : Run) (answer : Answering) where
             legal = (goes, o.legal);
             in_turn = (stands, o.in_turn);
             ended = o.ended;
-            answers = (without-event (answer (front ++ go_at t ∷ [])) t (turn run v.state t).outcome o.history none, o.answers);
+            answers = (without-event (answer front t) t (turn run v.state t).outcome o.history none, o.answers);
           }
 
       -- a turn with this event
       module _ (e : Event) (happens : (turn run v.state t).outcome ≡ Happens e) where
         abbrev stores : List Stored
-        stores = answer (front ++ go_at t ∷ [])
+        stores = answer front t
 
         may_store : MayStore run turned t stores
         may_store =

@@ -12,7 +12,7 @@ abbrev pub entry_of : ℕ → What → Entry
 entry_of t what = record { thread = t; what = what }
 
 -- where nothing may stand next no thread is inside a callback
-never-inside : (run : Run) (v : Visit) (t : ℕ) → v.inside ≡ Some t → onward run v ≡ None → ⊥
+pub never-inside : (run : Run) (v : Visit) (t : ℕ) → v.inside ≡ Some t → onward run v ≡ None → ⊥
 never-inside run v t inside none = let is : onward_from run v (Some t) ≡ None = subst (λ (inside : Option ℕ). onward_from run v inside ≡ None) inside none in cc
 
 -- so nothing stands there
