@@ -13,7 +13,7 @@ use Rattle.omp_model.specs.declared.history.What.{What}
 use Rattle.omp_model.specs.declared.history.What.TheVariants.{Back, Go, Put}
 use Rattle.omp_model.specs.declared.limits.TheConstants.{TURN_LIMIT}
 use Rattle.omp_model.specs.Heard.{stores_at, stores_in}
-use Rattle.omp_model.specs.Legal.{AllowsFrom, Legal, after, after_from, back, does, entered, may, put, put_from}
+use Rattle.omp_model.specs.Legal.{AllowsFrom, Legal, after, after_from, back, entered, may, put, put_from}
 use Rattle.omp_model.specs.Serial.{Follows, Leads, Visit, WholeSerial, first_enabled, go_of, inside_after, moved, onward, onward_from, start}
 use Rattle.omp_model.specs.State.{Run, State, first, pending_at}
 use Rattle.omp_model.specs.Storing.{MayStore, back_at, go_at, put_all, put_at}
@@ -23,7 +23,7 @@ use Rattle.omp_model.proofs.MadeRuns.{made-after}
 use Rattle.omp_model.proofs.Recording.{first_enabled-below, first_enabled-enabled, put_all-halt, put_all-turns, reply-legal, reply_at}
 use Rattle.omp_model.proofs.Turns.{back-halt, back-turns, turn-below, turn-goes, turn-not_idle, turn-pending, turns-rise}
 use Rattle.run_laws.specs.Answers.{AnsweredRun, Answering, Answers, MayAnswer}
-use Rattle.run_laws.proofs.Serial.{entry_of, never-both, none-follows}
+use Rattle.run_laws.proofs.Serial.{entry_of, moved-state, never-both, none-follows, thread_in}
 
 -- where an event occurs, this is stored among the entries that follow
 abbrev AnswersOutcome : List Stored → ℕ → Outcome → List Entry → Type 0
@@ -127,10 +127,6 @@ module _ (run : Run) (answer : Answering) where
   alike-own t s what then_ rest others same alike =
       sym (own-entry t what rest) ∙ alike ∙ ap (λ (s : ℕ). stores_in t (entry_of s then_ ∷ others)) (sym same) ∙ own-entry t then_ others
 
-  abbrev thread_in : Option Entry → ℕ
-  thread_in None = 0
-  thread_in (Some entry) = entry.thread
-
   -- inside a callback of a thread only a store or the return of it may stand next
   inside-follows : (v : Visit) (t s : ℕ) (what : What) → v.inside ≡ Some t → Follows run v s what → t ≡ s
   inside-follows v t s Go inside is =
@@ -173,13 +169,8 @@ module _ (run : Run) (answer : Answering) where
       subst (λ (u : ℕ). stores_in u rest ≡ stores_in u others) same cc
   alike-next v front t Back rest others one alike here there = λ u is. cc
 
-  moved-state : (v : Visit) (t : ℕ) (what : What) → does run v.state t what ≡ (moved run v (entry_of t what)).state
-  moved-state v t Go = refl
-  moved-state v t (Put target word) = refl
-  moved-state v t Back = refl
-
   answers-moved : (v : Visit) (front rest : List Entry) (entry : Entry) → AnswersFrom (entered run v.state entry) front rest → AnswersFrom (moved run v entry).state front rest
-  answers-moved v front rest entry so = subst (λ (S : State). AnswersFrom S front rest) (moved-state v entry.thread entry.what) so
+  answers-moved v front rest entry so = subst (λ (S : State). AnswersFrom S front rest) (moved-state run v entry.thread entry.what) so
 
   one-from : (v last end : Visit) (front history other : List Entry) → Leads run v history last → Leads run v other end → onward run last ≡ None → onward run end ≡ None →
       AnswersFrom v.state front history → AnswersFrom v.state front other → StoreAlike v.inside history other → history ≡ other

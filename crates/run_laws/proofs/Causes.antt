@@ -1,11 +1,10 @@
 -- A serial history to the end ends in a cause.
-use Rattle.std.proofs.Common.{ℕ, zero, suc, ◌≡◌, ◌≤◌, ◌<◌, ◌+◌, ◌&&◌, Bool, true, false, if◌then◌else◌, List, [], ◌∷◌, Option, Some, None, slice_index_or, slice_set, refl, sym, ap, ◌∙◌, subst, inl, inr, arith}
+use Rattle.std.proofs.Common.{ℕ, zero, suc, ◌≡◌, ◌≤◌, Bool, true, if◌then◌else◌, List, [], ◌∷◌, Option, Some, None, slice_index_or, slice_set, refl, sym, ap, ◌∙◌, subst, inl, inr, arith}
 use Rattle.std.specs.Prelude.{ℤ, IsSome, is_none, is_some}
 use Rattle.std.specs.List.{list_all}
 use Rattle.std.proofs.lemmas.Bool.{and_from, cases_eq}
 use Rattle.std.proofs.lemmas.List.{get_or-set_other}
 use Rattle.ompt_calls.specs.declared.snapshot.Target.{Target}
-use Rattle.omp_model.specs.declared.cause.Cause.{Cause}
 use Rattle.omp_model.specs.declared.cause.Cause.TheVariants as cause
 use Rattle.omp_model.specs.declared.event.Callback.{Callback}
 use Rattle.omp_model.specs.declared.event.Halt.{Halt}
@@ -15,15 +14,15 @@ use Rattle.omp_model.specs.declared.history.Entry.{Entry}
 use Rattle.omp_model.specs.declared.history.What.{What}
 use Rattle.omp_model.specs.declared.history.What.TheVariants.{Back, Go, Put}
 use Rattle.omp_model.specs.Cause.{cause_by_halt, cause_of, cause_of_whole, is_stuck, none_pending, whole_value}
-use Rattle.omp_model.specs.Legal.{after, after_from, back_from, does, entered, put_from}
+use Rattle.omp_model.specs.Legal.{after_from, back_from, put_from}
 use Rattle.omp_model.specs.Serial.{Follows, Leads, Visit, WholeSerial, enabled_among, first_enabled, go_of, inside_after, moved, onward, onward_from, start}
-use Rattle.omp_model.specs.State.{Run, State, first, pending_at}
+use Rattle.omp_model.specs.State.{Run, State, pending_at}
 use Rattle.omp_model.specs.Storing.{back_at, go_at}
 use Rattle.omp_model.specs.Turn.{called, turn}
 use Rattle.omp_model.proofs.MadeRuns.{at-replicate}
 use Rattle.omp_model.proofs.Recording.{first_enabled-below, first_enabled-none}
 use Rattle.omp_model.proofs.Turns.{Leaves, leaves-turn}
-use Rattle.run_laws.proofs.Serial.{entry_of, never-both, never-inside}
+use Rattle.run_laws.proofs.Serial.{entry_of, moved-state, never-both, never-inside, thread_in}
 
 -- only the thread inside a callback has a pending one, and the next thread is one of the run's or the number behind them
 record IsCalm (run : Run) (v : Visit) : Type 0 where
@@ -35,10 +34,6 @@ record IsCalm (run : Run) (v : Visit) : Type 0 where
 go-found : (found : Option ℕ) (t : ℕ) → go_of found ≡ Some (go_at t) → found ≡ Some t
 go-found None t is = cc
 go-found (Some u) t is = ap Some (ap thread_in is)
-  where
-    thread_in : Option Entry → ℕ
-    thread_in None = 0
-    thread_in (Some entry) = entry.thread
 
 record MayGo (run : Run) (v : Visit) (t : ℕ) : Type 0 where
   outside : v.inside ≡ None
@@ -55,10 +50,6 @@ no-back (Some u) t is = never-both u t is
 at-back : (run : Run) (v : Visit) (t : ℕ) (inside : Option ℕ) → v.inside ≡ inside → onward_from run v inside ≡ Some (back_at t) → v.inside ≡ Some t
 at-back run v t None at is = absurd (no-back (first_enabled run v.state v.next) t is)
 at-back run v t (Some u) at is = at ∙ ap Some (ap thread_in is)
-  where
-    thread_in : Option Entry → ℕ
-    thread_in None = 0
-    thread_in (Some entry) = entry.thread
 
 -- What entries leave of pending callbacks.
 
@@ -114,15 +105,10 @@ module _ (run : Run) where
   calm-last v last [] leads calm = subst (IsCalm run) leads calm
   calm-last v last (entry ∷ rest) leads calm = calm-last (moved run v entry) last rest leads.1 (calm-moved v entry.thread entry.what leads.0 calm)
 
-  moved-state : (v : Visit) (t : ℕ) (what : What) → does run v.state t what ≡ (moved run v (entry_of t what)).state
-  moved-state v t Go = refl
-  moved-state v t (Put place word) = refl
-  moved-state v t Back = refl
-
   state-last : (v last : Visit) (history : List Entry) → Leads run v history last → after_from run v.state history ≡ last.state
   state-last v last [] leads = ap (λ (v : Visit). v.state) leads
   state-last v last (entry ∷ rest) leads =
-      ap (λ (S : State). after_from run S rest) (moved-state v entry.thread entry.what) ∙ state-last (moved run v entry) last rest leads.1
+      ap (λ (S : State). after_from run S rest) (moved-state run v entry.thread entry.what) ∙ state-last (moved run v entry) last rest leads.1
 
   -- nothing may stand next
   ended-outside : (v : Visit) (inside : Option ℕ) → v.inside ≡ inside → onward run v ≡ None → v.inside ≡ None

@@ -2,10 +2,7 @@
 use Rattle.std.proofs.Common.{ℕ, ◌≡◌, ◌≤◌, Bool, true, false, if◌then◌else◌, List, [], refl, sym, subst}
 use Rattle.ompt_calls.specs.Number.{is_registered}
 use Rattle.ompt_calls.specs.Snapshot.{Stored, stores_of}
-use Rattle.omp_model.specs.declared.event.Event.{Event}
 use Rattle.omp_model.specs.declared.event.Outcome.{Outcome}
-use Rattle.omp_model.specs.declared.event.Outcome.TheVariants.{Happens}
-use Rattle.omp_model.specs.declared.history.Entry.{Entry}
 use Rattle.omp_model.specs.Calls.{callback_of}
 use Rattle.omp_model.specs.Legal.{after}
 use Rattle.omp_model.specs.Snapshots.{snap_of}
