@@ -13,7 +13,7 @@ use Rattle.omp_model.specs.declared.history.What.{What}
 use Rattle.omp_model.specs.declared.history.What.TheVariants.{Back, Go, Put}
 use Rattle.omp_model.specs.declared.limits.TheConstants.{TURN_LIMIT}
 use Rattle.omp_model.specs.Heard.{stores_at, stores_in}
-use Rattle.omp_model.specs.Legal.{AllowsFrom, Legal, after, after_from, back, does, entered, may, put, put_from}
+use Rattle.omp_model.specs.Legal.{AllowsFrom, Legal, after, after_from, back, entered, may, put, put_from}
 use Rattle.omp_model.specs.Serial.{Follows, Leads, Visit, WholeSerial, first_enabled, go_of, inside_after, moved, onward, onward_from, start}
 use Rattle.omp_model.specs.State.{Run, State, first, pending_at}
 use Rattle.omp_model.specs.Storing.{MayStore, back_at, go_at, put_all, put_at}
@@ -23,7 +23,7 @@ use Rattle.omp_model.proofs.MadeRuns.{made-after}
 use Rattle.omp_model.proofs.Recording.{first_enabled-below, first_enabled-enabled, put_all-halt, put_all-turns, reply-legal, reply_at}
 use Rattle.omp_model.proofs.Turns.{back-halt, back-turns, turn-below, turn-goes, turn-not_idle, turn-pending, turns-rise}
 use Rattle.run_laws.specs.Answers.{AnsweredRun, Answering, Answers, MayAnswer}
-use Rattle.run_laws.proofs.Serial.{entry_of, never-both, none-follows}
+use Rattle.run_laws.proofs.Serial.{entry_of, moved-state, never-both, none-follows, thread_in}
 
 -- where an event occurs, this is stored among the entries that follow
 abbrev AnswersOutcome : List Stored → ℕ → Outcome → List Entry → Type 0
@@ -43,7 +43,7 @@ same-first target place word value rest others same =
 
 module _ (run : Run) (answer : Answering) where
   abbrev AnswersAt : State → List Entry → ℕ → What → List Entry → Type 0
-  AnswersAt S front t Go rest = AnswersOutcome (answer (front ++ go_at t ∷ [])) t (turn run S t).outcome rest
+  AnswersAt S front t Go rest = AnswersOutcome (answer front t) t (turn run S t).outcome rest
   AnswersAt S front t (Put target word) rest = Unit {0}
   AnswersAt S front t Back rest = Unit {0}
 
@@ -68,12 +68,12 @@ module _ (run : Run) (answer : Answering) where
 
   -- from the front on, at an event after these entries
   answered-behind : (S : State) (before front rest : List Entry) (t : ℕ) (event : Event) → AnswersFrom S before (front ++ go_at t ∷ rest) →
-      (turn run (after_from run S front) t).outcome ≡ Happens event → stores_in t rest ≡ answer ((before ++ front) ++ go_at t ∷ [])
+      (turn run (after_from run S front) t).outcome ≡ Happens event → stores_in t rest ≡ answer (before ++ front) t
   answered-behind S before [] rest t event so is =
-      at-event (answer (before ++ go_at t ∷ [])) t (turn run S t).outcome event rest is so.0 ∙ ap (λ (front : List Entry). answer (front ++ go_at t ∷ [])) (sym (append-nil before))
+      at-event (answer before t) t (turn run S t).outcome event rest is so.0 ∙ ap (λ (front : List Entry). answer front t) (sym (append-nil before))
   answered-behind S before (entry ∷ front) rest t event so is =
       answered-behind (entered run S entry) (before ++ entry ∷ []) front rest t event so.1 is
-      ∙ ap (λ (front : List Entry). answer (front ++ go_at t ∷ [])) (append_assoc before (entry ∷ []) front)
+      ∙ ap (λ (front : List Entry). answer front t) (append_assoc before (entry ∷ []) front)
 
   pub answers-each : (history : List Entry) → AnswersFrom (first run) [] history → Answers run answer history
   answers-each history so front rest t event is happens =
@@ -86,7 +86,7 @@ module _ (run : Run) (answer : Answering) where
   each-at : (history front rest : List Entry) (S : State) (t : ℕ) (what : What) → Answers run answer history → history ≡ front ++ entry_of t what ∷ rest → after run front ≡ S →
       AnswersAt S front t what rest
   each-at history front rest S t Go so is reached =
-      event-at (answer (front ++ go_at t ∷ [])) t (turn run S t).outcome rest
+      event-at (answer front t) t (turn run S t).outcome rest
       (λ event happens. so front rest t event is (ap (λ (S : State). (turn run S t).outcome) reached ∙ happens))
   each-at history front rest S t (Put target word) so is reached = tt
   each-at history front rest S t Back so is reached = tt
@@ -127,10 +127,6 @@ module _ (run : Run) (answer : Answering) where
   alike-own t s what then_ rest others same alike =
       sym (own-entry t what rest) ∙ alike ∙ ap (λ (s : ℕ). stores_in t (entry_of s then_ ∷ others)) (sym same) ∙ own-entry t then_ others
 
-  abbrev thread_in : Option Entry → ℕ
-  thread_in None = 0
-  thread_in (Some entry) = entry.thread
-
   -- inside a callback of a thread only a store or the return of it may stand next
   inside-follows : (v : Visit) (t s : ℕ) (what : What) → v.inside ≡ Some t → Follows run v s what → t ≡ s
   inside-follows v t s Go inside is =
@@ -166,20 +162,15 @@ module _ (run : Run) (answer : Answering) where
       StoreAlike v.inside (entry_of t what ∷ rest) (entry_of t what ∷ others) → AnswersAt v.state front t what rest → AnswersAt v.state front t what others →
       StoreAlike (moved run v (entry_of t what)).inside rest others
   alike-next v front t Go rest others one alike here there =
-      alike-outcome (answer (front ++ go_at t ∷ [])) t (turn run v.state t).outcome rest others here there
+      alike-outcome (answer front t) t (turn run v.state t).outcome rest others here there
   alike-next v front t (Put target word) rest others one alike here there = λ u is.
       let same : t ≡ u = let both : Some t ≡ Some u = sym one ∙ is in cc in
       let stores = alike-own t t (Put target word) (Put target word) rest others refl (alike t one) in
       subst (λ (u : ℕ). stores_in u rest ≡ stores_in u others) same cc
   alike-next v front t Back rest others one alike here there = λ u is. cc
 
-  moved-state : (v : Visit) (t : ℕ) (what : What) → does run v.state t what ≡ (moved run v (entry_of t what)).state
-  moved-state v t Go = refl
-  moved-state v t (Put target word) = refl
-  moved-state v t Back = refl
-
   answers-moved : (v : Visit) (front rest : List Entry) (entry : Entry) → AnswersFrom (entered run v.state entry) front rest → AnswersFrom (moved run v entry).state front rest
-  answers-moved v front rest entry so = subst (λ (S : State). AnswersFrom S front rest) (moved-state v entry.thread entry.what) so
+  answers-moved v front rest entry so = subst (λ (S : State). AnswersFrom S front rest) (moved-state run v entry.thread entry.what) so
 
   one-from : (v last end : Visit) (front history other : List Entry) → Leads run v history last → Leads run v other end → onward run last ≡ None → onward run end ≡ None →
       AnswersFrom v.state front history → AnswersFrom v.state front other → StoreAlike v.inside history other → history ≡ other
@@ -315,13 +306,13 @@ module _ (run : Run) (answer : Answering) where
             legal = (goes, o.legal);
             in_turn = (stands, o.in_turn);
             ended = o.ended;
-            answers = (without-event (answer (front ++ go_at t ∷ [])) t (turn run v.state t).outcome o.history none, o.answers);
+            answers = (without-event (answer front t) t (turn run v.state t).outcome o.history none, o.answers);
           }
 
       -- a turn with this event
       module _ (e : Event) (happens : (turn run v.state t).outcome ≡ Happens e) where
         abbrev stores : List Stored
-        stores = answer (front ++ go_at t ∷ [])
+        stores = answer front t
 
         may_store : MayStore run turned t stores
         may_store =
