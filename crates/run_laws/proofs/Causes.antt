@@ -139,7 +139,7 @@ module _ (run : Run) where
       let last = whole.last in
       let S = last.state in
       let calm = calm-last (start run) last history whole.in_turn
-          (record { below = omega arith; outside = λ u other. at-replicate (λ (callback : Option Callback). callback ≡ None) run.threads u None refl }) in
+      (record { below = omega arith; outside = λ u other. at-replicate (λ (callback : Option Callback). callback ≡ None) run.threads u None refl }) in
       let outside = ended-outside last last.inside refl whole.ended in
       let found = go-none (first_enabled run S last.next) (ap (onward_from run last) (sym outside) ∙ whole.ended) in
       let none = first_enabled-none run S last.next calm.below found in
