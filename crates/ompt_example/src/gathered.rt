@@ -1,17 +1,20 @@
 //! What the two tools gather, and the guests that gather it.
 
+use crate::part::Part;
+use crate::part_guest::PartGuest;
 use crate::profile::Profile;
 use crate::profiler::Profiler;
 use crate::task_profiler::TaskProfiler;
 use crate::task_starts::TaskStarts;
-use crate::two_tools::TwoTools;
 use std::alloc::{AllocError, Global};
 use std::sync::{Arc, Mutex, Wait};
-use tool_api::{Guest, GuestTool};
-use tool_both::Masks;
+use tool_both::{Both, Masks};
 
 /// How many threads there may be.
 const MOST_THREADS: u8 = 16;
+
+/// Both tools of one thread, as its guest.
+pub(crate) type TwoTools<R> = PartGuest<Both<Part<Profiler<R>>, Part<TaskProfiler<R>>>>;
 
 /// What the two tools gather: the guests of all threads add to it, and `main` reports it.
 #[derive(Drop)]
@@ -30,41 +33,33 @@ impl Gathered {
     }
 
     /// A guest for each thread that there may be. The tools of thread 0 are asked what they register, and all others go by that.
-    pub fn guests<R: Wait + Copy + Send + 'static>(
+    pub fn guests<R: Wait + Copy + Send>(
         &self,
         alloc: Global,
         runtime: R,
-    ) -> Result<Vec<Box<dyn GuestTool>>, AllocError> {
-        let mut guests: Vec<Box<dyn GuestTool>> = Vec::new(alloc);
-        let mut first = self.profiler(alloc, runtime)?;
-        let mut second = self.task_profiler(alloc, runtime)?;
+    ) -> Result<Vec<TwoTools<R>>, AllocError> {
+        let mut guests = Vec::new(alloc);
+        let mut first = self.profiler(runtime)?;
+        let mut second = self.task_profiler(runtime)?;
         let masks = Masks::ask(&mut first, &mut second);
-        guests.push(Box::new(alloc, TwoTools::new(first, second, masks))?)?;
+        guests.push(PartGuest(Both::new(first, second, masks)))?;
         for _thread in 1..MOST_THREADS {
-            let first = self.profiler(alloc, runtime)?;
-            let second = self.task_profiler(alloc, runtime)?;
-            guests.push(Box::new(alloc, TwoTools::new(first, second, masks))?)?;
+            let first = self.profiler(runtime)?;
+            let second = self.task_profiler(runtime)?;
+            guests.push(PartGuest(Both::new(first, second, masks)))?;
         }
         Ok(guests)
     }
 
     /// The first tool, for one thread.
-    fn profiler<R: Wait + Copy + Send + 'static>(
-        &self,
-        alloc: Global,
-        runtime: R,
-    ) -> Result<Guest, AllocError> {
+    fn profiler<R: Copy>(&self, runtime: R) -> Result<Part<Profiler<R>>, AllocError> {
         let profile = Arc::try_clone(&self.profile)?;
-        Ok(Guest(Box::new(alloc, Profiler::new(runtime, profile))?))
+        Ok(Part(Profiler::new(runtime, profile)))
     }
 
     /// The second tool, for one thread.
-    fn task_profiler<R: Wait + Copy + Send + 'static>(
-        &self,
-        alloc: Global,
-        runtime: R,
-    ) -> Result<Guest, AllocError> {
+    fn task_profiler<R: Copy>(&self, runtime: R) -> Result<Part<TaskProfiler<R>>, AllocError> {
         let starts = Arc::try_clone(&self.starts)?;
-        Ok(Guest(Box::new(alloc, TaskProfiler::new(runtime, starts))?))
+        Ok(Part(TaskProfiler::new(runtime, starts)))
     }
 }

@@ -1,7 +1,7 @@
 //! Two tools from start to end: the commands of `ompt`, where `run` is followed by the reports of both.
 //!
 //! [`Profiler`](profiler::Profiler) is the first tool, and [`TaskProfiler`](task_profiler::TaskProfiler) the second one. Each registers
-//! callbacks of its own. A thread's guest is both in one, [`TwoTools`](two_tools::TwoTools). What they hear is [`Gathered`] from all threads,
+//! callbacks of its own. A thread's guest is both in one, [`TwoTools`](gathered::TwoTools). What they hear is [`Gathered`] from all threads,
 //! and `main` writes it behind what the program printed. With `--history`, and for the other commands, nothing is reported.
 //!
 //! Proved is that it is safe, that it ends unless it waits for a lock, and what [`ended`], `Profile::add_region` and `Profile::add_wait`
@@ -14,11 +14,12 @@ ghost use Rattle.std.specs.Process.{exit_status};
 ghost use Rattle.ompt_cli.specs.Ends.{status_of};
 
 mod gathered;
+mod part;
+mod part_guest;
 mod profile;
 mod profiler;
 mod task_profiler;
 mod task_starts;
-mod two_tools;
 
 use gathered::Gathered;
 use ompt_cli::{Command, End, RunOutput, Top, own_words, top};
@@ -26,15 +27,25 @@ use run_edges::{Sink, StdSink, StdSource, write_all};
 use std::alloc::{AllocError, Global};
 use std::process::ExitCode;
 use std::sync::Wait;
+use tool_api::GuestTool;
 
 fn main(rt: HostRuntime) -> ExitCode {
     let mut err = StdSink::new(rt.stderr());
     let Ok(gathered) = Gathered::new(rt.alloc()) else {
         return ended(End::Memory, &mut err);
     };
-    let Ok(guests) = gathered.guests(rt.alloc(), rt) else {
+    let Ok(pairs) = gathered.guests(rt.alloc(), rt) else {
         return ended(End::Memory, &mut err);
     };
+    let mut guests: Vec<Box<dyn GuestTool>> = Vec::new(rt.alloc());
+    for pair in pairs {
+        let Ok(guest) = Box::new(rt.alloc(), pair) else {
+            return ended(End::Memory, &mut err);
+        };
+        let Ok(()) = guests.push(guest) else {
+            return ended(End::Memory, &mut err);
+        };
+    }
     let Ok(words) = own_words(&rt) else {
         return ended(End::Memory, &mut err);
     };

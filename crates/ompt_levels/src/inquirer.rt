@@ -14,7 +14,7 @@ const ACTIVE: u32 = 1;
 const SCOPE_BEGIN: u32 = 1;
 
 /// What a guest stores.
-#[derive(Clone, Copy, PartialEq, Eq)]
+#[derive(Clone, Copy)]
 pub(crate) enum Storing {
     /// Nothing.
     Nothing,

@@ -1,9 +1,9 @@
 //! The line of a call: what its inquiries are answered.
 
 ghost use Rattle.std.specs.Prelude.{◌≡◌, ◌++◌, IfOk};
-ghost use Rattle.ompt_levels.specs.LevelLine.{line_text, regions_text, tasks_text};
+ghost use Rattle.ompt_levels.specs.LevelLine.{line_text, region_text, regions_text, task_text, tasks_text};
 
-use ompt_calls::{RegionLevels, Snapshot, TaskLevels};
+use ompt_calls::{RegionLevel, RegionLevels, Snapshot, TaskLevel, TaskLevels};
 use std::alloc::{AllocError, Global};
 
 /// The line of a call at this position of the history, on this thread. It has the thread's state and wait identifier, then each level of
@@ -29,11 +29,8 @@ fn add_tasks(line: &mut Vec<u8>, alloc: Global, levels: &TaskLevels) -> Result<(
     ensures { IfOk result (λ done. line.new.items ≡ line.old.items ++ tasks_text levels.now) }
 {
     for level in &levels.0 {
-        let text = format!(in alloc;
-            " task {} {} {} {} {}",
-            level.flags, level.word, level.frame, level.region, level.index
-        )?;
-        line.extend_from_slice(text.as_str().as_bytes())?;
+        let text = text_of_task(alloc, level)?;
+        line.extend_from_slice(text.as_slice())?;
     }
     Ok(())
 }
@@ -43,8 +40,32 @@ fn add_regions(line: &mut Vec<u8>, alloc: Global, levels: &RegionLevels) -> Resu
     ensures { IfOk result (λ done. line.new.items ≡ line.old.items ++ regions_text levels.now) }
 {
     for level in &levels.0 {
-        let text = format!(in alloc; " region {} {}", level.word, level.team)?;
-        line.extend_from_slice(text.as_str().as_bytes())?;
+        let text = text_of_region(alloc, level)?;
+        line.extend_from_slice(text.as_slice())?;
     }
     Ok(())
+}
+
+/// A level of tasks, with a space before it.
+fn text_of_task(alloc: Global, level: &TaskLevel) -> Result<Vec<u8>, AllocError>
+    ensures { IfOk result (λ text. text.items ≡ task_text level.now) }
+{
+    let TaskLevel {
+        flags,
+        word,
+        frame,
+        region,
+        index,
+    } = level;
+    let text = format!(in alloc; " task {flags} {word} {frame} {region} {index}")?;
+    Ok(text.into_bytes())
+}
+
+/// A level of regions, with a space before it.
+fn text_of_region(alloc: Global, level: &RegionLevel) -> Result<Vec<u8>, AllocError>
+    ensures { IfOk result (λ text. text.items ≡ region_text level.now) }
+{
+    let RegionLevel { word, team } = level;
+    let text = format!(in alloc; " region {word} {team}")?;
+    Ok(text.into_bytes())
 }

@@ -3,20 +3,32 @@ use Rattle.std.proofs.Common.{ℕ, ◌≡◌, List, [], ◌∷◌, Option, Some,
 use Rattle.omp_model.specs.declared.history.Entry.{Entry}
 use Rattle.omp_model.specs.declared.history.What.{What}
 use Rattle.omp_model.specs.declared.history.What.TheVariants.{Back, Go, Put}
+use Rattle.omp_model.specs.Legal.{does}
 use Rattle.omp_model.specs.Serial.{Follows, Leads, Visit, WholeSerial, moved, onward, onward_from, start}
 use Rattle.omp_model.specs.State.{Run}
 use Rattle.run_laws.specs.Replies.{Replies, Reply, replies_of, with_entry}
 
 -- an entry
-abbrev entry_of : ℕ → What → Entry
+abbrev pub entry_of : ℕ → What → Entry
 entry_of t what = record { thread = t; what = what }
 
+-- the thread of an entry, if there is one
+abbrev pub thread_in : Option Entry → ℕ
+thread_in None = 0
+thread_in (Some entry) = entry.thread
+
+-- the state after an entry is that of the visit after it
+pub moved-state : (run : Run) (v : Visit) (t : ℕ) (what : What) → does run v.state t what ≡ (moved run v (entry_of t what)).state
+moved-state run v t Go = refl
+moved-state run v t (Put target word) = refl
+moved-state run v t Back = refl
+
 -- where nothing may stand next no thread is inside a callback
-never-inside : (run : Run) (v : Visit) (t : ℕ) → v.inside ≡ Some t → onward run v ≡ None → ⊥
+pub never-inside : (run : Run) (v : Visit) (t : ℕ) → v.inside ≡ Some t → onward run v ≡ None → ⊥
 never-inside run v t inside none = let is : onward_from run v (Some t) ≡ None = subst (λ (inside : Option ℕ). onward_from run v inside ≡ None) inside none in cc
 
 -- so nothing stands there
-none-follows : (run : Run) (v : Visit) (t : ℕ) (what : What) → onward run v ≡ None → Follows run v t what → ⊥
+pub none-follows : (run : Run) (v : Visit) (t : ℕ) (what : What) → onward run v ≡ None → Follows run v t what → ⊥
 none-follows run v t Go none is = let wrong = sym none ∙ is in cc
 none-follows run v t (Put target word) none is = never-inside run v t is none
 none-follows run v t Back none is = let wrong = sym none ∙ is in cc
@@ -45,7 +57,7 @@ abbrev what_of : Option Entry → What
 what_of None = Back
 what_of (Some entry) = entry.what
 
-never-both : (t s : ℕ) → Some (entry_of t Go) ≡ Some (entry_of s Back) → ⊥
+pub never-both : (t s : ℕ) → Some (entry_of t Go) ≡ Some (entry_of s Back) → ⊥
 never-both t s same = let wrong : Go ≡ Back = ap what_of same in cc
 
 -- the first entries of two such histories

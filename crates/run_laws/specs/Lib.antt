@@ -1,2 +1,4 @@
+pub mod Answers
+pub mod LastStored
 pub mod Turns
 pub mod Replies

@@ -1,10 +1,15 @@
 //! What follows from the definitions alone: each law is the contract of a function with an empty body.
 
-ghost use Rattle.std.specs.Prelude.{◌≡◌, ◌≤◌, List, length};
+ghost use Rattle.std.specs.Prelude.{ℕ, ◌≡◌, ◌≤◌, IsSome, List, length};
+ghost use Rattle.ompt_calls.specs.declared.snapshot.Target.{Target};
 ghost use Rattle.omp_model.specs.declared.history.Entry.{Entry};
-ghost use Rattle.omp_model.specs.Legal.{Legal};
+ghost use Rattle.omp_model.specs.Cause.{cause_of};
+ghost use Rattle.omp_model.specs.Legal.{Legal, after};
 ghost use Rattle.omp_model.specs.Serial.{WholeSerial};
 ghost use Rattle.omp_model.specs.State.{Run};
+ghost use Rattle.omp_model.specs.Turn.{turn};
+ghost use Rattle.run_laws.specs.Answers.{AnsweredRun, Answering, Answers, MayAnswer, Replying, stores_told};
+ghost use Rattle.run_laws.specs.LastStored.{last_stored, word_of};
 ghost use Rattle.run_laws.specs.Replies.{replies_of};
 ghost use Rattle.run_laws.specs.Turns.{turns_of};
 
@@ -19,4 +24,25 @@ pub fn histories_are_bounded()
 pub fn replies_fix_a_serial_run()
     ensures { (run : Run) (history other : List Entry) → WholeSerial run history → WholeSerial run other → replies_of history ≡ replies_of other →
         history ≡ other }
+{}
+
+/// After a legal history the data word of each thread, region and task is the last one that was put there, or 0 where none was. It is so too after the turn
+/// that comes next, whose event a tool may be told of: no turn and no return of a callback changes a word.
+pub fn words_are_last_stored()
+    ensures kept { (run : Run) (history : List Entry) (target : Target) → Legal run history →
+        word_of (after run history).world target ≡ last_stored target history }
+    ensures told { (run : Run) (history : List Entry) (t : ℕ) (target : Target) → Legal run history →
+        word_of (turn run (after run history) t).state.world target ≡ last_stored target history }
+{}
+
+/// For given stores after each event there is one serial history to the end. They are given as answers: to each event, by the history before its turn and
+/// by its thread, a list of stores that may stand there in turn. So an answer has at most three stores, each of a thread, region or task that was made, and
+/// none where no tool is told of the event. Such are the stores of any replies of the tools. And each serial history to the end ends in a cause. For there to be
+/// a history the run has to have a thread.
+pub fn answers_make_one_serial_run()
+    ensures there_is { (run : Run) (answer : Answering) → 1 ≤ run.threads → MayAnswer run answer → AnsweredRun run answer }
+    ensures one { (run : Run) (answer : Answering) (history other : List Entry) → WholeSerial run history → WholeSerial run other →
+        Answers run answer history → Answers run answer other → history ≡ other }
+    ensures of_replies { (run : Run) (reply : Replying) → 1 ≤ run.threads → MayAnswer run (stores_told run reply) }
+    ensures ended { (run : Run) (history : List Entry) → WholeSerial run history → IsSome (cause_of run history) }
 {}

@@ -29,16 +29,20 @@ const NOWHERE: Frame = Frame { exit: 0, enter: 0 };
 pub(crate) fn event_of(alloc: Global, text: &str) -> Result<EventRecord, RowFault> {
     let (seq, text) = text.split_once(' ').ok_or(RowFault::NoSuchEvent)?;
     let (thread, text) = text.split_once(' ').ok_or(RowFault::NoSuchEvent)?;
-    let (name, text) = text.split_once(' ').ok_or(RowFault::NoSuchEvent)?;
-    let numbers = numbers_of(alloc, text)?;
-    let call = call_of(name, numbers.as_slice()).ok_or(RowFault::NoSuchEvent)?;
     Ok(EventRecord {
         seq: seq.parse()?,
         thread: thread.parse()?,
         state: 0,
         wait_id: 0,
-        call,
+        call: call_in(alloc, text)?,
     })
+}
+
+/// The callback that is written so.
+fn call_in(alloc: Global, text: &str) -> Result<Call, RowFault> {
+    let (name, text) = text.split_once(' ').ok_or(RowFault::NoSuchEvent)?;
+    let numbers = numbers_of(alloc, text)?;
+    call_of(name, numbers.as_slice()).ok_or(RowFault::NoSuchEvent)
 }
 
 /// The numbers with blanks between them.

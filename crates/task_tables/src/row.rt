@@ -7,13 +7,18 @@ use omp_codes::PROFILE_MASK;
 use ompt_calls::EventRecord;
 use run_edges::{MemSink, MemSource};
 use std::alloc::Global;
-use trace_format::{EndMark, Events, Header, RECORDED, Trace, VERSION, write_trace};
+use trace_format::{EndMark, Header, Item, RECORDED, VERSION, write_item};
 
 /// How many bytes a trace has room for.
 const ROOM: usize = 0x1_0000;
 
-/// How many threads a trace has at most.
-const THREADS: u8 = 16;
+/// The header of each trace: with as many threads as there can be, and all callbacks.
+const HEADER: Header = Header {
+    version: VERSION,
+    threads: 16,
+    origin: RECORDED,
+    mask: PROFILE_MASK,
+};
 
 /// A row of a table.
 #[derive(Drop)]
@@ -73,50 +78,56 @@ impl Row {
     }
 
     /// Tells what the trace comes to, if that isn't what is wanted.
-    pub fn difference(self, alloc: Global) -> Result<Option<String>, RowFault> {
-        let Row {
-            name,
-            events,
-            status,
-            detail,
-            length,
-            asked,
-            wanted,
-        } = self;
-        let end = EndMark {
-            status,
-            detail,
-            count: u32::try_from(events.len()).map_err(|_| RowFault::NoNumber)?,
-        };
-        let bytes = written(alloc, events, end, length)?;
-        let mut source = MemSource::new(bytes, Vec::new(alloc));
-        let answer = answer(alloc, &mut source, asked.as_slice())?;
-        if answer.as_bytes() == wanted.as_slice() {
-            return Ok(None);
+    pub fn difference(&self, alloc: Global) -> Result<Option<String>, RowFault> {
+        let answer = self.answer(alloc)?;
+        if answer.as_bytes() == self.wanted.as_slice() {
+            Ok(None)
+        } else {
+            told(alloc, self.name.as_str(), answer.as_str())
         }
-        Ok(Some(format!(in alloc; "{name}:\n{answer}")?))
+    }
+
+    /// What the trace comes to.
+    fn answer(&self, alloc: Global) -> Result<String, RowFault> {
+        let bytes = self.bytes(alloc)?;
+        let mut source = MemSource::new(bytes, Vec::new(alloc));
+        answer(alloc, &mut source, self.asked.as_slice())
+    }
+
+    /// The bytes of the trace that are read.
+    fn bytes(&self, alloc: Global) -> Result<Vec<u8>, RowFault> {
+        let mut sink = MemSink::new(alloc, ROOM, Vec::new(alloc))?;
+        self.put(&mut sink)?;
+        front(alloc, sink.bytes(), self.length)
+    }
+
+    /// Writes the trace.
+    fn put(&self, sink: &mut MemSink) -> Result<(), RowFault> {
+        put_item(sink, &Item::Header(HEADER))?;
+        for event in &self.events {
+            put_item(sink, &Item::Event(*event))?;
+        }
+        let count = u32::try_from(self.events.len()).map_err(|_| RowFault::NoNumber)?;
+        let end = EndMark {
+            status: self.status,
+            detail: self.detail,
+            count,
+        };
+        put_item(sink, &Item::End(end))
     }
 }
 
-/// The bytes of the trace with these events and this end, so many at most.
-fn written(
-    alloc: Global,
-    events: Vec<EventRecord>,
-    end: EndMark,
-    length: usize,
-) -> Result<Vec<u8>, RowFault> {
-    let trace = Trace {
-        header: Header {
-            version: VERSION,
-            threads: THREADS,
-            origin: RECORDED,
-            mask: PROFILE_MASK,
-        },
-        events: Events(events),
-        end,
-    };
-    let mut sink = MemSink::new(alloc, ROOM, Vec::new(alloc))?;
-    write_trace(&mut sink, &trace).map_err(|_| RowFault::Memory)?;
-    let bytes = sink.bytes();
+/// Writes an item of a trace.
+fn put_item(sink: &mut MemSink, item: &Item) -> Result<(), RowFault> {
+    write_item(sink, item).map_err(|_| RowFault::Memory)
+}
+
+/// The first bytes, so many at most.
+fn front(alloc: Global, bytes: &[u8], length: usize) -> Result<Vec<u8>, RowFault> {
     Ok(bytes.get(..length).unwrap_or(bytes).to_vec(alloc)?)
+}
+
+/// What is told of a row with this name, where its trace comes to this.
+fn told(alloc: Global, name: &str, answer: &str) -> Result<Option<String>, RowFault> {
+    Ok(Some(format!(in alloc; "{name}:\n{answer}")?))
 }

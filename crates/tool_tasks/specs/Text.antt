@@ -38,9 +38,11 @@ abbrev pub lines_of : List EventRecord → List ℕ → List ℕ
 lines_of past tasks = flat_map (λ (task : ℕ). line_of (node_of task past)) tasks
 
 -- the lines with how many tasks there are, the work and the span
+abbrev pub number_line : List ℕ → ℕ → List ℕ
+number_line name number = spaced (name ∷ decimal number ∷ []) ++ 10 ∷ []
+
 abbrev pub number_lines : (tasks work span : ℕ) → List ℕ
-number_lines tasks work span =
-    spaced (codes "tasks" ∷ decimal tasks ∷ []) ++ 10 ∷ spaced (codes "work" ∷ decimal work ∷ []) ++ 10 ∷ spaced (codes "span" ∷ decimal span ∷ []) ++ 10 ∷ []
+number_lines tasks work span = number_line (codes "tasks") tasks ++ number_line (codes "work") work ++ number_line (codes "span") span
 
 abbrev pub forest_text : List EventRecord → ℕ → List ℕ
 forest_text past span = number_lines (length (tasks_of past)) (work_of past) span ++ lines_of past (tasks_in_order past)

@@ -1,0 +1,4 @@
+pub mod Guards
+pub mod KnownStates
+pub mod Masks
+pub mod MemberCodes

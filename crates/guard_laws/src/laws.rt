@@ -1,0 +1,38 @@
+//! What follows from the definitions alone: each law is the contract of a function with an empty body.
+
+ghost use Rattle.std.specs.Prelude.{ℕ, ◌≡◌, ◌≤◌, List, true};
+ghost use Rattle.c_check.specs.Checked.{Checked};
+ghost use Rattle.c_model.specs.Begin.{member_task};
+ghost use Rattle.c_model.specs.Formed.{IsProgramFormed};
+ghost use Rattle.omp_model.specs.declared.event.Event.TheVariants.{MemberBegin, ParallelEnd};
+ghost use Rattle.omp_model.specs.declared.event.Outcome.TheVariants.{Happens};
+ghost use Rattle.omp_model.specs.declared.history.Entry.{Entry};
+ghost use Rattle.omp_model.specs.Going.{has_forked};
+ghost use Rattle.omp_model.specs.Legal.{Legal, after};
+ghost use Rattle.omp_model.specs.Made.{IsForkedRegion};
+ghost use Rattle.omp_model.specs.Members.{current};
+ghost use Rattle.omp_model.specs.State.{Run, region_at, task_at};
+ghost use Rattle.omp_model.specs.Turn.{enabled, turn};
+
+/// Where the end of a parallel region has just occurred after a legal history, it names a region that was forked, and the thread's current task is the one
+/// that has forked it. So no region ends that is none. The run has 1 to 16 threads, and its program breaks no rule.
+pub fn region_ends_name_regions()
+    ensures { (run : Run) (history : List Entry) (t r codeptr : ℕ) → 1 ≤ run.threads → run.threads ≤ 16 →
+        Checked run.program → IsProgramFormed run.program → Legal run history → enabled (after run history) t ≡ true →
+        (turn run (after run history) t).outcome ≡ Happens (ParallelEnd r codeptr) →
+        let W = (turn run (after run history) t).state.world in IsForkedRegion W r × ((region_at W r).head.task ≡ current W t) }
+{}
+
+/// Where a member of a team has just begun after a legal history, the end of its region stands next in the code of the task that has forked the region, and
+/// its own code is what this code has for a member. So no member begins without its region's code. The run has 1 to 16 threads, and its program breaks no
+/// rule.
+pub fn members_have_code()
+    ensures stands { (run : Run) (history : List Entry) (t r k : ℕ) → 1 ≤ run.threads → run.threads ≤ 16 → Checked run.program →
+        IsProgramFormed run.program → Legal run history → enabled (after run history) t ≡ true →
+        (turn run (after run history) t).outcome ≡ Happens (MemberBegin r k) →
+        let W = (turn run (after run history) t).state.world in has_forked (task_at W (region_at W r).head.task).code.todo ≡ true }
+    ensures code { (run : Run) (history : List Entry) (t r k : ℕ) → 1 ≤ run.threads → run.threads ≤ 16 → Checked run.program →
+        IsProgramFormed run.program → Legal run history → enabled (after run history) t ≡ true →
+        (turn run (after run history) t).outcome ≡ Happens (MemberBegin r k) →
+        let W = (turn run (after run history) t).state.world in (task_at W k).code ≡ member_task (task_at W (region_at W r).head.task).code }
+{}

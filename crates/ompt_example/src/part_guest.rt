@@ -1,0 +1,31 @@
+//! A part as a guest.
+
+use ompt_calls::{Call, Reply, Snapshot};
+use tool_api::{GuestTool, Memory, Registrar, ToolPart};
+
+/// A part as a guest: it hands each call on to the part, and stands for what the part stands for. So two tools in one, which are a part,
+/// can be the guest of a thread.
+#[derive(Drop)]
+pub(crate) struct PartGuest<P>(pub P);
+
+impl<P: ToolPart> GuestTool for PartGuest<P> {
+    ghost stands_for = { λ guest h. P.stands_for guest.0 h };
+
+    fn initialize(&mut self, registrar: &mut Registrar) -> u32 {
+        self.0.initialize(registrar)
+    }
+
+    fn callback(
+        &mut self,
+        seq: u32,
+        thread: u8,
+        call: &Call,
+        snapshot: &Snapshot,
+    ) -> Result<Reply, Memory> {
+        self.0.callback(seq, thread, call, snapshot)
+    }
+
+    fn finalize(&mut self) {
+        self.0.finalize();
+    }
+}
