@@ -1,17 +1,20 @@
 //! Rows: a program, and the lines of its run, which were written by hand. Only runs show which lines are written.
 
-use crate::command::do_command;
+use crate::inquirer::Inquirer;
+use crate::lines::Lines;
+use crate::storing::Storing;
+use ompt_cli::top_alone;
 use run_edges::{MemSink, MemSource, Memory};
 use std::alloc::Global;
-use std::sync::Wait;
+use std::sync::{Arc, Mutex};
 use std::test::Fail;
-use std::thread::Threads;
+use tool_api::GuestTool;
 
-/// A program, and what is to be written to the output.
+/// A program, and the lines of its run.
 #[derive(Clone, Copy)]
 struct Row {
     program: &'static str,
-    out: &'static str,
+    lines: &'static str,
 }
 
 /// A region in a region: tasks of both stand on one stack.
@@ -23,7 +26,7 @@ const NESTED_REGION: Row = Row {
 return 0;
 }
 ",
-    out: "0 0 257 0
+    lines: "0 0 257 0
 2 0 0 0 task 1 1:0 0/0 1:0 0 region 1:0 1
 4 0 257 0 task 1 1:0 0/32769 1:0 0 region 1:0 1
 6 0 1 0 task 2 2:0 2/0 2:0 0 task 1 1:0 0/32769 1:0 0 region 2:0 1 region 1:0 1
@@ -57,7 +60,7 @@ int main(void) {
   return 0;
 }
 ",
-    out: "0 0 257 0
+    lines: "0 0 257 0
 2 0 0 0 task 1 1:0 0/0 1:0 0 region 1:0 1
 4 0 0 0 task 1 1:0 0/32769 1:0 0 region 1:0 1
 6 0 65 65536 task 1 1:0 0/32769 1:0 0 region 1:0 1
@@ -69,25 +72,33 @@ int main(void) {
 #[test]
 fn lines_are_those_written_by_hand(rt: HostRuntime) -> Result<(), Fail> {
     for row in [NESTED_REGION, LOCK] {
-        let out = out_of(&rt, rt.alloc(), row.program)?;
-        assert_eq!(rt; out.bytes(), row.out.as_bytes());
+        let lines = Arc::new(rt.alloc(), Mutex::new(Lines::new(rt.alloc())))?;
+        let guest = Inquirer::new(rt, rt.alloc(), Arc::try_clone(&lines)?, Storing::Nothing);
+        let mut guests: Vec<Box<dyn GuestTool>> = Vec::new(rt.alloc());
+        guests.push(Box::new(rt.alloc(), guest)?)?;
+        run(rt.alloc(), row.program, guests)?;
+        let text = lines.lock(&rt).text(rt.alloc())?;
+        assert_eq!(rt; text.as_slice(), row.lines.as_bytes());
     }
     Ok(())
 }
 
-/// What is written of a serial run of this program by one thread.
-fn out_of<R: Threads + Wait + Copy + Send + Sync + 'static>(
-    rt: &R,
-    alloc: Global,
-    program: &str,
-) -> Result<MemSink, Memory> {
+/// Runs this program serially by one thread, whose guest is handed in.
+fn run(alloc: Global, program: &str, guests: Vec<Box<dyn GuestTool>>) -> Result<(), Memory> {
     let mut words = Vec::new(alloc);
     for word in ["run", "--serial", "--threads", "1"] {
         words.push(String::from_str(alloc, word)?)?;
     }
     let mut source = MemSource::new(program.as_bytes().to_vec(alloc)?, Vec::new(alloc));
-    let mut out = MemSink::new(alloc, 4000, Vec::new(alloc))?;
+    let mut out = MemSink::new(alloc, 100, Vec::new(alloc))?;
     let mut err = MemSink::new(alloc, 100, Vec::new(alloc))?;
-    do_command(rt, alloc, words, &mut source, &mut out, &mut err);
-    Ok(out)
+    let _ran = top_alone(
+        alloc,
+        words.as_slice(),
+        &mut source,
+        &mut out,
+        &mut err,
+        guests,
+    );
+    Ok(())
 }

@@ -1,0 +1,59 @@
+//! What guests store, and the word that asks for it.
+
+use ompt_calls::{Call, Reply, Store, WordAt};
+
+/// The word that makes the guests store positions.
+const STORE: &str = "--store";
+
+/// `ompt_scope_begin`, an endpoint (OpenMP 5.2, 19.4.4).
+const SCOPE_BEGIN: u32 = 1;
+
+/// What the guests store.
+#[derive(Clone, Copy)]
+pub(crate) enum Storing {
+    /// Nothing.
+    Nothing,
+    /// The position of an event, into the word of the region or the task that begins by it.
+    Positions,
+}
+
+impl Storing {
+    /// What the words ask for. The word `--store` is taken off them.
+    pub fn take(words: &mut Vec<String>) -> Storing {
+        match words.iter().position(|word| word.as_str() == STORE) {
+            Some(place) => {
+                words.remove(place);
+                Storing::Positions
+            }
+            None => Storing::Nothing,
+        }
+    }
+
+    /// What is stored at this call.
+    pub fn reply_to(self, seq: u32, call: &Call) -> Reply {
+        let place = match self {
+            Storing::Nothing => None,
+            Storing::Positions => begun_word(call),
+        };
+        Reply {
+            first: place.map(|place| Store {
+                place,
+                word: u64::from(seq),
+            }),
+            second: None,
+            third: None,
+        }
+    }
+}
+
+/// The word of the region or the task that begins by this call, if one does.
+fn begun_word(call: &Call) -> Option<WordAt> {
+    match *call {
+        Call::ParallelBegin { .. } | Call::TaskCreate { .. } => Some(WordAt::Fresh),
+        Call::ImplicitTask {
+            endpoint: SCOPE_BEGIN,
+            ..
+        } => Some(WordAt::Task(0)),
+        _ => None,
+    }
+}
