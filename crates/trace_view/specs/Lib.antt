@@ -1,0 +1,5 @@
+pub mod Names
+pub mod NamedLines
+pub mod Naming
+pub mod Dot
+pub mod DrawingTasks
