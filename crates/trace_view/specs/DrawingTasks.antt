@@ -1,8 +1,9 @@
 -- What was read of a source and written to a sink as a task tree, by how it ended.
-use Rattle.std.specs.Prelude.{ℕ, List, Option}
+use Rattle.std.specs.Prelude.{ℕ, ◌≡◌, List, Option}
 use Rattle.std.specs.Io.KnownBytes.{Appends, Consumes, Keeps}
 use Rattle.run_edges.specs.Edges.{AppendsFront}
 use Rattle.trace_check.specs.Nested.{IsFirstBreach}
+use Rattle.ompt_calls.specs.declared.event.EventRecord.{EventRecord}
 use Rattle.trace_format.specs.declared.trace.Trace.{Trace}
 use Rattle.trace_format.specs.Inputs.{IsInput, IsRefusedInput, IsUnrefused}
 use Rattle.trace_format.specs.Validity.{Writes}
@@ -22,3 +23,12 @@ HasDrawnTasks ReadFault left rest held after = (taken : List ℕ) × Consumes le
 HasDrawnTasks WriteFault left rest held after =
     (taken : List ℕ) × (trace : Trace) × (text : List ℕ) × IsInput left taken × Writes trace taken × IsDot trace.events text × AppendsFront held after text
 HasDrawnTasks Memory left rest held after = Keeps held after
+
+-- what was written of these events, by how it ended: the whole picture, a front of it, or nothing. Nothing else comes to pass
+abbrev pub HasPut : List EventRecord → Viewed → (held after : Option (List ℕ)) → Type 0
+HasPut events Whole held after = (text : List ℕ) × IsDot events text × Appends held after text
+HasPut events (Refused refusal) held after = ⊥
+HasPut events (Broken breach) held after = ⊥
+HasPut events ReadFault held after = ⊥
+HasPut events WriteFault held after = (text : List ℕ) × IsDot events text × AppendsFront held after text
+HasPut events Memory held after = Keeps held after

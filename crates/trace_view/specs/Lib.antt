@@ -2,4 +2,5 @@ pub mod Names
 pub mod NamedLines
 pub mod Naming
 pub mod Dot
+pub mod Bold
 pub mod DrawingTasks

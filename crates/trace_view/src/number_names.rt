@@ -192,8 +192,14 @@ impl Display for StateName {
         match self.number {
             WORK_SERIAL => write!(f, "ompt_state_work_serial"),
             WORK_PARALLEL => write!(f, "ompt_state_work_parallel"),
-            WAIT_BARRIER_IMPLICIT_PARALLEL => write!(f, "ompt_state_wait_barrier_implicit_parallel"),
-            WAIT_BARRIER_IMPLICIT_WORKSHARE => write!(f, "ompt_state_wait_barrier_implicit_workshare"),
+            WAIT_BARRIER_IMPLICIT_PARALLEL => write!(
+                f,
+                "ompt_state_wait_barrier_implicit_parallel"
+            ),
+            WAIT_BARRIER_IMPLICIT_WORKSHARE => write!(
+                f,
+                "ompt_state_wait_barrier_implicit_workshare"
+            ),
             WAIT_BARRIER_EXPLICIT => write!(f, "ompt_state_wait_barrier_explicit"),
             WAIT_TASKWAIT => write!(f, "ompt_state_wait_taskwait"),
             WAIT_LOCK => write!(f, "ompt_state_wait_lock"),
