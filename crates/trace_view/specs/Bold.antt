@@ -1,5 +1,5 @@
 -- What is held of bold tasks. This serves the contracts of private functions and the proofs.
-use Rattle.std.specs.Prelude.{ℕ, ◌≡◌, Bool, ◌||◌, List, reverse, length}
+use Rattle.std.specs.Prelude.{ℕ, ◌≡◌, ◌||◌, List}
 use Rattle.std.specs.Ordering.{nat_cmp}
 use Rattle.std.specs.BTreeSet.{BTreeSet, contains}
 use Rattle.trace_format.specs.Validity.{is_among}

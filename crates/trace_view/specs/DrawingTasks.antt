@@ -1,5 +1,5 @@
 -- What was read of a source and written to a sink as a task tree, by how it ended.
-use Rattle.std.specs.Prelude.{ℕ, ◌≡◌, List, Option}
+use Rattle.std.specs.Prelude.{ℕ, List, Option}
 use Rattle.std.specs.Io.KnownBytes.{Appends, Consumes, Keeps}
 use Rattle.run_edges.specs.Edges.{AppendsFront}
 use Rattle.trace_check.specs.Nested.{IsFirstBreach}

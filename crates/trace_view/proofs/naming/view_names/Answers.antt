@@ -8,8 +8,7 @@ pub returns-in-Whole-clause-named : goal.returns-in-Whole-clause-named
 returns-in-Whole-clause-named g c =
     let (taken, items, input, consumed, read, took) = c.in-Whole.ensures.read in
     let held = g.O.Sink.held c.args.out.now in
-    let same : c.read_items.new.taker.out.now ≡ _ = search rules in
-    (
+    let same : c.read_items.new.taker.out.now ≡ _ = search rules in (
       taken,
       read.trace,
       input,
