@@ -1,0 +1,6 @@
+pub mod Names
+pub mod NamedLines
+pub mod Naming
+pub mod Dot
+pub mod Bold
+pub mod DrawingTasks

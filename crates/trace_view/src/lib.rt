@@ -1,0 +1,42 @@
+//! Pictures of a trace.
+//!
+//! [`view_names`] reads a trace from a source, and writes a line for each event and one for the end mark. Their numbers are written by the
+//! names that OMPT's header has for them, and places as `line:column`. It writes as it goes, and a breach of a rule doesn't hinder it.
+//! [`view_tasks`] reads a trace that is nested, and writes its task tree in the language DOT of Graphviz: a box for each task, with how many
+//! events are charged to it, and a longest chain in bold. [`dot_text`] is this picture of a trace in memory.
+//!
+//! The definitions stand in `specs/`: `Names` has the names of numbers, `NamedLines` the lines, `Dot` the picture of the tasks, and `Naming` and
+//! `DrawingTasks` what was read and written, by how it ended. `Bold` serves the proofs.
+//!
+//! Proved by the contract of [`view_names`]:
+//!
+//! - at `Whole` the whole input is a trace, and its lines were written, and nothing else;
+//! - at `Refused` the input is refused so (`trace_format`), or is cut; at `ReadFault` a read failed, and was counted. What was written is the
+//!   lines of the items that are whole in what was taken. The line of the end mark is written as soon as that is whole, also where a byte too
+//!   many stands behind it;
+//! - at `WriteFault` a write failed, and was counted; at `Memory` there was none for a line. What was written is a front of the lines;
+//! - it never answers `Broken`, and it returns, as `trace_format::read_items` does.
+//!
+//! Proved by the contract of [`view_tasks`]:
+//!
+//! - at `Whole` the whole input is a trace, and a picture of it was written (`IsDot`): with the tasks, the work and the span of `tool_tasks`, and
+//!   bold what a chain goes through that is as long as any. At `WriteFault` a write failed, and was counted, and a front of one was written;
+//! - at `Refused`, `Broken` and `ReadFault` it is as `tool_tasks::read_nested` says, and at these and at `Memory` nothing was written.
+//!
+//! The memory of [`view_names`] doesn't grow with the trace: that isn't proved, but plain in the code. Want of memory is free. That Graphviz reads
+//! what is written isn't proved.
+#![tactic(auto)]
+
+mod bold;
+mod dot;
+mod drawing_tasks;
+mod named_lines;
+mod namer;
+mod naming;
+mod number_names;
+mod viewed;
+
+pub use dot::dot_text;
+pub use drawing_tasks::view_tasks;
+pub use naming::view_names;
+pub use viewed::Viewed;
