@@ -19,7 +19,7 @@
 //!
 //! Proved by the contract of [`view_tasks`]:
 //!
-//! - at `Whole` the whole input is a trace, and a picture of it was written (`IsDot`): with the tasks, the work and the span of `tool_tasks`, and
+//! - at `Whole` the whole input is a trace that is nested, and a picture of it was written (`IsDot`): with the tasks, the work and the span of `tool_tasks`, and
 //!   bold what a chain goes through that is as long as any. At `WriteFault` a write failed, and was counted, and a front of one was written;
 //! - at `Refused`, `Broken` and `ReadFault` it is as `tool_tasks::read_nested` says, and at these and at `Memory` nothing was written.
 //!
