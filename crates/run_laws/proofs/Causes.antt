@@ -35,11 +35,11 @@ go-found : (found : Option ℕ) (t : ℕ) → go_of found ≡ Some (go_at t) →
 go-found None t is = cc
 go-found (Some u) t is = ap Some (ap thread_in is)
 
-record MayGo (run : Run) (v : Visit) (t : ℕ) : Type 0 where
-  outside : v.inside ≡ None
-  found : first_enabled run v.state v.next ≡ Some t
+pub record MayGo (run : Run) (v : Visit) (t : ℕ) : Type 0 where
+  pub outside : v.inside ≡ None
+  pub found : first_enabled run v.state v.next ≡ Some t
 
-at-go : (run : Run) (v : Visit) (t : ℕ) (inside : Option ℕ) → v.inside ≡ inside → onward_from run v inside ≡ Some (go_at t) → MayGo run v t
+pub at-go : (run : Run) (v : Visit) (t : ℕ) (inside : Option ℕ) → v.inside ≡ inside → onward_from run v inside ≡ Some (go_at t) → MayGo run v t
 at-go run v t None at is = record { outside = at; found = go-found (first_enabled run v.state v.next) t is }
 at-go run v t (Some u) at is = absurd (never-both t u (sym is))
 
@@ -47,7 +47,7 @@ no-back : (found : Option ℕ) (t : ℕ) → go_of found ≡ Some (back_at t) �
 no-back None t is = cc
 no-back (Some u) t is = never-both u t is
 
-at-back : (run : Run) (v : Visit) (t : ℕ) (inside : Option ℕ) → v.inside ≡ inside → onward_from run v inside ≡ Some (back_at t) → v.inside ≡ Some t
+pub at-back : (run : Run) (v : Visit) (t : ℕ) (inside : Option ℕ) → v.inside ≡ inside → onward_from run v inside ≡ Some (back_at t) → v.inside ≡ Some t
 at-back run v t None at is = absurd (no-back (first_enabled run v.state v.next) t is)
 at-back run v t (Some u) at is = at ∙ ap Some (ap thread_in is)
 
@@ -105,7 +105,7 @@ module _ (run : Run) where
   calm-last v last [] leads calm = subst (IsCalm run) leads calm
   calm-last v last (entry ∷ rest) leads calm = calm-last (moved run v entry) last rest leads.1 (calm-moved v entry.thread entry.what leads.0 calm)
 
-  state-last : (v last : Visit) (history : List Entry) → Leads run v history last → after_from run v.state history ≡ last.state
+  pub state-last : (v last : Visit) (history : List Entry) → Leads run v history last → after_from run v.state history ≡ last.state
   state-last v last [] leads = ap (λ (v : Visit). v.state) leads
   state-last v last (entry ∷ rest) leads =
       ap (λ (S : State). after_from run S rest) (moved-state run v entry.thread entry.what) ∙ state-last (moved run v entry) last rest leads.1

@@ -5,3 +5,4 @@ pub mod SameWords
 pub mod LastStored
 pub mod Replying
 pub mod Serial
+pub mod Ended

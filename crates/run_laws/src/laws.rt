@@ -1,12 +1,12 @@
 //! What follows from the definitions alone: each law is the contract of a function with an empty body.
 
-ghost use Rattle.std.specs.Prelude.{ℕ, ◌≡◌, ◌≤◌, IsSome, List, length};
+ghost use Rattle.std.specs.Prelude.{ℕ, ◌≡◌, ◌<◌, ◌≤◌, IsSome, List, None, length};
 ghost use Rattle.ompt_calls.specs.declared.snapshot.Target.{Target};
 ghost use Rattle.omp_model.specs.declared.history.Entry.{Entry};
 ghost use Rattle.omp_model.specs.Cause.{cause_of};
 ghost use Rattle.omp_model.specs.Legal.{Legal, after};
-ghost use Rattle.omp_model.specs.Serial.{WholeSerial};
-ghost use Rattle.omp_model.specs.State.{Run};
+ghost use Rattle.omp_model.specs.Serial.{Serial, WholeSerial};
+ghost use Rattle.omp_model.specs.State.{Run, pending_at};
 ghost use Rattle.omp_model.specs.Turn.{turn};
 ghost use Rattle.run_laws.specs.Answers.{AnsweredRun, Answering, Answers, MayAnswer, Replying, stores_told};
 ghost use Rattle.run_laws.specs.LastStored.{last_stored, word_of};
@@ -45,4 +45,10 @@ pub fn answers_make_one_serial_run()
         Answers run answer history → Answers run answer other → history ≡ other }
     ensures of_replies { (run : Run) (reply : Replying) → 1 ≤ run.threads → MayAnswer run (stores_told run reply) }
     ensures ended { (run : Run) (history : List Entry) → WholeSerial run history → IsSome (cause_of run history) }
+{}
+
+/// A serial history that ends in a cause, with no thread inside a callback, is one to the end: nothing may stand next.
+pub fn ended_serial_runs_are_whole()
+    ensures { (run : Run) (history : List Entry) → Serial run history → IsSome (cause_of run history) →
+        ((k : ℕ) → k < run.threads → pending_at (after run history) k ≡ None) → WholeSerial run history }
 {}

@@ -7,6 +7,7 @@
 //!   stored after each turn, and so within each callback, are the same;
 //! - [`answers_make_one_serial_run`]: for given stores after each event, as for given replies of the tools, there is one serial history to the
 //!   end, and it ends in a cause;
+//! - [`ended_serial_runs_are_whole`]: a serial history that ends in a cause is one to the end;
 //! - [`words_are_last_stored`]: after a legal history the data word of each thread, region and task is the last one that was put there, or 0.
 //!
 //! The crate has no code that runs.
@@ -15,6 +16,6 @@
 mod laws;
 
 pub use laws::{
-    answers_make_one_serial_run, histories_are_bounded, replies_fix_a_serial_run,
-    words_are_last_stored,
+    answers_make_one_serial_run, ended_serial_runs_are_whole, histories_are_bounded,
+    replies_fix_a_serial_run, words_are_last_stored,
 };
