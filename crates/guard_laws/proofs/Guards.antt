@@ -7,7 +7,6 @@ use Rattle.c_model.specs.Formed.{IsProgramFormed}
 use Rattle.c_model.specs.Task.{Item}
 use Rattle.c_model.specs.Task.Item.{Forked}
 use Rattle.c_model.specs.Task.Item.{Sync as SyncItem}
-use Rattle.code_brackets.proofs.ReturnPrograms.{returns_outside}
 use Rattle.omp_model.specs.declared.event.Event.{Event}
 use Rattle.omp_model.specs.declared.event.Event.TheVariants.{MemberBegin, ParallelEnd}
 use Rattle.omp_model.specs.declared.event.Outcome.TheVariants.{Happens}
@@ -24,7 +23,7 @@ use Rattle.nested_runs.specs.Known.{HasForked, HoldsRegion}
 use Rattle.nested_runs.specs.Knows.{IsWholeRun}
 use Rattle.nested_runs.specs.Standing.{stand_among, stand_at}
 use Rattle.nested_runs.specs.Standing.Stand.{AtFork}
-use Rattle.guard_laws.proofs.Masks.{all_told, legal-told, told-after, told-next}
+use Rattle.guard_laws.proofs.Masks.{all_told, legal-told, told-after, told-next, whole-told}
 use Rattle.guard_laws.proofs.KnownStates.{KnownGo, known-event}
 
 -- the end of a region stands next in the code
@@ -67,7 +66,7 @@ module _ (run : Run) (S next : State) (t r : ℕ) where
 module _ (run : Run) (history : List Entry) (t r : ℕ) (some : 1 ≤ run.threads) (few : run.threads ≤ 16) (checked : Checked run.program) (formed : IsProgramFormed run.program)
     (legal : Legal run history) (goes : enabled (after run history) t ≡ true) where
   is-whole : IsWholeRun (all_told run)
-  is-whole = record { some = some; few = few; whole = refl; returns = returns_outside run.program checked formed }
+  is-whole = whole-told run some few checked formed
 
   -- what is known of an event where all callbacks are registered
   told-event : (e : Event) → (turn run (after run history) t).outcome ≡ Happens e →

@@ -68,15 +68,15 @@ module _ (run : Run) (S : State) (known : KnownState run S) where
   known-turn next t outcome.Quiet led = known-stays next led
   known-turn next t (outcome.Halts halt) led = known-stays next led
 
-  record IsWithin (callback : Option Callback) : Type 0 where
-    one : Callback
-    is : callback ≡ Some one
+  pub record IsWithin (callback : Option Callback) : Type 0 where
+    pub one : Callback
+    pub is : callback ≡ Some one
 
-  some-within : (callback : Option Callback) → is_some callback ≡ true → IsWithin callback
+  pub some-within : (callback : Option Callback) → is_some callback ≡ true → IsWithin callback
   some-within None some = absurd (true≢false (sym some))
   some-within (Some callback) some = record { one = callback; is = refl }
 
-  known-entry : (t : ℕ) (what : What) → IsMadeState run (does run S t what) → IsOrderly (does run S t what) → may run S t what ≡ true → KnownState run (does run S t what)
+  pub known-entry : (t : ℕ) (what : What) → IsMadeState run (does run S t what) → IsOrderly (does run S t what) → may run S t what ≡ true → KnownState run (does run S t what)
   known-entry t Go made orderly goes =
       known-turn (turn run S t).state t (turn run S t).outcome (turn-leads run S known.past known.stands.knows known.stands.unbroken t made orderly goes)
   known-entry t (Put place word) made orderly goes =
@@ -93,7 +93,7 @@ module _ (run : Run) (S : State) (known : KnownState run S) where
         };
       }
 
-after-one : (run : Run) (S : State) (before : List Entry) (entry : Entry) → after_from run S (before ++ entry ∷ []) ≡ entered run (after_from run S before) entry
+pub after-one : (run : Run) (S : State) (before : List Entry) (entry : Entry) → after_from run S (before ++ entry ∷ []) ≡ entered run (after_from run S before) entry
 after-one run S [] entry = refl
 after-one run S (one ∷ before) entry = after-one run (entered run S one) before entry
 
@@ -107,9 +107,12 @@ known-from run before S (entry ∷ rest) whole is allows known =
     (known-entry run S known entry.thread entry.what (subst (IsMadeState run) same (made-after run (before ++ entry ∷ []) whole.some))
     (subst IsOrderly same (orderly-after run (before ++ entry ∷ []) whole.some)) allows.0)
 
--- after each legal history
+-- at the start, and after each legal history
+pub known-first : (run : Run) → IsWholeRun run → KnownState run (first run)
+known-first run whole = record { past = []; stands = record { knows = knows-first run whole; unbroken = tt } }
+
 pub known-after : (run : Run) (history : List Entry) → IsWholeRun run → Legal run history → KnownState run (after run history)
-known-after run history whole legal = known-from run [] (first run) history whole refl legal (record { past = []; stands = record { knows = knows-first run whole; unbroken = tt } })
+known-after run history whole legal = known-from run [] (first run) history whole refl legal (known-first run whole)
 
 -- at the Go of an event
 pub known-event : (run : Run) (history : List Entry) (t : ℕ) (e : Event) → IsWholeRun run → Legal run history → enabled (after run history) t ≡ true →

@@ -1,4 +1,11 @@
+pub mod Dealing
+pub mod DealtRuns
+pub mod FreeCodes
 pub mod Guards
 pub mod KnownStates
+pub mod LastMeetings
 pub mod Masks
 pub mod MemberCodes
+pub mod WorkBegins
+pub mod WorkGos
+pub mod WorksMet

@@ -1,11 +1,14 @@
 -- What a run comes to doesn't hang on the callbacks that are registered: a legal history is one with all of them.
-use Rattle.std.proofs.Common.{ℕ, zero, suc, ◌≡◌, ◌+◌, ◌&&◌, Bool, true, false, nat_le, nat_lt, if◌then◌else◌, List, [], ◌∷◌, Option, Some, None, refl, sym, ap, ◌∙◌, subst}
+use Rattle.std.proofs.Common.{ℕ, zero, suc, ◌≡◌, ◌≤◌, ◌+◌, ◌&&◌, Bool, true, false, nat_le, nat_lt, if◌then◌else◌, List, [], ◌∷◌, Option, Some, None, refl, sym, ap, ◌∙◌, subst}
 use Rattle.std.proofs.lemmas.Bool.{and_from, and_parts}
+use Rattle.c_check.specs.Checked.{Checked}
 use Rattle.c_model.specs.declared.point.Point.{Point}
 use Rattle.c_model.specs.declared.point.Point.TheVariants as point
+use Rattle.c_model.specs.Formed.{IsProgramFormed}
 use Rattle.c_model.specs.Step.{silent}
 use Rattle.c_model.specs.Task.{Moment, Outcome}
 use Rattle.c_model.specs.Task.Outcome.{Asks, Ends, Limits, Occurs, StepsTo, Traps}
+use Rattle.code_brackets.proofs.ReturnPrograms.{returns_outside}
 use Rattle.omp_codes.specs.declared.callbacks.TheConstants.{PROFILE_MASK}
 use Rattle.ompt_calls.specs.declared.snapshot.Target.{Target}
 use Rattle.omp_model.specs.declared.event.Arrival.{Arrival}
@@ -32,6 +35,9 @@ use Rattle.nested_runs.proofs.Histories.{registered}
 -- the same run with all callbacks of the profile registered
 abbrev pub all_told : Run → Run
 all_told run = record run { mask = PROFILE_MASK }
+
+pub whole-told : (run : Run) → 1 ≤ run.threads → run.threads ≤ 16 → Checked run.program → IsProgramFormed run.program → IsWholeRun (all_told run)
+whole-told run some few checked formed = record { some = some; few = few; whole = refl; returns = returns_outside run.program checked formed }
 
 module _ (run : Run) where
   told-silent : (W : World) (t : ℕ) → silent_step (all_told run) W t ≡ silent_step run W t
@@ -78,7 +84,7 @@ module _ (run : Run) where
   told-walk_on S t made Comes more less same = refl
   told-walk_on S t made (Meets event) more less same = refl
 
-  told-walk : (left made : ℕ) (S : State) (t : ℕ) → walk (all_told run) left made S t ≡ walk run left made S t
+  pub told-walk : (left made : ℕ) (S : State) (t : ℕ) → walk (all_told run) left made S t ≡ walk run left made S t
   unfolding walk
   told-walk zero made S t = refl
   told-walk (suc left) made S t =

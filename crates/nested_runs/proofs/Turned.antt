@@ -24,7 +24,7 @@ use Rattle.omp_model.proofs.Arriving.{thread-goes}
 use Rattle.omp_model.proofs.Conditions.{event-still, orderly-still}
 use Rattle.omp_model.proofs.MadeEvents.{occurred-later}
 use Rattle.omp_model.proofs.Reading.{read-same}
-use Rattle.omp_model.proofs.Turning.{AfterSilence, GoFrom, Turned, of-turn}
+use Rattle.omp_model.proofs.Turning.{AfterSilence, GoFrom, GoOf, Turned, of-turn}
 use Rattle.omp_model.proofs.Turns.{Leaves, leaves-turn, turn-goes}
 use Rattle.omp_model.proofs.Backs.{returns}
 use Rattle.omp_model.proofs.Rewrites.{thread-below}
@@ -56,14 +56,15 @@ sound-alike run W after I sound alike =
 -- A turn.
 
 -- what silent steps of a thread keep of the world before them
-record Reaches (W : World) (t : ℕ) (after : World) : Type 0 where
-  alike : Alike W after
-  taken : (u : ℕ) → u ≢ t → (thread_at after u).taken ≡ (thread_at W u).taken
+pub record Reaches (W : World) (t : ℕ) (after : World) : Type 0 where
+  pub alike : Alike W after
+  pub taken : (u : ℕ) → u ≢ t → (thread_at after u).taken ≡ (thread_at W u).taken
 
 -- the world before the Go, after silent steps
 pub record Happened (run : Run) (S next : State) (past : List EventRecord) (t : ℕ) (e : Event) : Type 0 where
   pub before : World
   pub stays : Stays run S.world before (inside S) (inside S) past
+  pub go : GoOf run before t e next.world
   pub goes : Knows run before (inside S) past → Goes run before next.world (inside S) (inside next) past t e
 
 abbrev pub Led : Run → State → State → List EventRecord → ℕ → Outcome → Type 0
@@ -96,7 +97,7 @@ unfolding enabled
 enabled-thread S t goes = thread-goes S.world t (and_parts (is_none (pending_at S t) && is_none S.halt) (goes_on (arrival S.world t)) goes).1
 
 module _ (run : Run) (S : State) (past : List EventRecord) (knows : Knows run S.world (inside S) past) (unbroken : Unbroken past) where
-  reaches-past : (t : ℕ) (W : World) → Reaches S.world t W → Reaches S.world t (gone_past W t)
+  pub reaches-past : (t : ℕ) (W : World) → Reaches S.world t W → Reaches S.world t (gone_past W t)
   reaches-past t W so = record { alike = alike-then S.world W (gone_past W t) so.alike (alike-past W t so.alike.codes); taken = so.taken }
 
   reaches-then : (t : ℕ) (W : World) (silence : Silence) → Reaches S.world t W → AfterSilence (Alike W) silence →
@@ -105,7 +106,7 @@ module _ (run : Run) (S : State) (past : List EventRecord) (knows : Knows run S.
       record { alike = alike-then S.world W after so.alike alike; taken = λ u other. quiet.others u other ∙ so.taken u other }
   reaches-then t W (Stops halt) so alike quiet = tt
 
-  reaches-step : (t : ℕ) (W : World) → arrival W t ≡ Steps → Reaches S.world t W → AfterSilence (Reaches S.world t) (silent_step run W t)
+  pub reaches-step : (t : ℕ) (W : World) → arrival W t ≡ Steps → Reaches S.world t W → AfterSilence (Reaches S.world t) (silent_step run W t)
   reaches-step t W steps so =
       let sound = sound-alike run S.world W (inside S) knows.sound so.alike in
       reaches-then t W (silent_step run W t) so (alike-step run W t sound.whole.returns so.alike.codes sound.made sound.orderly steps) (quiet-step run t W)
@@ -136,6 +137,7 @@ module _ (run : Run) (S : State) (past : List EventRecord) (knows : Knows run S.
       record {
         before = W;
         stays = stays-reached t W outside from.holds;
+        go = from.go;
         goes = λ now.
             let comes-to = comes run W next.world t e whole.returns now.codes now.sound.made now.sound.orderly from.go in
             record {
