@@ -1,0 +1,13 @@
+pub mod Barriers
+pub mod Called
+pub mod ChangedLists
+pub mod Deals
+pub mod Flags
+pub mod Keeping
+pub mod Longest
+pub mod Meets
+pub mod Once
+pub mod Sharing
+pub mod Taken
+pub mod Takes
+pub mod Waits
