@@ -1,0 +1,15 @@
+pub mod Has
+pub mod Broken
+pub mod Visible
+pub mod Standing
+pub mod Means
+pub mod Quiet
+pub mod Stepping
+pub mod Forms
+pub mod Calm
+pub mod Informing
+pub mod Constructing
+pub mod Sharing
+pub mod SharedLoops
+pub mod Statements
+pub mod Files
