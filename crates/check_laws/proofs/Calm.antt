@@ -1,11 +1,10 @@
 -- Acts that begin and end no construct and say nothing of one: those of the head of a loop.
 use Rattle.std.specs.Prelude.{ℕ, ◌≡◌, Bool, true, false, IsTrue, List, [], ◌∷◌, ◌++◌, Option, Some, None, if◌then◌else◌, refl}
-use Rattle.std.proofs.Common.{sym, ap, subst, ◌∙◌}
+use Rattle.std.proofs.Common.{◌∙◌}
 use Rattle.c_tokens.specs.declared.token.Spot.{Spot}
 use Rattle.c_syntax.specs.declared.head.Head.{Head}
 use Rattle.c_syntax.specs.language.Words.{Word}
 use Rattle.c_syntax.specs.language.Tree.{Tree, Children}
-use Rattle.c_syntax.specs.language.Tree.Children.{Over, Child, Absent}
 use Rattle.c_syntax.specs.language.Productions.{ConditionPart, FirstPart, IndexPart, Operand, Place, Ranked, StepOf, StepPart}
 use Rattle.c_check.specs.declared.acts.act.Act.{Act}
 use Rattle.c_check.specs.declared.acts.act.Act.TheVariants.{Assign, Declare, Use}
@@ -16,7 +15,7 @@ use Rattle.c_check.specs.declared.acts.role.Role.TheVariants as role
 use Rattle.c_check.specs.declared.scopes.declared.Declared.{Declared}
 use Rattle.c_check.specs.Acts.{acts, each, init, target}
 use Rattle.c_check.specs.Checked.{after_all}
-use Rattle.c_check.specs.Constructs.{Construct, Constructs, with_use}
+use Rattle.c_check.specs.Constructs.{Constructs, with_use}
 use Rattle.c_check.specs.Declarations.{find}
 use Rattle.c_check.specs.Here.{Here, after, is_variable, used, used_in}
 use Rattle.c_check.specs.Usages.{assigned}

@@ -1,23 +1,19 @@
 -- A construct: what stands inside of it, between its clauses and its end.
-use Rattle.std.specs.Prelude.{ℕ, ◌≡◌, ◌⊎◌, ◌≤◌, Bool, true, false, List, [], ◌∷◌, ◌++◌, length, Option, Some, None, refl}
-use Rattle.std.proofs.Common.{sym, ap, subst, ◌∙◌, inl, inr, arith, append_assoc, append-nil, true≢false}
-use Rattle.std.specs.List.{IsAmong}
+use Rattle.std.specs.Prelude.{ℕ, ◌≡◌, ◌⊎◌, false, List, [], ◌∷◌, ◌++◌, length, Option, Some, None, refl}
+use Rattle.std.proofs.Common.{sym, ap, subst, ◌∙◌, inl, inr, true≢false}
 use Rattle.c_tokens.specs.declared.token.Spot.{Spot}
 use Rattle.c_syntax.specs.declared.node.Directive.{Directive}
-use Rattle.c_syntax.specs.language.Tree.{Tree, children_of, kind_of, spot_of}
+use Rattle.c_syntax.specs.language.Tree.{Tree}
 use Rattle.c_check.specs.declared.acts.act.Act.{Act}
-use Rattle.c_check.specs.declared.acts.act.Act.TheVariants.{Enter, Leave, OddLoop}
-use Rattle.c_check.specs.declared.scopes.declared.Declared.{Declared}
+use Rattle.c_check.specs.declared.acts.act.Act.TheVariants.{Enter, Leave}
 use Rattle.c_check.specs.Checked.{after_all}
 use Rattle.c_check.specs.Constructs.{Construct, Constructs, begun_construct, open_constructs, with_ended, with_newest, without_innermost}
 use Rattle.c_check.specs.Declarations.{Declarations}
 use Rattle.c_check.specs.Here.{Here, after}
-use Rattle.c_check.specs.Rules.{bad_loops, newest_spot}
-use Rattle.c_check.specs.Statements.{statement_of}
-use Rattle.check_laws.specs.Scopes.{Declaration, Position, behind}
-use Rattle.check_laws.specs.LoopForm.{IsLoopOfForm, assigned_variable, is_loop_construct}
+use Rattle.c_check.specs.Rules.{bad_loops}
+use Rattle.check_laws.specs.Scopes.{Position, behind}
 use Rattle.check_laws.proofs.Broken.{BreaksIn, after-both, breaks-either, breaks-left, breaks-right}
-use Rattle.check_laws.proofs.Has.{Has, among-case, among-first, has-weaker}
+use Rattle.check_laws.proofs.Has.{Has, has-weaker}
 use Rattle.check_laws.proofs.Informing.{Informed, Informs}
 use Rattle.check_laws.proofs.Means.{IsPlain, Means, not-among}
 use Rattle.check_laws.proofs.Standing.{Assigns, IsBelow, IsOddAt, IsReady, LoopsBelow, Met, Names, OwnOdd, Result, Spoiled, Spoils, around_here}
@@ -202,10 +198,15 @@ inner-position spot acts nodes tree plain it = record {
       | inr others ↦ inl others
     ]
     | inr spoiled ↦ inr (has-weaker (Spoils here.names.visible (me ∷ nodes) at) (Spoils here.names.visible nodes at)
-        (λ construct one. record { at = one.at; slot = one.slot; loop = one.loop; assigns = elim one.assigns [
-          | inl this ↦ absurd (let wrong : Some this.name ≡ None = sym this.assigns ∙ plain.assigns_none in cc)
-          | inr others ↦ others
-        ] }) here.constructs.around spoiled)
+        (λ construct one. record {
+          at = one.at;
+          slot = one.slot;
+          loop = one.loop;
+          assigns = elim one.assigns [
+            | inl this ↦ absurd (let wrong : Some this.name ≡ None = sym this.assigns ∙ plain.assigns_none in cc)
+            | inr others ↦ others
+          ];
+        }) here.constructs.around spoiled)
   ]);
 }
   where

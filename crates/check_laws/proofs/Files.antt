@@ -1,14 +1,13 @@
 -- Functions and the other parts of a file, and programs.
-use Rattle.std.specs.Prelude.{ℕ, ◌≡◌, ◌⊎◌, Bool, true, false, List, [], ◌∷◌, ◌++◌, Option, Some, None, refl}
-use Rattle.std.proofs.Common.{sym, ap, subst, ◌∙◌, inl, inr, append-nil, append_assoc}
-use Rattle.std.specs.List.{Contains}
+use Rattle.std.specs.Prelude.{ℕ, ◌≡◌, true, false, List, [], ◌∷◌, ◌++◌, refl}
+use Rattle.std.proofs.Common.{sym, subst, inl, inr, append-nil}
 use Rattle.c_tokens.specs.declared.token.Spot.{Spot}
 use Rattle.c_syntax.specs.declared.node.Returns.{Returns}
 use Rattle.c_syntax.specs.declared.node.NodeKind.TheVariants as node
-use Rattle.c_syntax.specs.language.Words.{Word, words_of}
+use Rattle.c_syntax.specs.language.Words.{Word}
 use Rattle.c_syntax.specs.language.Numbered.{TreeView, root_tree}
 use Rattle.c_syntax.specs.language.Texts.{Spells}
-use Rattle.c_syntax.specs.language.Tree.{Tree, Children, children_of, kind_of, name_of, spot_of}
+use Rattle.c_syntax.specs.language.Tree.{Tree, Children, children_of, name_of, spot_of}
 use Rattle.c_syntax.specs.language.Tree.Tree.{Node}
 use Rattle.c_syntax.specs.language.Tree.Children.{Over, Child}
 use Rattle.c_syntax.specs.language.Productions.{Block, FileParts, Function, IsProgram, MoreParameters, MoreVariables, Parameters, Variable, Variables, kids, made_at, name_node}
@@ -18,20 +17,20 @@ use Rattle.c_check.specs.declared.acts.act.Thing.TheVariants as thing
 use Rattle.c_check.specs.declared.acts.role.Role.TheVariants as role
 use Rattle.c_check.specs.declared.acts.role.Naming.TheVariants as naming
 use Rattle.c_check.specs.Acts.{acts, each, function}
-use Rattle.c_check.specs.Checked.{IsBroken, acts_of, after_all}
+use Rattle.c_check.specs.Checked.{IsBroken}
 use Rattle.c_check.specs.Here.{before_all}
 use Rattle.c_check.specs.NameLists.{child_count, names}
 use Rattle.c_check.specs.Rules.{bad_loops}
 use Rattle.c_check.specs.Statements.{statement_of}
 use Rattle.check_laws.specs.Scopes.{Declaration, Position, Sort, behind, declared, declared_among, declared_as, each_as, positions, positions_among}
-use Rattle.check_laws.specs.LoopForm.{HasOddLoop, IsLoopOfForm}
-use Rattle.check_laws.proofs.Broken.{BreaksIn, breaks-broken, breaks-either, breaks-left, broken-breaks}
-use Rattle.check_laws.proofs.Has.{Has, has-one, one-has}
-use Rattle.check_laws.proofs.Means.{Means, means-both, means-declare, means-file, means-function, means-node, means-nothing, means-of, means-plain, not-among}
+use Rattle.check_laws.specs.LoopForm.{BreaksLoopForm, IsLoopOfForm}
+use Rattle.check_laws.proofs.Broken.{breaks-broken, breaks-either, breaks-left, broken-breaks}
+use Rattle.check_laws.proofs.Has.{has-one, one-has}
+use Rattle.check_laws.proofs.Means.{Means, means-both, means-declare, means-function, means-node, means-nothing, means-of, means-plain, not-among}
 use Rattle.check_laws.proofs.Quiet.{plain}
-use Rattle.check_laws.proofs.Sharing.{position}
 use Rattle.check_laws.proofs.Standing.{IsOddAt, IsReady, Result}
-use Rattle.check_laws.proofs.Statements.{items, items-then, locks_of, means-named, names-plain, no-items}
+use Rattle.check_laws.proofs.Declaring.{locks_of, means-named, names-plain}
+use Rattle.check_laws.proofs.Statements.{items, items-then, no-items}
 use Rattle.check_laws.proofs.Visible.{behind-nothing}
 
 -- parameters
@@ -65,7 +64,7 @@ function-acts gives named (Node kind place name number text children) spot some 
 function-inside : (name word : Word) (parameters : Tree) (trees : List Tree) → Means false (names naming.Parameters (children_of parameters)) (declared parameters) (positions parameters)
     → Means false (each role.Plain (kids trees)) (declared_among (kids trees)) (positions_among (kids trees))
     → Means false (names naming.Parameters (children_of parameters) ++ each role.Plain (kids trees)) (declared_among (kids trees) ++ declared parameters)
-        (positions_among (kids (name_node name ∷ parameters ∷ made_at node.Block word (kids trees) ∷ [])))
+    (positions_among (kids (name_node name ∷ parameters ∷ made_at node.Block word (kids trees) ∷ [])))
 unfolding positions positions_among declared
 function-inside name word parameters trees params some =
     let body = means-node false _ _ _ (made_at node.Block word (kids trees)) (plain _ refl refl) some in
@@ -135,7 +134,7 @@ module _ (program : TreeView) (spot : Spot) (told : IsTold (root_tree program)) 
         | inr end ↦ elim end [ inl finish ↦ absurd (not-among spot finish) | inr never ↦ absurd never ]
       ]
 
-pub broken-is-odd : (text : List ℕ) (program : TreeView) (spot : Spot) → Spells text (root_tree program) → IsBroken bad_loops program spot → HasOddLoop (root_tree program) spot
+pub broken-is-odd : (text : List ℕ) (program : TreeView) (spot : Spot) → Spells text (root_tree program) → IsBroken bad_loops program spot → BreaksLoopForm (root_tree program) spot
 broken-is-odd text program spot is broken =
     elim (broken-told program spot (program-told is.spelled) broken) [
       | inl odd ↦
@@ -150,7 +149,7 @@ broken-is-odd text program spot is broken =
       | inr none ↦ absurd none
     ]
 
-pub odd-is-broken : (text : List ℕ) (program : TreeView) (spot : Spot) → Spells text (root_tree program) → HasOddLoop (root_tree program) spot → IsBroken bad_loops program spot
+pub odd-is-broken : (text : List ℕ) (program : TreeView) (spot : Spot) → Spells text (root_tree program) → BreaksLoopForm (root_tree program) spot → IsBroken bad_loops program spot
 odd-is-broken text program spot is odd =
     told-broken program spot (program-told is.spelled)
     (inl (one-has (IsOddAt [] spot) (positions (root_tree program)) odd.construct odd.there

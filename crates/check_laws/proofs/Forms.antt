@@ -1,7 +1,7 @@
 -- The form of the head of a loop: as the checker tells it, and in the words of the rule.
-use Rattle.std.specs.Prelude.{ℕ, ◌≡◌, ◌≤◌, ◌⊎◌, ◌&&◌, ◌||◌, nat_le, nat_eq, ◌==◌, not, Bool, true, false, List, [], ◌∷◌, Option, Some, None, is_none, unwrap_or, if◌then◌else◌, refl}
-use Rattle.std.proofs.Common.{sym, ap, subst, ◌∙◌, inl, inr, arith, true≢false}
-use Rattle.std.proofs.lemmas.Bool.{and_parts, cases_Bool, eqb-true, leb-true, le-leb}
+use Rattle.std.specs.Prelude.{ℕ, ◌≡◌, ◌≤◌, ◌⊎◌, ◌&&◌, ◌||◌, nat_eq, not, Bool, true, false, List, [], ◌∷◌, Option, Some, None, unwrap_or, if◌then◌else◌, refl}
+use Rattle.std.proofs.Common.{sym, ap, subst, ◌∙◌, inl, inr, arith}
+use Rattle.std.proofs.lemmas.Bool.{and_parts, eqb-true, leb-true, le-leb}
 use Rattle.std.proofs.lemmas.Bool.Decides.{nat_tests}
 use Rattle.c_syntax.specs.declared.head.Head.{Head}
 use Rattle.c_syntax.specs.declared.node.BinaryOp.{BinaryOp}
@@ -11,12 +11,12 @@ use Rattle.c_syntax.specs.declared.node.Setting.TheVariants as setting
 use Rattle.c_syntax.specs.declared.node.NodeKind.{NodeKind}
 use Rattle.c_syntax.specs.declared.node.NodeKind.TheVariants as node
 use Rattle.c_syntax.specs.language.Words.{Word}
-use Rattle.c_syntax.specs.language.Tree.{Tree, Children, at_place, child_of, children_of, kind_of, name_of, nothing, number_of, spot_of}
+use Rattle.c_syntax.specs.language.Tree.{Tree, Children, at_place, children_of, kind_of, name_of, nothing, number_of}
 use Rattle.c_syntax.specs.language.Tree.Tree.{Node}
-use Rattle.c_syntax.specs.language.Tree.Children.{Over, Child, Absent}
-use Rattle.c_syntax.specs.language.Productions.{ConditionPart, FirstPart, IndexPart, Operand, Place, Ranked, StepOf, StepPart, kids, maybe, name_node}
-use Rattle.c_check.specs.Loops.{adds, assigned_by as loop_assigned, child_at, goes_down, goes_up, has_form, has_form_with, has_head, is_apart, is_literal, is_place, is_start, is_step_down, is_step_up, is_stride, is_variable_named, loop_name, loop_name_by, may_have_name, name_if_variable, stands_in, takes}
-use Rattle.check_laws.specs.LoopForm.{Begins, Compares, IsNode, IsVariable, Steps, Way, bump_of, setting_of, way_of}
+use Rattle.c_syntax.specs.language.Tree.Children.{Over, Child}
+use Rattle.c_syntax.specs.language.Productions.{ConditionPart, FirstPart, IndexPart, Operand, Place, Ranked, StepOf, StepPart, kids, maybe}
+use Rattle.c_check.specs.Loops.{assigned_by as loop_assigned, child_at, goes_down, goes_up, has_form, has_form_with, has_head, is_apart, is_start, is_step_down, is_step_up, is_stride, is_variable_named, loop_name, loop_name_by, may_have_name, name_if_variable, stands_in}
+use Rattle.check_laws.specs.LoopForm.{Begins, Compares, IsNode, IsVariable, Steps, Way, way_of}
 
 -- a loop whose head is of the form
 pub record HasHead (loop : Tree) : Type 0 where
@@ -147,9 +147,11 @@ module _ (loop : Tree) (head : HasHead loop) where
 
   head-with : has_form_with (Some head.variable) loop ≡ true
   head-with =
-      rw (child-is loop (kids (head.first ∷ head.second ∷ head.third ∷ head.body ∷ [])) 0 head.parts_are.1,
-          child-is loop (kids (head.first ∷ head.second ∷ head.third ∷ head.body ∷ [])) 1 head.parts_are.1,
-          child-is loop (kids (head.first ∷ head.second ∷ head.third ∷ head.body ∷ [])) 2 head.parts_are.1)
+      rw (
+        child-is loop (kids (head.first ∷ head.second ∷ head.third ∷ head.body ∷ [])) 0 head.parts_are.1,
+        child-is loop (kids (head.first ∷ head.second ∷ head.third ∷ head.body ∷ [])) 1 head.parts_are.1,
+        child-is loop (kids (head.first ∷ head.second ∷ head.third ∷ head.body ∷ [])) 2 head.parts_are.1,
+      )
       (all-true (is_start (kind_of head.first)) (is_variable_named head.variable (child_at head.second 0)) (is_variable_named head.variable (child_at head.third 0))
       (goes_up (kind_of head.second) && is_step_up head.third || goes_down (kind_of head.second) && is_step_down head.third)
       (may_have_name (kind_of head.first) || not (stands_in head.variable (child_at head.first 1))) (not (stands_in head.variable (child_at head.second 1)))
@@ -293,10 +295,24 @@ tested i loop is =
     let apart = and_parts (may_have_name (kind_of (child_at loop 0)) || not (stands_in i (child_at (child_at loop 0) 1))) (not (stands_in i (child_at (child_at loop 1) 1))) both.1 in
     elim (either-of (goes_up (kind_of (child_at loop 1)) && is_step_up (child_at loop 2)) (goes_down (kind_of (child_at loop 1)) && is_step_down (child_at loop 2)) named.1) [
       | inl up ↦ let ways = and_parts (goes_up (kind_of (child_at loop 1))) (is_step_up (child_at loop 2)) up in record {
-        start = head.0; second_named = each.0; third_named = each.1; way = Way.up; goes_so = ways.0; steps_so = ways.1; first_apart = apart.0; second_apart = apart.1;
+        start = head.0;
+        second_named = each.0;
+        third_named = each.1;
+        way = Way.up;
+        goes_so = ways.0;
+        steps_so = ways.1;
+        first_apart = apart.0;
+        second_apart = apart.1;
       }
       | inr down ↦ let ways = and_parts (goes_down (kind_of (child_at loop 1))) (is_step_down (child_at loop 2)) down in record {
-        start = head.0; second_named = each.0; third_named = each.1; way = Way.down; goes_so = ways.0; steps_so = ways.1; first_apart = apart.0; second_apart = apart.1;
+        start = head.0;
+        second_named = each.0;
+        third_named = each.1;
+        way = Way.down;
+        goes_so = ways.0;
+        steps_so = ways.1;
+        first_apart = apart.0;
+        second_apart = apart.1;
       }
     ]
 
@@ -383,11 +399,11 @@ module _ (begins tests steps : Option Tree) (body : Tree) where
       let at2 : child_at loop 2 ≡ part_or steps = child-is loop loop_parts 2 children ∙ third-part in
       let name : loop_assigned (kind_of (child_at loop 0)) (child_at (child_at loop 0) 0) ≡ Some i = subst (λ (kind : NodeKind). loop_name_by kind (child_at loop 0) ≡ Some i) kind named in
       let one = first-there i first (subst (λ (tree : Tree). loop_assigned (kind_of tree) (child_at tree 0) ≡ Some i) at0 name) (subst (λ (tree : Tree). is_start (kind_of tree) ≡ true) at0 it.start)
-          (subst (λ (tree : Tree). (may_have_name (kind_of tree) || not (stands_in i (child_at tree 1))) ≡ true) at0 it.first_apart) in
+      (subst (λ (tree : Tree). (may_have_name (kind_of tree) || not (stands_in i (child_at tree 1))) ≡ true) at0 it.first_apart) in
       let two = second-there i it.way second (subst (λ (tree : Tree). goes it.way (kind_of tree) ≡ true) at1 it.goes_so)
-          (subst (λ (tree : Tree). is_variable_named i (child_at tree 0) ≡ true) at1 it.second_named) (subst (λ (tree : Tree). not (stands_in i (child_at tree 1)) ≡ true) at1 it.second_apart) in
+      (subst (λ (tree : Tree). is_variable_named i (child_at tree 0) ≡ true) at1 it.second_named) (subst (λ (tree : Tree). not (stands_in i (child_at tree 1)) ≡ true) at1 it.second_apart) in
       let three = third-there i it.way third (subst (λ (tree : Tree). is_variable_named i (child_at tree 0) ≡ true) at2 it.third_named)
-          (subst (λ (tree : Tree). steps-by it.way tree ≡ true) at2 it.steps_so) in
+      (subst (λ (tree : Tree). steps-by it.way tree ≡ true) at2 it.steps_so) in
       record {
         variable = i;
         way = it.way;
@@ -395,8 +411,11 @@ module _ (begins tests steps : Option Tree) (body : Tree) where
         second = two.tree;
         third = three.tree;
         body = body;
-        parts_are = (kind, children ∙ ap (λ (part : Option Tree). maybe part (maybe tests (maybe steps (Child body Over)))) one.same
-            ∙ ap (λ (part : Option Tree). Child one.tree (maybe part (maybe steps (Child body Over)))) two.same ∙ ap (λ (part : Option Tree). Child one.tree (Child two.tree (maybe part (Child body Over)))) three.same);
+        parts_are = (
+          kind,
+          children ∙ ap (λ (part : Option Tree). maybe part (maybe tests (maybe steps (Child body Over)))) one.same
+              ∙ ap (λ (part : Option Tree). Child one.tree (maybe part (maybe steps (Child body Over)))) two.same ∙ ap (λ (part : Option Tree). Child one.tree (Child two.tree (maybe part (Child body Over)))) three.same,
+        );
         begins = one.is;
         compares = two.is;
         steps = three.is;

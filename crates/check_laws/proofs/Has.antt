@@ -1,5 +1,5 @@
 -- Lists of which an element is so.
-use Rattle.std.proofs.Common.{ℕ, zero, suc, ◌≡◌, ◌⊎◌, ◌+◌, ◌<◌, List, [], ◌∷◌, ◌++◌, map, length, refl, sym, subst, inl, inr, arith, add-one}
+use Rattle.std.proofs.Common.{zero, suc, ◌≡◌, ◌⊎◌, ◌+◌, List, [], ◌∷◌, ◌++◌, map, refl, sym, subst, inl, inr, arith, add-one}
 use Rattle.std.specs.List.{Contains, IsAmong}
 
 abbrev pub Has : {X : Type 0} → (X → Type 0) → List X → Type 0

@@ -1,26 +1,24 @@
 -- What the clauses of a construct say of it changes neither its place nor its loop, nor what is in scope.
 use Rattle.std.specs.Prelude.{ℕ, ◌≡◌, List, [], ◌∷◌, ◌++◌, Option, Some, None, option_map, refl}
 use Rattle.std.proofs.Common.{sym, ap, subst, ◌∙◌, inl, inr}
-use Rattle.std.specs.List.{IsAmong}
 use Rattle.c_tokens.specs.declared.token.Spot.{Spot}
 use Rattle.c_syntax.specs.declared.node.NodeKind.{NodeKind}
 use Rattle.c_syntax.specs.declared.node.NodeKind.TheVariants as node
-use Rattle.c_syntax.specs.language.Tree.{Tree, Children, name_of, spot_of}
+use Rattle.c_syntax.specs.language.Tree.{Children, name_of, spot_of}
 use Rattle.c_syntax.specs.language.Tree.Tree.{Node}
 use Rattle.c_syntax.specs.language.Tree.Children.{Over, Child, Absent}
 use Rattle.c_check.specs.declared.acts.act.Act.{Act}
 use Rattle.c_check.specs.declared.acts.act.Act.TheVariants.{Clause, List as Listing}
 use Rattle.c_check.specs.declared.acts.act.DataClause.{DataClause}
 use Rattle.c_check.specs.declared.acts.act.Single.{Single}
-use Rattle.c_check.specs.declared.acts.role.Naming.{Naming}
 use Rattle.c_check.specs.declared.acts.role.Naming.TheVariants as naming
 use Rattle.c_check.specs.declared.scopes.declared.Declared.{Declared}
 use Rattle.c_check.specs.Checked.{after_all}
 use Rattle.c_check.specs.Clauses.{clause_inside, first_inside, inside_acts}
-use Rattle.c_check.specs.Constructs.{Construct, with_clause, with_mention, with_single}
+use Rattle.c_check.specs.Constructs.{Construct, with_single}
 use Rattle.c_check.specs.Declarations.{find}
 use Rattle.c_check.specs.Here.{Here, after, listed}
-use Rattle.c_check.specs.NameLists.{named, names}
+use Rattle.c_check.specs.NameLists.{names}
 use Rattle.c_check.specs.Rules.{bad_loops}
 use Rattle.check_laws.proofs.Broken.{BreaksIn, after-both, breaks-either}
 use Rattle.check_laws.proofs.Means.{not-among}

@@ -11,5 +11,9 @@ pub mod Informing
 pub mod Constructing
 pub mod Sharing
 pub mod SharedLoops
+pub mod Declaring
+pub mod Heads
+pub mod Executing
+pub mod LoopConstructs
 pub mod Statements
 pub mod Files

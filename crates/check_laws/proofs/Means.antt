@@ -1,6 +1,5 @@
 -- What acts are in the tree's words: the declarations that they make, and the positions by which they break the rule on loops.
-use Rattle.std.proofs.Common.{ℕ, zero, suc, ◌≡◌, ◌⊎◌, ◌+◌, ◌-◌, ◌<◌, ◌≤◌, Bool, true, false, if◌then◌else◌, List, [], ◌∷◌, ◌++◌, map, length, Option, Some, None, nat_eq, refl, sym, ap, subst, ◌∙◌, inl, inr, arith, append_assoc, append-nil}
-use Rattle.std.specs.Prelude.{is_none}
+use Rattle.std.proofs.Common.{ℕ, ◌≡◌, ◌⊎◌, ◌+◌, ◌-◌, Bool, true, false, if◌then◌else◌, List, [], ◌∷◌, ◌++◌, length, Option, Some, None, nat_eq, refl, sym, ap, subst, ◌∙◌, inl, inr, arith, append_assoc}
 use Rattle.std.specs.List.{IsAmong}
 use Rattle.std.proofs.lemmas.Bool.{cases_Bool, eqb-true}
 use Rattle.std.proofs.lemmas.Bool.Decides.{nat_tests}
@@ -22,12 +21,12 @@ use Rattle.c_check.specs.Declarations.{Declarations, find, next_of, scope_begun,
 use Rattle.c_check.specs.Here.{Here, after, is_variable, used, used_in}
 use Rattle.c_check.specs.Rules.{bad_loops, spoiled, spoiled_by}
 use Rattle.c_check.specs.Shares.{is_loop_variable}
-use Rattle.check_laws.specs.Scopes.{Declaration, Position, Sort, behind, declared_as, meaning, under}
+use Rattle.check_laws.specs.Scopes.{Declaration, Position, Sort, behind, declared_as, meaning}
 use Rattle.check_laws.specs.LoopForm.{assigned_variable, is_loop_construct}
 use Rattle.check_laws.proofs.Broken.{BreaksIn, after-both, breaks-either, breaks-left, breaks-right}
 use Rattle.check_laws.proofs.Has.{Has, among-behind, among-case, among-first, has-either, has-left, has-none, has-right, has-weaker}
-use Rattle.check_laws.proofs.Standing.{Assigns, IsOddAt, IsReady, LoopsBelow, Met, Names, OwnOdd, Result, Spoiled, Spoils, around_here, loops-more, ready-after, result-back, result-map, result-on}
-use Rattle.check_laws.proofs.Visible.{AreNew, Falls, HasSlot, IsSound, Levels, behind-nothing, dropped, falls-more, levels-more, levels-new, new-both, scope_of, sort_of, told}
+use Rattle.check_laws.proofs.Standing.{Assigns, IsOddAt, IsReady, Met, Names, Result, Spoiled, Spoils, around_here, ready-after, result-back, result-map, result-on}
+use Rattle.check_laws.proofs.Visible.{AreNew, Falls, HasSlot, IsSound, Levels, behind-nothing, dropped, falls-more, levels-more, new-both, scope_of, sort_of, told}
 
 pub record Means (file : Bool) (acts : List Act) (made : List Declaration) (nodes : List Position) : Type 0 where
   pub meets : (here : Here) → IsReady file here → Met here (after_all here acts) made
@@ -255,8 +254,8 @@ begun-sound names sound = record { levels = levels-more names.level (names.level
 pub ended-names : (old new : Declarations) (made : List Declaration) → IsSound old → Names (scope_begun old) new made → Names old (scope_ended new) []
 ended-names old new made sound names =
     let visible : still_in_scope new.level new.visible ≡ old.visible =
-        ap (λ (level : ℕ). still_in_scope level new.visible) names.level ∙ ap (λ (visible : List Declared). still_in_scope (old.level + 1) visible) names.visible
-        ∙ dropped (length old.all) old.level names.added old.visible names.are_new sound.levels in
+    ap (λ (level : ℕ). still_in_scope level new.visible) names.level ∙ ap (λ (visible : List Declared). still_in_scope (old.level + 1) visible) names.visible
+    ∙ dropped (length old.all) old.level names.added old.visible names.are_new sound.levels in
     let level : new.level - 1 ≡ old.level = omega (arith, names.level) in
     record {
       added = [];
@@ -424,10 +423,14 @@ module _ (name : ℕ) (tree : Tree) (no_loop : is_loop_construct (kind_of tree) 
   unspoils visible spot around spoiled =
       among-found spot around (find visible name)
       (has-weaker (Spoils visible (it ∷ []) spot) (λ construct. (slot : ℕ) × IsSpoiled slot spot construct × HasSlot (find visible name) slot)
-      (λ construct one. (one.slot, (one.at, one.loop), elim one.assigns [
-        | inl here ↦ subst (λ (name : ℕ). HasSlot (find visible name) one.slot) (sym (same-name here.name here.assigns)) here.found
-        | inr there ↦ absurd there
-      ])) around spoiled)
+      (λ construct one. (
+        one.slot,
+        (one.at, one.loop),
+        elim one.assigns [
+          | inl here ↦ subst (λ (name : ℕ). HasSlot (find visible name) one.slot) (sym (same-name here.name here.assigns)) here.found
+          | inr there ↦ absurd there
+        ],
+      )) around spoiled)
 
   pub means-assign : (file : Bool) → Means file (Assign name ∷ []) [] (it ∷ [])
   unfolding after_all after

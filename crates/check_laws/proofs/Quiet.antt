@@ -1,31 +1,24 @@
 -- Parts of a text that declare nothing for what stands behind them: expressions, calls, lists of names, steps, clauses.
-use Rattle.std.specs.Prelude.{ℕ, ◌≡◌, ◌⊎◌, Bool, true, false, List, [], ◌∷◌, ◌++◌, Option, Some, None, refl}
-use Rattle.std.proofs.Common.{sym, ap, subst, ◌∙◌, inl, inr, append-nil, append_assoc}
+use Rattle.std.specs.Prelude.{ℕ, ◌≡◌, Bool, true, false, List, [], ◌∷◌, ◌++◌, None, refl}
+use Rattle.std.proofs.Common.{sym, subst, append-nil}
 use Rattle.c_syntax.specs.declared.head.Head.{Head}
-use Rattle.c_syntax.specs.declared.node.Directive.{Directive}
-use Rattle.c_syntax.specs.declared.node.NodeKind.{NodeKind}
-use Rattle.c_syntax.specs.declared.node.NodeKind.TheVariants as node
 use Rattle.c_syntax.specs.language.Words.{Word}
 use Rattle.c_syntax.specs.language.Tree.{Tree, Children, kind_of, name_of, spot_of}
-use Rattle.c_syntax.specs.language.Tree.Tree.{Node}
-use Rattle.c_syntax.specs.language.Tree.Children.{Over, Child, Absent}
-use Rattle.c_syntax.specs.language.Productions.{ArgumentsPart, Call, Chunk, Clause, IndexPart, Lock, MoreArguments, MoreNames, Names, Operand, Place, Ranked, StepOf, Value, kids, name_node}
+use Rattle.c_syntax.specs.language.Tree.Children.{Over, Child}
+use Rattle.c_syntax.specs.language.Productions.{ArgumentsPart, Call, IndexPart, Lock, MoreArguments, MoreNames, Names, Operand, Place, Ranked, Value, kids, name_node}
 use Rattle.c_check.specs.declared.acts.act.Act.{Act}
-use Rattle.c_check.specs.declared.acts.act.Act.TheVariants.{Assign, Use}
-use Rattle.c_check.specs.declared.acts.act.DataClause.{DataClause}
 use Rattle.c_check.specs.declared.acts.act.Usage.{Usage}
 use Rattle.c_check.specs.declared.acts.act.Usage.TheVariants as usage
 use Rattle.c_check.specs.declared.acts.role.Role.{Role}
 use Rattle.c_check.specs.declared.acts.role.Role.TheVariants as role
 use Rattle.c_check.specs.declared.acts.role.Naming.{Naming}
 use Rattle.c_check.specs.declared.acts.role.Naming.TheVariants as naming
-use Rattle.c_check.specs.Acts.{acts, clause_outside, each, target}
+use Rattle.c_check.specs.Acts.{acts, each}
 use Rattle.c_check.specs.NameLists.{named, names}
 use Rattle.c_check.specs.Usages.{assigned}
 use Rattle.check_laws.specs.Scopes.{Declaration, Position, behind, declared, positions, positions_among}
 use Rattle.check_laws.specs.LoopForm.{assigned_variable, is_loop_construct}
-use Rattle.check_laws.proofs.Has.{Has, has-either, has-left, has-right}
-use Rattle.check_laws.proofs.Means.{IsPlain, IsSilent, Means, means-assign, means-both, means-node, means-nothing, means-of, means-plain, means-same, means-silent, use-silent}
+use Rattle.check_laws.proofs.Means.{IsPlain, IsSilent, Means, means-both, means-node, means-nothing, means-of, means-silent, use-silent}
 use Rattle.check_laws.proofs.Visible.{behind-nothing}
 
 -- a part that declares nothing

@@ -1,6 +1,6 @@
 -- A loop with a variable that a `for` construct shares out.
-use Rattle.std.specs.Prelude.{ℕ, ◌≡◌, ◌⊎◌, ◌≤◌, ◌<◌, Bool, true, false, not, if◌then◌else◌, List, [], ◌∷◌, ◌++◌, length, Option, Some, None, unwrap_or, refl}
-use Rattle.std.proofs.Common.{sym, ap, subst, ◌∙◌, inl, inr, arith, append_assoc, append-nil, true≢false}
+use Rattle.std.specs.Prelude.{ℕ, ◌≡◌, Bool, true, false, if◌then◌else◌, List, [], ◌∷◌, ◌++◌, length, Option, Some, None, unwrap_or, refl}
+use Rattle.std.proofs.Common.{sym, ap, subst, ◌∙◌, inl, inr, true≢false}
 use Rattle.std.specs.List.{Contains, IsAmong}
 use Rattle.std.proofs.lemmas.Bool.{cases_Bool}
 use Rattle.c_tokens.specs.declared.token.Spot.{Spot}
@@ -13,8 +13,8 @@ use Rattle.c_check.specs.declared.acts.role.Role.TheVariants as role
 use Rattle.c_check.specs.declared.scopes.declared.Declared.{Declared}
 use Rattle.c_check.specs.Acts.{acts}
 use Rattle.c_check.specs.Checked.{after_all}
-use Rattle.c_check.specs.Constructs.{Construct, Constructs, open_constructs}
-use Rattle.c_check.specs.Declarations.{Declarations, find}
+use Rattle.c_check.specs.Constructs.{Construct}
+use Rattle.c_check.specs.Declarations.{find}
 use Rattle.c_check.specs.Here.{Here, after}
 use Rattle.c_check.specs.Loops.{has_form, loop_name}
 use Rattle.c_check.specs.Rules.{bad_loops, is_int, newest_spot}
@@ -22,15 +22,15 @@ use Rattle.c_check.specs.Statements.{statement_of}
 use Rattle.check_laws.specs.Scopes.{Declaration, Position, Sort, behind, declared, meaning, positions}
 use Rattle.check_laws.specs.LoopForm.{AssignsOutside, IsLoopOfForm, assigned_variable, is_loop_construct}
 use Rattle.check_laws.proofs.Broken.{BreaksIn, after-both, breaks-either, breaks-left, breaks-right}
-use Rattle.check_laws.proofs.Calm.{AreCalm, Keeps, calm-keeps}
+use Rattle.check_laws.proofs.Calm.{AreCalm, calm-keeps}
 use Rattle.check_laws.proofs.Constructing.{Inner, InnerMet, InnerResult, IsBegun, begun-ready, open-begun}
 use Rattle.check_laws.proofs.Forms.{HasHead, body-part, first-part, head-name, loop_parts, part_or}
 use Rattle.check_laws.proofs.Has.{Has, has-either, has-left, has-one, has-or-not, has-right, has-weaker, one-has}
 use Rattle.check_laws.proofs.Means.{Means, ended-names, means-nothing, names-both, not-among, opened, spoils-either}
 use Rattle.check_laws.proofs.Sharing.{assigns-or-not, declared-part, form-head, found-int, int-found, looped-around, looped-newest, looping, newest-spot, odd-after, odd-breaks, odd-here, odd-tells, odd_acts, position, spoiled-behind, spoiled-more, spot-newest}
-use Rattle.check_laws.proofs.Standing.{Assigns, IsBelow, IsOddAt, IsReady, LoopsBelow, Met, Names, OwnOdd, Result, Spoiled, Spoils, around_here, loops-more, odd-back, odd-on, scope-after, spoiled-back, spoiled-on}
+use Rattle.check_laws.proofs.Standing.{Assigns, IsBelow, IsOddAt, IsReady, LoopsBelow, Met, Result, Spoiled, Spoils, around_here, loops-more, odd-back, odd-on, scope-after, spoiled-back, spoiled-on}
 use Rattle.check_laws.proofs.Stepping.{part_declared}
-use Rattle.check_laws.proofs.Visible.{Falls, HasSlot, IsSound, found-below, meaning-found, one-name, scope_of, sort_found}
+use Rattle.check_laws.proofs.Visible.{Falls, HasSlot, found-below, meaning-found, one-name, scope_of}
 
 -- a `for` with its parts, by what their acts mean
 pub record SharedLoop (tree : Tree) : Type 0 where
@@ -188,8 +188,8 @@ module _ (me : Tree) (shares : is_loop_construct (kind_of me) ≡ true) (assigns
     form-int form =
         let head = form-head me shares assigns_none scope form in
         let so : meaning (made ++ scope) name ≡ Some Sort.variable =
-            subst (λ (name : ℕ). meaning (made ++ scope) name ≡ Some Sort.variable) (name-same head)
-            (subst (λ (some : List Declaration). meaning (some ++ scope) head.variable ≡ Some Sort.variable) (first-same head) form.is_int) in
+        subst (λ (name : ℕ). meaning (made ++ scope) name ≡ Some Sort.variable) (name-same head)
+        (subst (λ (some : List Declaration). meaning (some ++ scope) head.variable ≡ Some Sort.variable) (first-same head) form.is_int) in
         int-found found (sym (meaning-found headed.names.visible name) ∙ ap (λ (scope : List Declaration). meaning scope name) scope-headed ∙ so)
 
     form-never : IsLoopOfForm scope loop → (slot : ℕ) → HasSlot found slot → Has (Assigns headed.names.visible slot) (positions it.body) → ⊥
@@ -216,7 +216,7 @@ module _ (me : Tree) (shares : is_loop_construct (kind_of me) ≡ true) (assigns
       begins = head.begins;
       is_int =
           let so : meaning (made ++ scope) name ≡ Some Sort.variable =
-              sym (ap (λ (scope : List Declaration). meaning scope name) scope-headed) ∙ meaning-found headed.names.visible name ∙ found-int found int in
+          sym (ap (λ (scope : List Declaration). meaning scope name) scope-headed) ∙ meaning-found headed.names.visible name ∙ found-int found int in
           subst (λ (some : List Declaration). meaning (some ++ scope) head.variable ≡ Some Sort.variable) (sym (first-same head))
           (subst (λ (name : ℕ). meaning (made ++ scope) name ≡ Some Sort.variable) (sym (name-same head)) so);
       compares = head.compares;

@@ -1,36 +1,31 @@
 -- The statement of a `for` construct: a loop that it shares out, or something else.
-use Rattle.std.specs.Prelude.{ℕ, nat_eq, ◌≡◌, ◌⊎◌, ◌≤◌, ◌<◌, Bool, true, false, not, if◌then◌else◌, List, [], ◌∷◌, ◌++◌, length, Option, Some, None, option_map, unwrap_or, refl}
-use Rattle.std.proofs.Common.{sym, ap, subst, ◌∙◌, inl, inr, arith, append_assoc, append-nil, true≢false}
-use Rattle.std.specs.List.{Contains, IsAmong}
+use Rattle.std.specs.Prelude.{ℕ, nat_eq, ◌≡◌, ◌⊎◌, Bool, true, false, not, if◌then◌else◌, List, [], ◌∷◌, ◌++◌, Option, Some, None, option_map, refl}
+use Rattle.std.proofs.Common.{sym, ap, subst, ◌∙◌, inl, inr, true≢false}
+use Rattle.std.specs.List.{IsAmong}
 use Rattle.std.proofs.lemmas.Bool.{cases_Bool, eqb-false, eqb-true}
 use Rattle.c_tokens.specs.declared.token.Spot.{Spot}
-use Rattle.c_syntax.specs.declared.node.NodeKind.{NodeKind}
-use Rattle.c_syntax.specs.declared.node.NodeKind.TheVariants as node
-use Rattle.c_syntax.specs.language.Tree.{Tree, Children, at_place, children_of, kind_of, nothing, spot_of}
-use Rattle.c_syntax.specs.language.Productions.{kids}
+use Rattle.c_syntax.specs.language.Tree.{Tree, children_of, kind_of, spot_of}
 use Rattle.c_check.specs.declared.acts.act.Act.{Act}
-use Rattle.c_check.specs.declared.acts.act.Act.TheVariants.{Close, Loop, OddLoop, Open}
+use Rattle.c_check.specs.declared.acts.act.Act.TheVariants.{OddLoop}
 use Rattle.c_check.specs.declared.acts.act.Thing.{Thing}
 use Rattle.c_check.specs.declared.acts.act.Thing.TheVariants as thing
 use Rattle.c_check.specs.declared.scopes.declared.Declared.{Declared}
 use Rattle.c_check.specs.Checked.{after_all}
-use Rattle.c_check.specs.Constructs.{Construct, Constructs, open_constructs, with_loop}
-use Rattle.c_check.specs.Declarations.{Declarations, find, scope_begun}
+use Rattle.c_check.specs.Constructs.{Construct, Constructs}
 use Rattle.c_check.specs.Here.{Here, after, looped}
 use Rattle.c_check.specs.Loops.{has_form, has_form_with, loop_name}
 use Rattle.c_check.specs.Rules.{bad_loops, is_int, is_int_thing, newest_spot}
 use Rattle.c_check.specs.Statements.{statement_of}
-use Rattle.check_laws.specs.Scopes.{Declaration, Position, Sort, behind, declared, meaning, positions}
-use Rattle.check_laws.specs.LoopForm.{AssignsOutside, IsLoopOfForm, NeverAssigns, assigned_variable, is_loop_construct}
+use Rattle.check_laws.specs.Scopes.{Declaration, Position, Sort, declared, meaning}
+use Rattle.check_laws.specs.LoopForm.{AssignsOutside, IsLoopOfForm, assigned_variable, is_loop_construct}
 use Rattle.check_laws.proofs.Broken.{BreaksIn, after-both, breaks-either, breaks-left, breaks-right}
-use Rattle.check_laws.proofs.Calm.{AreCalm, Keeps, calm-keeps}
-use Rattle.check_laws.proofs.Constructing.{Inner, InnerMet, InnerResult, IsBegun, begun-met, begun-ready, open-begun, with-newest, without-newest}
-use Rattle.check_laws.proofs.Forms.{HasHead, body-part, first-part, head-form, head-name, loop_parts, part_or}
-use Rattle.check_laws.proofs.Has.{Has, IsOne, among-case, among-first, has-either, has-left, has-one, has-or-not, has-right, has-weaker, one-has}
-use Rattle.check_laws.proofs.Means.{Means, begun-sound, ended-names, names-both, not-among, spoils-either}
-use Rattle.check_laws.proofs.Standing.{Assigns, IsBelow, IsOddAt, IsReady, LoopsBelow, Met, Names, OwnOdd, Result, Spoiled, Spoils, around_here, loops-more, odd-back, odd-on, scope-after, spoiled-back, spoiled-on}
+use Rattle.check_laws.proofs.Constructing.{Inner, InnerMet, InnerResult, IsBegun, begun-met, begun-ready, with-newest, without-newest}
+use Rattle.check_laws.proofs.Forms.{HasHead, head-form, part_or}
+use Rattle.check_laws.proofs.Has.{Has, among-case, among-first, has-weaker}
+use Rattle.check_laws.proofs.Means.{Means, not-among}
+use Rattle.check_laws.proofs.Standing.{Assigns, IsOddAt, Spoiled, Spoils}
 use Rattle.check_laws.proofs.Stepping.{part_declared}
-use Rattle.check_laws.proofs.Visible.{HasSlot, IsSound, found-below, meaning-found, one-name, scope_of, sort_found, sort_of}
+use Rattle.check_laws.proofs.Visible.{scope_of, sort_found, sort_of}
 
 -- what the checker is told where the statement isn't of the form
 abbrev pub odd_acts : Bool → List Act
@@ -117,10 +112,15 @@ module _ (me : Tree) (shares : is_loop_construct (kind_of me) ≡ true) (assigns
   pub spoiled-behind : (visible : List Declared) (nodes : List Position) (at : Spot) (around : List Construct) → Spoiled visible (position me ∷ nodes) at around → Spoiled visible nodes at around
   spoiled-behind visible nodes at around spoiled =
       has-weaker (Spoils visible (position me ∷ nodes) at) (Spoils visible nodes at)
-      (λ construct it. record { at = it.at; slot = it.slot; loop = it.loop; assigns = elim it.assigns [
-        | inl this ↦ absurd (let no : Some this.name ≡ None = sym this.assigns ∙ assigns_none in cc)
-        | inr others ↦ others
-      ] }) around spoiled
+      (λ construct it. record {
+        at = it.at;
+        slot = it.slot;
+        loop = it.loop;
+        assigns = elim it.assigns [
+          | inl this ↦ absurd (let no : Some this.name ≡ None = sym this.assigns ∙ assigns_none in cc)
+          | inr others ↦ others
+        ];
+      }) around spoiled
 
   pub spoiled-more : (visible : List Declared) (nodes others : List Position) (at : Spot) (around : List Construct) → ((P : Position → Type 0) → Has P nodes → Has P others) → Spoiled visible nodes at around → Spoiled visible others at around
   spoiled-more visible nodes others at around each spoiled =
@@ -141,9 +141,9 @@ module _ (me : Tree) (shares : is_loop_construct (kind_of me) ≡ true) (assigns
         | inl odd ↦ inl (inl (odd-tells here construct begun at (has_form loop) refl odd))
         | inr later ↦ elim (without-newest (spot_of me) acts nodes it here construct begun nodes at
             (it.tells here (begun-ready (spot_of me) acts nodes it here construct begun) at (subst (λ (here : Here). BreaksIn bad_loops here acts at) (odd-after here (has_form loop)) later))) [
-          | inl own ↦ inl (inr own)
-          | inr spoiled ↦ inr (spoiled-more here.names.visible nodes (position me ∷ nodes) at here.constructs.around (λ P has. inr has) spoiled)
-        ]
+              | inl own ↦ inl (inr own)
+              | inr spoiled ↦ inr (spoiled-more here.names.visible nodes (position me ∷ nodes) at here.constructs.around (λ P has. inr has) spoiled)
+            ]
       ];
       breaks = λ here construct begun at result. elim result [
         | inl odd ↦ elim odd [

@@ -1,8 +1,8 @@
 -- Where the checker stands before and after acts, and what of it a rule's breaches are seen by.
-use Rattle.std.proofs.Common.{ℕ, ◌≡◌, ◌⊎◌, ◌+◌, ◌<◌, ◌≤◌, Bool, true, false, List, [], ◌∷◌, ◌++◌, map, length, Option, Some, None, refl, sym, ap, subst, ◌∙◌, inl, inr, arith, append_assoc}
+use Rattle.std.proofs.Common.{ℕ, ◌≡◌, ◌⊎◌, ◌<◌, ◌≤◌, Bool, true, List, [], ◌∷◌, ◌++◌, length, Option, Some, None, sym, ap, subst, ◌∙◌, inl, inr, arith, append_assoc}
 use Rattle.std.proofs.lemmas.List.{map-append}
 use Rattle.c_tokens.specs.declared.token.Spot.{Spot}
-use Rattle.c_syntax.specs.language.Tree.{Tree, children_of, kind_of, spot_of}
+use Rattle.c_syntax.specs.language.Tree.{children_of, kind_of, spot_of}
 use Rattle.c_check.specs.declared.scopes.declared.Declared.{Declared}
 use Rattle.c_check.specs.Constructs.{Construct, open_constructs}
 use Rattle.c_check.specs.Declarations.{Declarations, find}
@@ -10,8 +10,8 @@ use Rattle.c_check.specs.Here.{Here}
 use Rattle.c_check.specs.Statements.{statement_of}
 use Rattle.check_laws.specs.Scopes.{Declaration, Position, behind, meaning, under}
 use Rattle.check_laws.specs.LoopForm.{IsLoopOfForm, assigned_variable, is_loop_construct}
-use Rattle.check_laws.proofs.Has.{Has, has-left, has-map, has-mapped, has-right, has-weaker}
-use Rattle.check_laws.proofs.Visible.{AreNew, Falls, HasSlot, IsSound, Levels, find-older, meaning-both, meaning-left, meaning-right, older, scope_of, told}
+use Rattle.check_laws.proofs.Has.{Has, has-map, has-mapped, has-weaker}
+use Rattle.check_laws.proofs.Visible.{AreNew, HasSlot, IsSound, find-older, meaning-both, meaning-left, meaning-right, older, scope_of, told}
 
 -- the loops of open constructs have slots below this one
 abbrev pub IsBelow : ℕ → Option ℕ → Type 0

@@ -1,14 +1,13 @@
 -- Steps, and the parts in the head of a `for`.
-use Rattle.std.specs.Prelude.{ℕ, ◌≡◌, ◌⊎◌, Bool, true, false, List, [], ◌∷◌, ◌++◌, Option, Some, None, refl}
-use Rattle.std.proofs.Common.{sym, ap, subst, ◌∙◌, inl, inr, append-nil, append_assoc}
+use Rattle.std.specs.Prelude.{ℕ, ◌≡◌, false, List, [], ◌∷◌, ◌++◌, Option, Some, None, refl}
+use Rattle.std.proofs.Common.{sym, subst, ◌∙◌, inl, inr, append-nil}
 use Rattle.c_syntax.specs.declared.head.Head.{Head}
-use Rattle.c_syntax.specs.declared.node.NodeKind.{NodeKind}
 use Rattle.c_syntax.specs.declared.node.NodeKind.TheVariants as node
 use Rattle.c_syntax.specs.language.Words.{Word}
-use Rattle.c_syntax.specs.language.Tree.{Tree, Children, kind_of, name_of, spot_of}
+use Rattle.c_syntax.specs.language.Tree.{Tree, Children, kind_of}
 use Rattle.c_syntax.specs.language.Tree.Tree.{Node}
-use Rattle.c_syntax.specs.language.Tree.Children.{Over, Child, Absent}
-use Rattle.c_syntax.specs.language.Productions.{ConditionPart, FirstPart, IndexPart, Place, StepOf, StepPart, kids, maybe, name_node}
+use Rattle.c_syntax.specs.language.Tree.Children.{Over, Child}
+use Rattle.c_syntax.specs.language.Productions.{ConditionPart, FirstPart, IndexPart, Place, StepOf, StepPart, maybe, name_node}
 use Rattle.c_check.specs.declared.acts.act.Act.{Act}
 use Rattle.c_check.specs.declared.acts.act.Act.TheVariants.{Declare}
 use Rattle.c_check.specs.declared.acts.act.Thing.TheVariants as thing
@@ -18,8 +17,8 @@ use Rattle.c_check.specs.Acts.{acts, each, first_part, init, second_part, target
 use Rattle.check_laws.specs.Scopes.{Declaration, Position, Sort, behind, declared, declared_as, positions, positions_among}
 use Rattle.check_laws.specs.LoopForm.{assigned_variable, first_variable, is_loop_construct}
 use Rattle.check_laws.proofs.Has.{Has}
-use Rattle.check_laws.proofs.Means.{IsPlain, Means, means-assign, means-both, means-declare, means-node, means-nothing, means-of, means-plain, means-same, use-silent}
-use Rattle.check_laws.proofs.Quiet.{Quiet, Row, index_part, plain, ranked, row-end, row-then, use-then}
+use Rattle.check_laws.proofs.Means.{Means, means-assign, means-both, means-declare, means-node, means-nothing, means-of, means-plain, means-same, use-silent}
+use Rattle.check_laws.proofs.Quiet.{Quiet, Row, plain, ranked, row-end, row-then, use-then}
 use Rattle.check_laws.proofs.Visible.{behind-nothing}
 
 abbrev at_first : Tree → Position
@@ -61,7 +60,7 @@ target-then {tree = tree} around more parent one no_loop assigns row =
     let first = target-means one parent no_loop (assigns ∙ one-target more one) in
     let both = means-both false (acts role.Target tree) (each around more) [] [] (at_first parent ∷ positions tree) (positions_among more) first row.means in
     let scoped : Means false (acts role.Target tree ++ each around more) [] (at_first parent ∷ positions tree ++ behind (declared tree) (positions_among more)) =
-        subst (λ (scope : List Declaration). Means false (acts role.Target tree ++ each around more) [] (at_first parent ∷ positions tree ++ behind scope (positions_among more))) (sym (place-none one)) both in
+    subst (λ (scope : List Declaration). Means false (acts role.Target tree ++ each around more) [] (at_first parent ∷ positions tree ++ behind scope (positions_among more))) (sym (place-none one)) both in
     subst (λ (nodes : List Position). Means false (acts role.Target tree ++ each around more) [] (at_first parent ∷ nodes)) (sym (behind-nothing (positions tree ++ behind (declared tree) (positions_among more)))) scoped
 
 pub step_of : {limit depth : ℕ} {words rest : List Word} {tree : Tree} → StepOf limit depth words rest tree → (around : Role) → Quiet around tree
@@ -107,9 +106,9 @@ unfolding acts init positions positions_among declared
 init-means {tree} word name quiet =
     let row = row-then quiet (row-end role.Plain) in
     let both = means-both false (each role.Plain (Child tree Over)) (Declare name.value name.spot thing.Int ∷ []) [] (declared_as Sort.variable name.value) (positions_among (Child tree Over)) [] row.means
-        (means-declare false name.value name.spot thing.Int) in
+    (means-declare false name.value name.spot thing.Int) in
     let one = means-of false _ _ _ _ (positions_among (Child tree Over) ++ []) (behind [] (positions_among (Child tree Over))) refl refl
-        (append-nil (positions_among (Child tree Over)) ∙ sym (behind-nothing (positions_among (Child tree Over)))) both in
+    (append-nil (positions_among (Child tree Over)) ∙ sym (behind-nothing (positions_among (Child tree Over)))) both in
     means-node false _ _ _ _ (plain _ refl refl) (means-plain false _ _ _ (name_node name) [] (plain _ refl refl) one)
 
 pub first_of : {limit depth : ℕ} {words rest : List Word} {part : Option Tree} → FirstPart limit depth words rest part → Means false (part_acts part) (part_declared part) (part_nodes part)

@@ -1,4 +1,5 @@
--- The loops that a `for` directive can share out, `for (i = a; i < b; i++)` and its kin, and the constructs whose statement is no such loop.
+-- The loops that a `for` directive can share out, `for (i = a; i < b; i++)` and its kin (OpenMP 5.2, 4.4.1), and the constructs whose
+-- statement is no such loop.
 use Rattle.std.specs.Prelude.{ℕ, ◌≡◌, ◌≤◌, ◌++◌, Bool, true, false, List, [], ◌∷◌, Option, Some, None}
 use Rattle.std.specs.List.{Contains}
 use Rattle.c_tokens.specs.declared.token.Spot.{Spot}
@@ -30,7 +31,8 @@ pub record IsVariable (i : ℕ) (tree : Tree) : Type 0 where
 
 -- `i = a`, where `i` doesn't stand in `a`, or `int i = a`, where an `i` in `a` is another variable
 pub data Begins (i : ℕ) (first : Tree) : Type 0 where
-  assigns : (variable start : Tree) → IsNode (node.Assign setting.Plain) (variable ∷ start ∷ []) first → IsVariable i variable → stands_in i start ≡ false → Begins i first
+  assigns : (variable start : Tree) → IsNode (node.Assign setting.Plain) (variable ∷ start ∷ []) first → IsVariable i variable
+      → stands_in i start ≡ false → Begins i first
   declares : (named start : Tree) → IsNode node.Init (named ∷ start ∷ []) first → name_of named ≡ i → Begins i first
 
 -- a loop goes up or down
@@ -46,8 +48,8 @@ way_of other = None
 
 -- `i < b` or its kin, where `i` doesn't stand in `b`
 pub data Compares (i : ℕ) (way : Way) (second : Tree) : Type 0 where
-  compared : (operator : BinaryOp) (variable end : Tree) → way_of operator ≡ Some way → IsNode (node.Binary operator) (variable ∷ end ∷ []) second
-      → IsVariable i variable → stands_in i end ≡ false → Compares i way second
+  compared : (operator : BinaryOp) (variable end : Tree) → way_of operator ≡ Some way
+      → IsNode (node.Binary operator) (variable ∷ end ∷ []) second → IsVariable i variable → stands_in i end ≡ false → Compares i way second
 
 abbrev pub bump_of : Way → Bump
 bump_of Way.up = bump.Increment
@@ -59,9 +61,10 @@ setting_of Way.down = setting.Subtract
 
 -- `i++`, `++i` or `i += c`, or their kin that go down, where `c` is a number from 1 on
 pub data Steps (i : ℕ) (way : Way) (third : Tree) : Type 0 where
-  bumped : (side : Side) (variable : Tree) → IsNode (node.Bump (bump_of way) side) (variable ∷ []) third → IsVariable i variable → Steps i way third
-  moved : (variable stride : Tree) → IsNode (node.Assign (setting_of way)) (variable ∷ stride ∷ []) third → IsVariable i variable → IsNode node.Number [] stride
-      → 1 ≤ number_of stride → Steps i way third
+  bumped : (side : Side) (variable : Tree) → IsNode (node.Bump (bump_of way) side) (variable ∷ []) third → IsVariable i variable
+      → Steps i way third
+  moved : (variable stride : Tree) → IsNode (node.Assign (setting_of way)) (variable ∷ stride ∷ []) third → IsVariable i variable
+      → IsNode node.Number [] stride → 1 ≤ number_of stride → Steps i way third
 
 -- the variable that a node assigns; an assignment to a place with an index assigns none
 abbrev pub first_variable : Children → Option ℕ
@@ -106,7 +109,7 @@ is_loop_construct (node.Construct which) = shares_loop which
 is_loop_construct other = false
 
 -- a `for` construct of the tree stands there whose statement is no loop of the form
-pub record HasOddLoop (tree : Tree) (spot : Spot) : Type 0 where
+pub record BreaksLoopForm (tree : Tree) (spot : Spot) : Type 0 where
   pub construct : Position
   pub there : Contains (positions tree) construct
   pub shares : is_loop_construct (kind_of construct.node) ≡ true

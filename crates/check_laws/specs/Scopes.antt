@@ -27,8 +27,8 @@ each_as sort Over = []
 each_as sort (Absent rest) = each_as sort rest
 each_as sort (Child named rest) = each_as sort rest ++ declared_as sort (name_of named)
 
--- What a node declares for what stands behind it, the last one first. What is declared in a block ends with it, and so do parameters with their function
--- and the variable of a loop with the loop.
+-- What a node declares for what stands behind it, the last one first. What is declared in a block ends with it, and so do parameters with
+-- their function and the variable of a loop with the loop.
 unfoldable mutual
   pub declared : Tree → List Declaration
   declared (Node (node.Function returns) spot name number text children) = first_as Sort.function children
@@ -71,7 +71,8 @@ behind scope positions = map (under scope) positions
 unfoldable mutual
   pub positions : Tree → List Position
   positions (Node kind spot name number text children) =
-      record { node = Node kind spot name number text children; scope = [] } ∷ behind (declared_inside kind children) (positions_among children)
+      record { node = Node kind spot name number text children; scope = [] }
+      ∷ behind (declared_inside kind children) (positions_among children)
 
   pub positions_among : Children → List Position
   positions_among Over = []
