@@ -1,0 +1,144 @@
+-- What a construct executes, and the construct around it.
+use Rattle.std.specs.Prelude.{ℕ, ◌≡◌, true, false, List, [], ◌∷◌, ◌++◌, refl}
+use Rattle.std.proofs.Common.{sym, ap, subst, ◌∙◌, inl, inr, append-nil, append_assoc}
+use Rattle.c_syntax.specs.declared.node.Directive.{Directive}
+use Rattle.c_syntax.specs.declared.node.NodeKind.TheVariants as node
+use Rattle.c_syntax.specs.language.Words.{Word}
+use Rattle.c_syntax.specs.language.Tree.{Tree, Children, kind_of}
+use Rattle.c_syntax.specs.language.Tree.Tree.{Node}
+use Rattle.c_syntax.specs.language.Tree.Children.{Child}
+use Rattle.c_syntax.specs.language.Productions.{Block, Construct, Section, Statement, kids, made_at}
+use Rattle.c_check.specs.declared.acts.act.Act.{Act}
+use Rattle.c_check.specs.declared.acts.act.Act.TheVariants.{Enter, Leave}
+use Rattle.c_check.specs.declared.acts.role.Role.{Role}
+use Rattle.c_check.specs.declared.acts.role.Role.TheVariants as role
+use Rattle.c_check.specs.Acts.{acts, outside_acts, statements}
+use Rattle.c_check.specs.Clauses.{inside_acts}
+use Rattle.c_check.specs.Statements.{is_head, name_of_critical, odd_loop, shares_loop, statement_of, statement_role}
+use Rattle.check_laws.specs.Scopes.{Declaration, Position, behind, declared, positions, positions_among}
+use Rattle.check_laws.proofs.Constructing.{Inner, construct-means, inner-plain, inner-position}
+use Rattle.check_laws.proofs.Has.{Has, has-either, has-left, has-right}
+use Rattle.check_laws.proofs.Informing.{inside-informs}
+use Rattle.check_laws.proofs.Means.{Means, means-both, means-nothing, means-of, means-same}
+use Rattle.check_laws.proofs.Quiet.{Quiet, plain}
+use Rattle.check_laws.proofs.Sharing.{position}
+use Rattle.check_laws.proofs.Visible.{behind-nothing}
+use Rattle.check_laws.proofs.Heads.{Heads}
+
+-- what a construct executes is no clause
+pub statement-apart : {limit depth : ℕ} {words rest : List Word} {tree : Tree} → Statement limit depth words rest tree → is_head (kind_of tree) ≡ false
+statement-apart (Statement.empty is) = refl
+statement-apart (Statement.braced (Block.block first deep items last)) = refl
+statement-apart (Statement.if_alone is deep first condition last one none) = refl
+statement-apart (Statement.if_else is deep first condition last one other second) = refl
+statement-apart (Statement.while is deep first condition last one) = refl
+statement-apart (Statement.loop is deep first begins one tests two steps last body) = refl
+statement-apart (Statement.returns is last) = refl
+statement-apart (Statement.returns_value is value last) = refl
+statement-apart (Statement.set_call left equals right last) = refl
+statement-apart (Statement.called one last) = refl
+statement-apart (Statement.stepped one last) = refl
+statement-apart (Statement.print is first told more last end) = refl
+statement-apart (Statement.locking which is locked last) = refl
+statement-apart (Statement.construct (Construct.around is deep sections told last one)) = refl
+statement-apart (Statement.construct (Construct.in_sections is deep sections told last parts)) = refl
+
+pub section-apart : {limit depth : ℕ} {words rest : List Word} {tree : Tree} → Section limit depth words rest tree → is_head (kind_of tree) ≡ false
+section-apart (Section.section is deep told last one) = refl
+
+pub outside-apart : (tree : Tree) (rest : Children) → is_head (kind_of tree) ≡ false → outside_acts (Child tree rest) ≡ outside_acts rest
+unfolding outside_acts
+outside-apart (Node (node.Clause lead) spot name number text children) rest is = absurd (let no : true ≡ false = is in cc)
+outside-apart (Node other spot name number text children) rest is = refl
+
+pub statement-first : (tree : Tree) (rest : Children) → is_head (kind_of tree) ≡ false → statement_of (Child tree rest) ≡ tree
+unfolding statement_of
+statement-first tree rest is = rw is refl
+
+pub statements-first : (around : Role) (tree : Tree) (rest : Children) → is_head (kind_of tree) ≡ false → statements around (Child tree rest) ≡ acts around tree ++ statements around rest
+unfolding statements
+statements-first around tree rest is = rw is refl
+
+-- parts that a construct executes
+pub record Executed (trees : List Tree) : Type 0 where
+  pub means : Means false (statements role.Plain (kids trees)) [] (positions_among (kids trees))
+  pub outside : outside_acts (kids trees) ≡ []
+
+pub none-executed : Executed []
+unfolding statements positions_among outside_acts
+none-executed = record { means = means-nothing false; outside = refl }
+
+pub executed-then : (tree : Tree) (trees : List Tree) → is_head (kind_of tree) ≡ false → Quiet role.Plain tree → Executed trees → Executed (tree ∷ trees)
+unfolding positions_among
+executed-then tree trees apart first more =
+    let both = means-both false (acts role.Plain tree) (statements role.Plain (kids trees)) [] [] (positions tree) (positions_among (kids trees)) first.means more.means in
+    record {
+      means =
+          subst (λ (acts : List Act). Means false acts [] (positions tree ++ behind (declared tree) (positions_among (kids trees)))) (sym (statements-first role.Plain tree (kids trees) apart))
+          (subst (λ (scope : List Declaration). Means false (acts role.Plain tree ++ statements role.Plain (kids trees)) [] (positions tree ++ behind scope (positions_among (kids trees)))) (sym first.none) both);
+      outside = outside-apart tree (kids trees) apart ∙ more.outside;
+    }
+
+-- a construct
+acts-parted : (outside inside odd some : List Act) (enter leave : Act) → ((((outside ++ enter ∷ inside) ++ odd) ++ some) ++ leave ∷ []) ≡ outside ++ (enter ∷ inside ++ ((odd ++ some) ++ leave ∷ []))
+acts-parted outside inside odd some enter leave =
+    ap (λ (acts : List Act). acts ++ leave ∷ []) (append_assoc (outside ++ enter ∷ inside) odd some)
+    ∙ append_assoc (outside ++ enter ∷ inside) (odd ++ some) (leave ∷ []) ∙ append_assoc outside (enter ∷ inside) ((odd ++ some) ++ leave ∷ [])
+
+module _ (which : Directive) (word : Word) (trees parts : List Tree) where
+  abbrev pub children_here : Children
+  children_here = kids (trees ++ parts)
+
+  abbrev pub me : Tree
+  me = made_at (node.Construct which) word children_here
+
+  abbrev pub inner_acts : List Act
+  inner_acts = odd_loop which children_here ++ statements (statement_role which children_here) children_here
+
+  front-has : (nodes others : List Position) (P : Position → Type 0) → Has P (nodes ++ behind [] (position me ∷ others)) → Has P (position me ∷ behind [] (nodes ++ others))
+  front-has nodes others P has =
+      elim (has-either P nodes (behind [] (position me ∷ others)) has) [
+        | inl left ↦ inr (subst (Has P) (sym (behind-nothing (nodes ++ others))) (has-left P nodes others left))
+        | inr right ↦ elim (let same : Has P (position me ∷ others) = subst (Has P) (behind-nothing (position me ∷ others)) right in same) [
+          | inl here ↦ inl here
+          | inr there ↦ inr (subst (Has P) (sym (behind-nothing (nodes ++ others))) (has-right P nodes others there))
+        ]
+      ]
+
+  has-front : (nodes others : List Position) (P : Position → Type 0) → Has P (position me ∷ behind [] (nodes ++ others)) → Has P (nodes ++ behind [] (position me ∷ others))
+  has-front nodes others P (inl here) = has-right P nodes (behind [] (position me ∷ others)) (subst (Has P) (sym (behind-nothing (position me ∷ others))) (inl here))
+  has-front nodes others P (inr there) =
+      elim (has-either P nodes others (subst (Has P) (behind-nothing (nodes ++ others)) there)) [
+        | inl left ↦ has-left P nodes (behind [] (position me ∷ others)) left
+        | inr right ↦ has-right P nodes (behind [] (position me ∷ others)) (subst (Has P) (sym (behind-nothing (position me ∷ others))) (inr right))
+      ]
+
+  pub construct-quiet : Heads trees → outside_acts (kids parts) ≡ [] → Inner word.spot inner_acts (position me ∷ positions_among (kids parts)) → Quiet role.Plain me
+  unfolding acts declared positions
+  construct-quiet heads apart inner =
+      let within = construct-means word.spot which (name_of_critical children_here) (inside_acts children_here) inner_acts (position me ∷ positions_among (kids parts)) (inside-informs children_here) inner in
+      let both = means-both false (outside_acts (kids trees)) _ [] [] (positions_among (kids trees)) (position me ∷ positions_among (kids parts)) heads.means within in
+      let outside : outside_acts (kids trees) ≡ outside_acts children_here =
+      sym (heads.acts_behind parts ∙ ap (λ (acts : List Act). outside_acts (kids trees) ++ acts) apart ∙ append-nil (outside_acts (kids trees))) in
+      let whole = subst (λ (acts : List Act). Means false (acts ++ (Enter word.spot which (name_of_critical children_here) ∷ inside_acts children_here ++ (inner_acts ++ Leave ∷ []))) []
+      (positions_among (kids trees) ++ behind [] (position me ∷ positions_among (kids parts)))) outside both in
+      let parted = means-of false _ _ [] [] _ _ (sym (acts-parted (outside_acts children_here) (inside_acts children_here) (odd_loop which children_here) (statements (statement_role which children_here) children_here)
+      (Enter word.spot which (name_of_critical children_here)) Leave)) refl refl whole in
+      record {
+        means = subst (λ (nodes : List Position). Means false (acts role.Plain me) [] (position me ∷ behind [] nodes)) (sym (heads.nodes_behind parts))
+            (means-same false (acts role.Plain me) [] (positions_among (kids trees) ++ behind [] (position me ∷ positions_among (kids parts)))
+            (position me ∷ behind [] (positions_among (kids trees) ++ positions_among (kids parts)))
+            (front-has (positions_among (kids trees)) (positions_among (kids parts))) (has-front (positions_among (kids trees)) (positions_among (kids parts))) parted);
+        none = refl;
+      }
+
+  -- one that shares out no loop
+  other-acts : Heads trees → shares_loop which ≡ false → inner_acts ≡ statements role.Plain (kids parts)
+  other-acts heads shares = rw shares (heads.statements_behind role.Plain parts)
+
+  pub construct-other : Heads trees → shares_loop which ≡ false → Executed parts → Quiet role.Plain me
+  construct-other heads shares executed =
+      construct-quiet heads executed.outside
+      (subst (λ (acts : List Act). Inner word.spot acts (position me ∷ positions_among (kids parts))) (sym (other-acts heads shares))
+      (inner-position word.spot (statements role.Plain (kids parts)) (positions_among (kids parts)) me (plain me shares refl)
+      (inner-plain word.spot (statements role.Plain (kids parts)) (positions_among (kids parts)) executed.means)))

@@ -1,0 +1,18 @@
+//! What follows from the definitions alone: each law is the contract of a function with an empty body.
+
+ghost use Rattle.std.specs.Prelude.{ℕ, List};
+ghost use Rattle.c_tokens.specs.declared.token.Spot.{Spot};
+ghost use Rattle.c_syntax.specs.language.Numbered.{TreeView, root_tree};
+ghost use Rattle.c_syntax.specs.language.Texts.{Spells};
+ghost use Rattle.c_check.specs.declared.fault.CheckFault.TheVariants.{BadLoop};
+ghost use Rattle.c_check.specs.Checked.{Breaks};
+ghost use Rattle.check_laws.specs.LoopForm.{BreaksLoopForm};
+
+/// A program breaks the rule on loops at a place exactly where a `for` or `parallel for` construct of its tree stands there whose
+/// statement is no loop of the form that such a construct can share out.
+pub fn loop_form()
+    ensures broken { (text : List ℕ) (program : TreeView) (spot : Spot) → Spells text (root_tree program) →
+        Breaks program (BadLoop spot) → BreaksLoopForm (root_tree program) spot }
+    ensures no_other { (text : List ℕ) (program : TreeView) (spot : Spot) → Spells text (root_tree program) →
+        BreaksLoopForm (root_tree program) spot → Breaks program (BadLoop spot) }
+{}
