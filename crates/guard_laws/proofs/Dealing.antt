@@ -94,7 +94,7 @@ met-section (meeting.Barrier at kind) count taken met = absurd met
 -- ---- the team
 
 -- what was met last is the meeting of which is dealt
-read-met : (P : Option Meeting → Type 0) → (P None → ⊥) → (meetings : List TeamMeeting) (n : ℕ) →
+pub read-met : (P : Option Meeting → Type 0) → (P None → ⊥) → (meetings : List TeamMeeting) (n : ℕ) →
     P (slice_get (what_met (record { members = []; meetings = meetings; room = 0 })) n) → P (Some (slice_index_or meetings n no_meeting).what)
 read-met P none [] n met = absurd (none met)
 read-met P none (one ∷ meetings) zero met = met

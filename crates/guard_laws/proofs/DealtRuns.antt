@@ -53,7 +53,7 @@ use Rattle.guard_laws.proofs.WorksMet.{WorksMet, index_of, met_at, works-back, w
 -- ---- the entries of a history
 
 module _ (run : Run) (S : State) (known : KnownState run S) (works : WorksMet S.world) where
-  works-turn : (next : State) (t : ℕ) (came : Outcome) → Led run S next known.past t came → WorksMet next.world
+  pub works-turn : (next : State) (t : ℕ) (came : Outcome) → Led run S next known.past t came → WorksMet next.world
   works-turn next t (outcome.Happens e) led =
       let goes = led.goes (knows-stays run S.world led.before (inside S) (inside S) known.past led.stays) in
       works-go run led.before next.world (inside S) (inside next) known.past t e goes
@@ -62,7 +62,7 @@ module _ (run : Run) (S : State) (known : KnownState run S) (works : WorksMet S.
   works-turn next t outcome.Quiet led = works-stays S.world next.world led.alike works
   works-turn next t (outcome.Halts halt) led = works-stays S.world next.world led.alike works
 
-  works-entry : (t : ℕ) (what : What) → IsMadeState run (does run S t what) → IsOrderly (does run S t what) → may run S t what ≡ true →
+  pub works-entry : (t : ℕ) (what : What) → IsMadeState run (does run S t what) → IsOrderly (does run S t what) → may run S t what ≡ true →
       WorksMet (does run S t what).world
   works-entry t Go made orderly goes =
       works-turn (turn run S t).state t (turn run S t).outcome (turn-leads run S known.past known.stands.knows known.stands.unbroken t made orderly goes)
@@ -74,9 +74,9 @@ module _ (run : Run) (S : State) (known : KnownState run S) (works : WorksMet S.
       works-back S.world (does run S t Back).world t within.one.event
       (back-leads run S known.past known.stands.knows known.stands.unbroken t within.one made orderly within.is).returns works
 
-record IsMet (run : Run) (S : State) : Type 0 where
-  known : KnownState run S
-  works : WorksMet S.world
+pub record IsMet (run : Run) (S : State) : Type 0 where
+  pub known : KnownState run S
+  pub works : WorksMet S.world
 
 met-from : (run : Run) (before : List Entry) (S : State) (rest : List Entry) → IsWholeRun run → after run before ≡ S → AllowsFrom run S rest →
     IsMet run S → IsMet run (after_from run S rest)
@@ -93,21 +93,21 @@ met-from run before S (entry ∷ rest) whole is allows met =
     })
 
 -- after each legal history
-met-after : (run : Run) (history : List Entry) → IsWholeRun run → Legal run history → IsMet run (after run history)
+pub met-after : (run : Run) (history : List Entry) → IsWholeRun run → Legal run history → IsMet run (after run history)
 met-after run history whole legal =
     met-from run [] (first run) history whole refl legal (record { known = known-first run whole; works = works-first run })
 
 -- ---- what is asked
 
 -- a world in which all is known that is so of silent steps
-record IsAsked (W : World) : Type 0 where
-  made : IsMadeWorld W
-  threads : (t : ℕ) → 1 ≤ current W t → (task_at W (current W t)).thread ≡ t
-  codes : AreCodes W
-  works : WorksMet W
+pub record IsAsked (W : World) : Type 0 where
+  pub made : IsMadeWorld W
+  pub threads : (t : ℕ) → 1 ≤ current W t → (task_at W (current W t)).thread ≡ t
+  pub codes : AreCodes W
+  pub works : WorksMet W
 
 -- who has no task asks nothing
-asks-none : (run : Run) (W : World) (t : ℕ) (what : Ask) (tree : Tree) → (code_of W t).todo ≡ [] →
+pub asks-none : (run : Run) (W : World) (t : ℕ) (what : Ask) (tree : Tree) → (code_of W t).todo ≡ [] →
     silent run.program (view_of W t) (moment_of W t) ≡ Asks what tree → ⊥
 unfolding silent items_from_next
 asks-none run W t what tree none is =
@@ -115,7 +115,7 @@ asks-none run W t what tree none is =
     let wrong : ⊥ = cc in wrong
 
 module _ (run : Run) (W : World) (t : ℕ) (asked : IsAsked W) where
-  asks-some : (what : Ask) (tree : Tree) → silent run.program (view_of W t) (moment_of W t) ≡ Asks what tree → 1 ≤ current W t
+  pub asks-some : (what : Ask) (tree : Tree) → silent run.program (view_of W t) (moment_of W t) ≡ Asks what tree → 1 ≤ current W t
   asks-some what tree is =
       elim (cases_lt 0 (current W t)) [
         | inl some ↦ some
@@ -125,7 +125,7 @@ module _ (run : Run) (W : World) (t : ℕ) (asked : IsAsked W) where
       ]
 
   -- an explicit task has met nothing
-  own-met : (P : Option Meeting → Type 0) → (P None → ⊥) → 1 ≤ current W t → P (met_at W (current W t)) → P (last_met (current_team W t) (current_index W t))
+  pub own-met : (P : Option Meeting → Type 0) → (P None → ⊥) → 1 ≤ current W t → P (met_at W (current W t)) → P (last_met (current_team W t) (current_index W t))
   own-met P none some met =
       subst (λ (u : ℕ). P (last_met (current_team W t) (member_index W u (current_region W t)))) (asked.threads t some)
       (plain (is_explicit_task W (current W t)) met)
@@ -135,17 +135,17 @@ module _ (run : Run) (W : World) (t : ℕ) (asked : IsAsked W) where
       plain true met = absurd (none met)
       plain false met = met
 
-  newest-fits : (one : Open) (older : List Open) → 1 ≤ current W t → opens_at W (current W t) ≡ one ∷ older → FitsOpen (met_at W (current W t)) one
+  pub newest-fits : (one : Open) (older : List Open) → 1 ≤ current W t → opens_at W (current W t) ≡ one ∷ older → FitsOpen (met_at W (current W t)) one
   newest-fits one older some opens =
       (subst (AllFit (met_at W (current W t))) opens (asked.works.fit (current W t) (current-made W t asked.made some).made)).0
 
-  team-some : 1 ≤ current W t → 1 ≤ length (current_team W t).members
+  pub team-some : 1 ≤ current W t → 1 ≤ length (current_team W t).members
   team-some some =
       let within = (current-made W t asked.made some).within in
       let region = asked.made.regions (current_region W t) within.made in
       omega (arith, region.team, region.some)
 
-  chunk-asked : (tree : Tree) → silent run.program (view_of W t) (moment_of W t) ≡ Asks ask.Chunk tree →
+  pub chunk-asked : (tree : Tree) → silent run.program (view_of W t) (moment_of W t) ≡ Asks ask.Chunk tree →
       answer_to W t ask.Chunk ≡ answer.Chunk (next_chunk (current_team W t) (current_index W t))
   chunk-asked tree is =
       let some = asks-some ask.Chunk tree is in
@@ -157,7 +157,7 @@ module _ (run : Run) (W : World) (t : ℕ) (asked : IsAsked W) where
       (member-made W t asked.made some)
       ∙ ap (λ (chunk : Option (ℕ × ℕ)). answer.Chunk chunk) (dealt-chunk (current_team W t) (current_index W t) count (team-some some) met)
 
-  section-asked : (tree : Tree) → silent run.program (view_of W t) (moment_of W t) ≡ Asks ask.Section tree →
+  pub section-asked : (tree : Tree) → silent run.program (view_of W t) (moment_of W t) ≡ Asks ask.Section tree →
       answer_to W t ask.Section ≡ answer.Section (next_section (current_team W t) (current_index W t))
   section-asked tree is =
       let some = asks-some ask.Section tree is in
@@ -171,23 +171,27 @@ module _ (run : Run) (W : World) (t : ℕ) (asked : IsAsked W) where
 
 -- ---- the silent steps of a turn
 
-asked-walk : (run : Run) (history : List Entry) (t steps : ℕ) → IsWholeRun run → Legal run history →
-    IsAsked (walk run steps 0 (after run history) t).state.world
-asked-walk run history t steps whole legal =
-    let S = after run history in
-    let met = met-after run history whole legal in
-    let knows = met.known.stands.knows in
-    let W = (walk run steps 0 S t).state.world in
-    let start : Reaches S.world t S.world = record { alike = alike-same S.world knows.codes; taken = λ u other. refl } in
-    let reached : Reaches S.world t W = of-walk run t (Reaches S.world t) (reaches-past run S met.known.past knows met.known.stands.unbroken t)
-    (reaches-step run S met.known.past knows met.known.stands.unbroken t) steps 0 S start in
-    let sound = sound-alike run S.world W (inside S) knows.sound reached.alike in
+-- in a world to which silent steps of a thread have led
+pub asked-reached : (run : Run) (S : State) → IsMet run S → (t : ℕ) (W : World) → Reaches S.world t W → IsAsked W
+asked-reached run S met t W reached =
+    let sound = sound-alike run S.world W (inside S) met.known.stands.knows.sound reached.alike in
     record {
       made = sound.made;
       threads = λ u some. (current-under-way W u sound.orderly some).thread;
       codes = reached.alike.codes;
       works = works-stays S.world W reached.alike met.works;
     }
+
+pub asked-walk : (run : Run) (history : List Entry) (t steps : ℕ) → IsWholeRun run → Legal run history →
+    IsAsked (walk run steps 0 (after run history) t).state.world
+asked-walk run history t steps whole legal =
+    let S = after run history in
+    let met = met-after run history whole legal in
+    let knows = met.known.stands.knows in
+    let start : Reaches S.world t S.world = record { alike = alike-same S.world knows.codes; taken = λ u other. refl } in
+    asked-reached run S met t (walk run steps 0 S t).state.world
+    (of-walk run t (Reaches S.world t) (reaches-past run S met.known.past knows met.known.stands.unbroken t)
+    (reaches-step run S met.known.past knows met.known.stands.unbroken t) steps 0 S start)
 
 -- .. whichever callbacks are registered
 asked-told : (run : Run) (history : List Entry) (t steps : ℕ) → 1 ≤ run.threads → run.threads ≤ 16 → Checked run.program → IsProgramFormed run.program →

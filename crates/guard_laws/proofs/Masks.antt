@@ -107,11 +107,11 @@ module _ (run : Run) where
       let w = walk run STEPS_OF_A_TURN 0 S t in
       ap (λ (w : Walk). after_walk (all_told run) w t w.stop) (told-walk STEPS_OF_A_TURN 0 S t) ∙ told-after_walk w t w.stop
 
-  told-turn : (S : State) (t : ℕ) → turn (all_told run) S t ≡ turn run S t
+  pub told-turn : (S : State) (t : ℕ) → turn (all_told run) S t ≡ turn run S t
   unfolding turn
   told-turn S t = ap (λ (one : Turn). if nat_le TURN_LIMIT (S.turns + 1) then halted S (Limit TURNS) else one) (told-unlimited S t)
 
-  told-does : (S : State) (t : ℕ) (what : What) → does (all_told run) S t what ≡ does run S t what
+  pub told-does : (S : State) (t : ℕ) (what : What) → does (all_told run) S t what ≡ does run S t what
   told-does S t Go = ap (λ (one : Turn). one.state) (told-turn S t)
   told-does S t (Put target word) = refl
   told-does S t Back = refl

@@ -21,7 +21,7 @@ use Rattle.code_brackets.specs.Opened.{Open}
 use Rattle.code_brackets.specs.Opened.Open.{Works}
 use Rattle.team_parts.specs.declared.meeting.Meeting.{Meeting}
 use Rattle.team_parts.specs.declared.meeting.Mismatch.{Mismatch}
-use Rattle.team_parts.specs.Meetings.{HasChunkOf}
+use Rattle.team_parts.specs.Meetings.{HasChunk, HasChunkOf}
 use Rattle.team_parts.specs.Team.{after_meeting, answer_to_meet}
 use Rattle.omp_model.specs.declared.event.Endpoint.TheVariants.{Begin}
 use Rattle.omp_model.specs.declared.event.Event.{Event}
@@ -53,6 +53,7 @@ IsFree W t = list_any is_work (opens_at W (current W t)) ≡ false
 pub record BeginsWork (W after : World) (t : ℕ) (which : WorkKind) (count : ℕ) : Type 0 where
   pub free : IsFree W t
   pub what : Meeting
+  pub chunk : HasChunk what
   pub fits : FitsOpen (Some what) (Works which count)
   pub first : Bool
   pub answer : answer_to_meet (current_team W t) (current_index W t) what ≡ Ok first
@@ -108,14 +109,15 @@ module _ (run : Run) (W : World) (t : ℕ) (made : IsMadeWorld W) (codes : AreCo
       ap (λ (b : Bool). let after = if b then met W r (current_index W t) what else W in (region_at after r).team) (member-made W t made some)
       ∙ ap (λ (x : Region). x.team) (get_or-set_same W.regions r region no_region (region-below W t made))
 
-  begins : (codeptr : ℕ) (what : Work) (which : WorkKind) (count : ℕ) → FitsOpen (Some (work_met codeptr what)) (Works which count) →
-      meeting_fault W t (told W t).task (work_met codeptr what) ≡ None →
+  begins : (codeptr : ℕ) (what : Work) (which : WorkKind) (count : ℕ) → HasChunk (work_met codeptr what) →
+      FitsOpen (Some (work_met codeptr what)) (Works which count) → meeting_fault W t (told W t).task (work_met codeptr what) ≡ None →
       BeginsWork W (past_point W (after_meeting_at W t (work_met codeptr what)) t (told W t) (point.WorkBegin codeptr what)) t which count
-  begins codeptr what which count fits fine =
+  begins codeptr what which count chunk fits fine =
       let now = met-free (is_explicit_task W (current W t)) (is_in_exclusive (told W t).task) (meeting_at W t (work_met codeptr what)) fine in
       record {
         free = free now.free;
         what = work_met codeptr what;
+        chunk = chunk;
         fits = fits;
         first = now.first;
         answer = met-answer (work_met codeptr what) now.first now.is;
@@ -126,10 +128,10 @@ module _ (run : Run) (W : World) (t : ℕ) (made : IsMadeWorld W) (codes : AreCo
       MeetsFree W (past_point W (effect_of_point run W t (told W t) what) t (told W t) what) t (event_of_point W t what)
   unfolding effect_of_point fault_of_point
   free-point (point.WorkBegin codeptr (work.Loop start count step how)) fine =
-      begins codeptr (work.Loop start count step how) _ count (refl, has-chunk how) fine
-  free-point (point.WorkBegin codeptr (work.Sections count)) fine = begins codeptr (work.Sections count) _ count refl fine
+      begins codeptr (work.Loop start count step how) _ count (has-chunk how) (refl, has-chunk how) fine
+  free-point (point.WorkBegin codeptr (work.Sections count)) fine = begins codeptr (work.Sections count) _ count tt refl fine
   free-point (point.WorkBegin codeptr work.Single) fine =
-      begins codeptr work.Single _ 1 (single-fits (work_met codeptr work.Single) (executes_work W t codeptr work.Single)) fine
+      begins codeptr work.Single _ 1 tt (single-fits (work_met codeptr work.Single) (executes_work W t codeptr work.Single)) fine
   free-point (point.Sync codeptr which stage.RegionBegin) fine = λ barrier.
       free (met-free (is_explicit_task W (current W t)) (is_in_exclusive (told W t).task) (meeting_at W t (barrier_met codeptr which))
       (sym (cond-true (is_barrier which) (meeting_fault W t (told W t).task (barrier_met codeptr which)) None barrier) ∙ fine)).free

@@ -76,7 +76,7 @@ module _ (run : Run) (W after : World) (I J : Inside) (past : List EventRecord) 
   -- ---- places
 
   -- a task that has started, and no new one
-  place-go : (k : ℕ) → IsTask W k → has_started (pooled_at W k).condition ≡ true → SamePlace W after k
+  pub place-go : (k : ℕ) → IsTask W k → has_started (pooled_at W k).condition ≡ true → SamePlace W after k
   place-go k made started =
       let carried = started-go run W after I J past t e goes k made started in
       let region = goes.knows.sound.made.placed k made in
@@ -88,11 +88,11 @@ module _ (run : Run) (W after : World) (I J : Inside) (past : List EventRecord) 
       }
 
   -- the current task has started
-  current-started : 1 ≤ current W t → has_started (pooled_at W (current W t)).condition ≡ true
+  pub current-started : 1 ≤ current W t → has_started (pooled_at W (current W t)).condition ≡ true
   current-started some = ap has_started (current-under-way W t goes.knows.sound.orderly some).started
 
   -- two members of a team have two numbers
-  one-seat : (k : ℕ) → IsTask W k → is_explicit_task W k ≡ false → 1 ≤ current W t → is_explicit_task W (current W t) ≡ false →
+  pub one-seat : (k : ℕ) → IsTask W k → is_explicit_task W k ≡ false → 1 ≤ current W t → is_explicit_task W (current W t) ≡ false →
       region_of W k ≡ current_region W t → index_of W k ≡ current_index W t → k ≡ current W t
   one-seat k made plain some own region index =
       let knows = goes.knows in
@@ -134,7 +134,7 @@ module _ (run : Run) (W after : World) (I J : Inside) (past : List EventRecord) 
       fits)
 
   -- it has open what it had
-  other-opens : (k : ℕ) → k ≢ current W t → opens_at after k ≡ opens_at W k
+  pub other-opens : (k : ℕ) → k ≢ current W t → opens_at after k ≡ opens_at W k
   other-opens k other = goes.touches.opens k (λ of_code is. other is)
 
   other-go : WorksMet W → (k : ℕ) → IsTask W k → has_started (pooled_at W k).condition ≡ true → k ≢ current W t →
@@ -153,7 +153,7 @@ module _ (run : Run) (W after : World) (I J : Inside) (past : List EventRecord) 
 
   -- ---- the current task
 
-  own-opens : opens_at after (current W t) ≡ opens_after (effect_of_event e) (opens_at W (current W t))
+  pub own-opens : opens_at after (current W t) ≡ opens_after (effect_of_event e) (opens_at W (current W t))
   own-opens =
       elim (cases_Bool (is_of_code e)) [
         | inl of_code ↦ goes.touches.opens_own of_code
@@ -162,10 +162,10 @@ module _ (run : Run) (W after : World) (I J : Inside) (past : List EventRecord) 
             ∙ sym (ap (λ (effect : Effect). opens_after effect (opens_at W (current W t))) (beside-leaves e beside))
       ]
 
-  own-made : 1 ≤ current W t → IsTask W (current W t)
+  pub own-made : 1 ≤ current W t → IsTask W (current W t)
   own-made some = (current-made W t goes.knows.sound.made some).made
 
-  own-place : 1 ≤ current W t → SamePlace W after (current W t)
+  pub own-place : 1 ≤ current W t → SamePlace W after (current W t)
   own-place some = place-go (current W t) (own-made some) (current-started some)
 
   -- .. where it has met nothing more

@@ -78,7 +78,7 @@ works-kept W after tasks place same opens works =
 
 -- ---- what is no event
 
-place-alike : (W after : World) → AlikeWorld W after → (k : ℕ) → SamePlace W after k
+pub place-alike : (W after : World) → AlikeWorld W after → (k : ℕ) → SamePlace W after k
 place-alike W after alike k =
     let pooled : (j : ℕ) → pooled_at after j ≡ pooled_at W j = λ j. ap (λ (pool : PoolView). pool_task_at pool.tasks j) alike.pool in
     let r = region_of W k in
@@ -112,7 +112,7 @@ team-returns W t (Sync which stage.WaitBegin codeptr) q =
     (same-met team team refl)
 team-returns W t e q = same-met (region_at W q).team (region_at W q).team refl
 
-place-back : (W after : World) (t : ℕ) (e : Event) → Returns W after t e → (k : ℕ) → SamePlace W after k
+pub place-back : (W after : World) (t : ℕ) (e : Event) → Returns W after t e → (k : ℕ) → SamePlace W after k
 place-back W after t e returns k =
     let region : (j : ℕ) → region_of after j ≡ region_of W j = λ j. ap (λ (x : PoolTask). x.region) (returns.pooled j) ∙ (same-back W e j).region in
     let r = region_of W k in

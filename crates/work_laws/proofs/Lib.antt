@@ -1,0 +1,13 @@
+pub mod CodesGone
+pub mod Events
+pub mod Gos
+pub mod ItemSteps
+pub mod Items
+pub mod Meetings
+pub mod NextSections
+pub mod Once
+pub mod Runs
+pub mod Shares
+pub mod Teams
+pub mod Turns
+pub mod Walks

@@ -1,0 +1,56 @@
+//! What follows from the definitions alone: each law is the contract of a function with an empty body.
+
+ghost use Rattle.std.specs.Prelude.{ℕ, ℤ, ◌≡◌, ◌≤◌, nat_lt, if◌then◌else◌, List, length, Some, None};
+ghost use Rattle.c_syntax.specs.language.Tree.{Tree as Part};
+ghost use Rattle.c_check.specs.Checked.{Checked};
+ghost use Rattle.c_model.specs.declared.question.Answer.TheVariants as answer;
+ghost use Rattle.c_model.specs.declared.question.Ask.TheVariants as ask;
+ghost use Rattle.c_model.specs.Asked.{sections_asked};
+ghost use Rattle.c_model.specs.Formed.{IsProgramFormed};
+ghost use Rattle.c_model.specs.Step.{silent};
+ghost use Rattle.c_model.specs.Task.Outcome.{Asks};
+ghost use Rattle.team_parts.specs.declared.meeting.Meeting.TheVariants.{Loop, Sections};
+ghost use Rattle.team_parts.specs.declared.meeting.Schedule.{Schedule};
+ghost use Rattle.team_parts.specs.Dealing.{one_if, times_dealt};
+ghost use Rattle.team_parts.specs.Team.{last_number};
+ghost use Rattle.omp_model.specs.declared.event.Arrival.TheVariants.{Steps};
+ghost use Rattle.omp_model.specs.declared.history.Entry.{Entry};
+ghost use Rattle.omp_model.specs.Gates.{arrival};
+ghost use Rattle.omp_model.specs.Legal.{Legal, after};
+ghost use Rattle.omp_model.specs.Members.{current_index, current_region, current_team, moment_of, view_of};
+ghost use Rattle.omp_model.specs.Silent.{answer_to, items_asking};
+ghost use Rattle.omp_model.specs.State.{Run, region_at};
+ghost use Rattle.omp_model.specs.Turn.{walk};
+ghost use Rattle.work_laws.specs.Told.{HaveEnded, meeting_of, told_of};
+
+/// After a legal history, of a meeting of a region's team at which each member has ended its work: where it is a loop, each
+/// iteration is in exactly one of the chunks that were told, and no chunk has anything else. Where it is sections, as many
+/// were told as the construct has. Meetings are counted from 0. The run has 1 to 16 threads, and its program breaks no rule.
+pub fn each_iteration_once_in_a_run()
+    ensures iterations { (run : Run) (history : List Entry) (r n at count iteration : ℕ) (start step : ℤ) (how : Schedule) →
+        1 ≤ run.threads → run.threads ≤ 16 → Checked run.program → IsProgramFormed run.program → Legal run history →
+        let team = (region_at (after run history).world r).team in
+        let told = told_of run history r n in
+        meeting_of team n ≡ Loop at start count step how → HaveEnded team told →
+        times_dealt told.chunks iteration ≡ one_if (nat_lt iteration count) }
+    ensures sections { (run : Run) (history : List Entry) (r n at count : ℕ) → 1 ≤ run.threads → run.threads ≤ 16 →
+        Checked run.program → IsProgramFormed run.program → Legal run history →
+        let team = (region_at (after run history).world r).team in
+        let told = told_of run history r n in
+        meeting_of team n ≡ Sections at count → HaveEnded team told → length told.sections ≡ count }
+{}
+
+/// Where the next silent step of a thread asks for a section, after a legal history and any number of silent steps that the
+/// thread makes then, it is answered the section with the number of those that were told before of the meeting that its
+/// member has had last, or that none is left where as many were told as the construct has. So sections are told one after
+/// another in the order of the text. The run has 1 to 16 threads, and its program breaks no rule.
+pub fn sections_are_told_in_order()
+    ensures { (run : Run) (history : List Entry) (t steps : ℕ) (construct : Part) → 1 ≤ run.threads → run.threads ≤ 16 →
+        Checked run.program → IsProgramFormed run.program → Legal run history →
+        let W = (walk run steps 0 (after run history) t).state.world in
+        arrival W t ≡ Steps → silent run.program (view_of W t) (moment_of W t) ≡ Asks ask.Section construct →
+        let newest = last_number (current_team W t) (current_index W t) in
+        let before = length (told_of run history (current_region W t) newest).sections in
+        answer_to W t ask.Section
+        ≡ answer.Section (if nat_lt before (sections_asked (items_asking W t)) then Some before else None) }
+{}
