@@ -1,5 +1,5 @@
 -- The states of threads over a run as a picture, in the language SVG.
-use Rattle.std.specs.Prelude.{ℕ, ◌+◌, ◌-◌, ◌*◌, ◌/◌, ◌==◌, ◌&&◌, Bool, true, false, nat_le, nat_lt, max, List, [], ◌∷◌, ◌++◌, filter, codes, if◌then◌else◌}
+use Rattle.std.specs.Prelude.{ℕ, ◌+◌, ◌*◌, ◌==◌, ◌&&◌, Bool, true, false, nat_le, nat_lt, max, List, [], ◌∷◌, ◌++◌, filter, codes, if◌then◌else◌}
 use Rattle.std.specs.List.{flat_map, list_any, range_with_len}
 use Rattle.std.specs.Fmt.{decimal}
 use Rattle.omp_codes.specs.declared.states.TheConstants.{WORK_SERIAL, WORK_PARALLEL, WAIT_BARRIER_IMPLICIT_PARALLEL, WAIT_BARRIER_IMPLICIT_WORKSHARE, WAIT_BARRIER_EXPLICIT, WAIT_TASKWAIT, WAIT_LOCK, WAIT_CRITICAL, IDLE, OVERHEAD}
@@ -53,17 +53,17 @@ abbrev pub threads_of : List EventRecord → ℕ
 threads_of [] = 0
 threads_of (event ∷ rest) = max (event.thread + 1) (threads_of rest)
 
--- where a column begins, and where it ends: so many columns share the positions, as in the report of the runner
-abbrev pub column_start : ℕ → ℕ → ℕ → ℕ
-column_start columns span column = (column * span) / columns
+-- An event lies in the column c where c × span ≤ seq × columns < (c + 1) × span: so many columns share the positions, as in the runner's report.
+abbrev pub is_by : ℕ → ℕ → ℕ → ℕ → Bool
+is_by columns span column seq = nat_lt (seq * columns) ((column + 1) * span)
 
-abbrev pub column_stop : ℕ → ℕ → ℕ → ℕ
-column_stop columns span column = ((column + 1) * span) / columns
+abbrev pub is_from : ℕ → ℕ → ℕ → ℕ → Bool
+is_from columns span column seq = nat_le (column * span) (seq * columns)
 
--- a thread's shade at a column: that of its last event before the column's end
+-- a thread's shade at a column: that of its last event in it or before it
 abbrev pub cell_shade : ℕ → List EventRecord → ℕ → ℕ → ℕ
 cell_shade columns events thread column =
-    shade_of_last (filter (λ (event : EventRecord). (event.thread == thread) && nat_lt event.seq (column_stop columns (span_of events) column)) events)
+    shade_of_last (filter (λ (event : EventRecord). (event.thread == thread) && is_by columns (span_of events) column event.seq) events)
 
 -- whether the thread goes from a task to another one within the column
 abbrev pub is_switch : Call → Bool
@@ -72,8 +72,8 @@ is_switch other = false
 
 abbrev pub has_switch : ℕ → List EventRecord → ℕ → ℕ → Bool
 has_switch columns events thread column =
-    list_any (λ (event : EventRecord). (event.thread == thread) && (is_switch event.call && (nat_le (column_start columns (span_of events) column) event.seq
-    && nat_lt event.seq (column_stop columns (span_of events) column)))) events
+    list_any (λ (event : EventRecord). (event.thread == thread) && (is_switch event.call
+    && (is_from columns (span_of events) column event.seq && is_by columns (span_of events) column event.seq))) events
 
 -- the left end of a column, and the middle of the row of a thread
 abbrev pub left_of : ℕ → ℕ
