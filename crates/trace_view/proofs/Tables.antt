@@ -130,7 +130,9 @@ joined : (p c t n w o s e : List ℕ)
 joined p c t n w o s e = simp append_assoc
 
 -- the line of a key with a wait, as it is written
-pub written_line : (last : ℕ) (key : WaitKey) (tally : Tally) (waited opened : ℕ) → (tally.begins.count ≡ 0 → ⊥) → waited ≡ waited_until last tally → opened ≡ open_of tally
+pub written_line :
+    (last : ℕ) (key : WaitKey) (tally : Tally) (waited opened : ℕ)
+    → (tally.begins.count ≡ 0 → ⊥) → waited ≡ waited_until last tally → opened ≡ open_of tally
     → place_text key.place ++ (codes " " ++ (cause_text key.cause ++ (codes " " ++ (decimal key.thread ++ (codes " " ++ (decimal tally.begins.count
     ++ (codes " " ++ (decimal waited ++ (codes " " ++ (decimal opened ++ 10 ∷ [])))))))))) ≡ line_of last (key, tally)
 written_line last key tally waited opened some took left =
