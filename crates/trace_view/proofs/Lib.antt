@@ -1,3 +1,5 @@
 pub mod Numbers
 pub mod Onward
 pub mod Pictures
+pub mod Counting
+pub mod Tables

@@ -4,3 +4,5 @@ pub mod Naming
 pub mod Dot
 pub mod Bold
 pub mod DrawingTasks
+pub mod Waits
+pub mod WaitTallies
