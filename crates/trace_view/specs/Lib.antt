@@ -3,4 +3,6 @@ pub mod NamedLines
 pub mod Naming
 pub mod Dot
 pub mod Bold
-pub mod DrawingTasks
+pub mod Svg
+pub mod Cells
+pub mod Drawing
