@@ -1,5 +1,9 @@
+pub mod Columns
+pub mod Grids
 pub mod Numbers
 pub mod Onward
 pub mod Pictures
 pub mod Counting
 pub mod Tables
+pub mod Ranges
+pub mod Sizes

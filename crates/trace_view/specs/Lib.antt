@@ -3,6 +3,8 @@ pub mod NamedLines
 pub mod Naming
 pub mod Dot
 pub mod Bold
-pub mod DrawingTasks
 pub mod Waits
 pub mod WaitTallies
+pub mod Svg
+pub mod Cells
+pub mod Drawing

@@ -17,26 +17,16 @@ shade_of state =
 
 -- the colours of the shades: those of Okabe and Ito, which colour-blind readers tell apart, and greys for what is idle and for any other
 abbrev pub colour_of : ℕ → List ℕ
-colour_of 1 = codes "#009E73"
-colour_of 2 = codes "#0072B2"
-colour_of 3 = codes "#E69F00"
-colour_of 4 = codes "#F0E442"
-colour_of 5 = codes "#D55E00"
-colour_of 6 = codes "#CC79A7"
-colour_of 7 = codes "#DDDDDD"
-colour_of 8 = codes "#56B4E9"
-colour_of shade = codes "#999999"
+colour_of shade =
+    if shade == 1 then codes "#009E73" else if shade == 2 then codes "#0072B2" else if shade == 3 then codes "#E69F00"
+    else if shade == 4 then codes "#F0E442" else if shade == 5 then codes "#D55E00" else if shade == 6 then codes "#CC79A7"
+    else if shade == 7 then codes "#DDDDDD" else if shade == 8 then codes "#56B4E9" else codes "#999999"
 
 abbrev pub shade_text : ℕ → List ℕ
-shade_text 1 = codes "work, serial"
-shade_text 2 = codes "work, parallel"
-shade_text 3 = codes "wait at a barrier"
-shade_text 4 = codes "wait at a taskwait"
-shade_text 5 = codes "wait for a lock"
-shade_text 6 = codes "wait for a critical"
-shade_text 7 = codes "idle"
-shade_text 8 = codes "overhead"
-shade_text shade = codes "other"
+shade_text shade =
+    if shade == 1 then codes "work, serial" else if shade == 2 then codes "work, parallel" else if shade == 3 then codes "wait at a barrier"
+    else if shade == 4 then codes "wait at a taskwait" else if shade == 5 then codes "wait for a lock" else if shade == 6 then codes "wait for a critical"
+    else if shade == 7 then codes "idle" else if shade == 8 then codes "overhead" else codes "other"
 
 -- the shade of the last of these events: 0 where there is none
 abbrev pub shade_of_last : List EventRecord → ℕ
@@ -82,14 +72,17 @@ left_of column = 30 + column * 6
 abbrev pub middle_of : ℕ → ℕ
 middle_of thread = 10 + thread * 20
 
+-- what is drawn of a cell begins at its left end
+abbrev pub move_to : ℕ → ℕ → List ℕ
+move_to thread column = codes "M" ++ decimal (left_of column) ++ 32 ∷ decimal (middle_of thread)
+
 -- what is drawn of a cell in this shade: a stroke as wide as a column
 abbrev pub stroke_of : ℕ → ℕ → ℕ → ℕ → List ℕ
-stroke_of shade cell thread column =
-    if cell == shade then codes "M" ++ decimal (left_of column) ++ 32 ∷ decimal (middle_of thread) ++ codes "h6" else []
+stroke_of shade cell thread column = if cell == shade then move_to thread column ++ codes "h6" else []
 
 -- a tick where there is a switch
 abbrev pub tick_of : Bool → ℕ → ℕ → List ℕ
-tick_of true thread column = codes "M" ++ decimal (left_of column) ++ 32 ∷ decimal (middle_of thread) ++ codes "v9"
+tick_of true thread column = move_to thread column ++ codes "v9"
 tick_of false thread column = []
 
 -- a text for each cell, by thread and column
@@ -97,17 +90,23 @@ abbrev pub over_cells : ℕ → List EventRecord → (ℕ → ℕ → List ℕ) 
 over_cells columns events cell =
     flat_map (λ (thread : ℕ). flat_map (cell thread) (range_with_len 0 columns)) (range_with_len 0 (threads_of events))
 
--- all cells of a shade are one path
+-- all cells of a shade are one path, and the ticks are one
+abbrev pub shade_head : ℕ → List ℕ
+shade_head shade = codes "<path stroke=\"" ++ colour_of shade ++ codes "\" stroke-width=\"14\" d=\""
+
+abbrev pub tick_head : List ℕ
+tick_head = codes "<path stroke=\"#000000\" d=\""
+
+abbrev pub path_end : List ℕ
+path_end = codes "\"/>" ++ 10 ∷ []
+
 abbrev pub shade_path : ℕ → List EventRecord → ℕ → List ℕ
 shade_path columns events shade =
-    codes "<path stroke=\"" ++ colour_of shade ++ codes "\" stroke-width=\"14\" d=\""
-    ++ over_cells columns events (λ (thread column : ℕ). stroke_of shade (cell_shade columns events thread column) thread column) ++ codes "\"/>" ++ 10 ∷ []
+    shade_head shade ++ over_cells columns events (λ (thread column : ℕ). stroke_of shade (cell_shade columns events thread column) thread column) ++ path_end
 
--- the ticks are one
 abbrev pub tick_path : ℕ → List EventRecord → List ℕ
 tick_path columns events =
-    codes "<path stroke=\"#000000\" d=\"" ++ over_cells columns events (λ (thread column : ℕ). tick_of (has_switch columns events thread column) thread column)
-    ++ codes "\"/>" ++ 10 ∷ []
+    tick_head ++ over_cells columns events (λ (thread column : ℕ). tick_of (has_switch columns events thread column) thread column) ++ path_end
 
 -- the number of a thread, at the left of its row
 abbrev pub thread_label : ℕ → List ℕ
@@ -131,9 +130,12 @@ tick_legend threads =
     codes "<path stroke=\"#000000\" d=\"M36 " ++ decimal (threads * 20 + 155) ++ codes "v9\"/><text x=\"48\" y=\"" ++ decimal (threads * 20 + 164)
     ++ codes "\">task switch</text>" ++ 10 ∷ []
 
+abbrev pub svg_end : List ℕ
+svg_end = codes "</svg>" ++ 10 ∷ []
+
 -- the picture of these events in so many columns
 abbrev pub svg_of : ℕ → List EventRecord → List ℕ
 svg_of columns events =
     svg_head columns (threads_of events) ++ flat_map thread_label (range_with_len 0 (threads_of events))
     ++ flat_map (shade_path columns events) (range_with_len 1 9) ++ tick_path columns events
-    ++ flat_map (legend_line (threads_of events)) (range_with_len 1 9) ++ tick_legend (threads_of events) ++ codes "</svg>" ++ 10 ∷ []
+    ++ flat_map (legend_line (threads_of events)) (range_with_len 1 9) ++ tick_legend (threads_of events) ++ svg_end

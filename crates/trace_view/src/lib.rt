@@ -2,12 +2,15 @@
 //!
 //! [`view_names`] reads a trace from a source, and writes a line for each event and one for the end mark. Their numbers are written by the
 //! names that OMPT's header has for them, and places as `line:column`. It writes as it goes, and a breach of a rule doesn't hinder it.
-//! [`view_tasks`] reads a trace that is nested, and writes its task tree in the language DOT of Graphviz: a box for each task, with how many
-//! events are charged to it, and a longest chain in bold. [`dot_text`] is this picture of a trace in memory. [`waits_text`] is a table of the
-//! waits of a trace in memory: for each construct and each thread how many there were, and how many positions they took.
+//! [`view_picture`] reads a trace that is nested, and writes a [`Picture`] of it. `Tasks` is its task tree in the language DOT of Graphviz: a
+//! box for each task, with how many events are charged to it, and a longest chain in bold. `Timeline` shows the states of its threads over the
+//! run in the language SVG: a row for each thread, in the colours of its states, with a tick where it goes to another task. `Waits` is a table
+//! of its waits: for each construct and each thread how many there were, and how many positions they took. [`dot_text`], [`svg_text`] and
+//! [`waits_text`] are these of a trace in memory.
 //!
-//! The definitions stand in `specs/`: `Names` has the names of numbers, `NamedLines` the lines, `Dot` the picture of the tasks, and `Naming` and
-//! `DrawingTasks` what was read and written, by how it ended. `Waits` has the table of the waits. `Bold` and `WaitTallies` serve the proofs.
+//! The definitions stand in `specs/`: `Names` has the names of numbers, `NamedLines` the lines, `Dot` the picture of the tasks, `Svg` that of the
+//! states, `Waits` the table, and `Naming` and `Drawing` what was read and written, by how it ended. `Bold`, `Cells` and `WaitTallies` serve the
+//! proofs.
 //!
 //! Proved by the contract of [`view_names`]:
 //!
@@ -18,34 +21,43 @@
 //! - at `WriteFault` a write failed, and was counted; at `Memory` there was none for a line. What was written is a front of the lines;
 //! - it never answers `Broken`, and it returns, as `trace_format::read_items` does.
 //!
-//! Proved by the contract of [`view_tasks`]:
+//! Proved by the contract of [`view_picture`]:
 //!
-//! - at `Whole` the whole input is a trace that is nested, and a picture of it was written (`IsDot`): with the tasks, the work and the span of `tool_tasks`, and
-//!   bold what a chain goes through that is as long as any. At `WriteFault` a write failed, and was counted, and a front of one was written;
+//! - at `Whole` the whole input is a trace that is nested, and the picture of it was written (`IsPicture`). At `WriteFault` a write failed, and was
+//!   counted, and a front of one was written;
+//! - of the tasks it is one with the tasks, the work and the span of `tool_tasks`, and bold what a chain goes through that is as long as any. Of the
+//!   states it is `svg_of` of the events and the columns, so there is one;
 //! - at `Refused`, `Broken` and `ReadFault` it is as `tool_tasks::read_nested` says, and at these and at `Memory` nothing was written.
 //!
 //! Proved by the contract of [`waits_text`]: the table (`IsWaitTable`) has a line for each place, cause and thread with a wait that began, and no other,
 //! by rising place, cause and thread. It tells how many began, how many positions they took until their ends, and how many have none. The trace
 //! needs neither be valid nor nested. What a wait took is told by sums: the positions of the ends, less those of the begins.
 //!
-//! The memory of [`view_names`] doesn't grow with the trace: that isn't proved, but plain in the code. Want of memory is free. That Graphviz reads
-//! what is written isn't proved.
+//! The memory of [`view_names`] doesn't grow with the trace: that isn't proved, but plain in the code. Want of memory is free. That Graphviz and
+//! viewers of SVG read what is written isn't proved.
 #![tactic(auto)]
 
 mod bold;
+mod cells;
 mod dot;
-mod drawing_tasks;
+mod drawing;
 mod named_lines;
 mod namer;
 mod naming;
 mod number_names;
+mod paths;
+mod picture;
+mod shades;
+mod svg;
 mod viewed;
 mod wait_ends;
 mod wait_tallies;
 mod waits;
 
 pub use dot::dot_text;
-pub use drawing_tasks::view_tasks;
+pub use drawing::view_picture;
 pub use naming::view_names;
+pub use picture::Picture;
+pub use svg::svg_text;
 pub use viewed::Viewed;
 pub use waits::waits_text;
