@@ -5,6 +5,7 @@ pub mod Dot
 pub mod Bold
 pub mod Waits
 pub mod WaitTallies
+pub mod Chrome
 pub mod Svg
 pub mod Cells
 pub mod Drawing
