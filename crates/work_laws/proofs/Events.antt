@@ -59,7 +59,8 @@ outside-callbacks S t goes = thread-goes S.world t (and_parts (is_none (pending_
 none-some : (e : Event) → None ≡ Some e → ⊥
 none-some e is = cc
 
-module _ (run : Run) (S next : State) (met : IsMet run S) (t : ℕ) (e : Event) (W : World) (reached : Reaches S.world t W) (go : GoOf run W t e next.world)
+module _ (run : Run) (S next : State) (met : IsMet run S) (t : ℕ) (e : Event) (W : World) (reached : Reaches S.world t W)
+    (go : GoOf run W t e next.world)
     (made : IsMadeState run next) (orderly : IsOrderly next) (there : IsThread S.world t) (outside : inside S t ≡ None)
     (pending : next.pending ≡ slice_set S.pending t (Some (called e))) where
   abbrev past : List EventRecord
@@ -80,7 +81,8 @@ module _ (run : Run) (S next : State) (met : IsMet run S) (t : ℕ) (e : Event) 
   enters within =
       let now : Option Callback = Some (called e) in
       record {
-        own = ap (option_map event_in) (ap (λ (places : List (Option Callback)). slice_index_or places t None) pending ∙ get_or-set_same S.pending t now None within);
+        own = ap (option_map event_in) (ap (λ (places : List
+            (Option Callback)). slice_index_or places t None) pending ∙ get_or-set_same S.pending t now None within);
         others = λ u other. ap (option_map event_in) (ap (λ (places : List (Option Callback)). slice_index_or places u None) pending
             ∙ get_or-set_other S.pending t u now None other);
       }
@@ -196,7 +198,8 @@ module _ (W after : World) (t : ℕ) (told : Tellings) (still : IsStill W after 
 -- ---- the event
 
 -- a share that was taken is told, and no other event comes before that
-dispatch-only : (run : Run) (W after : World) (t : ℕ) (e : Event) (share : Share) → GoOf run W t e after → arrival W t ≡ Meets (Dispatch share) → e ≡ Dispatch share
+dispatch-only : (run : Run) (W after : World) (t : ℕ) (e : Event) (share : Share) → GoOf run W t e after → arrival W t ≡ Meets (Dispatch share) →
+    e ≡ Dispatch share
 dispatch-only run W after t e share (OfCode comes happens) is = let wrong : Comes ≡ Meets (Dispatch share) = sym comes ∙ is in cc
 dispatch-only run W after t e share (Beside meets happens) is = let same : Meets e ≡ Meets (Dispatch share) = sym meets ∙ is in cc
 
@@ -223,7 +226,8 @@ module _ (run : Run) (S next : State) (met : IsMet run S) (t : ℕ) (told : Tell
       (goes run S next met t e W on.reached go made orderly there outside pending) go
       (free run S next met t e W on.reached go made orderly there outside pending)
 
-  none-of : (e : Event) → GoOf run W t e after → ((share : Share) → e ≡ Dispatch share → ⊥) → IsFree W t → (share : Option Share) → (thread_at W t).taken ≡ share →
+  none-of : (e : Event) → GoOf run W t e after → ((share : Share) → e ≡ Dispatch share → ⊥) → IsFree W t → (share : Option Share) →
+      (thread_at W t).taken ≡ share →
       (thread_at W t).taken ≡ None
   none-of e go other quiet None is = is
   none-of e go other quiet (Some share) is = absurd (other share (dispatch-only run W after t e share go (share-arrives W t share quiet is)))
@@ -256,7 +260,8 @@ module _ (run : Run) (S next : State) (met : IsMet run S) (t : ℕ) (told : Tell
       (gone e go pending (with_share W t (Some share) told) (subst (λ (share : Option Share). Tells W (with_share W t share told)) taken on.tells))
 
   -- a member's work ends
-  module _ (which : WorkKind) (count codeptr : ℕ) (go : GoOf run W t (Work End which count codeptr) after) (pending : Pending (Work End which count codeptr))
+  module _ (which : WorkKind) (count codeptr : ℕ) (go : GoOf run W t (Work End which count codeptr) after) (pending : Pending
+      (Work End which count codeptr))
       (none : NoEnd which → ⊥) (unmet : FitsOpen None (Works which count) → ⊥) where
     abbrev work-event : Event
     work-event = Work End which count codeptr
@@ -284,7 +289,8 @@ module _ (run : Run) (S next : State) (met : IsMet run S) (t : ℕ) (told : Tell
 
         plain-if : (explicit : Bool) → is_explicit_task W (current W t) ≡ explicit → is_explicit_task W (current W t) ≡ false
         plain-if true is =
-            absurd (unmet (subst (λ (b : Bool). FitsOpen (if b then None else last_met (region_at W (region_of W (current W t))).team (index_of W (current W t))) (Works which count)) is newest))
+            absurd (unmet (subst (λ (b : Bool). FitsOpen (if b then None else last_met (region_at W (region_of W (current W t))).team (index_of W
+            (current W t))) (Works which count)) is newest))
         plain-if false is = is
 
     over : (1 ≤ (member_at (current_team W t) (current_index W t)).met) × IsOverAt (current_team W t) (current_index W t)
@@ -293,9 +299,13 @@ module _ (run : Run) (S next : State) (met : IsMet run S) (t : ℕ) (told : Tell
         ap (λ (u : ℕ). member_index W u (current_region W t)) (current-under-way W t work-goes.knows.sound.orderly some).thread in
         ended run W after (inside S) (inside next) met.known.past t told before works which count codeptr work-goes go none
         (subst (Standing _ (current_team W t)) index
-        (before.tasks (current W t) (own-made run W after (inside S) (inside next) met.known.past t (Work End which count codeptr) work-goes some) plain))
+        (before.tasks (current W t) (own-made run W after (inside S) (inside next) met.known.past t
+        (Work End which count codeptr) work-goes some) plain))
 
-    work-told : Tells after (λ q n. if is_newest after t q n then record (told q n) { ended = (told q n).ended ++ current_index after t ∷ [] } else told q n)
+    work-told : Tells after (λ q n. if is_newest after t q n then record (told q n) {
+      ended =
+          (told q n).ended ++ current_index after t ∷ [];
+    } else told q n)
     work-told =
         let still : IsStill W after t = record {
           task = current-kept W after t (Work End which count codeptr) refl work-goes.touches.world;
@@ -320,7 +330,8 @@ module _ (run : Run) (S next : State) (met : IsMet run S) (t : ℕ) (told : Tell
   own-taken (Dispatch share) go = refl
   own-taken e go = own-none e (thread_at W t) (none-taken e go (λ share is. cc))
 
-  pub nothing-taken : (e : Event) → GoOf run W t e after → Pending e → ((u : ℕ) → (thread_at S.world u).taken ≡ None) → (u : ℕ) → (thread_at after u).taken ≡ None
+  pub nothing-taken : (e : Event) → GoOf run W t e after → Pending e → ((u : ℕ) → (thread_at S.world u).taken ≡ None) → (u : ℕ) →
+      (thread_at after u).taken ≡ None
   nothing-taken e go pending idle u =
       let world = (goes run S next met t e W on.reached go made orderly there outside pending).touches.world in
       elim (cases_eq u t) [

@@ -16,7 +16,7 @@ use Rattle.c_model.specs.declared.view.View.{View}
 use Rattle.c_model.specs.Occurring.{IsOfItem, IsOfNext}
 use Rattle.c_model.specs.Step.{settled_task, silent, step_at}
 use Rattle.c_model.specs.Task.{Item, Moment, OpenCall, Task as Code}
-use Rattle.c_model.specs.Task.Item.{EndWork}
+use Rattle.c_model.specs.Task.Item.{EndWork, Forked, Inside as InsideItem, Iterations, NextChunk, NextSection}
 use Rattle.c_model.specs.Task.Outcome.{Occurs}
 use Rattle.c_model.proofs.Occurring.{event_is_of_next}
 use Rattle.code_brackets.specs.Effects.{Effect}
@@ -56,30 +56,36 @@ use Rattle.work_laws.specs.Told.{Telling, nothing_told}
 use Rattle.work_laws.proofs.CodesGone.{Occurred, codes-gone, work-occurred}
 use Rattle.work_laws.proofs.Items.{AreCalls, AreItems, IsItem}
 use Rattle.work_laws.proofs.ItemSteps.{from-next, holds-answer, holds-blank, holds-event}
-use Rattle.work_laws.proofs.Shares.{StandsIn, Tellings, Tells, TellsAt, any-closed, standing-placed}
-use Rattle.work_laws.proofs.Teams.{AnyTree, HasNoEnd, IsFreeCode, IsOverAt, NoEnd, Standing, TellsTeam, other-member, over-met, over-same, own-met, standing-kept, tells-met, tells-same}
+use Rattle.work_laws.proofs.Shares.{StandsIn, Tellings, Tells, TellsAt, any-construct, any-rules, single-ends, standing-placed}
+use Rattle.work_laws.proofs.Teams.{AnySchedule, AnyTree, HasNoEnd, IsFreeCode, IsOverAt, NoEnd, Standing, TellsTeam, other-member, over-met, over-same, own-met, standing-kept, tells-met, tells-same}
 use Rattle.work_laws.proofs.Teams.Standing.{Behind, Outside, Within}
 
 -- ---- codes in which no work is open
 
-no-end-items : (item : Item) → list_any is_work (open_item item) ≡ false → IsItem AnyTree NoEnd item
+no-end-items : (item : Item) → list_any is_work (open_item item) ≡ false → IsItem AnyTree AnySchedule NoEnd item
 no-end-items (EndWork construct kind count names) free = absurd (true≢false free)
+no-end-items (NextChunk loop) free = absurd (true≢false free)
+no-end-items (Iterations loop at upto) free = absurd (true≢false free)
+no-end-items (NextSection construct names) free = absurd (true≢false free)
+no-end-items (Forked construct) free = any-construct construct
+no-end-items (InsideItem construct) free = any-construct construct
 no-end-items item free = tt
 
-either-free : (first second : List Open) → list_any is_work (first ++ second) ≡ false → (list_any is_work first ≡ false) × (list_any is_work second ≡ false)
+either-free : (first second : List Open) → list_any is_work (first ++ second) ≡ false →
+    (list_any is_work first ≡ false) × (list_any is_work second ≡ false)
 either-free [] second free = (refl, free)
 either-free (one ∷ first) second free =
     let parts = or_parts (is_work one) (list_any is_work (first ++ second)) free in
     let rest = either-free first second parts.1 in
     (or_from (is_work one) (list_any is_work first) parts.0 rest.0, rest.1)
 
-free-items : (items : List Item) → list_any is_work (open_items items) ≡ false → AreItems AnyTree NoEnd items
+free-items : (items : List Item) → list_any is_work (open_items items) ≡ false → AreItems AnyTree AnySchedule NoEnd items
 unfolding open_items
 free-items [] free = tt
 free-items (item ∷ items) free =
     let parts = either-free (open_item item) (open_items items) free in (no-end-items item parts.0, free-items items parts.1)
 
-free-calls : (calls : List OpenCall) → list_any is_work (open_calls calls) ≡ false → AreCalls AnyTree NoEnd calls
+free-calls : (calls : List OpenCall) → list_any is_work (open_calls calls) ≡ false → AreCalls AnyTree AnySchedule NoEnd calls
 unfolding open_calls
 free-calls [] free = tt
 free-calls (call ∷ calls) free =
@@ -99,7 +105,8 @@ drop-free : (opened : List Open) → list_any is_work opened ≡ false → list_
 drop-free [] free = refl
 drop-free (one ∷ opened) free = (or_parts (is_work one) (list_any is_work opened) free).1
 
-effect-free : (effect : Effect) (opened : List Open) → OpensNone effect → list_any is_work opened ≡ false → list_any is_work (opens_after effect opened) ≡ false
+effect-free : (effect : Effect) (opened : List Open) → OpensNone effect → list_any is_work opened ≡ false →
+    list_any is_work (opens_after effect opened) ≡ false
 effect-free (Opens one) opened none free = or_from (is_work one) (list_any is_work opened) none free
 effect-free (Closes one) opened none free = drop-free opened free
 effect-free Leaves opened none free = free
@@ -114,15 +121,15 @@ busy one older opened opens work free =
 -- an end of work is of an item that ends it
 end-of-item : (program : TreeView) (view : View) (now : Moment) (codeptr count : ℕ) (kind : WorkKind) (tree : Tree) (item : Item) (items : List Item) →
     IsOfItem (point.WorkEnd codeptr kind count) item → step_at (item ∷ items) program view now ≡ Occurs (point.WorkEnd codeptr kind count) tree →
-    IsItem AnyTree NoEnd item → NoEnd kind
+    IsItem AnyTree AnySchedule NoEnd item → NoEnd kind
 unfolding IsOfItem
 end-of-item program view now codeptr count kind tree (EndWork construct ended whole names) items of comes is =
-    let same : ended ≡ kind = cc in subst NoEnd same is.1
+    let same : ended ≡ kind = cc in subst NoEnd same is
 end-of-item program view now codeptr count kind tree item items of comes is = absurd of
 
 end-among : (program : TreeView) (view : View) (now : Moment) (codeptr count : ℕ) (kind : WorkKind) (tree : Tree) (items : List Item) →
     IsOfNext (point.WorkEnd codeptr kind count) items → step_at items program view now ≡ Occurs (point.WorkEnd codeptr kind count) tree →
-    AreItems AnyTree NoEnd items → NoEnd kind
+    AreItems AnyTree AnySchedule NoEnd items → NoEnd kind
 unfolding IsOfNext
 end-among program view now codeptr count kind tree [] of comes are = absurd of
 end-among program view now codeptr count kind tree (item ∷ items) of comes are =
@@ -133,7 +140,8 @@ end-occurs : (program : TreeView) (view : View) (now : Moment) (codeptr count : 
 unfolding silent
 end-occurs program view now codeptr count kind tree comes ends =
     end-among program view now codeptr count kind tree (settled_task view now.task).todo
-    (event_is_of_next program view now (point.WorkEnd codeptr kind count) tree comes) comes (from-next AnyTree any-closed NoEnd view now.task.todo ends.now)
+    (event_is_of_next program view now (point.WorkEnd codeptr kind count) tree comes) comes
+    (from-next AnyTree AnySchedule NoEnd any-rules single-ends view now.task.todo ends.now)
 
 end-point : (program : TreeView) (W : World) (t : ℕ) (view : View) (now : Moment) (count codeptr : ℕ) (kind : WorkKind) (tree : Tree) (what : Point) →
     event_of_point W t what ≡ Work End kind count codeptr → silent program view now ≡ Occurs what tree → HasNoEnd now.task → NoEnd kind
@@ -168,7 +176,8 @@ same-passed team i =
       met = (passed-met team i).met;
     }
 
-same-passed-if : (barrier here : Bool) (team : TeamView) (i : ℕ) → SameMeetings team (if barrier then (if here then with_passed team i else team) else team)
+same-passed-if : (barrier here : Bool) (team : TeamView) (i : ℕ) →
+    SameMeetings team (if barrier then (if here then with_passed team i else team) else team)
 same-passed-if true true team i = same-passed team i
 same-passed-if true false team i = same-view team team refl
 same-passed-if false here team i = same-view team team refl
@@ -228,7 +237,8 @@ module _ (run : Run) (W after : World) (I J : Inside) (past : List EventRecord) 
 
 -- ---- the current task
 
-module _ (run : Run) (W after : World) (I J : Inside) (past : List EventRecord) (t : ℕ) (told_so : Tellings) (tells : Tells W told_so) (works : WorksMet W) where
+module _ (run : Run) (W after : World) (I J : Inside) (past : List EventRecord) (t : ℕ) (told_so : Tellings) (tells : Tells W told_so)
+    (works : WorksMet W) where
   abbrev k : ℕ
   k = current W t
 
@@ -241,13 +251,15 @@ module _ (run : Run) (W after : World) (I J : Inside) (past : List EventRecord) 
       elim (codes-gone run W after t e go j below) [
         | inl left ↦ elim left [
           | inl same ↦ subst HasNoEnd (sym same) ends
-          | inr blank ↦ subst HasNoEnd (sym blank) (holds-blank AnyTree any-closed NoEnd)
+          | inr blank ↦ subst HasNoEnd (sym blank) (holds-blank AnyTree AnySchedule NoEnd any-rules single-ends)
         ]
         | inr gone ↦
             let own : HasNoEnd (code_of W t) = subst (λ (j : ℕ). HasNoEnd (task_at W j).code) gone.here ends in
             subst HasNoEnd (sym gone.code)
-            (holds-event AnyTree any-closed NoEnd tt tt (view_of W t) gone.what (executes_point W t gone.what) (told W t).task
-            (holds-answer AnyTree any-closed NoEnd (view_of W t) (answer.Free true) (moment_of W t) tt own))
+            (holds-event AnyTree AnySchedule NoEnd any-rules single-ends run.program (view_of W t) (told W t) gone.what
+            (executes_point W t gone.what) gone.tree
+            (λ name. tt) (holds-answer AnyTree AnySchedule NoEnd any-rules single-ends (view_of W t) (answer.Free true)
+            (moment_of W t) tt own) gone.occurs).0
       ]
 
   module _ (e : Event) (goes : Goes run W after I J past t e) (go : GoOf run W t e after) (some : 1 ≤ current W t) where
@@ -275,18 +287,21 @@ module _ (run : Run) (W after : World) (I J : Inside) (past : List EventRecord) 
         (λ some over. over-same team next (current_index W t) same.count same.meetings (same.met (current_index W t)) over) stands
 
     -- by what the team is then
-    same-own : OpensNone (effect_of_event e) → (region_at after (current_region W t)).team ≡ team → Standing (code_of W t) team (current_index W t) → Own
+    same-own : OpensNone (effect_of_event e) → (region_at after (current_region W t)).team ≡ team →
+        Standing (code_of W t) team (current_index W t) → Own
     same-own none same stands = kept-own none (same-view team (region_at after (current_region W t)).team same) stands
 
   -- of a work that ends nothing is left
-  pub ended : (which : WorkKind) (count codeptr : ℕ) → Goes run W after I J past t (Work End which count codeptr) → GoOf run W t (Work End which count codeptr) after →
-      (NoEnd which → ⊥) → Standing (code_of W t) team (current_index W t) → (1 ≤ (member_at team (current_index W t)).met) × IsOverAt team (current_index W t)
+  pub ended : (which : WorkKind) (count codeptr : ℕ) → Goes run W after I J past t (Work End which count codeptr) →
+      GoOf run W t (Work End which count codeptr) after →
+      (NoEnd which → ⊥) → Standing (code_of W t) team (current_index W t) → (1 ≤ (member_at team (current_index W t)).met) × IsOverAt team
+      (current_index W t)
   ended which count codeptr goes go none (Outside free) =
       absurd (busy (Works which count) goes.comes.0.ends.0 (opens_at W k) goes.comes.0.ends.1 refl free)
   ended which count codeptr goes go none (Within some ends) =
       let one : Occurred run W t (Work End which count codeptr) = work-occurred run W after t End which count codeptr go in
       absurd (none (end-point run.program W t (view_of W t) (told W t) count codeptr which one.tree one.what one.event one.occurs
-      (holds-answer AnyTree any-closed NoEnd (view_of W t) (answer.Free true) (moment_of W t) tt ends)))
+      (holds-answer AnyTree AnySchedule NoEnd any-rules single-ends (view_of W t) (answer.Free true) (moment_of W t) tt ends)))
   ended which count codeptr goes go none (Behind some over) = (some, over)
 
   ended-own : (which : WorkKind) (count codeptr : ℕ) → Goes run W after I J past t (Work End which count codeptr) →
@@ -299,7 +314,8 @@ module _ (run : Run) (W after : World) (I J : Inside) (past : List EventRecord) 
       Standing (code_of W t) team (current_index W t) → Standing (task_at after k).code (region_at after (current_region W t)).team (current_index W t)
   own-go (Work Begin which count codeptr) goes go begins some stands =
       let within = place-within run W I past t goes.knows some in
-      Within (subst (λ (x : TeamView). 1 ≤ (member_at x (current_index W t)).met) (sym begins.team) (own-met team (current_index W t) begins.what within))
+      Within (subst (λ (x : TeamView). 1 ≤ (member_at x (current_index W t)).met) (sym begins.team) (own-met team
+      (current_index W t) begins.what within))
       (ends-go (Work Begin which count codeptr) go k (current-below W t goes.knows.sound.made) (free-ends (code_of W t) begins.free))
   own-go (Work End which count codeptr) goes go free some stands = ended-own which count codeptr goes go some stands
   own-go (Sync which stage.RegionBegin codeptr) goes go free some stands =
@@ -378,7 +394,8 @@ module _ (run : Run) (W after : World) (I J : Inside) (past : List EventRecord) 
                     (subst (λ (j : ℕ). Standing (task_at after j).code (region_at after (region_of W j)).team (index_of W j)) (sym is)
                     (own-place (subst (λ (j : ℕ). 1 ≤ j) is made.some) (subst (λ (j : ℕ). is_explicit_task W j ≡ false) is before)))
                 | inr other ↦ placed-go j made started
-                    (other-go j made before other (team-is run W after I J past t e goes free (region_of W j) (goes.knows.sound.made.placed j made).below))
+                    (other-go j made before other (team-is run W after I J past t e goes free (region_of W j)
+                    (goes.knows.sound.made.placed j made).below))
               ]
           | inr not ↦
               idle-go j
@@ -387,7 +404,8 @@ module _ (run : Run) (W after : World) (I J : Inside) (past : List EventRecord) 
               (goes.knows.brackets.fresh j not)
         ]
       where
-        own-place : 1 ≤ current W t → is_explicit_task W k ≡ false → Standing (task_at after k).code (region_at after (region_of W k)).team (index_of W k)
+        own-place : 1 ≤ current W t → is_explicit_task W k ≡ false →
+            Standing (task_at after k).code (region_at after (region_of W k)).team (index_of W k)
         own-place some plain =
             subst (λ (i : ℕ). Standing (task_at after k).code (region_at after (region_of W k)).team i) (sym (own-index e goes go some))
             (own-go e goes go free some (own-stands e goes go some plain))
@@ -397,7 +415,17 @@ module _ (run : Run) (W after : World) (I J : Inside) (past : List EventRecord) 
         elim (cases_eq j (length W.tasks)) [
           | inl is ↦ idle-go j (λ same. omega (arith, is, same, current-below W t goes.knows.sound.made)) (none-opens W j is)
           | inr other ↦
-              old-go j (record { some = made.some; below = omega (arith, other, made.below, goes.touches.world.tasks, tasks-few e (length W.tasks)) }) plain
+              old-go j (record {
+                some = made.some;
+                below = omega (
+                  arith,
+                  other,
+                  made.below,
+                  goes.touches.world.tasks,
+                  tasks-few e
+                      (length W.tasks),
+                );
+              }) plain
         ]
 
     -- where there is no team nothing was told
@@ -427,7 +455,8 @@ module _ (run : Run) (W after : World) (I J : Inside) (past : List EventRecord) 
     teams-go q n =
         elim (cases_lt q (length after.regions)) [
           | inr beyond ↦
-              subst (λ (x : Region). TellsTeam (length x.team.members) x.team.meetings n (told_so q n)) (sym (get_or_past after.regions q no_region beyond))
+              subst (λ (x : Region). TellsTeam (length x.team.members) x.team.meetings n (told_so q n)) (sym
+              (get_or_past after.regions q no_region beyond))
               (empty-team 0 n (told_so q n) (unmade q n (omega (arith, beyond, regions-more))))
           | inl made ↦ elim (cases_eq q (length W.regions)) [
             | inl is ↦

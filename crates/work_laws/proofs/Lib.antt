@@ -1,3 +1,4 @@
+pub mod CodeRuns
 pub mod CodesGone
 pub mod Events
 pub mod Gos
@@ -8,6 +9,10 @@ pub mod NextSections
 pub mod Once
 pub mod Runs
 pub mod Shares
+pub mod SizeActs
+pub mod SizedPrograms
+pub mod SizedTrees
+pub mod Sizes
 pub mod Teams
 pub mod Turns
 pub mod Walks

@@ -171,7 +171,8 @@ tells-section size met told member section codeptr few next tells =
       chunk = tells.chunk;
       places = length-set met.taken member (slice_index_or met.taken member 0 + 1) ∙ tells.places;
       deals = section-deals met.what size met.taken told member section codeptr (omega (arith, few, tells.places)) next tells.deals;
-      over = All-weaker (IsOverFor size met) (IsOverFor size (with_taken met member)) (λ other. over-section size met member other section next) told.ended
+      over = All-weaker (IsOverFor size met) (IsOverFor size (with_taken met member))
+          (λ other. over-section size met member other section next) told.ended
           tells.over;
     }
 

@@ -69,7 +69,8 @@ module _ (run : Run) (history : List Entry) (t steps : ℕ) (tree : Tree) (whole
       (last_meeting team (current_index W t)).taken (told_of run history r n) here.0
       ((tells.teams r n).some (omega (arith, here.1, asked.works.within r (current_index W t)))).deals
 
-module _ (run : Run) (history : List Entry) (t steps : ℕ) (tree : Tree) (some : 1 ≤ run.threads) (few : run.threads ≤ 16) (checked : Checked run.program)
+module _ (run : Run) (history : List Entry) (t steps : ℕ) (tree : Tree) (some : 1 ≤ run.threads) (few : run.threads ≤ 16)
+    (checked : Checked run.program)
     (formed : IsProgramFormed run.program) (legal : Legal run history) where
   abbrev X : World
   X = (walk run steps 0 (after run history) t).state.world

@@ -43,7 +43,8 @@ each-once at start count step (Guided length) size order out iteration =
     (λ rest. guided-least length size rest out.chunk) out iteration
 
 loop-told : (size : ℕ) (taken : List ℕ) (told : Telling) (at : ℕ) (start : ℤ) (count : ℕ) (step : ℤ) (how : Schedule) →
-    TellsMeeting size (record { what = Loop at start count step how; taken = taken }) told → ((member : ℕ) → member < size → Contains told.ended member) →
+    TellsMeeting size (record { what = Loop at start count step how; taken = taken }) told → ((member : ℕ) → member < size →
+    Contains told.ended member) →
     (iteration : ℕ) → times_dealt told.chunks iteration ≡ one_if (nat_lt iteration count)
 loop-told size taken told at start count step how tells ended iteration =
     let met : TeamMeeting = record { what = Loop at start count step how; taken = taken } in
@@ -67,7 +68,8 @@ none-left section count none =
       | inr past ↦ past
     ]
 
-sections-told : (size : ℕ) (taken : List ℕ) (told : Telling) (at count : ℕ) → TellsMeeting size (record { what = Sections at count; taken = taken }) told →
+sections-told : (size : ℕ) (taken : List ℕ) (told : Telling) (at count : ℕ) →
+    TellsMeeting size (record { what = Sections at count; taken = taken }) told →
     ((member : ℕ) → member < size → Contains told.ended member) → length told.sections ≡ count
 sections-told size taken told at count tells ended =
     let met : TeamMeeting = record { what = Sections at count; taken = taken } in
@@ -83,7 +85,8 @@ module _ (run : Run) (r n : ℕ) where
   entry-told S t (Put place word) told = refl
   entry-told S t Back told = refl
 
-  pub entries-told : (S : State) (history : List Entry) (told : Telling) → with_entries (all_told run) S r n history told ≡ with_entries run S r n history told
+  pub entries-told : (S : State) (history : List Entry) (told : Telling) →
+      with_entries (all_told run) S r n history told ≡ with_entries run S r n history told
   entries-told S [] told = refl
   entries-told S (entry ∷ rest) told =
       ap (λ (x : Telling). with_entries (all_told run) (entered (all_told run) S entry) r n rest x) (entry-told S entry.thread entry.what told)
@@ -117,7 +120,8 @@ module _ (run : Run) (history : List Entry) (r n : ℕ) (some : 1 ≤ run.thread
       TellsMeeting (length team.members) (record { what = what; taken = (slice_index_or team.meetings n no_meeting).taken }) told
   tells-met what is none =
       let met = slice_index_or team.meetings n no_meeting in
-      subst (λ (what : Meeting). TellsMeeting (length team.members) (record { what = what; taken = met.taken }) told) is (tells.some (met-below what is none))
+      subst (λ (what : Meeting). TellsMeeting (length team.members) (record { what = what; taken = met.taken }) told) is (tells.some
+      (met-below what is none))
 
   no-loop : (at : ℕ) (start : ℤ) (count : ℕ) (step : ℤ) (how : Schedule) → no_meeting.what ≡ Loop at start count step how → ⊥
   no-loop at start count step how is = cc

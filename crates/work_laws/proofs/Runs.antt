@@ -83,10 +83,12 @@ module _ (run : Run) (S : State) (told : Tellings) (so : IsTold run S told) (t :
     subst (λ share. Tells next.world (with_share next.world t share told)) over.none over.on.tells,
   )
 
-  turn-after : (came : Outcome) → Leaves S t next came → Ended run (On run S so.met t told) (IsOver run S so.met t told) t next.world came → IsAfter came
+  turn-after : (came : Outcome) → Leaves S t next came → Ended run (On run S so.met t told) (IsOver run S so.met t told) t next.world came →
+      IsAfter came
   turn-after (outcome.Happens e) leaves from =
       record {
-        idle = nothing-taken run S next so.met t told from.before from.holds made orderly (outside-callbacks S t goes) outside e from.go leaves.2 so.idle;
+        idle = nothing-taken run S next so.met t told from.before from.holds made orderly
+            (outside-callbacks S t goes) outside e from.go leaves.2 so.idle;
         tells = happened run S next so.met t told from.before from.holds made orderly (outside-callbacks S t goes) outside e from.go leaves.2;
       }
   turn-after outcome.Idle leaves over = let both = over-after over in record { idle = both.0; tells = both.1 }
@@ -112,7 +114,8 @@ tells-stored : (W : World) (place : Target) (word : ℕ) (told : Tellings) → T
 tells-stored W place word told tells =
     let next = stored W place word in
     record {
-      teams = λ q n. subst (λ (x : TeamView). TellsTeam (length x.members) x.meetings n (told q n)) (sym (stored-team W place word q)) (tells.teams q n);
+      teams = λ q n. subst (λ (x : TeamView). TellsTeam (length x.members) x.meetings n (told q n)) (sym (stored-team W place word q))
+          (tells.teams q n);
       tasks = tasks-alike W next (alike-stored W place word) (λ k task plain.
           subst₂ (λ (code : Code) (team : TeamView). Standing code team (index_of W k)) (sym (stored-code W place word k))
           (sym (stored-team W place word (region_of W k))) (tells.tasks k task plain));

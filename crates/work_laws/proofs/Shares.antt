@@ -4,8 +4,7 @@ use Rattle.std.specs.Prelude.{is_some, option_map}
 use Rattle.std.specs.List.{list_any}
 use Rattle.std.proofs.lemmas.Bool.{and_from, and_parts, cases_Bool, cases_eq, cond-true, eq-eqb, eqb-true, or_left, true≢false}
 use Rattle.std.proofs.lemmas.List.{get_or-set_other, get_or-set_same}
-use Rattle.c_syntax.specs.language.Tree.{Tree, Children, children_of, nothing}
-use Rattle.c_syntax.specs.language.Tree.Children.{Over, Child, Absent}
+use Rattle.c_syntax.specs.language.Tree.{Tree, nothing}
 use Rattle.c_model.specs.declared.point.WorkKind.TheVariants as work_kind
 use Rattle.c_model.specs.declared.question.Answer.{Answer}
 use Rattle.c_model.specs.declared.question.Answer.TheVariants as answer
@@ -14,7 +13,7 @@ use Rattle.c_model.specs.declared.view.View.{View}
 use Rattle.c_model.specs.Asked.{count_asked, sections_asked}
 use Rattle.c_model.specs.Clauses.{statements_among}
 use Rattle.c_model.specs.Going.{after_answer}
-use Rattle.c_model.specs.Parts.{parts}
+use Rattle.c_model.specs.Parts.{flat_declarations, parts}
 use Rattle.c_model.specs.Program.{place_of}
 use Rattle.c_model.specs.Step.{settled_task, silent}
 use Rattle.c_model.specs.Task.{Moment, Task as Code}
@@ -54,10 +53,10 @@ use Rattle.guard_laws.proofs.DealtRuns.{IsAsked, chunk-asked, newest-fits, own-m
 use Rattle.guard_laws.proofs.LastMeetings.{FitsOpen, MetLoop, MetSections, is_work, last_met}
 use Rattle.guard_laws.proofs.WorksMet.{SamePlace, index_of, met_at, place-alike}
 use Rattle.work_laws.specs.Told.{Telling, is_newest, with_event_at}
-use Rattle.work_laws.proofs.Items.{EachChild, IsClosed}
-use Rattle.work_laws.proofs.ItemSteps.{MayAnswer, holds-answer, holds-settled, holds-step}
+use Rattle.work_laws.proofs.Items.{AreRules, EachTree, IsConstruct}
+use Rattle.work_laws.proofs.ItemSteps.{MayAnswer, MayEndSingle, holds-answer, holds-settled, holds-step}
 use Rattle.work_laws.proofs.Meetings.{TellsMeeting, tells-chunk, tells-section}
-use Rattle.work_laws.proofs.Teams.{AnyTree, IsFreeCode, IsOverAt, NoEnd, Standing, TellsTeam, over-taken-chunk, over-taken-section, standing-kept, tells-here, tells-there}
+use Rattle.work_laws.proofs.Teams.{AnySchedule, AnyTree, IsFreeCode, IsOverAt, NoEnd, Standing, TellsTeam, over-taken-chunk, over-taken-section, standing-kept, tells-here, tells-there}
 use Rattle.work_laws.proofs.Teams.Standing.{Behind, Outside, Within}
 
 -- what was told of each meeting of each region's team
@@ -79,13 +78,27 @@ pub record Tells (W : World) (told : Tellings) : Type 0 where
   pub teams : (q n : ℕ) → TellsAt W q n (told q n)
   pub tasks : (k : ℕ) → IsTask W k → is_explicit_task W k ≡ false → StandsIn W k (task_at W k).code
 
-any-child : (children : Children) → EachChild AnyTree children
-any-child Over = tt
-any-child (Absent rest) = any-child rest
-any-child (Child tree rest) = (tt, any-child rest)
+any-trees : (trees : List Tree) → EachTree AnyTree trees
+any-trees [] = tt
+any-trees (tree ∷ trees) = (tt, any-trees trees)
 
-pub any-closed : IsClosed AnyTree
-any-closed = record { none = tt; inner = λ tree is. any-child (children_of tree) }
+pub any-construct : (construct : Tree) → IsConstruct AnyTree AnySchedule construct
+any-construct construct = record { statement = tt; section = λ place. tt; body = tt; size = tt }
+
+pub any-rules : AreRules AnyTree AnySchedule
+any-rules =
+    record {
+      none = tt;
+      no_construct = any-construct nothing;
+      block = λ tree is any. any-trees (flat_declarations (parts tree));
+      branches = λ tree is any. (tt, tt);
+      repeated = λ tree is any. tt;
+      looped = λ tree is any. tt;
+      construct = λ tree which is any. any-construct tree;
+    }
+
+pub single-ends : MayEndSingle NoEnd
+single-ends = record { executor = tt; other = tt }
 
 -- ---- worlds that are alike
 
@@ -153,8 +166,9 @@ module _ (W : World) (t : ℕ) (told : Tellings) (tells : Tells W told) where
         teams = tells.teams;
         tasks = tasks-alike W after (world-past W t) (λ j made plain.
             code-changed W k now (region_at W (region_of W j)).team (index_of W j) j
-            (λ is. standing-kept (code_of W t) now.task _ _ _ (same-open (code_of W t) now.task (settled-open view (code_of W t) (asked.codes.orderly k)))
-            (λ ends. holds-settled AnyTree any-closed NoEnd view (code_of W t) ends) (λ some. some) (λ some over. over))
+            (λ is. standing-kept (code_of W t) now.task _ _ _ (same-open (code_of W t) now.task (settled-open view (code_of W t)
+            (asked.codes.orderly k)))
+            (λ ends. holds-settled AnyTree AnySchedule NoEnd any-rules single-ends view (code_of W t) ends) (λ some. some) (λ some over. over))
             (tells.tasks j made plain));
       }
 
@@ -187,7 +201,8 @@ module _ (W : World) (t : ℕ) (told : Tellings) (tells : Tells W told) where
               code-changed W k next (region_at W (region_of W j)).team (index_of W j) j
               (λ here. standing-kept (code_of W t) next.task _ _ _
               (same-open (code_of W t) next.task (step-open run.program returns view moment next (asked.codes.orderly k) is))
-              (λ ends. holds-step AnyTree any-closed NoEnd run.program view moment next (λ name. tt) ends is) (λ some. some) (λ some over. over))
+              (λ ends. holds-step AnyTree AnySchedule NoEnd any-rules single-ends run.program view moment next (λ name. tt) ends is) (λ some. some)
+              (λ some over. over))
               (tells.tasks j made plain));
         }
 
@@ -214,7 +229,8 @@ module _ (W : World) (t : ℕ) (told : Tellings) (tells : Tells W told) where
         fits = newest-fits run W t asked one older at.some opens
 
         plain-if : (explicit : Bool) → is_explicit_task W k ≡ explicit → is_explicit_task W k ≡ false
-        plain-if true is = absurd (none (subst (λ (b : Bool). FitsOpen (if b then None else last_met (region_at W (region_of W k)).team (index_of W k)) one) is fits))
+        plain-if true is = absurd (none (subst (λ (b : Bool). FitsOpen (if b then None else last_met (region_at W (region_of W k)).team
+            (index_of W k)) one) is fits))
         plain-if false is = is
 
     busy : (one : Open) (older : List Open) → opens_at W k ≡ one ∷ older → is_work one ≡ true → IsFreeCode (code_of W t) → ⊥
@@ -223,7 +239,8 @@ module _ (W : World) (t : ℕ) (told : Tellings) (tells : Tells W told) where
         true≢false (sym first ∙ (sym (ap (λ (opened : List Open). list_any is_work opened) opens) ∙ free))
 
     -- it has met something
-    some-met : (one : Open) (older : List Open) → opens_at W k ≡ one ∷ older → is_work one ≡ true → Standing (code_of W t) team i → 1 ≤ (member_at team i).met
+    some-met : (one : Open) (older : List Open) → opens_at W k ≡ one ∷ older → is_work one ≡ true → Standing (code_of W t) team i →
+        1 ≤ (member_at team i).met
     some-met one older opens work (Outside free) = absurd (busy one older opens work free)
     some-met one older opens work (Within some ends) = some
     some-met one older opens work (Behind some over) = some
@@ -256,7 +273,8 @@ module _ (W : World) (t : ℕ) (told : Tellings) (tells : Tells W told) where
           let q = region_of W j in
           let stands : Standing (task_at W j).code (region_at after q).team (index_of W j) =
           at-set (λ (x : Region). Standing (task_at W j).code x.team (index_of W j)) no_region W.regions r q region (tells.tasks j made plain)
-          (λ is. moved (task_at W j).code (index_of W j) (subst (λ (q : ℕ). Standing (task_at W j).code (region_at W q).team (index_of W j)) is (tells.tasks j made plain))) in
+          (λ is. moved (task_at W j).code (index_of W j) (subst (λ (q : ℕ). Standing (task_at W j).code (region_at W q).team (index_of W j)) is
+          (tells.tasks j made plain))) in
           code-changed W k now (region_at after q).team (index_of W j) j
           (λ is before.
           let own-team : (region_at after (region_of W k)).team ≡ next = ap (λ (x : Region). x.team) there in
@@ -303,28 +321,33 @@ module _ (W : World) (t : ℕ) (told : Tellings) (tells : Tells W told) where
               (eq-eqb (member_at team i).met (n + 1) (omega (arith, number, some)))
 
           own-tells : q ≡ r → TellsTeam (length team.members) team.meetings n (told q n)
-          own-tells same = subst (λ (p : ℕ). TellsTeam (length (region_at W p).team.members) (region_at W p).team.meetings n (told q n)) same (tells.teams q n)
+          own-tells same = subst (λ (p : ℕ). TellsTeam (length (region_at W p).team.members) (region_at W p).team.meetings n (told q n)) same
+              (tells.teams q n)
 
           here : q ≡ r → n ≡ last_number team i → TellsAt after q n (change (told q n))
           here same number =
               let below : n < length team.meetings = omega (arith, number, some, asked.works.within r i) in
               let before : TellsMeeting (length team.members) (last_meeting team i) (told q n) =
-              subst (λ (m : ℕ). TellsMeeting (length team.members) (slice_index_or team.meetings m no_meeting) (told q n)) number ((own-tells same).some below) in
+              subst (λ (m : ℕ). TellsMeeting (length team.members) (slice_index_or team.meetings m no_meeting) (told q n)) number
+              ((own-tells same).some below) in
               subst (λ (x : TeamView). TellsTeam (length x.members) x.meetings n (change (told q n))) (sym (now-team q same))
-              (subst (λ (m : ℕ). TellsTeam (length team.members) (slice_set team.meetings m (with_taken (last_meeting team i) i)) n (change (told q n))) number
-              (tells-here (length team.members) team.meetings n (with_taken (last_meeting team i) i) (change (told q n)) below (changes (told q n) before)))
+              (subst (λ (m : ℕ). TellsTeam (length team.members) (slice_set team.meetings m (with_taken (last_meeting team i) i)) n (change
+              (told q n))) number
+              (tells-here (length team.members) team.meetings n (with_taken (last_meeting team i) i) (change (told q n)) below (changes
+              (told q n) before)))
 
           there-of : q ≡ r → n ≢ last_number team i → TellsAt after q n (told q n)
           there-of same other =
               subst (λ (x : TeamView). TellsTeam (length x.members) x.meetings n (told q n)) (sym (now-team q same))
-              (tells-there (length team.members) team.meetings (last_number team i) n (with_taken (last_meeting team i) i) (told q n) other (own-tells same))
+              (tells-there (length team.members) team.meetings (last_number team i) n (with_taken (last_meeting team i) i) (told q n) other
+              (own-tells same))
 
       -- the code goes on, and ends no work by that
       own-goes : MayAnswer NoEnd given → Standing (code_of W t) next i → Standing now.task next i
       own-goes may stands =
           standing-kept (code_of W t) now.task next next i
           (same-open (code_of W t) now.task (answer-open view given moment (asked.codes.orderly k)))
-          (λ ends. holds-answer AnyTree any-closed NoEnd view given moment may ends) (λ some. some) (λ some over. over) stands
+          (λ ends. holds-answer AnyTree AnySchedule NoEnd any-rules single-ends view given moment may ends) (λ some. some) (λ some over. over) stands
 
     -- ---- a chunk
 
@@ -335,7 +358,8 @@ module _ (W : World) (t : ℕ) (told : Tellings) (tells : Tells W told) where
     loop-sections count (meeting.Single at) taken met = absurd met
     loop-sections count (meeting.Barrier at kind) taken met = absurd met
 
-    sections-loop : (count : ℕ) (what : Meeting) (size : ℕ) (taken : List ℕ) (member : ℕ) → MetSections count (Some what) → chunk_in what size taken member ≡ None
+    sections-loop : (count : ℕ) (what : Meeting) (size : ℕ) (taken : List ℕ) (member : ℕ) → MetSections count (Some what) →
+        chunk_in what size taken member ≡ None
     sections-loop count (meeting.Loop at start whole step how) size taken member met = absurd met
     sections-loop count (meeting.Sections at whole) size taken member met = refl
     sections-loop count (meeting.Single at) size taken member met = absurd met
@@ -371,7 +395,8 @@ module _ (W : World) (t : ℕ) (told : Tellings) (tells : Tells W told) where
           loop-sections count (last_meeting team i).what (last_meeting team i).taken
           (read-met (MetLoop count) (λ none. none) team.meetings (last_number team i) chunk-met)
 
-      chunk-case : (found : Option (ℕ × ℕ)) → next_chunk team i ≡ found → (next : TeamView) → next ≡ (if is_some found then after_taking team i else team) →
+      chunk-case : (found : Option (ℕ × ℕ)) → next_chunk team i ≡ found → (next : TeamView) →
+          next ≡ (if is_some found then after_taking team i else team) →
           let given = answer.Chunk found in
           let share = option_map share_of_chunk found in
           AlikeWorld W (after given share next) → Tells (after given share next) (with_share (after given share next) t share told)
@@ -424,14 +449,19 @@ module _ (W : World) (t : ℕ) (told : Tellings) (tells : Tells W told) where
 
       -- what was met last, and that something was
       pub section-here : MetSections (sections_asked (items_asking W t)) (Some (last_meeting team i).what) × (1 ≤ (member_at team i).met)
-      section-here = (read-met (MetSections (sections_asked (items_asking W t))) (λ none. none) team.meetings (last_number team i) section-met, section-some)
+      section-here = (
+        read-met (MetSections (sections_asked (items_asking W t))) (λ none. none) team.meetings
+            (last_number team i) section-met,
+        section-some,
+      )
 
       section-chunks : next_chunk team i ≡ None
       section-chunks =
           let count = sections_asked (items_asking W t) in
           sections-loop count (last_meeting team i).what (length team.members) (last_meeting team i).taken i section-here.0
 
-      section-case : length team.members ≤ TEAM_LIMIT → (found : Option ℕ) → next_section team i ≡ found → (next : TeamView) → next ≡ (if is_some found then after_taking team i else team) →
+      section-case : length team.members ≤ TEAM_LIMIT → (found : Option ℕ) → next_section team i ≡ found → (next : TeamView) →
+          next ≡ (if is_some found then after_taking team i else team) →
           let given = answer.Section found in
           let share = option_map (share_of_section tree) found in
           AlikeWorld W (after given share next) → Tells (after given share next) (with_share (after given share next) t share told)

@@ -4,6 +4,7 @@ use Rattle.std.specs.List.{list_any}
 use Rattle.std.proofs.lemmas.Bool.{cases_eq}
 use Rattle.std.proofs.lemmas.List.{get_or-set_other, get_or-set_same, get_or_append_left, get_or_push, length-append, length-set}
 use Rattle.c_syntax.specs.language.Tree.{Tree}
+use Rattle.c_model.specs.declared.point.Schedule.{Schedule}
 use Rattle.c_model.specs.declared.point.WorkKind.{WorkKind}
 use Rattle.c_model.specs.declared.point.WorkKind.TheVariants as work_kind
 use Rattle.c_model.specs.Task.{Task as Code}
@@ -33,7 +34,8 @@ tells-same size after meetings others n told count same tells =
     subst₂ (λ (size : ℕ) (meetings : List TeamMeeting). TellsTeam size meetings n told) (sym count) (sym same) tells
 
 -- one of the meetings is changed
-pub tells-here : (size : ℕ) (meetings : List TeamMeeting) (n : ℕ) (now : TeamMeeting) (told : Telling) → n < length meetings → TellsMeeting size now told →
+pub tells-here : (size : ℕ) (meetings : List TeamMeeting) (n : ℕ) (now : TeamMeeting) (told : Telling) → n < length meetings →
+    TellsMeeting size now told →
     TellsTeam size (slice_set meetings n now) n told
 tells-here size meetings n now told below tells =
     record {
@@ -69,7 +71,8 @@ tells-placed size meetings what n told some few chunk tells =
         none = λ past. tells.none (omega (arith, last));
         some = λ within.
             subst₂ (λ (met : TeamMeeting) (told : Telling). TellsMeeting size met told)
-            (sym (get_or_push meetings (fresh_meeting what) no_meeting n (sym last))) (sym (tells.none (omega (arith, last)))) (tells-fresh size what some few chunk);
+            (sym (get_or_push meetings (fresh_meeting what) no_meeting n (sym last))) (sym (tells.none (omega (arith, last))))
+            (tells-fresh size what some few chunk);
       }
       | inr other ↦ record {
         none = λ past. tells.none (omega (arith, past, more));
@@ -117,8 +120,11 @@ NoEnd work_kind.Loop = ⊥
 NoEnd work_kind.Sections = ⊥
 NoEnd other = Unit {0}
 
+abbrev pub AnySchedule : Schedule → Type 0
+AnySchedule how = Unit {0}
+
 abbrev pub HasNoEnd : Code → Type 0
-HasNoEnd code = HoldsCode AnyTree NoEnd code
+HasNoEnd code = HoldsCode AnyTree AnySchedule NoEnd code
 
 abbrev pub IsFreeCode : Code → Type 0
 IsFreeCode code = list_any is_work (open_task code) ≡ false

@@ -61,10 +61,12 @@ module _ (run : Run) (t : ℕ) (P N : World → Type 0) (past : (W : World) → 
   on-step S made false more holds told next goes =
       by-walk (going_past S t) made (silent_step run S.world t) more (past S.world holds) (told-past S.world told) next goes
 
-  on-walk : (S : State) (made : ℕ) (next : Arrival) (more : World → Walk) → arrival S.world t ≡ next → P S.world → ((W : World) → P W → Walked (more W)) →
+  on-walk : (S : State) (made : ℕ) (next : Arrival) (more : World → Walk) → arrival S.world t ≡ next → P S.world → ((W : World) → P W →
+      Walked (more W)) →
       Walked (walk_on run S t made next more)
   on-walk S made Steps more is holds goes =
-      on-step S made (nat_le run.steps S.steps) more holds (quiet S.world holds (apart Steps Steps S.world is steps-apart)) (silent S.world is holds) goes
+      on-step S made (nat_le run.steps S.steps) more holds (quiet S.world holds (apart Steps Steps S.world is steps-apart))
+      (silent S.world is holds) goes
   on-walk S made other more is holds goes = going-on S made holds
 
   after-walks : (left made : ℕ) (S : State) → P S.world → Walked (walk run left made S t)
@@ -87,7 +89,8 @@ module _ (run : Run) (t : ℕ) (P N : World → Type 0) (past : (W : World) → 
   of-going S made (Happens e after) holds told go = record { before = S.world; holds = holds; go = go e after refl }
   of-going S made (Halts halt) holds told go = told
 
-  of-beside : (S : State) (made : ℕ) (which : Event) (halt : Option Halt) → fault_of S.world t which ≡ halt → arrival S.world t ≡ Meets which → P S.world →
+  of-beside : (S : State) (made : ℕ) (which : Event) (halt : Option Halt) → fault_of S.world t which ≡ halt → arrival S.world t ≡ Meets which →
+      P S.world →
       ((other : Halt) → halt ≡ Some other → N S.world) →
       let now = with_going S made t (unless halt which (effect_of S.world t which)) in Ended run P N t now.state.world now.outcome
   of-beside S made which (Some halt) fault is holds told = told halt refl
@@ -99,7 +102,8 @@ module _ (run : Run) (t : ℕ) (P N : World → Type 0) (past : (W : World) → 
       }
 
   -- a dispatch meets no limit
-  unlimited-dispatch : (S : State) (which : Event) → P S.world → arrival S.world t ≡ Meets which → (other : Halt) → fault_of S.world t which ≡ Some other →
+  unlimited-dispatch : (S : State) (which : Event) → P S.world → arrival S.world t ≡ Meets which → (other : Halt) →
+      fault_of S.world t which ≡ Some other →
       N S.world
   unfolding fault_of
   unlimited-dispatch S (Dispatch share) holds is other fault = cc
@@ -131,4 +135,5 @@ module _ (run : Run) (t : ℕ) (P N : World → Type 0) (past : (W : World) → 
   pub ended-turn : (S : State) → P S.world → N S.world → Ended run P N t (turn run S t).state.world (turn run S t).outcome
   unfolding turn
   ended-turn S holds told =
-      elim (nat_le TURN_LIMIT (S.turns + 1)) as (λ b. let T : Turn = if b then halted S (Limit TURNS) else unlimited run S t in Ended run P N t T.state.world T.outcome) [ true ↦ told | false ↦ of-unlimited S holds ]
+      elim (nat_le TURN_LIMIT (S.turns + 1)) as (λ b. let T : Turn = if b then halted S
+      (Limit TURNS) else unlimited run S t in Ended run P N t T.state.world T.outcome) [ true ↦ told | false ↦ of-unlimited S holds ]

@@ -131,7 +131,8 @@ module _ (run : Run) (S : State) (met : IsMet run S) (t : ℕ) (told : Tellings)
           tells = subst (λ (share : Option Share). Tells after (with_share after t share told)) (sym (ap (λ (x : Thread). x.taken) own)) tells;
         }
 
-    on-by : (outcome : Outcome) → silent run.program (view_of W t) (moment_of W t) ≡ outcome → AfterSilence (Reaches S.world t) (silence_of W t outcome) →
+    on-by : (outcome : Outcome) → silent run.program (view_of W t) (moment_of W t) ≡ outcome →
+        AfterSilence (Reaches S.world t) (silence_of W t outcome) →
         AfterSilence (Alike W) (silence_of W t outcome) → AfterSilence On (silence_of W t outcome)
     on-by (StepsTo next) is reached alike =
         plainly (gone_to W (current W t) next) reached at.quiet.taken
@@ -139,7 +140,8 @@ module _ (run : Run) (S : State) (met : IsMet run S) (t : ℕ) (told : Tellings)
     on-by (Asks ask.Chunk tree) is reached alike =
         asking ask.Chunk tree reached (tells-chunked W t told now-tells run met.known.stands.knows.sound.whole.returns asked at tree is alike.world)
     on-by (Asks ask.Section tree) is reached alike =
-        asking ask.Section tree reached (tells-sectioned W t told now-tells run met.known.stands.knows.sound.whole.returns asked at tree is few alike.world)
+        asking ask.Section tree reached
+        (tells-sectioned W t told now-tells run met.known.stands.knows.sound.whole.returns asked at tree is few alike.world)
     on-by (Asks (ask.LockFree wait_id) tree) is reached alike =
         asking (ask.LockFree wait_id) tree reached
         (tells-locked W t told now-tells run met.known.stands.knows.sound.whole.returns asked at wait_id tree alike.world)

@@ -3,12 +3,15 @@
 ghost use Rattle.std.specs.Prelude.{ℕ, ℤ, ◌≡◌, ◌≤◌, nat_lt, if◌then◌else◌, List, length, Some, None};
 ghost use Rattle.c_syntax.specs.language.Tree.{Tree as Part};
 ghost use Rattle.c_check.specs.Checked.{Checked};
+ghost use Rattle.c_model.specs.declared.point.Point.TheVariants.{WorkBegin};
+ghost use Rattle.c_model.specs.declared.point.Schedule.{Schedule as Written};
+ghost use Rattle.c_model.specs.declared.point.Work.TheVariants.{Loop as LoopWork};
 ghost use Rattle.c_model.specs.declared.question.Answer.TheVariants as answer;
 ghost use Rattle.c_model.specs.declared.question.Ask.TheVariants as ask;
 ghost use Rattle.c_model.specs.Asked.{sections_asked};
 ghost use Rattle.c_model.specs.Formed.{IsProgramFormed};
 ghost use Rattle.c_model.specs.Step.{silent};
-ghost use Rattle.c_model.specs.Task.Outcome.{Asks};
+ghost use Rattle.c_model.specs.Task.Outcome.{Asks, Occurs};
 ghost use Rattle.team_parts.specs.declared.meeting.Meeting.TheVariants.{Loop, Sections};
 ghost use Rattle.team_parts.specs.declared.meeting.Schedule.{Schedule};
 ghost use Rattle.team_parts.specs.Dealing.{one_if, times_dealt};
@@ -16,11 +19,13 @@ ghost use Rattle.team_parts.specs.Team.{last_number};
 ghost use Rattle.omp_model.specs.declared.event.Arrival.TheVariants.{Steps};
 ghost use Rattle.omp_model.specs.declared.history.Entry.{Entry};
 ghost use Rattle.omp_model.specs.Gates.{arrival};
+ghost use Rattle.omp_model.specs.Going.{dealt_by, told};
 ghost use Rattle.omp_model.specs.Legal.{Legal, after};
 ghost use Rattle.omp_model.specs.Members.{current_index, current_region, current_team, moment_of, view_of};
 ghost use Rattle.omp_model.specs.Silent.{answer_to, items_asking};
 ghost use Rattle.omp_model.specs.State.{Run, region_at};
 ghost use Rattle.omp_model.specs.Turn.{walk};
+ghost use Rattle.work_laws.specs.Sizes.{as_written};
 ghost use Rattle.work_laws.specs.Told.{HaveEnded, meeting_of, told_of};
 
 /// After a legal history, of a meeting of a region's team at which each member has ended its work: where it is a loop, each
@@ -53,4 +58,15 @@ pub fn sections_are_told_in_order()
         let before = length (told_of run history (current_region W t) newest).sections in
         answer_to W t ask.Section
         ≡ answer.Section (if nat_lt before (sections_asked (items_asking W t)) then Some before else None) }
+{}
+
+/// Where a thread comes to the begin of a loop, after any entries and any number of silent steps of the thread, the team
+/// deals its iterations by the schedule as it is written: a size of a dynamic or guided one is at least 1, and none is
+/// raised. The program breaks no rule.
+pub fn chunks_have_a_size()
+    ensures { (run : Run) (history : List Entry) (t steps codeptr count : ℕ) (start step : ℤ) (how : Written)
+        (construct : Part) → Checked run.program → IsProgramFormed run.program →
+        let W = (walk run steps 0 (after run history) t).state.world in
+        silent run.program (view_of W t) (told W t) ≡ Occurs (WorkBegin codeptr (LoopWork start count step how)) construct →
+        dealt_by how ≡ as_written how }
 {}

@@ -14,16 +14,19 @@
 //!   exactly one of the chunks that were told, and no chunk has anything else; and as many sections were told as the
 //!   construct has;
 //! - [`sections_are_told_in_order`]: the section that is dealt next is the one with the number of those that were told
-//!   before, as long as there is one.
+//!   before, as long as there is one;
+//! - [`chunks_have_a_size`]: a loop's iterations are dealt by its schedule as it is written. The definitions raise a size
+//!   of 0, which is that of no loop.
 //!
 //! What is so of each state is in `proofs/Shares.antt`, `Tells`: members have asked in some order, what they were dealt is
 //! what was told, and a member whose code has come to the end of such a work has nothing left. A share that a silent step
 //! takes is told in the same turn (`proofs/Turns.antt`). What is so of each item of a task's code, and stays so, is in
-//! `proofs/Items.antt` and `ItemSteps.antt`.
+//! `proofs/Items.antt` and `ItemSteps.antt`, for whatever is asked of statements and constructs, and in whole runs in
+//! `proofs/CodeRuns.antt`.
 //!
 //! The crate has no code that runs.
 #![tactic(auto)]
 
 mod laws;
 
-pub use laws::{each_iteration_once_in_a_run, sections_are_told_in_order};
+pub use laws::{chunks_have_a_size, each_iteration_once_in_a_run, sections_are_told_in_order};
