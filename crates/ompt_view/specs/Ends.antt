@@ -31,5 +31,5 @@ line_of_view Memory = codes "memory" ++ 10 ∷ []
 -- the line on standard error, which is empty at status 0
 abbrev pub line_of : End → List ℕ
 line_of ending.Shown = []
-line_of ending.Usage = codes "usage: ompt_view names or dot" ++ 10 ∷ []
+line_of ending.Usage = codes "usage: ompt_view names, chrome or dot" ++ 10 ∷ []
 line_of (ending.Ended viewed) = line_of_view viewed

@@ -41,7 +41,7 @@ impl End {
     {
         match self {
             End::Shown => line_with(""),
-            End::Usage => line_with("usage: ompt_view names or dot\n"),
+            End::Usage => line_with("usage: ompt_view names, chrome or dot\n"),
             End::Ended(viewed) => line_of_view(viewed),
         }
     }

@@ -1,8 +1,9 @@
 //! Pictures of a recorded trace, which is read from standard input.
 //!
-//! `ompt_view names` writes a line for each event with names, and `ompt_view dot` the task tree for Graphviz. What they write is said by the
-//! contracts of `trace_view`. The words are read by `clap`. Statuses and lines of ends are those of the definitions in `specs/Ends`, as the
-//! runner `ompt` has them. Proved beside that is that the program is safe and ends, where its reads and writes end.
+//! `ompt_view names` writes a line for each event with names, `ompt_view chrome` the trace for trace viewers, and `ompt_view dot` the task tree
+//! for Graphviz. What they write is said by the contracts of `trace_view`. The words are read by `clap`. Statuses and lines of ends are those of
+//! the definitions in `specs/Ends`, as the runner `ompt` has them. Proved beside that is that the program is safe and ends, where its reads and
+//! writes end.
 #![tactic(auto)]
 
 ghost use Rattle.std.specs.Prelude.{◌≡◌, ◌⊎◌};
@@ -17,7 +18,7 @@ use end::End;
 use run_edges::{Sink, Source, StdSink, StdSource, write_all};
 use std::alloc::Global;
 use std::process::ExitCode;
-use trace_view::{Viewed, view_names, view_tasks};
+use trace_view::{ItemStyle, Viewed, view_items, view_tasks};
 use words::{Picture, WordsFault, own_words, picture_of};
 
 fn main(rt: HostRuntime) -> ExitCode {
@@ -34,7 +35,8 @@ fn main(rt: HostRuntime) -> ExitCode {
 /// Writes the picture that the words ask for.
 fn view<S: Source, O: Sink>(alloc: Global, words: &[String], source: &mut S, out: &mut O) -> End {
     match picture_of(alloc, words) {
-        Ok(Picture::Names) => End::Ended(view_names(alloc, source, out)),
+        Ok(Picture::Names) => End::Ended(view_items(alloc, ItemStyle::Names, source, out)),
+        Ok(Picture::Chrome) => End::Ended(view_items(alloc, ItemStyle::Chrome, source, out)),
         Ok(Picture::Dot) => End::Ended(view_tasks(alloc, source, out)),
         Err(WordsFault::Shown(text)) => show(text.as_str(), out),
         Err(WordsFault::Usage) => End::Usage,

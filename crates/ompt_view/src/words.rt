@@ -15,6 +15,8 @@ const VERSION: &str = "0.1.0";
 pub(crate) enum Picture {
     /// A line for each event, with names.
     Names,
+    /// The Trace Event Format.
+    Chrome,
     /// The task tree for Graphviz.
     Dot,
 }
@@ -53,6 +55,7 @@ pub(crate) fn picture_of(alloc: Global, words: &[String]) -> Result<Picture, Wor
     };
     match matches.subcommand() {
         Some(("names", _)) => Ok(Picture::Names),
+        Some(("chrome", _)) => Ok(Picture::Chrome),
         Some(("dot", _)) => Ok(Picture::Dot),
         _ => Err(WordsFault::Usage),
     }
@@ -65,6 +68,9 @@ fn view_command<'a>(alloc: Global) -> Result<Command<'a>, AllocError> {
             "Writes a line for each event, with numbers by their names and places as line:column",
         )
         .after_help("Example: ompt_view names < run.trace");
+    let chrome = Command::new(alloc, "chrome")
+        .about("Writes a trace in the Trace Event Format, which trace viewers open")
+        .after_help("Example: ompt_view chrome < run.trace > run.json");
     let dot = Command::new(alloc, "dot")
         .about(
             "Writes the task tree of a trace that is nested for Graphviz, a longest chain in bold",
@@ -80,6 +86,7 @@ fn view_command<'a>(alloc: Global) -> Result<Command<'a>, AllocError> {
         .after_help("The trace is read from standard input.")
         .bin_name("ompt_view")?
         .subcommand(names)?
+        .subcommand(chrome)?
         .subcommand(dot)
 }
 

@@ -1,6 +1,10 @@
 pub mod Names
 pub mod NamedLines
-pub mod Naming
+pub mod Chrome
+pub mod ItemStyles
+pub mod ViewingItems
+pub mod Marking
+pub mod Slices
 pub mod Dot
 pub mod Bold
 pub mod DrawingTasks
