@@ -1,9 +1,9 @@
 //! Pictures of a recorded trace, which is read from standard input.
 //!
-//! `ompt_view names` writes a line for each event with names, `ompt_view svg` the states of threads over the run as SVG, and `ompt_view dot` the
-//! task tree for Graphviz. What they write is said by the contracts of `trace_view`. The words are read by `clap`. Statuses and lines of ends are
-//! those of the definitions in `specs/Ends`, as the runner `ompt` has them. Proved beside that is that the program is safe and ends, where its
-//! reads and writes end.
+//! `ompt_view names` writes a line for each event with names, `ompt_view chrome` the trace for trace viewers, `ompt_view svg` the states of threads
+//! over the run as SVG, `ompt_view dot` the task tree for Graphviz, and `ompt_view waits` a table of waits. What they write is said by the contracts
+//! of `trace_view`. The words are read by `clap`. Statuses and lines of ends are those of the definitions in `specs/Ends`, as the runner `ompt` has
+//! them. Proved beside that is that the program is safe and ends, where its reads and writes end.
 #![tactic(auto)]
 
 ghost use Rattle.std.specs.Prelude.{◌≡◌, ◌⊎◌};
@@ -18,7 +18,7 @@ use end::End;
 use run_edges::{Sink, Source, StdSink, StdSource, write_all};
 use std::alloc::Global;
 use std::process::ExitCode;
-use trace_view::{Viewed, view_names, view_picture};
+use trace_view::{Viewed, view_items, view_picture};
 use words::{View, WordsFault, own_words, view_of};
 
 fn main(rt: HostRuntime) -> ExitCode {
@@ -35,7 +35,7 @@ fn main(rt: HostRuntime) -> ExitCode {
 /// Writes the view that the words ask for.
 fn view<S: Source, O: Sink>(alloc: Global, words: &[String], source: &mut S, out: &mut O) -> End {
     match view_of(alloc, words) {
-        Ok(View::Names) => End::Ended(view_names(alloc, source, out)),
+        Ok(View::Items(style)) => End::Ended(view_items(alloc, style, source, out)),
         Ok(View::Picture(picture)) => End::Ended(view_picture(alloc, picture, source, out)),
         Err(WordsFault::Shown(text)) => show(text.as_str(), out),
         Err(WordsFault::Usage) => End::Usage,

@@ -6,7 +6,7 @@ use std::alloc::{AllocError, Global};
 use std::env;
 use std::io::ErrorKind as IoErrorKind;
 use std::rt::Env;
-use trace_view::Picture;
+use trace_view::{ItemStyle, Picture};
 
 /// The version that is shown.
 const VERSION: &str = "0.1.0";
@@ -17,8 +17,8 @@ const DEFAULT_COLUMNS: u8 = 72;
 /// A view of a trace.
 #[derive(Clone, Copy, PartialEq, Eq)]
 pub(crate) enum View {
-    /// A line for each event, with names.
-    Names,
+    /// Its items, each as a text.
+    Items(ItemStyle),
     /// A picture of a trace that is nested.
     Picture(Picture),
 }
@@ -56,7 +56,8 @@ pub(crate) fn view_of(alloc: Global, words: &[String]) -> Result<View, WordsFaul
         Err(error) => return Err(fault_of(alloc, &error)),
     };
     match matches.subcommand() {
-        Some(("names", _)) => Ok(View::Names),
+        Some(("names", _)) => Ok(View::Items(ItemStyle::Names)),
+        Some(("chrome", _)) => Ok(View::Items(ItemStyle::Chrome)),
         Some(("svg", inner)) => Ok(View::Picture(Picture::Timeline {
             columns: columns_in(inner),
         })),
@@ -75,6 +76,7 @@ fn columns_in(matches: &ArgMatches<'_>) -> u8 {
 fn view_command<'a>(alloc: Global) -> Result<Command<'a>, AllocError> {
     program(alloc)?
         .subcommand(names(alloc))?
+        .subcommand(chrome(alloc))?
         .subcommand(svg(alloc)?)?
         .subcommand(dot(alloc))?
         .subcommand(waits(alloc))
@@ -100,6 +102,13 @@ fn names<'a>(alloc: Global) -> Command<'a> {
             "Writes a line for each event, with numbers by their names and places as line:column",
         )
         .after_help("Example: ompt_view names < run.trace")
+}
+
+/// The command that writes a trace for trace viewers.
+fn chrome<'a>(alloc: Global) -> Command<'a> {
+    Command::new(alloc, "chrome")
+        .about("Writes a trace in the Trace Event Format, which trace viewers open")
+        .after_help("Example: ompt_view chrome < run.trace > run.json")
 }
 
 /// The command that draws the states of threads.

@@ -1,7 +1,10 @@
 pub mod Columns
 pub mod Grids
+pub mod ClosedSlices
+pub mod MarkTexts
 pub mod Numbers
 pub mod Onward
+pub mod OpenSlices
 pub mod Pictures
 pub mod Counting
 pub mod Tables

@@ -13,15 +13,21 @@ use Rattle.trace_format.specs.declared.item.Item.TheVariants as item
 use Rattle.trace_format.specs.declared.trace.EndMark.{EndMark}
 use Rattle.trace_format.specs.declared.trace.Trace.{Trace}
 use Rattle.trace_format.specs.Items.{items_of}
+use Rattle.trace_view.specs.declared.item_style.ItemStyle.{ItemStyle}
+use Rattle.trace_view.specs.declared.item_style.ItemStyle.TheVariants.{Names, Chrome}
 use Rattle.trace_view.specs.declared.viewed.Viewed.{Viewed}
 use Rattle.trace_view.specs.declared.viewed.Viewed.TheVariants.{WriteFault, Memory}
-use Rattle.trace_view.specs.NamedLines.{end_line, event_line, named_item, named_items, named_trace}
-use Rattle.trace_view.specs.Naming.{StopsAt}
+use Rattle.trace_view.specs.Chrome.{chrome_end, chrome_event, chrome_head, chrome_item}
+use Rattle.trace_view.specs.ItemStyles.{styled_item, styled_items, styled_trace}
+use Rattle.trace_view.specs.NamedLines.{named_item}
+use Rattle.trace_view.specs.ViewingItems.{StopsAt}
 
 -- what is written of items, and then of one more
-named_more : (items : List Item) (it : Item) → named_items (items ++ it ∷ []) ≡ named_items items ++ named_item it
-named_more items it =
-    flat_map-append named_item items (it ∷ []) ∙ ap (λ (bytes : List ℕ). named_items items ++ bytes) (append-nil (named_item it))
+pub styled_more :
+    (style : ItemStyle) (items : List Item) (it : Item) → styled_items style (items ++ it ∷ []) ≡ styled_items style items ++ styled_item style it
+styled_more style items it =
+    flat_map-append (styled_item style) items (it ∷ [])
+    ∙ ap (λ (bytes : List ℕ). styled_items style items ++ bytes) (append-nil (styled_item style it))
 
 -- a sink that has taken some bytes, and then a front of others, has taken a front of both
 front_behind :
@@ -34,15 +40,18 @@ front_behind old mid new done next whole is first (n, room, second) =
       subst (Appends old new) front (Appends-trans old mid new done (take n next) first second),
     )
 
--- the lines of some items were written, and those of one more
+-- the texts of some items were written, and that of one more
 pub took_more :
-    {N : Type 0} (faults mid counted : ℕ) (held between after : Option (List ℕ)) (items : List Item) (it : Item)
-    → N × (mid ≡ faults) × Appends held between (named_items items) → counted ≡ mid → Appends between after (named_item it)
-    → N × (counted ≡ faults) × Appends held after (named_items (items ++ it ∷ []))
-took_more faults mid counted held between after items it (same, steady, wrote) unfailed one = (
+    {N : Type 0} (style now : ItemStyle) (faults mid counted : ℕ) (held between after : Option (List ℕ)) (items : List Item) (it : Item)
+    → N × (now ≡ style) × (mid ≡ faults) × Appends held between (styled_items style items) → counted ≡ mid
+    → Appends between after (styled_item now it) → N × (now ≡ style) × (counted ≡ faults) × Appends held after (styled_items style (items ++ it ∷ []))
+took_more style now faults mid counted held between after items it (same, alike, steady, wrote) unfailed one = (
   same,
+  alike,
   unfailed ∙ steady,
-  subst (Appends held after) (sym (named_more items it)) (Appends-trans held between after (named_items items) (named_item it) wrote one),
+  subst (Appends held after) (sym (styled_more style items it))
+      (Appends-trans held between after (styled_items style items) (styled_item style it) wrote
+      (subst (λ (s : ItemStyle). Appends between after (styled_item s it)) alike one)),
 )
 
 -- where a call was well, what it ensures of that, and that it had no such fault
@@ -50,31 +59,39 @@ pub when_ok : {P Q A : Type 0} (r : Result (Unit {0}) Viewed) → OnOk r P → (
 when_ok (Ok done) well steady both = both well (steady (λ e. absurd (cc)))
 when_ok (Err end) well steady both = tt
 
--- the lines of some items were written, and a front of those of one more
+-- the texts of some items were written, and a front of that of one more
 pub stopped_at :
-    {N : Type 0} (r : Result (Unit {0}) Viewed) (stop : Viewed) (faults mid counted : ℕ) (held between after : Option (List ℕ)) (items : List Item) (it : Item)
-    → r ≡ Err stop → N × (mid ≡ faults) × Appends held between (named_items items)
+    {N : Type 0} (style now : ItemStyle) (r : Result (Unit {0}) Viewed) (stop : Viewed) (faults mid counted : ℕ)
+    (held between after : Option (List ℕ)) (items : List Item) (it : Item)
+    → r ≡ Err stop → N × (now ≡ style) × (mid ≡ faults) × Appends held between (styled_items style items)
     → ((end : Viewed) → r ≡ Err end → (end ≡ WriteFault) ⊎ (end ≡ Memory)) → (r ≡ Err WriteFault → Rose mid counted)
-    → (r ≢ Err WriteFault → counted ≡ mid) → OnErr r (AppendsFront between after (named_item it))
-    → N × StopsAt stop faults counted held after items it
-stopped_at r stop faults mid counted held between after items it is (same, steady, wrote) ends write unfailed part = (
+    → (r ≢ Err WriteFault → counted ≡ mid) → OnErr r (AppendsFront between after (styled_item now it))
+    → N × StopsAt style stop faults counted held after items it
+stopped_at style now r stop faults mid counted held between after items it is (same, alike, steady, wrote) ends write unfailed part = (
   same,
   record {
     ends = ends stop is;
     write = λ failed. subst (λ (count : ℕ). Rose count counted) steady (write (is ∙ ap Err failed));
     steady = λ other. unfailed (λ failed. other (cc)) ∙ steady;
-    part = front_behind held between after (named_items items) (named_item it) (named_items (items ++ it ∷ [])) (named_more items it) wrote
-        (subst (λ (s : Result (Unit {0}) Viewed). OnErr s (AppendsFront between after (named_item it))) is part);
+    part = front_behind held between after (styled_items style items) (styled_item style it) (styled_items style (items ++ it ∷ []))
+        (styled_more style items it) wrote
+        (subst (λ (s : ItemStyle). AppendsFront between after (styled_item s it)) alike
+        (subst (λ (s : Result (Unit {0}) Viewed). OnErr s (AppendsFront between after (styled_item now it))) is part));
   },
 )
 
 -- what is written of events and then the end mark
-named_ended : (events : List EventRecord) (end : EndMark) → named_items (map item.Event events ++ item.End end ∷ []) ≡ flat_map event_line events ++ end_line end
-named_ended [] end = append-nil (end_line end)
-named_ended (event ∷ events) end =
-    ap (λ (bytes : List ℕ). event_line event ++ bytes) (named_ended events end)
-    ∙ sym (append_assoc (event_line event) (flat_map event_line events) (end_line end))
+ended : (text : Item → List ℕ) (events : List EventRecord) (end : EndMark)
+    → flat_map text (map item.Event events ++ item.End end ∷ []) ≡ flat_map (λ (event : EventRecord). text (item.Event event)) events ++ text (item.End end)
+ended text [] end = append-nil (text (item.End end))
+ended text (event ∷ events) end =
+    ap (λ (bytes : List ℕ). text (item.Event event) ++ bytes) (ended text events end)
+    ∙ sym (append_assoc (text (item.Event event)) (flat_map (λ (event : EventRecord). text (item.Event event)) events) (text (item.End end)))
 
 -- what is written of the items of a trace is what is written of the trace
-pub named_whole : (trace : Trace) (items : List Item) → items ≡ items_of trace → named_items items ≡ named_trace trace
-named_whole trace items are = ap named_items are ∙ named_ended trace.events trace.end
+pub styled_whole : (style : ItemStyle) (trace : Trace) (items : List Item) → items ≡ items_of trace → styled_items style items ≡ styled_trace style trace
+styled_whole Names trace items are = ap (flat_map named_item) are ∙ ended named_item trace.events trace.end
+styled_whole Chrome trace items are =
+    ap (flat_map chrome_item) are
+    ∙ (ap (λ (bytes : List ℕ). chrome_head ++ bytes) (ended chrome_item trace.events trace.end)
+    ∙ sym (append_assoc chrome_head (flat_map chrome_event trace.events) (chrome_end trace.end)))

@@ -37,22 +37,31 @@ happens name = record { phase = codes "i"; fields = codes ",\"s\":\"t\""; name =
 
 -- an arrow leads from where a task is created to where a thread first goes to it
 abbrev pub flows_from : ℕ → Mark
-flows_from task = record { phase = codes "s"; fields = codes ",\"cat\":\"task\",\"id\":" ++ decimal task; name = codes "task"; argument = [] }
+flows_from task =
+    record { phase = codes "s"; fields = codes ",\"cat\":\"task\",\"id\":" ++ decimal task; name = codes "task"; argument = [] }
 
 abbrev pub flows_to : ℕ → Mark
-flows_to task = record { phase = codes "f"; fields = codes ",\"cat\":\"task\",\"bp\":\"e\",\"id\":" ++ decimal task; name = codes "task"; argument = [] }
+flows_to task =
+    record { phase = codes "f"; fields = codes ",\"cat\":\"task\",\"bp\":\"e\",\"id\":" ++ decimal task; name = codes "task"; argument = [] }
 
--- A slice beside the threads, of a wait identifier that is held, or of a thread that waits for one. Such slices needn't nest in those of a thread.
+-- A slice beside the threads, of a wait identifier that is held, or of a thread that waits for one. Such slices needn't nest in those of
+-- a thread.
 abbrev pub holds : List ℕ → ℕ → List ℕ → Mark
-holds phase wait_id name = record { phase = phase; fields = codes ",\"cat\":\"mutex\",\"id\":" ++ decimal wait_id; name = name; argument = [] }
+holds phase wait_id name =
+    record { phase = phase; fields = codes ",\"cat\":\"mutex\",\"id\":" ++ decimal wait_id; name = name; argument = [] }
 
 abbrev pub waits : List ℕ → ℕ → List ℕ → Mark
-waits phase thread name = record { phase = phase; fields = codes ",\"cat\":\"wait\",\"id\":" ++ decimal thread; name = codes "wait for " ++ name; argument = [] }
+waits phase thread name =
+    record { phase = phase; fields = codes ",\"cat\":\"wait\",\"id\":" ++ decimal thread; name = codes "wait for " ++ name; argument = [] }
 
 -- a thread has this name
 abbrev pub names_thread : ℕ → Mark
-names_thread thread =
-    record { phase = codes "M"; fields = []; name = codes "thread_name"; argument = codes "\"name\":\"thread " ++ decimal thread ++ codes "\"," }
+names_thread thread = record {
+  phase = codes "M";
+  fields = [];
+  name = codes "thread_name";
+  argument = codes "\"name\":\"thread " ++ decimal thread ++ codes "\",";
+}
 
 -- the name of a slice: of a region, of a task, or of what a task is in
 abbrev pub slice_name : Bracket → List ℕ
@@ -87,31 +96,34 @@ own_marks t (LockDestroy kind wait_id codeptr) = happens (codes "lock_destroy " 
 own_marks t (MutexAcquire kind hint variant wait_id codeptr) =
     if kind == 2 then happens (codes "test_lock " ++ decimal wait_id) ∷ [] else waits (codes "b") t (mutex_name kind wait_id) ∷ []
 own_marks t (MutexAcquired kind wait_id codeptr) =
-    (if kind == 2 then [] else waits (codes "e") t (mutex_name kind wait_id) ∷ []) ++ holds (codes "b") wait_id (mutex_name kind wait_id) ∷ []
+    (if kind == 2 then [] else waits (codes "e") t (mutex_name kind wait_id) ∷ [])
+    ++ holds (codes "b") wait_id (mutex_name kind wait_id) ∷ []
 own_marks t (Dispatch region task kind start iterations) = happens (dispatch_kind_text kind) ∷ []
 own_marks t other = []
 
 abbrev pub marks : EventRecord → List Mark
 marks event = slice_marks (change_of event.call) ++ own_marks event.thread event.call
 
--- the object of a mark, behind those before it: the thread is a track, and the position in the history is the time
+-- The object of a mark, behind those before it: the thread is a track, and the position in the history is the time. The process is 1, since viewers
+-- take process 0 for the idle one.
 abbrev pub mark_text : EventRecord → Mark → List ℕ
 mark_text event mark =
-    44 ∷ 10 ∷ codes "{\"ph\":\"" ++ mark.phase ++ codes "\",\"pid\":0,\"tid\":" ++ decimal event.thread ++ codes ",\"ts\":" ++ decimal event.seq
-    ++ mark.fields ++ codes ",\"name\":\"" ++ mark.name ++ codes "\",\"args\":{" ++ mark.argument ++ codes "\"call\":\"" ++ named_call event.call ++ codes "\"}}"
+    44 ∷ 10 ∷ codes "{\"ph\":\"" ++ mark.phase ++ codes "\",\"pid\":1,\"tid\":" ++ decimal event.thread
+    ++ codes ",\"ts\":" ++ decimal event.seq ++ mark.fields ++ codes ",\"name\":\"" ++ mark.name
+    ++ codes "\",\"args\":{" ++ mark.argument ++ codes "\"call\":\"" ++ named_call event.call ++ codes "\"}}"
 
 abbrev pub chrome_event : EventRecord → List ℕ
 chrome_event event = flat_map (mark_text event) (marks event)
 
 -- how the array begins, with the name of the process
 abbrev pub chrome_head : List ℕ
-chrome_head = codes "[" ++ 10 ∷ codes "{\"ph\":\"M\",\"pid\":0,\"name\":\"process_name\",\"args\":{\"name\":\"ompt\"}}"
+chrome_head = codes "[" ++ 10 ∷ codes "{\"ph\":\"M\",\"pid\":1,\"name\":\"process_name\",\"args\":{\"name\":\"ompt\"}}"
 
 -- how it ends, with how the run ended
 abbrev pub chrome_end : EndMark → List ℕ
 chrome_end end =
-    44 ∷ 10 ∷ codes "{\"ph\":\"M\",\"pid\":0,\"name\":\"process_labels\",\"args\":{\"labels\":\"" ++ ending_text end.status ++ 32 ∷ decimal end.detail
-    ++ codes "\"}}" ++ 10 ∷ codes "]" ++ 10 ∷ []
+    44 ∷ 10 ∷ codes "{\"ph\":\"M\",\"pid\":1,\"name\":\"process_labels\",\"args\":{\"labels\":\"" ++ ending_text end.status
+    ++ 32 ∷ decimal end.detail ++ codes "\"}}" ++ 10 ∷ codes "]" ++ 10 ∷ []
 
 -- what is written of an item, and of a trace
 abbrev pub chrome_item : Item → List ℕ

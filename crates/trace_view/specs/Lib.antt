@@ -1,11 +1,14 @@
 pub mod Names
 pub mod NamedLines
-pub mod Naming
+pub mod Chrome
+pub mod ItemStyles
+pub mod ViewingItems
+pub mod Marking
+pub mod Slices
 pub mod Dot
 pub mod Bold
 pub mod Waits
 pub mod WaitTallies
-pub mod Chrome
 pub mod Svg
 pub mod Cells
 pub mod Drawing

@@ -62,9 +62,6 @@ named_item (item.Header header) = []
 named_item (item.Event event) = event_line event
 named_item (item.End end) = end_line end
 
-abbrev pub named_items : List Item → List ℕ
-named_items items = flat_map named_item items
-
 -- what is written of a trace
 abbrev pub named_trace : Trace → List ℕ
 named_trace trace = flat_map event_line trace.events ++ end_line trace.end

@@ -1,7 +1,7 @@
 //! The line of an event, and of the end mark, with names.
 
 ghost use Rattle.std.specs.Prelude.{◌≡◌, IfOk, Some};
-ghost use Rattle.trace_view.specs.NamedLines.{end_line, event_line, named_call};
+ghost use Rattle.trace_view.specs.NamedLines.{end_line, event_line, named_call, named_item};
 
 use crate::number_names::{
     DispatchKind, Ending, Endpoint, MutexKind, Place, RegionFlags, StateName, SyncKind, TaskFlags,
@@ -11,12 +11,12 @@ use ompt_calls::{Call, EventRecord};
 use std::alloc::{AllocError, Global};
 use std::fmt;
 use std::fmt::{Display, Formatter};
-use trace_format::EndMark;
+use trace_format::{EndMark, Item};
 
 /// A call whose numbers are written by their names.
 #[derive(Clone, Copy)]
-struct NamedCall {
-    call: Call,
+pub(crate) struct NamedCall {
+    pub call: Call,
 }
 
 impl Display for NamedCall {
@@ -248,8 +248,19 @@ impl Display for NamedCall {
     }
 }
 
+/// The lines of an item.
+pub(crate) fn named_item(alloc: Global, item: &Item) -> Result<Vec<u8>, AllocError>
+    ensures { IfOk result (λ text. text.items ≡ named_item item.now) }
+{
+    match item {
+        Item::Event(event) => event_line(alloc, event),
+        Item::End(end) => end_line(alloc, end),
+        _ => Ok(Vec::new(alloc)),
+    }
+}
+
 /// The line of an event with names, and its newline.
-pub(crate) fn event_line(alloc: Global, event: &EventRecord) -> Result<Vec<u8>, AllocError>
+fn event_line(alloc: Global, event: &EventRecord) -> Result<Vec<u8>, AllocError>
     ensures { IfOk result (λ line. line.items ≡ event_line event.now) }
 {
     let state = StateName {
@@ -261,7 +272,7 @@ pub(crate) fn event_line(alloc: Global, event: &EventRecord) -> Result<Vec<u8>, 
 }
 
 /// The line of the end mark with names, and its newline.
-pub(crate) fn end_line(alloc: Global, end: &EndMark) -> Result<Vec<u8>, AllocError>
+fn end_line(alloc: Global, end: &EndMark) -> Result<Vec<u8>, AllocError>
     ensures { IfOk result (λ line. line.items ≡ end_line end.now) }
 {
     let ending = Ending {
