@@ -1,7 +1,7 @@
 -- What each way through the top call carries out, in the words of its contract.
 use Rattle.std.proofs.Common.{ℕ, ◌≡◌, ◌≢◌, ◌≤◌, ◌⊎◌, ◌∙◌, List, [], Option, Some, None, IfSome, IsSomeAnd, Bool, not, true, false, inl, inr, refl, sym, ap, subst, arith}
 use Rattle.std.proofs.lemmas.List.{append-nil}
-use Rattle.std.specs.Prelude.{string_bytes}
+use Rattle.std.specs.Prelude.{IsSome, string_bytes}
 use Rattle.std.specs.Io.KnownBytes.{Appends, Keeps}
 use Rattle.std.specs.declared.string.String.{String}
 use Rattle.std.specs.declared.alloc.Global.{Global}
@@ -24,6 +24,7 @@ use Rattle.ompt_cli.specs.declared.report.Report.{Report}
 use Rattle.ompt_cli.specs.Commands.{CountsFaults, EndsAs, HasGuests, HasWritten, IsAfterRun, IsBeforeRun, IsReading, IsShowing, IsUnread, MayRefuse, MayRun, out_of, run_of, run_text, settings_in}
 use Rattle.ompt_cli.specs.Job.{JobView}
 use Rattle.omp_model.specs.declared.cause.Cause.TheVariants as causes
+use Rattle.run_laws.proofs.Ended.{whole-ended}
 use Rattle.run_trace.specs.TraceOf.{trace_of}
 use Rattle.trace_format.specs.Validity.{IsTrace}
 use Rattle.c_syntax.specs.language.Numbered.{TreeView}
@@ -92,6 +93,7 @@ module _ {S O : Type 0} (left : S → Option (List ℕ)) (reads_failed : S → �
             serial = r.observes.to.in_order;
             whole = λ serial other found. r.observes.to.whole serial found (r.stays (λ guests. other (subst HasGuests (sym r.observes.command_is) guests))).silent;
             silent_run = r.observes.to.whole;
+            to_the_end = λ serial found. whole-ended (run_of report) report.history (r.observes.to.in_order serial) (subst IsSome (sym (r.observes.to.ends found)) refl) (r.observes.to.outside found);
             ended = ends;
             memory = λ guests other. memory (subst HasGuests r.observes.command_is guests) (λ is. other (r.observes.command_is ∙ is));
             begun = r.observes.to.begun;

@@ -9,7 +9,7 @@ use Rattle.omp_model.specs.declared.cause.Cause.{Cause}
 use Rattle.omp_model.specs.declared.cause.Cause.TheVariants as causes
 use Rattle.omp_model.specs.Cause.{cause_of}
 use Rattle.omp_model.specs.Legal.{Legal}
-use Rattle.omp_model.specs.Serial.{Serial, serial as history_of_serial}
+use Rattle.omp_model.specs.Serial.{Serial, WholeSerial, serial as history_of_serial}
 use Rattle.team_run.specs.Standing.{HearsSilent}
 use Rattle.run_trace.specs.TraceOf.{trace_of}
 use Rattle.trace_format.specs.Validity.{IsTrace}
@@ -53,8 +53,8 @@ pub record FollowsWords {Table : Type 0} {Behind : Table → Type 0} (words : Li
 
 -- What a report says of its run. It ran with the command, the threads and the steps that the words ask for, and serially where they do: where they are in
 -- the form, their own with the defaults. What ran is the program that the text spells, which is the source's. Its history is legal, and ends in the cause that is reported: whole
--- exactly at Done or Returned, and with no thread inside a callback. A serial history is the one in which nothing is stored: for all commands but `run`,
--- and where no tool stored anything. The end is the run's, unless a write or memory fails. Over what the source has left.
+-- exactly at Done or Returned, and with no thread inside a callback. A serial history is one to the end, and it is the one in which nothing is stored for all
+-- commands but `run`, and where no tool stored anything. The end is the run's, unless a write or memory fails. Over what the source has left.
 pub record IsRunOf {Table : Type 0} {Behind : Table → Type 0} (words : List (List ℕ)) (left : Option (List ℕ)) (end : End) (report : Report Table Behind) : Type 0 where
   pub asked : AreReadAs words (request.Run (settings_in report))
   pub own : (form : InForm words) → settings_in report ≡ own_settings form
@@ -69,6 +69,7 @@ pub record IsRunOf {Table : Type 0} {Behind : Table → Type 0} (words : List (L
   pub serial : report.serial ≡ true → Serial (run_of report) report.history
   pub whole : report.serial ≡ true → ¬ HasGuests report.command → report.cause ≢ causes.Memory → report.history ≡ history_of_serial (run_of report)
   pub silent_run : report.serial ≡ true → report.cause ≢ causes.Memory → HearsSilent (run_of report) report.history → report.history ≡ history_of_serial (run_of report)
+  pub to_the_end : report.serial ≡ true → report.cause ≢ causes.Memory → WholeSerial (run_of report) report.history
   pub ended : EndsAs report.cause end
   pub memory : HasGuests report.command → report.command ≢ Running output.Profile → report.cause ≢ causes.Memory → end ≢ Memory
   pub begun : report.cause ≡ causes.Memory → report.history ≢ []
