@@ -22,14 +22,14 @@ use Rattle.c_check.specs.Statements.{statement_of}
 use Rattle.check_laws.specs.Scopes.{Declaration, Position, Sort, behind, declared, meaning, positions}
 use Rattle.check_laws.specs.LoopForm.{AssignsOutside, IsLoopOfForm, assigned_variable, is_loop_construct}
 use Rattle.check_laws.proofs.Broken.{BreaksIn, after-both, breaks-either, breaks-left, breaks-right}
-use Rattle.check_laws.proofs.Calm.{AreCalm, calm-keeps}
+use Rattle.check_laws.proofs.Calm.{calm-keeps}
 use Rattle.check_laws.proofs.Constructing.{Inner, InnerMet, InnerResult, IsBegun, begun-ready, open-begun}
 use Rattle.check_laws.proofs.Forms.{HasHead, body-part, first-part, head-name, loop_parts, part_or}
 use Rattle.check_laws.proofs.Has.{Has, has-either, has-left, has-one, has-or-not, has-right, has-weaker, one-has}
 use Rattle.check_laws.proofs.Means.{Means, ended-names, means-nothing, names-both, not-among, opened, spoils-either}
-use Rattle.check_laws.proofs.Sharing.{assigns-or-not, declared-part, form-head, found-int, int-found, looped-around, looped-newest, looping, newest-spot, odd-after, odd-breaks, odd-here, odd-tells, odd_acts, position, spoiled-behind, spoiled-more, spot-newest}
+use Rattle.check_laws.proofs.Sharing.{assigns-or-not, declared-part, form-head, found-int, int-found, looped-around, looped-newest, looping, newest-spot, odd-after, odd-breaks, odd-here, odd-tells, spoiled-behind, spoiled-more, spot-newest}
 use Rattle.check_laws.proofs.Standing.{Assigns, IsBelow, IsOddAt, IsReady, LoopsBelow, Met, Result, Spoiled, Spoils, around_here, loops-more, odd-back, odd-on, scope-after, spoiled-back, spoiled-on}
-use Rattle.check_laws.proofs.Stepping.{part_declared}
+use Rattle.check_laws.proofs.Parts.{AreCalm, odd_acts, part_declared, position}
 use Rattle.check_laws.proofs.Visible.{Falls, HasSlot, found-below, meaning-found, one-name, scope_of}
 
 -- a `for` with its parts, by what their acts mean
