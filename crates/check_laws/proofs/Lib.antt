@@ -19,4 +19,8 @@ pub mod Executing
 pub mod LoopConstructs
 pub mod Statements
 pub mod LoopRule
+pub mod Unnamed
+pub mod Naming
+pub mod NameRule
+pub mod Saying
 pub mod Files

@@ -7,6 +7,8 @@ use Rattle.c_syntax.specs.declared.node.NodeKind.TheVariants as node
 use Rattle.c_syntax.specs.language.Tree.{Tree, children_of, kind_of, spot_of}
 use Rattle.c_check.specs.declared.acts.act.Act.{Act}
 use Rattle.c_check.specs.declared.acts.act.Act.TheVariants.{Barrier, Print, Return, Use}
+use Rattle.c_check.specs.declared.acts.role.Role.TheVariants as role
+use Rattle.c_check.specs.Acts.{acts}
 use Rattle.c_check.specs.Clauses.{inside_acts}
 use Rattle.c_check.specs.Statements.{shares_loop, statement_of}
 use Rattle.check_laws.specs.Scopes.{Declaration, Position, behind, positions}
@@ -14,7 +16,7 @@ use Rattle.check_laws.specs.LoopForm.{assigned_by, assigned_variable, is_loop_co
 use Rattle.check_laws.specs.ListedNames.{Used, used}
 use Rattle.check_laws.proofs.Constructing.{construct-means, inner-plain, inner-position, inner-same}
 use Rattle.check_laws.proofs.Does.{AreUses, Does, IsStill, IsUse, is_silent, no-loop, still-no-loop}
-use Rattle.check_laws.proofs.Has.{Has, has-either, has-left, has-right}
+use Rattle.check_laws.proofs.Has.{Has, front-has, has-front}
 use Rattle.check_laws.proofs.Informing.{inside-informs}
 use Rattle.check_laws.proofs.Means.{IsPlain, IsSilent, Means, barrier-silent, means-assign, means-both, means-declare, means-file, means-function, means-nothing, means-plain, means-same, means-scope, means-silent, print-silent, return-silent, use-silent}
 use Rattle.check_laws.proofs.Parts.{LoopParts, part_declared, position}
@@ -40,33 +42,34 @@ uses-mean file [] (one ∷ some) are = absurd are
 uses-mean file (act ∷ acts) [] are = absurd are
 uses-mean file (act ∷ acts) (one ∷ some) are = means-both file (act ∷ []) acts [] [] [] [] (means-silent file act (use-is-silent act one are.0)) (uses-mean file acts some are.1)
 
--- one of some nodes, put before them
-front-has : (one : Position) (nodes others : List Position) (P : Position → Type 0) → Has P (nodes ++ one ∷ others) → Has P (one ∷ (nodes ++ others))
-front-has one nodes others P has =
-    elim (has-either P nodes (one ∷ others) has) [
-      | inl left ↦ inr (has-left P nodes others left)
-      | inr (inl here) ↦ inl here
-      | inr (inr right) ↦ inr (has-right P nodes others right)
-    ]
-
-has-front : (one : Position) (nodes others : List Position) (P : Position → Type 0) → Has P (one ∷ (nodes ++ others)) → Has P (nodes ++ one ∷ others)
-has-front one nodes others P (inl here) = has-right P nodes (one ∷ others) (inl here)
-has-front one nodes others P (inr there) =
-    elim (has-either P nodes others there) [
-      | inl left ↦ has-left P nodes (one ∷ others) left
-      | inr right ↦ has-right P nodes (one ∷ others) (inr right)
-    ]
-
 swap-has : (one other : Position) (nodes : List Position) (P : Position → Type 0) → Has P (one ∷ other ∷ nodes) → Has P (other ∷ one ∷ nodes)
 swap-has one other nodes P (inl here) = inr (inl here)
 swap-has one other nodes P (inr (inl here)) = inl here
 swap-has one other nodes P (inr (inr there)) = inr (inr there)
 
-shares-same : (me : Tree) (which : Directive) (so : Bool) → kind_of me ≡ node.Construct which → shares_loop which ≡ so → is_loop_construct (kind_of me) ≡ so
+pub shares-same : (me : Tree) (which : Directive) (so : Bool) → kind_of me ≡ node.Construct which → shares_loop which ≡ so → is_loop_construct (kind_of me) ≡ so
 shares-same me which so kind is = ap is_loop_construct kind ∙ is
 
-construct-none : (me : Tree) (which : Directive) → kind_of me ≡ node.Construct which → assigned_variable me ≡ None
+pub construct-none : (me : Tree) (which : Directive) → kind_of me ≡ node.Construct which → assigned_variable me ≡ None
 construct-none me which kind = ap (λ (kind : NodeKind). assigned_by kind (children_of me)) kind
+
+abbrev pub shared-loop : (loop : Tree) (it : LoopParts loop) → Means false it.head_acts (part_declared it.begins) it.head_nodes → Means false (acts role.Plain it.body) [] (positions it.body) → SharedLoop loop
+shared-loop loop it head inner = record {
+  begins = it.begins;
+  tests = it.tests;
+  steps = it.steps;
+  body = it.body;
+  kind = it.kind;
+  children = it.children;
+  head_acts = it.head_acts;
+  head_nodes = it.head_nodes;
+  acts_are = it.acts_are;
+  nodes_are = it.nodes_are;
+  head = head;
+  calm = it.calm;
+  inner = inner;
+  heads = it.heads;
+}
 
 pub does-mean : {file : Bool} {some : List Act} {made : List Declaration} {nodes : List Position} → Does file some made nodes → Means file some made nodes
 does-mean (Does.nothing file) = means-nothing file
@@ -89,22 +92,7 @@ does-mean (Does.misses me which critical some nodes kind shares unnamed inside i
 does-mean (Does.shares me which critical name it kind shares named inside head inner) =
     let loop = statement_of (children_of me) in
     let rest = it.head_nodes ++ behind (part_declared it.begins) (positions it.body) in
-    let shared : SharedLoop loop = record {
-      begins = it.begins;
-      tests = it.tests;
-      steps = it.steps;
-      body = it.body;
-      kind = it.kind;
-      children = it.children;
-      head_acts = it.head_acts;
-      head_nodes = it.head_nodes;
-      acts_are = it.acts_are;
-      nodes_are = it.nodes_are;
-      head = does-mean head;
-      calm = it.calm;
-      inner = does-mean inner;
-      heads = it.heads;
-    } in
+    let shared = shared-loop loop it (does-mean head) (does-mean inner) in
     let within = inner-loop me (shares-same me which true kind shares) (construct-none me which kind) shared name named in
     let more = inner-position (spot_of me) _ _ loop (record {
       is_no_loop = ap is_loop_construct it.kind;

@@ -197,11 +197,11 @@ used-around constructs spot it = either (is_variable it.thing)
     either true = refl
     either false = refl
 
-use-names : (here : Here) (spot : Spot) (found : Option Declared) → (used here spot found).names ≡ here.names
+pub use-names : (here : Here) (spot : Spot) (found : Option Declared) → (used here spot found).names ≡ here.names
 use-names here spot None = refl
 use-names here spot (Some it) = refl
 
-use-around : (here : Here) (spot : Spot) (found : Option Declared) → around_here (used here spot found) ≡ around_here here
+pub use-around : (here : Here) (spot : Spot) (found : Option Declared) → around_here (used here spot found) ≡ around_here here
 use-around here spot None = refl
 use-around here spot (Some it) = used-around here.constructs spot it
 
@@ -300,20 +300,20 @@ function-names old new name what made sound names =
     names-both old (with_next old name what) (scope_ended new) (declared_as (sort_of what) name) [] first rest
 
 module _ (name : ℕ) (spot : Spot) (returns : Returns) (parameters : ℕ) where
-  abbrev begun : Here → Here
+  abbrev pub begun : Here → Here
   begun here = after here (Begin name spot returns parameters)
 
-  abbrev made_here : List Declaration
+  abbrev pub made_here : List Declaration
   made_here = declared_as Sort.function name
 
   -- the function is declared
-  abbrev named : Here → Here
+  abbrev pub named : Here → Here
   named here = record here { names = with_next here.names name (thing.Function returns parameters) }
 
-  named-met : (here : Here) → IsReady true here → Met here (named here) made_here
+  pub named-met : (here : Here) → IsReady true here → Met here (named here) made_here
   named-met here ready = record { names = next-names here.names name (thing.Function returns parameters) ready.names; around = refl }
 
-  begins : (here : Here) → IsReady true here → IsReady false (begun here)
+  pub begins : (here : Here) → IsReady true here → IsReady false (begun here)
   unfolding after
   begins here ready = record {
     names = begun-sound (with_next here.names name (thing.Function returns parameters)) (next-names here.names name (thing.Function returns parameters) ready.names).sound;

@@ -82,19 +82,19 @@ found-slot construct (Some it) int = record { slot = it.slot; loop = refl; is = 
 
 module _ (me : Tree) (shares : is_loop_construct (kind_of me) ≡ true) (assigns_none : assigned_variable me ≡ None) (it : SharedLoop (statement_of (children_of me))) (name : ℕ)
     (named : loop_name (statement_of (children_of me)) ≡ Some name) where
-  abbrev loop : Tree
+  abbrev pub loop : Tree
   loop = statement_of (children_of me)
 
-  abbrev made : List Declaration
+  abbrev pub made : List Declaration
   made = part_declared it.begins
 
-  abbrev loop_nodes : List Position
+  abbrev pub loop_nodes : List Position
   loop_nodes = it.head_nodes ++ behind made (positions it.body)
 
-  abbrev body_acts : List Act
+  abbrev pub body_acts : List Act
   body_acts = acts role.Plain it.body
 
-  abbrev loop_acts : List Act
+  abbrev pub loop_acts : List Act
   loop_acts = Open ∷ (it.head_acts ++ Loop name ∷ body_acts) ++ Close ∷ []
 
   -- the parts of a head are those of the loop
@@ -114,42 +114,42 @@ module _ (me : Tree) (shares : is_loop_construct (kind_of me) ≡ true) (assigns
     body-same = ap (λ (children : Children). unwrap_or (at_place children 3) nothing) parts-same ∙ body-part it.begins it.tests it.steps it.body
 
   module _ (here : Here) (construct : Construct) (begun : IsBegun (spot_of me) here construct) where
-    abbrev open_here : Here
+    abbrev pub open_here : Here
     open_here = after here Open
 
-    abbrev headed : Here
+    abbrev pub headed : Here
     headed = after_all open_here it.head_acts
 
-    abbrev found : Option Declared
+    abbrev pub found : Option Declared
     found = find headed.names.visible name
 
-    abbrev looped_here : Here
+    abbrev pub looped_here : Here
     looped_here = after headed (Loop name)
 
-    abbrev bodied : Here
+    abbrev pub bodied : Here
     bodied = after_all looped_here body_acts
 
-    abbrev scope : List Declaration
+    abbrev pub scope : List Declaration
     scope = scope_of here.names.visible
 
-    here-ready : IsReady false here
+    pub here-ready : IsReady false here
     here-ready = begun-ready (spot_of me) [] [] (means-nothing false) here construct begun
 
-    open-ready : IsReady false open_here
+    pub open-ready : IsReady false open_here
     open-ready = opened false here here-ready
 
-    head-met : Met open_here headed made
+    pub head-met : Met open_here headed made
     head-met = it.head.meets open_here open-ready
 
-    headed-newest : headed.constructs.newest ≡ Some construct
+    pub headed-newest : headed.constructs.newest ≡ Some construct
     unfolding after
     headed-newest = (calm-keeps it.head_acts open_here it.calm).newest ∙ begun.newest
 
-    headed-around : headed.constructs.around ≡ here.constructs.around
+    pub headed-around : headed.constructs.around ≡ here.constructs.around
     unfolding after
     headed-around = (calm-keeps it.head_acts open_here it.calm).around
 
-    body-open : around_here looped_here ≡ looping construct found ∷ here.constructs.around
+    pub body-open : around_here looped_here ≡ looping construct found ∷ here.constructs.around
     unfolding after
     body-open =
         open-begun looped_here.constructs (looping construct found) (looped-newest headed.constructs construct found headed-newest)
@@ -159,7 +159,7 @@ module _ (me : Tree) (shares : is_loop_construct (kind_of me) ≡ true) (assigns
     unfolding after
     loops-grown = loops-more (length here.names.all) (length headed.names.all) here.constructs.around head-met.names.grows begun.loops
 
-    body-ready : IsReady false looped_here
+    pub body-ready : IsReady false looped_here
     unfolding after
     body-ready = record {
       names = head-met.names.sound;
@@ -168,7 +168,7 @@ module _ (me : Tree) (shares : is_loop_construct (kind_of me) ≡ true) (assigns
       outside = λ is. absurd (true≢false (sym is));
     }
 
-    body-met : Met looped_here bodied []
+    pub body-met : Met looped_here bodied []
     body-met = it.inner.meets looped_here body-ready
 
     closed-met : InnerMet here (after bodied Close)
@@ -324,7 +324,7 @@ module _ (me : Tree) (shares : is_loop_construct (kind_of me) ≡ true) (assigns
               (inr (spoiled-on open_here.names headed.names made head-met.names (positions it.body) at here.constructs.around body))))
         ]
 
-  after-loop : (here : Here) → after_all here (odd_acts (has_form loop) ++ loop_acts) ≡ after (after_all (after (after_all (after here Open) it.head_acts) (Loop name)) body_acts) Close
+  pub after-loop : (here : Here) → after_all here (odd_acts (has_form loop) ++ loop_acts) ≡ after (after_all (after (after_all (after here Open) it.head_acts) (Loop name)) body_acts) Close
   unfolding after_all
   after-loop here =
       after-both here (odd_acts (has_form loop)) loop_acts ∙ ap (λ (here : Here). after_all here loop_acts) (odd-after here (has_form loop))

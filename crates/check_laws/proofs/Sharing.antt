@@ -171,14 +171,14 @@ declared-part None = refl
 declared-part (Some tree) = refl
 
 -- whether a position assigns a variable that is declared outside
-same-option : (one : Option ℕ) (i : ℕ) → (one ≡ Some i) ⊎ (one ≡ Some i → ⊥)
+pub same-option : (one : Option ℕ) (i : ℕ) → (one ≡ Some i) ⊎ (one ≡ Some i → ⊥)
 same-option None i = inr (λ is. absurd (let no : None ≡ Some i = is in cc))
 same-option (Some one) i = elim (cases_Bool (nat_eq one i)) [
   | inl same ↦ inl (ap (λ (one : ℕ). Some one) (eqb-true one i same))
   | inr differs ↦ inr (λ is. eqb-false one i differs (let both : Some one ≡ Some i = is in cc))
 ]
 
-no-meaning : (sort : Option Sort) → (sort ≡ None) ⊎ (sort ≡ None → ⊥)
+pub no-meaning : (sort : Option Sort) → (sort ≡ None) ⊎ (sort ≡ None → ⊥)
 no-meaning None = inl refl
 no-meaning (Some sort) = inr (λ is. absurd (let no : Some sort ≡ None = is in cc))
 

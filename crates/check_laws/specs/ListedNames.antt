@@ -24,7 +24,7 @@ used_at spot name = record { name = name; spot = spot } ∷ []
 -- the names of a list
 unfoldable pub each_used : Children → List Used
 each_used Over = []
-each_used (Absent rest) = each_used rest
+each_used (Absent rest) = []
 each_used (Child tree rest) = record { name = name_of tree; spot = spot_of tree } ∷ each_used rest
 
 -- The names that a node uses itself: that of a place or of what is called, the lock of a lock call, and what a data clause lists.
@@ -62,10 +62,16 @@ pub record HasDefaultNone (tree : Tree) : Type 0 where
   pub there : Contains (clauses_of (children_of tree)) clause
   pub none : is_default_none (kind_of clause) ≡ true
 
--- A data clause of a construct lists the name. The other clauses use no name themselves.
+abbrev pub is_data : NodeKind → Bool
+is_data (node.Data which) = true
+is_data (node.Reduction operator) = true
+is_data other = false
+
+-- a data clause of a construct lists the name
 pub record Lists (name : ℕ) (construct : Tree) : Type 0 where
   pub clause : Tree
   pub there : Contains (clauses_of (children_of construct)) clause
+  pub is : is_data (kind_of clause) ≡ true
   pub one : Used
   pub listed : Contains (used clause) one
   pub named : one.name ≡ name
