@@ -23,4 +23,8 @@ pub mod Unnamed
 pub mod Naming
 pub mod NameRule
 pub mod Saying
+pub mod Entries
+pub mod ListRule
+pub mod ListConstructs
+pub mod ListLoops
 pub mod Files

@@ -32,7 +32,7 @@ silent (Return spot returned) is = return-silent spot returned
 silent (Barrier spot) is = barrier-silent spot
 silent other is = absurd (let no : false ≡ true = is in cc)
 
-use-is-silent : (act : Act) (one : Used) → IsUse act one → IsSilent act
+pub use-is-silent : (act : Act) (one : Used) → IsUse act one → IsSilent act
 use-is-silent (Use name spot usage) one is = use-silent name spot usage
 use-is-silent other one is = absurd is
 

@@ -72,7 +72,7 @@ naming-front file acts one nodes others it = record {
   breaks = λ here ready what has. it.breaks here ready what (has-front one nodes others (Mentions here.names.visible what) has);
 }
 
-anywhere : (here : Here) → IsReady true here → IsReady false here
+pub anywhere : (here : Here) → IsReady true here → IsReady false here
 anywhere here ready = record { names = ready.names; loops = ready.loops; outside = λ is. absurd (let wrong : false ≡ true = is in cc) }
 
 -- one more node that names nothing
@@ -202,7 +202,7 @@ inner-odd me form acts nodes it = record {
   breaks = λ here construct begun one has. put-behind-odd mentions mentions-calm one here form acts (it.breaks here construct begun one has);
 }
 
-construct-uses-none : (me : Tree) (which : Directive) → kind_of me ≡ node.Construct which → used me ≡ []
+pub construct-uses-none : (me : Tree) (which : Directive) → kind_of me ≡ node.Construct which → used me ≡ []
 construct-uses-none me which kind = ap (λ (kind : NodeKind). used_by kind (spot_of me) (name_of me) (children_of me)) kind
 
 -- a construct that isn't over a loop with a variable

@@ -22,7 +22,7 @@ use Rattle.c_check.specs.declared.constructs.parts.Clauses.{Clauses}
 use Rattle.c_check.specs.declared.constructs.parts.Mention.{Mention}
 use Rattle.c_check.specs.declared.scopes.declared.Declared.{Declared}
 use Rattle.c_check.specs.Checked.{after_all}
-use Rattle.c_check.specs.Clauses.{clause_inside, first_inside, inside_acts}
+use Rattle.c_check.specs.Clauses.{chunk_of, clause_inside, first_inside, inside_acts}
 use Rattle.c_check.specs.Constructs.{Construct, Constructs, mention, with_single}
 use Rattle.c_check.specs.Declarations.{Declarations, find}
 use Rattle.c_check.specs.Here.{Here, after, listed}
@@ -107,16 +107,16 @@ single-none single.If clauses is = inl is
 
 none-single : (one : Single) (clauses : Clauses) → (clauses.default_none ≡ true) ⊎ SaysNone (Clause one) → (with_single one clauses).default_none ≡ true
 none-single single.NumThreads clauses (inl is) = is
-none-single single.NumThreads clauses (inr no) = absurd (cc)
+none-single single.NumThreads clauses (inr wrong) = absurd (cc)
 none-single (single.Default default.Shared) clauses (inl is) = is
-none-single (single.Default default.Shared) clauses (inr no) = absurd (cc)
+none-single (single.Default default.Shared) clauses (inr wrong) = absurd (cc)
 none-single (single.Default default.None) clauses either = refl
 none-single (single.Schedule chunk) clauses (inl is) = is
-none-single (single.Schedule chunk) clauses (inr no) = absurd (cc)
+none-single (single.Schedule chunk) clauses (inr wrong) = absurd (cc)
 none-single single.Nowait clauses (inl is) = is
-none-single single.Nowait clauses (inr no) = absurd (cc)
+none-single single.Nowait clauses (inr wrong) = absurd (cc)
 none-single single.If clauses (inl is) = is
-none-single single.If clauses (inr no) = absurd (cc)
+none-single single.If clauses (inr wrong) = absurd (cc)
 
 said-none : (visible : List Declared) (construct : Construct) (act : Act) → (said visible construct act).clauses.default_none ≡ true → (construct.clauses.default_none ≡ true) ⊎ SaysNone act
 said-none visible construct (Clause one) is = single-none one construct.clauses is
@@ -126,9 +126,9 @@ said-none visible construct other is = inl is
 none-said : (visible : List Declared) (construct : Construct) (act : Act) → (construct.clauses.default_none ≡ true) ⊎ SaysNone act → (said visible construct act).clauses.default_none ≡ true
 none-said visible construct (Clause one) is = none-single one construct.clauses is
 none-said visible construct (Listing name spot clause) (inl is) = ap (λ (clauses : Clauses). clauses.default_none) (listing-clauses construct clause (find visible name)) ∙ is
-none-said visible construct (Listing name spot clause) (inr no) = absurd (cc)
+none-said visible construct (Listing name spot clause) (inr wrong) = absurd (cc)
 none-said visible construct other (inl is) = is
-none-said visible construct other (inr no) = absurd (cc)
+none-said visible construct other (inr wrong) = absurd (cc)
 
 pub all-none : (visible : List Declared) (construct : Construct) (acts : List Act) → (said_all visible construct acts).clauses.default_none ≡ true → (construct.clauses.default_none ≡ true) ⊎ Has SaysNone acts
 all-none visible construct [] is = inl is
@@ -140,7 +140,7 @@ all-none visible construct (act ∷ acts) is =
 
 pub none-all : (visible : List Declared) (construct : Construct) (acts : List Act) → (construct.clauses.default_none ≡ true) ⊎ Has SaysNone acts → (said_all visible construct acts).clauses.default_none ≡ true
 none-all visible construct [] (inl is) = is
-none-all visible construct [] (inr no) = absurd no
+none-all visible construct [] (inr wrong) = absurd wrong
 none-all visible construct (act ∷ acts) (inl is) = none-all visible (said visible construct act) acts (inl (none-said visible construct act (inl is)))
 none-all visible construct (act ∷ acts) (inr (inl now)) = none-all visible (said visible construct act) acts (inl (none-said visible construct act (inr now)))
 none-all visible construct (act ∷ acts) (inr (inr later)) = none-all visible (said visible construct act) acts (inr later)
@@ -167,7 +167,7 @@ same-number one = grind (arith, nat_tests)
 
 more-mentioned : (mentions : List Mention) (one : Mention) (slot : ℕ) → IsMentioned mentions slot ⊎ (one.slot ≡ slot) → IsMentioned (mentions ++ one ∷ []) slot
 unfolding mention
-more-mentioned [] one slot (inl no) = absurd (cc)
+more-mentioned [] one slot (inl wrong) = absurd (cc)
 more-mentioned [] one slot (inr same) = rw (same, same-number slot) refl
 more-mentioned (first ∷ mentions) one slot either =
     elim (cases_Bool (nat_eq first.slot slot)) [
@@ -185,7 +185,7 @@ listing-listed construct clause (Some it) slot is = mentioned-more construct.men
 
 listed-listing : (construct : Construct) (clause : DataClause) (found : Option Declared) (slot : ℕ) → IsMentioned construct.mentions slot ⊎ HasSlot found slot → IsMentioned (listing construct clause found).mentions slot
 listed-listing construct clause None slot (inl is) = is
-listed-listing construct clause None slot (inr no) = absurd no
+listed-listing construct clause None slot (inr wrong) = absurd wrong
 listed-listing construct clause (Some it) slot either = more-mentioned construct.mentions (record { slot = it.slot; clause = clause }) slot either
 
 said-listed : (visible : List Declared) (construct : Construct) (act : Act) (slot : ℕ) → IsMentioned (said visible construct act).mentions slot → IsMentioned construct.mentions slot ⊎ ListsSlot visible slot act
@@ -195,10 +195,10 @@ said-listed visible construct other slot is = inl is
 
 listed-said : (visible : List Declared) (construct : Construct) (act : Act) (slot : ℕ) → IsMentioned construct.mentions slot ⊎ ListsSlot visible slot act → IsMentioned (said visible construct act).mentions slot
 listed-said visible construct (Clause one) slot (inl is) = is
-listed-said visible construct (Clause one) slot (inr no) = absurd no
+listed-said visible construct (Clause one) slot (inr wrong) = absurd wrong
 listed-said visible construct (Listing name spot clause) slot either = listed-listing construct clause (find visible name) slot either
 listed-said visible construct other slot (inl is) = is
-listed-said visible construct other slot (inr no) = absurd no
+listed-said visible construct other slot (inr wrong) = absurd wrong
 
 pub all-listed : (visible : List Declared) (construct : Construct) (acts : List Act) (slot : ℕ) → IsMentioned (said_all visible construct acts).mentions slot → IsMentioned construct.mentions slot ⊎ Has (ListsSlot visible slot) acts
 all-listed visible construct [] slot is = inl is
@@ -210,7 +210,7 @@ all-listed visible construct (act ∷ acts) slot is =
 
 pub listed-all : (visible : List Declared) (construct : Construct) (acts : List Act) (slot : ℕ) → IsMentioned construct.mentions slot ⊎ Has (ListsSlot visible slot) acts → IsMentioned (said_all visible construct acts).mentions slot
 listed-all visible construct [] slot (inl is) = is
-listed-all visible construct [] slot (inr no) = absurd no
+listed-all visible construct [] slot (inr wrong) = absurd wrong
 listed-all visible construct (act ∷ acts) slot (inl is) = listed-all visible (said visible construct act) acts slot (inl (listed-said visible construct act slot (inl is)))
 listed-all visible construct (act ∷ acts) slot (inr (inl now)) = listed-all visible (said visible construct act) acts slot (inl (listed-said visible construct act slot (inr now)))
 listed-all visible construct (act ∷ acts) slot (inr (inr later)) = listed-all visible (said visible construct act) acts slot (inr later)
@@ -247,7 +247,7 @@ names-no-none : (clause : DataClause) (children : Children) → Has SaysNone (na
 unfolding names
 names-no-none clause Over has = has
 names-no-none clause (Absent rest) has = has
-names-no-none clause (Child tree rest) (inl no) = absurd (cc)
+names-no-none clause (Child tree rest) (inl wrong) = absurd (cc)
 names-no-none clause (Child tree rest) (inr there) = names-no-none clause rest there
 
 -- one act that doesn't say it
@@ -264,7 +264,7 @@ none-there node.NumThreads children has = absurd (one-not (Clause single.NumThre
 none-there (node.Default word) children has = default-none word has
 none-there (node.Data which) children has = absurd (names-no-none _ children has)
 none-there (node.Reduction operator) children has = absurd (names-no-none _ children has)
-none-there (node.Schedule kind) children has = absurd (one-not (Clause (single.Schedule _)) refl has)
+none-there (node.Schedule kind) children has = absurd (one-not (Clause (single.Schedule (chunk_of children))) refl has)
 none-there node.Nowait children has = absurd (one-not (Clause single.Nowait) refl has)
 none-there node.IfClause children has = absurd (one-not (Clause single.If) refl has)
 none-there other children has = absurd has
@@ -306,15 +306,15 @@ list-names visible slot clause (Child tree rest) (inl this) = inl this
 list-names visible slot clause (Child tree rest) (inr there) = inr (list-names visible slot clause rest there)
 
 no-list : {A : Type 0} (visible : List Declared) (slot : ℕ) (one : Single) → Has (ListsSlot visible slot) (Clause one ∷ []) → A
-no-list visible slot one (inl no) = absurd no
-no-list visible slot one (inr no) = absurd no
+no-list visible slot one (inl wrong) = absurd wrong
+no-list visible slot one (inr wrong) = absurd wrong
 
 list-there : (visible : List Declared) (slot : ℕ) (clause : Tree) → Has (ListsSlot visible slot) (clause_inside (kind_of clause) (children_of clause)) → ListsIn visible slot clause
 list-there visible slot (Node node.NumThreads spot name number text children) has = no-list visible slot single.NumThreads has
 list-there visible slot (Node (node.Default word) spot name number text children) has = no-list visible slot (single.Default word) has
 list-there visible slot (Node (node.Data which) spot name number text children) has = record { is = refl; lists = names-list visible slot _ children has }
 list-there visible slot (Node (node.Reduction operator) spot name number text children) has = record { is = refl; lists = names-list visible slot _ children has }
-list-there visible slot (Node (node.Schedule kind) spot name number text children) has = no-list visible slot (single.Schedule _) has
+list-there visible slot (Node (node.Schedule kind) spot name number text children) has = no-list visible slot (single.Schedule (chunk_of children)) has
 list-there visible slot (Node node.Nowait spot name number text children) has = no-list visible slot single.Nowait has
 list-there visible slot (Node node.IfClause spot name number text children) has = no-list visible slot single.If has
 list-there visible slot (Node other spot name number text children) has = absurd has
