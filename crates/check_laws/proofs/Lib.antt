@@ -27,4 +27,5 @@ pub mod Entries
 pub mod ListRule
 pub mod ListConstructs
 pub mod ListLoops
+pub mod Unlisted
 pub mod Files
