@@ -111,15 +111,15 @@ parts-of (FileParts.variables one more) = items-then true _ _ (variables-of one)
 parts-of (FileParts.locks one more) = items-then true _ _ (locks_of true one) (parts-of more)
 
 -- programs
-record IsTold (tree : Tree) : Type 0 where
-  made : List Declaration
-  means : Does true (acts role.Plain tree) made (positions tree)
+pub record IsTold (tree : Tree) : Type 0 where
+  pub made : List Declaration
+  pub means : Does true (acts role.Plain tree) made (positions tree)
 
-program-told : {limit : ℕ} {words : List Word} {tree : Tree} → IsProgram limit words tree → IsTold tree
+pub program-told : {limit : ℕ} {words : List Word} {tree : Tree} → IsProgram limit words tree → IsTold tree
 unfolding acts positions
 program-told (IsProgram.program parts last) = record { made = _; means = does-node true _ _ _ _ (plain _ refl refl refl) (parts-of parts) }
 
-first-ready : (main : ℕ) → IsReady true (before_all main)
+pub first-ready : (main : ℕ) → IsReady true (before_all main)
 first-ready main = record { names = record { levels = tt; falls = tt }; loops = tt; outside = λ is. refl }
 
 module _ (program : TreeView) (spot : Spot) (told : IsTold (root_tree program)) where

@@ -28,4 +28,6 @@ pub mod ListRule
 pub mod ListConstructs
 pub mod ListLoops
 pub mod Unlisted
+pub mod Unfinished
 pub mod Files
+pub mod Listed
