@@ -22,16 +22,16 @@ use Rattle.check_laws.proofs.Quiet.{row-end, row-then, value_of}
 use Rattle.check_laws.proofs.Visible.{behind-nothing, sort_of}
 
 -- declarations
-pub means-named : (file : Bool) (tree : Tree) (name : ℕ) (spot : Spot) (what : Thing) → IsPlain tree → Does file (Declare name spot what ∷ []) (declared_as (sort_of what) name) (position tree ∷ behind [] [])
-means-named file tree name spot what is = does-node file _ _ [] tree is (Does.declares file name spot what)
+pub does-named : (file : Bool) (tree : Tree) (name : ℕ) (spot : Spot) (what : Thing) → IsPlain tree → Does file (Declare name spot what ∷ []) (declared_as (sort_of what) name) (position tree ∷ behind [] [])
+does-named file tree name spot what is = does-node file _ _ [] tree is (Does.declares file name spot what)
 
 local_of : {limit depth : ℕ} {words rest : List Word} {tree : Tree} → Local limit depth words rest tree → Does false (acts role.Plain tree) (declared tree) (positions tree)
 unfolding acts each declared positions positions_among
-local_of (Local.plain is) = means-named false _ _ _ thing.Int (plain _ refl refl refl)
-local_of (Local.array {number = number} is sized) = means-named false _ _ _ (thing.Array number) (plain _ refl refl refl)
+local_of (Local.plain is) = does-named false _ _ _ thing.Int (plain _ refl refl refl)
+local_of (Local.array {number = number} is sized) = does-named false _ _ _ (thing.Array number) (plain _ refl refl refl)
 local_of (Local.set {word = word} {tree = tree} is equals value) =
     let row = row-then (value_of value role.Used refl) (row-end role.Used) in
-    let both = Does.both false (each role.Used (Child tree Over)) (Declare word.value word.spot thing.Int ∷ []) [] (declared_as Sort.variable word.value) (positions_among (Child tree Over)) [] row.means
+    let both = Does.both false (each role.Used (Child tree Over)) (Declare word.value word.spot thing.Int ∷ []) [] (declared_as Sort.variable word.value) (positions_among (Child tree Over)) [] row.does
     (Does.declares false word.value word.spot thing.Int) in
     does-node false _ _ _ _ (plain _ refl refl refl) (does-of false _ _ _ _ (positions_among (Child tree Over) ++ []) (positions_among (Child tree Over)) refl refl (append-nil (positions_among (Child tree Over))) both)
 

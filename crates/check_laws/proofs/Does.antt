@@ -1,6 +1,6 @@
 -- What a part of a tree does, with the declarations that it makes and the nodes that it consists of. The rules are shown over this, one by one.
-use Rattle.std.specs.Prelude.{ℕ, ◌≡◌, Bool, true, false, List, [], ◌∷◌, ◌++◌, Option, Some, None, refl}
-use Rattle.std.proofs.Common.{ap, subst, sym}
+use Rattle.std.specs.Prelude.{ℕ, ◌≡◌, Bool, true, false, List, [], ◌∷◌, ◌++◌, Some, None, refl}
+use Rattle.std.proofs.Common.{subst, sym}
 use Rattle.c_tokens.specs.declared.token.Spot.{Spot}
 use Rattle.c_syntax.specs.declared.node.Directive.{Directive}
 use Rattle.c_syntax.specs.declared.node.NodeKind.{NodeKind}
@@ -66,7 +66,6 @@ pub data Does : Bool → List Act → List Declaration → List Position → Typ
   both : (file : Bool) (some more : List Act) (first second : List Declaration) (nodes others : List Position) → Does file some first nodes → Does file more second others
       → Does file (some ++ more) (second ++ first) (nodes ++ behind first others)
   front : (file : Bool) (acts : List Act) (made : List Declaration) (one : Position) (nodes others : List Position) → Does file acts made (nodes ++ one ∷ others) → Does file acts made (one ∷ (nodes ++ others))
-  anywhere : (acts : List Act) (made : List Declaration) (nodes : List Position) → Does false acts made nodes → Does true acts made nodes
   plainly : (file : Bool) (acts : List Act) (made : List Declaration) (nodes : List Position) (tree : Tree) (scope : List Declaration) → IsPlain tree → Does file acts made nodes
       → Does file acts made (record { node = tree; scope = scope } ∷ nodes)
   silent : (file : Bool) (act : Act) → is_silent act ≡ true → Does file (act ∷ []) [] []
@@ -90,8 +89,8 @@ pub data Does : Bool → List Act → List Declaration → List Position → Typ
       → positions_inside (children_of me) ≡ position (statement_of (children_of me)) ∷ (it.head_nodes ++ behind (part_declared it.begins) (positions it.body))
       → Does false it.head_acts (part_declared it.begins) it.head_nodes → Does false (acts role.Plain it.body) [] (positions it.body)
       → Does false (Enter (spot_of me) which critical ∷ inside_acts (children_of me)
-          ++ ((odd_acts (has_form (statement_of (children_of me))) ++ (Open ∷ (it.head_acts ++ Loop name ∷ acts role.Plain it.body) ++ Close ∷ [])) ++ Leave ∷ [])) []
-          (position me ∷ (position (statement_of (children_of me)) ∷ (it.head_nodes ++ behind (part_declared it.begins) (positions it.body))))
+      ++ ((odd_acts (has_form (statement_of (children_of me))) ++ (Open ∷ (it.head_acts ++ Loop name ∷ acts role.Plain it.body) ++ Close ∷ [])) ++ Leave ∷ [])) []
+      (position me ∷ (position (statement_of (children_of me)) ∷ (it.head_nodes ++ behind (part_declared it.begins) (positions it.body))))
 
 pub does-of : (file : Bool) (some more : List Act) (made other : List Declaration) (nodes others : List Position) → some ≡ more → made ≡ other → nodes ≡ others → Does file some made nodes → Does file more other others
 does-of file some more made other nodes others acts declarations positions it =

@@ -1,6 +1,6 @@
 -- What the checker keeps for the rule on names that are listed: the uses that open constructs leave out, and the loops inside of open constructs.
-use Rattle.std.specs.Prelude.{ℕ, ◌≡◌, ◌⊎◌, ◌≤◌, ◌+◌, ◌&&◌, Bool, true, false, if◌then◌else◌, List, [], ◌∷◌, ◌++◌, Option, Some, None, option_map, sum_by, refl}
-use Rattle.std.proofs.Common.{sym, ap, subst, ◌∙◌, inl, inr, arith, true≢false, append_assoc, append-nil}
+use Rattle.std.specs.Prelude.{ℕ, ◌≡◌, ◌≤◌, ◌+◌, ◌&&◌, Bool, true, if◌then◌else◌, List, [], ◌∷◌, ◌++◌, Option, Some, None, option_map, sum_by, refl}
+use Rattle.std.proofs.Common.{sym, ap, subst, inl, inr, arith, true≢false}
 use Rattle.std.specs.List.{IsAmong}
 use Rattle.std.proofs.lemmas.Bool.{cases_Bool}
 use Rattle.std.proofs.lemmas.List.Sums.{sum_by-append, sum_by-cons}
@@ -10,17 +10,17 @@ use Rattle.c_check.specs.declared.acts.act.Act.TheVariants.{Begin, Clause, Enter
 use Rattle.c_check.specs.declared.acts.act.DataClause.{DataClause}
 use Rattle.c_check.specs.declared.scopes.declared.Declared.{Declared}
 use Rattle.c_check.specs.Checked.{after_all}
-use Rattle.c_check.specs.Constructs.{Construct, Constructs, leaves_out, open_constructs, with_ended, with_loop, with_mention, with_newest, with_single, without_innermost}
+use Rattle.c_check.specs.Constructs.{Construct, Constructs, leaves_out, open_constructs, with_loop, with_mention, with_newest, with_single, without_innermost}
 use Rattle.c_check.specs.Declarations.{find}
 use Rattle.c_check.specs.Here.{Here, after, is_variable, listed, looped, used}
 use Rattle.code_slots.specs.OwnPlaces.{one_if_same, placed_at}
 use Rattle.code_slots.proofs.ActPlaces.{at_itself}
 use Rattle.check_laws.proofs.Broken.{BreaksIn, breaks-either, breaks-left, breaks-right}
-use Rattle.check_laws.proofs.Has.{Has, among-behind, among-case, among-first, has-weaker}
+use Rattle.check_laws.proofs.Has.{Has, among-behind, among-case, among-first}
 use Rattle.check_laws.proofs.Means.{not-among, use-around}
 use Rattle.check_laws.proofs.Naming.{Mentioned, Purpose, case-mentioned, mentioned, mentions}
 use Rattle.check_laws.proofs.Standing.{around_here}
-use Rattle.check_laws.proofs.Unnamed.{Unnaming, is_naming}
+use Rattle.check_laws.proofs.Unnamed.{Unnaming}
 
 pub record Entry : Type 0 where
   pub purpose : Purpose
@@ -241,8 +241,14 @@ module _ (here : Here) (some more : List Act) (spot : Spot) (own : HavePlaces he
     placed = omega (arith, it.placed, sum_by-append (placed_at it.at) some more);
     none = λ breaks. elim (breaks-either entries (record { purpose = Purpose.looping; slot = it.slot; construct = it.at }) here some more breaks) [
       | inl left ↦ it.none left
-      | inr right ↦ absurd (omega (arith, own it.at, same it.at, it.placed, sum_by-append (placed_at it.at) some more,
-          entry-placed (after_all here some) more (record { purpose = Purpose.looping; slot = it.slot; construct = it.at }) right))
+      | inr right ↦ absurd (omega (
+        arith,
+        own it.at,
+        same it.at,
+        it.placed,
+        sum_by-append (placed_at it.at) some more,
+        entry-placed (after_all here some) more (record { purpose = Purpose.looping; slot = it.slot; construct = it.at }) right,
+      ))
     ];
   }
 
@@ -253,8 +259,13 @@ module _ (here : Here) (some more : List Act) (spot : Spot) (own : HavePlaces he
     entry = breaks-right entries (record { purpose = Purpose.using spot; slot = it.slot; construct = it.at }) here some more it.entry;
     placed = omega (arith, it.placed, sum_by-append (placed_at it.at) some more);
     none = λ breaks. elim (breaks-either entries (record { purpose = Purpose.looping; slot = it.slot; construct = it.at }) here some more breaks) [
-      | inl left ↦ absurd (omega (arith, own it.at, it.placed, sum_by-append (placed_at it.at) some more,
-          entry-placed here some (record { purpose = Purpose.looping; slot = it.slot; construct = it.at }) left))
+      | inl left ↦ absurd (omega (
+        arith,
+        own it.at,
+        it.placed,
+        sum_by-append (placed_at it.at) some more,
+        entry-placed here some (record { purpose = Purpose.looping; slot = it.slot; construct = it.at }) left,
+      ))
       | inr right ↦ it.none right
     ];
   }

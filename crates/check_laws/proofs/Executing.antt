@@ -63,20 +63,20 @@ inside-first tree rest is = rw is refl
 
 -- parts that a construct executes
 pub record Executed (trees : List Tree) : Type 0 where
-  pub means : Does false (statements role.Plain (kids trees)) [] (positions_among (kids trees))
+  pub does : Does false (statements role.Plain (kids trees)) [] (positions_among (kids trees))
   pub outside : outside_acts (kids trees) ≡ []
   pub inside : positions_inside (kids trees) ≡ positions_among (kids trees)
 
 pub none-executed : Executed []
 unfolding statements positions_among outside_acts positions_inside
-none-executed = record { means = Does.nothing false; outside = refl; inside = refl }
+none-executed = record { does = Does.nothing false; outside = refl; inside = refl }
 
 pub executed-then : (tree : Tree) (trees : List Tree) → is_head (kind_of tree) ≡ false → Quiet role.Plain tree → Executed trees → Executed (tree ∷ trees)
 unfolding positions_among
 executed-then tree trees apart first more =
-    let both = Does.both false (acts role.Plain tree) (statements role.Plain (kids trees)) [] [] (positions tree) (positions_among (kids trees)) first.means more.means in
+    let both = Does.both false (acts role.Plain tree) (statements role.Plain (kids trees)) [] [] (positions tree) (positions_among (kids trees)) first.does more.does in
     record {
-      means =
+      does =
           subst (λ (acts : List Act). Does false acts [] (positions tree ++ behind (declared tree) (positions_among (kids trees)))) (sym (statements-first role.Plain tree (kids trees) apart))
           (subst (λ (scope : List Declaration). Does false (acts role.Plain tree ++ statements role.Plain (kids trees)) [] (positions tree ++ behind scope (positions_among (kids trees)))) (sym first.none) both);
       outside = outside-apart tree (kids trees) apart ∙ more.outside;
@@ -106,7 +106,7 @@ module _ (which : Directive) (word : Word) (trees parts : List Tree) where
   pub construct-quiet : Heads trees → outside_acts (kids parts) ≡ [] → Does false (own_acts inner_acts) [] (position me ∷ positions_among (kids parts)) → Quiet role.Plain me
   unfolding acts declared positions
   construct-quiet heads apart within =
-      let both = Does.both false (outside_acts (kids trees)) (own_acts inner_acts) [] [] (positions_among (kids trees)) (position me ∷ positions_among (kids parts)) heads.means within in
+      let both = Does.both false (outside_acts (kids trees)) (own_acts inner_acts) [] [] (positions_among (kids trees)) (position me ∷ positions_among (kids parts)) heads.does within in
       let outside : outside_acts (kids trees) ≡ outside_acts children_here =
       sym (heads.acts_behind parts ∙ ap (λ (acts : List Act). outside_acts (kids trees) ++ acts) apart ∙ append-nil (outside_acts (kids trees))) in
       let whole = subst (λ (acts : List Act). Does false (acts ++ own_acts inner_acts) [] (positions_among (kids trees) ++ behind [] (position me ∷ positions_among (kids parts)))) outside both in
@@ -116,7 +116,7 @@ module _ (which : Directive) (word : Word) (trees parts : List Tree) where
       (ap (λ (nodes : List Position). positions_among (kids trees) ++ nodes) (behind-nothing (position me ∷ positions_among (kids parts)))) whole in
       let first = Does.front false (acts role.Plain me) [] (position me) (positions_among (kids trees)) (positions_among (kids parts)) parted in
       record {
-        means = subst (λ (nodes : List Position). Does false (acts role.Plain me) [] (position me ∷ nodes)) (sym (behind-nothing (positions_among children_here) ∙ heads.nodes_behind parts)) first;
+        does = subst (λ (nodes : List Position). Does false (acts role.Plain me) [] (position me ∷ nodes)) (sym (behind-nothing (positions_among children_here) ∙ heads.nodes_behind parts)) first;
         none = refl;
       }
 
@@ -128,4 +128,4 @@ module _ (which : Directive) (word : Word) (trees parts : List Tree) where
   construct-other heads shares executed =
       construct-quiet heads executed.outside
       (subst (λ (acts : List Act). Does false (own_acts acts) [] (position me ∷ positions_among (kids parts))) (sym (other-acts heads shares))
-      (Does.constructs me which (name_of_critical children_here) (statements role.Plain (kids parts)) (positions_among (kids parts)) refl shares (heads.inside_behind parts ∙ executed.inside) executed.means))
+      (Does.constructs me which (name_of_critical children_here) (statements role.Plain (kids parts)) (positions_among (kids parts)) refl shares (heads.inside_behind parts ∙ executed.inside) executed.does))

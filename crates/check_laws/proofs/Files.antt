@@ -30,7 +30,7 @@ use Rattle.check_laws.proofs.Means.{not-among}
 use Rattle.check_laws.proofs.LoopRule.{does-mean}
 use Rattle.check_laws.proofs.Does.{Does, does-node, does-of, plain}
 use Rattle.check_laws.proofs.Standing.{IsOddAt, IsReady, Result}
-use Rattle.check_laws.proofs.Declaring.{locks_of, means-named, names-plain}
+use Rattle.check_laws.proofs.Declaring.{locks_of, does-named, names-plain}
 use Rattle.check_laws.proofs.Statements.{items, items-then, no-items}
 use Rattle.check_laws.proofs.Visible.{behind-nothing}
 
@@ -86,10 +86,10 @@ function-of (Function.function {name = name} {parameters = parameters} which is 
 -- variables of the file
 variable-of : {words rest : List Word} {tree : Tree} → Variable words rest tree → Does true (acts role.Plain tree) (declared tree) (positions tree)
 unfolding acts declared positions positions_among
-variable-of (Variable.plain is) = means-named true _ _ _ thing.Int (plain _ refl refl refl)
-variable-of (Variable.array {number = number} is sized) = means-named true _ _ _ (thing.Array number) (plain _ refl refl refl)
-variable-of (Variable.set is equals number) = means-named true _ _ _ thing.Int (plain _ refl refl refl)
-variable-of (Variable.set_below is equals minus number) = means-named true _ _ _ thing.Int (plain _ refl refl refl)
+variable-of (Variable.plain is) = does-named true _ _ _ thing.Int (plain _ refl refl refl)
+variable-of (Variable.array {number = number} is sized) = does-named true _ _ _ (thing.Array number) (plain _ refl refl refl)
+variable-of (Variable.set is equals number) = does-named true _ _ _ thing.Int (plain _ refl refl refl)
+variable-of (Variable.set_below is equals minus number) = does-named true _ _ _ thing.Int (plain _ refl refl refl)
 
 more-variables : {words rest : List Word} {trees : List Tree} → MoreVariables words rest trees → Does true (each role.Plain (kids trees)) (declared_among (kids trees)) (positions_among (kids trees))
 more-variables MoreVariables.last = no-items true
@@ -99,13 +99,13 @@ variables-of : {words rest : List Word} {tree : Tree} → Variables words rest t
 unfolding acts declared positions
 variables-of (Variables.variables is one more last) = does-node true _ _ _ _ (plain _ refl refl refl) (items-then true _ _ (variable-of one) (more-variables more))
 
-include-means : (word : Word) → let tree = made_at node.Include word Over in Does true (acts role.Plain tree) (declared tree) (positions tree)
+include-does : (word : Word) → let tree = made_at node.Include word Over in Does true (acts role.Plain tree) (declared tree) (positions tree)
 unfolding acts declared positions positions_among
-include-means word = does-node true [] [] [] _ (plain _ refl refl refl) (Does.nothing true)
+include-does word = does-node true [] [] [] _ (plain _ refl refl refl) (Does.nothing true)
 
 parts-of : {limit depth : ℕ} {words rest : List Word} {trees : List Tree} → FileParts limit depth words rest trees → Does true (each role.Plain (kids trees)) (declared_among (kids trees)) (positions_among (kids trees))
 parts-of FileParts.none = no-items true
-parts-of (FileParts.include {word = word} is more) = items-then true (made_at node.Include word Over) _ (include-means word) (parts-of more)
+parts-of (FileParts.include {word = word} is more) = items-then true (made_at node.Include word Over) _ (include-does word) (parts-of more)
 parts-of (FileParts.function one more) = items-then true _ _ (function-of one) (parts-of more)
 parts-of (FileParts.variables one more) = items-then true _ _ (variables-of one) (parts-of more)
 parts-of (FileParts.locks one more) = items-then true _ _ (locks_of true one) (parts-of more)
@@ -113,11 +113,11 @@ parts-of (FileParts.locks one more) = items-then true _ _ (locks_of true one) (p
 -- programs
 pub record IsTold (tree : Tree) : Type 0 where
   pub made : List Declaration
-  pub means : Does true (acts role.Plain tree) made (positions tree)
+  pub does : Does true (acts role.Plain tree) made (positions tree)
 
 pub program-told : {limit : ℕ} {words : List Word} {tree : Tree} → IsProgram limit words tree → IsTold tree
 unfolding acts positions
-program-told (IsProgram.program parts last) = record { made = _; means = does-node true _ _ _ _ (plain _ refl refl refl) (parts-of parts) }
+program-told (IsProgram.program parts last) = record { made = _; does = does-node true _ _ _ _ (plain _ refl refl refl) (parts-of parts) }
 
 pub first-ready : (main : ℕ) → IsReady true (before_all main)
 first-ready main = record { names = record { levels = tt; falls = tt }; loops = tt; outside = λ is. refl }
@@ -126,12 +126,12 @@ module _ (program : TreeView) (spot : Spot) (told : IsTold (root_tree program)) 
   told-broken : Result (before_all program.main) (positions (root_tree program)) spot → IsBroken bad_loops program spot
   told-broken result =
       breaks-broken bad_loops program spot
-      (breaks-left bad_loops spot (before_all program.main) (acts role.Plain (root_tree program)) (Finish program.end ∷ []) ((does-mean told.means).breaks (before_all program.main) (first-ready program.main) spot result))
+      (breaks-left bad_loops spot (before_all program.main) (acts role.Plain (root_tree program)) (Finish program.end ∷ []) ((does-mean told.does).breaks (before_all program.main) (first-ready program.main) spot result))
 
   broken-told : IsBroken bad_loops program spot → Result (before_all program.main) (positions (root_tree program)) spot
   broken-told broken =
       elim (breaks-either bad_loops spot (before_all program.main) (acts role.Plain (root_tree program)) (Finish program.end ∷ []) (broken-breaks bad_loops program spot broken)) [
-        | inl within ↦ (does-mean told.means).tells (before_all program.main) (first-ready program.main) spot within
+        | inl within ↦ (does-mean told.does).tells (before_all program.main) (first-ready program.main) spot within
         | inr end ↦ elim end [ inl finish ↦ absurd (not-among spot finish) | inr never ↦ absurd never ]
       ]
 

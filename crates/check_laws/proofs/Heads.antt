@@ -29,13 +29,13 @@ chunk_of (Chunk.some comma is) = Does.plainly false [] [] [] _ [] (plain _ refl 
 
 clause_of : {limit depth : ℕ} {which : Directive} {words rest : List Word} {tree : Tree} → Clause limit depth which words rest tree → Does false (clause_outside (Child tree Over)) [] (positions tree)
 unfolding clause_outside positions positions_among
-clause_of (Clause.num_threads has is first one last) = does-node false _ [] _ _ (plain _ refl refl refl) (row-then (ranked one role.Plain refl) (row-end role.Plain)).means
+clause_of (Clause.num_threads has is first one last) = does-node false _ [] _ _ (plain _ refl refl refl) (row-then (ranked one role.Plain refl) (row-end role.Plain)).does
 clause_of (Clause.default_of how has is first told last) = does-node false [] [] [] _ (plain _ refl refl refl) (Does.nothing false)
 clause_of (Clause.data_of how has is first list last) = names_of list (naming.Mentioned _) refl _ (still _ refl refl) refl
 clause_of (Clause.reduction_of how has is first sign colon list last) = names_of list (naming.Mentioned _) refl _ (still _ refl refl) refl
 clause_of (Clause.schedule_of how has is first told chunk last) = does-node false [] [] _ _ (plain _ refl refl refl) (chunk_of chunk)
 clause_of (Clause.nowait has is) = does-node false [] [] [] _ (plain _ refl refl refl) (Does.nothing false)
-clause_of (Clause.condition has is first one last) = does-node false _ [] _ _ (plain _ refl refl refl) (row-then (ranked one role.Plain refl) (row-end role.Plain)).means
+clause_of (Clause.condition has is first one last) = does-node false _ [] _ _ (plain _ refl refl refl) (row-then (ranked one role.Plain refl) (row-end role.Plain)).does
 
 clause-node : (acts : List Act) (lead : Lead) (tree : Tree) → Does false acts [] (positions tree) → Does false acts [] (positions (over_one (node.Clause lead) tree))
 unfolding positions positions_among
@@ -44,7 +44,7 @@ clause-node acts lead tree it =
 
 -- what stands before what a construct executes
 pub record Heads (trees : List Tree) : Type 0 where
-  pub means : Does false (outside_acts (kids trees)) [] (positions_among (kids trees))
+  pub does : Does false (outside_acts (kids trees)) [] (positions_among (kids trees))
   pub acts_behind : (more : List Tree) → outside_acts (kids (trees ++ more)) ≡ outside_acts (kids trees) ++ outside_acts (kids more)
   pub nodes_behind : (more : List Tree) → positions_among (kids (trees ++ more)) ≡ positions_among (kids trees) ++ positions_among (kids more)
   pub statement_behind : (more : List Tree) → statement_of (kids (trees ++ more)) ≡ statement_of (kids more)
@@ -53,12 +53,12 @@ pub record Heads (trees : List Tree) : Type 0 where
 
 no-heads : Heads []
 unfolding outside_acts positions_among
-no-heads = record { means = Does.nothing false; acts_behind = λ more. refl; nodes_behind = λ more. refl; statement_behind = λ more. refl; inside_behind = λ more. refl; statements_behind = λ around more. refl }
+no-heads = record { does = Does.nothing false; acts_behind = λ more. refl; nodes_behind = λ more. refl; statement_behind = λ more. refl; inside_behind = λ more. refl; statements_behind = λ around more. refl }
 
 heads-then : (lead : Lead) (tree : Tree) (trees : List Tree) → Does false (clause_outside (Child tree Over)) [] (positions tree) → Heads trees → Heads (over_one (node.Clause lead) tree ∷ trees)
 unfolding outside_acts positions_among declared statement_of positions_inside statements
 heads-then lead tree trees first more = record {
-  means = Does.both false (clause_outside (Child tree Over)) (outside_acts (kids trees)) [] [] (positions (over_one (node.Clause lead) tree)) (positions_among (kids trees)) (clause-node _ lead tree first) more.means;
+  does = Does.both false (clause_outside (Child tree Over)) (outside_acts (kids trees)) [] [] (positions (over_one (node.Clause lead) tree)) (positions_among (kids trees)) (clause-node _ lead tree first) more.does;
   acts_behind = λ others. ap (λ (acts : List Act). clause_outside (Child tree Over) ++ acts) (more.acts_behind others) ∙ sym (append_assoc (clause_outside (Child tree Over)) (outside_acts (kids trees)) (outside_acts (kids others)));
   nodes_behind = λ others.
       ap (λ (nodes : List Position). positions (over_one (node.Clause lead) tree) ++ nodes) (behind-nothing (positions_among (kids (trees ++ others))) ∙ more.nodes_behind others
@@ -81,7 +81,7 @@ directive_of (DirectiveOf.masked is) = no-heads
 directive_of (DirectiveOf.master is) = no-heads
 directive_of (DirectiveOf.critical is) = no-heads
 directive_of (DirectiveOf.critical_named {name = name} is first named last) = record {
-  means = Does.plainly false [] [] [] (name_node name) [] (plain _ refl refl refl) (Does.nothing false);
+  does = Does.plainly false [] [] [] (name_node name) [] (plain _ refl refl refl) (Does.nothing false);
   acts_behind = λ more. refl;
   nodes_behind = λ more. ap (λ (nodes : List Position). position (name_node name) ∷ nodes) (behind-nothing (positions_among (kids more)));
   statement_behind = λ more. refl;

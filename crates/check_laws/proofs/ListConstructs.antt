@@ -1,12 +1,10 @@
 -- A construct, by the rule on names that are listed.
-use Rattle.std.specs.Prelude.{ℕ, nat_le, ◌≡◌, ◌⊎◌, ◌<◌, ◌≤◌, ◌+◌, ◌&&◌, not, Bool, true, false, is_none, List, [], ◌∷◌, ◌++◌, length, Option, Some, None, sum_by, refl}
+use Rattle.std.specs.Prelude.{ℕ, ◌≡◌, ◌⊎◌, ◌<◌, ◌&&◌, not, Bool, true, false, is_none, List, [], ◌∷◌, ◌++◌, length, Option, Some, None, refl}
 use Rattle.std.proofs.Common.{sym, ap, subst, ◌∙◌, inl, inr, arith, true≢false}
-use Rattle.std.specs.List.{Contains}
-use Rattle.std.proofs.lemmas.Bool.{and_parts, cases_Bool, leb-false, lt-leb}
-use Rattle.std.proofs.lemmas.List.Sums.{sum_by-append, sum_by-cons}
+use Rattle.std.proofs.lemmas.Bool.{and_parts, leb-false, lt-leb}
+use Rattle.std.proofs.lemmas.List.Sums.{sum_by-cons}
 use Rattle.c_tokens.specs.declared.token.Spot.{Spot}
 use Rattle.c_syntax.specs.declared.node.Directive.{Directive}
-use Rattle.c_syntax.specs.declared.node.NodeKind.{NodeKind}
 use Rattle.c_syntax.specs.declared.node.NodeKind.TheVariants as node
 use Rattle.c_syntax.specs.language.Tree.{Tree, children_of, kind_of, spot_of}
 use Rattle.c_check.specs.declared.acts.act.Act.{Act}
@@ -15,25 +13,24 @@ use Rattle.c_check.specs.declared.acts.act.Thing.{Thing}
 use Rattle.c_check.specs.declared.acts.act.Thing.TheVariants as thing
 use Rattle.c_check.specs.declared.constructs.parts.Head.{Head}
 use Rattle.c_check.specs.declared.scopes.declared.Declared.{Declared}
-use Rattle.c_check.specs.Checked.{after_all}
 use Rattle.c_check.specs.Clauses.{inside_acts}
 use Rattle.c_check.specs.Constructs.{Construct, begun_construct, is_inside, leaves_out, mention}
 use Rattle.c_check.specs.Declarations.{Declarations, find}
 use Rattle.c_check.specs.Here.{Here, after, is_variable}
 use Rattle.c_check.specs.Loops.{child_at, loop_name}
 use Rattle.c_check.specs.Statements.{statement_of}
-use Rattle.check_laws.specs.Scopes.{Declaration, Position, Sort, declared, meaning}
+use Rattle.check_laws.specs.Scopes.{Position, Sort, declared, meaning}
 use Rattle.check_laws.specs.LoopForm.{is_loop_construct}
-use Rattle.check_laws.specs.ListedNames.{HasDefaultNone, Lists, Used, clauses_of, is_construct, is_listable, positions_inside, used, with_inside}
+use Rattle.check_laws.specs.ListedNames.{HasDefaultNone, Lists, clauses_of, is_construct, is_listable, positions_inside, used, with_inside}
 use Rattle.code_slots.specs.OwnPlaces.{placed_at}
 use Rattle.code_slots.proofs.ActPlaces.{at_itself}
 use Rattle.check_laws.proofs.Broken.{BreaksIn}
 use Rattle.check_laws.proofs.Constructing.{IsBegun, open-begun}
-use Rattle.check_laws.proofs.Entries.{Entry, HavePlaces, OwnEntry, TakesAt, count_at, entries, entries-calm, origin, takes}
+use Rattle.check_laws.proofs.Entries.{Entry, HavePlaces, OwnEntry, TakesAt, entries, entries-calm, origin, takes}
 use Rattle.check_laws.proofs.Has.{Has, has-one, has-or-not, has-weaker, one-has}
-use Rattle.check_laws.proofs.ListRule.{AroundEntry, BrokenAt, HasBroken, Listing, Outcome, loop_entry, own-enclosed, places-enclosed, use_entry, used_as}
+use Rattle.check_laws.proofs.ListRule.{BrokenAt, HasBroken, Listing, Outcome, loop_entry, own-enclosed, places-enclosed, use_entry, used_as}
 use Rattle.check_laws.proofs.NameRule.{InnerNaming, begun-here, construct-uses-none, enters, first_here, informed-here, inside_here, names-here}
-use Rattle.check_laws.proofs.Naming.{IsNamed, IsUsedAt, Mentioned, Mentions, NamedBy, Purpose, SharesLoop, mentions, mentions-calm}
+use Rattle.check_laws.proofs.Naming.{IsNamed, IsUsedAt, Mentioned, Mentions, Purpose, mentions, mentions-calm}
 use Rattle.check_laws.proofs.Parts.{position}
 use Rattle.check_laws.proofs.Saying.{IsMentioned, IsNoneClause, IsUsedWith, ListsIn, ListsSlot, SaysNone, all-head, all-listed, all-none, all-said, list-says, list-tells, listed-all, none-all, none-says, none-tells, said_all}
 use Rattle.check_laws.proofs.Sharing.{no-meaning, same-option}
@@ -305,9 +302,9 @@ module _ (me : Tree) (which : Directive) (critical : ℕ) (kind : kind_of me ≡
             it.no_loop (subst (Has (IsNamed Purpose.looping it.name)) (sym with-inside)
             (has-weaker (Mentions visible (record { purpose = Purpose.looping; what = what })) (IsNamed Purpose.looping it.name)
             (λ at one.
-                let slot : HasSlot (find visible it.name) found.what.slot = subst (λ (some : Option Declared). HasSlot some found.what.slot) (sym found.is) refl in
-                let other : HasSlot (find visible one.name) found.what.slot = subst (λ (some : Option Declared). HasSlot some found.what.slot) (sym one.found) same in
-                subst (λ (name : ℕ). IsNamed Purpose.looping name at) (one-name (length here.names.all) visible one.name it.name found.what.slot ready.names.falls other slot) one.is)
+            let slot : HasSlot (find visible it.name) found.what.slot = subst (λ (some : Option Declared). HasSlot some found.what.slot) (sym found.is) refl in
+            let other : HasSlot (find visible one.name) found.what.slot = subst (λ (some : Option Declared). HasSlot some found.what.slot) (sym one.found) same in
+            subst (λ (name : ℕ). IsNamed Purpose.looping name at) (one-name (length here.names.all) visible one.name it.name found.what.slot ready.names.falls other slot) one.is)
             (position me ∷ nodes) has))
 
     abbrev one_entry : Mentioned → Spot → Entry

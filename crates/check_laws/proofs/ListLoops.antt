@@ -1,11 +1,11 @@
 -- Loops that a construct shares out, and functions, by the rule on names that are listed.
-use Rattle.std.specs.Prelude.{ℕ, ◌≡◌, ◌⊎◌, Bool, true, false, List, [], ◌∷◌, ◌++◌, Option, Some, None, refl}
-use Rattle.std.proofs.Common.{sym, ap, subst, ◌∙◌, inl, inr, arith, true≢false}
+use Rattle.std.specs.Prelude.{ℕ, ◌≡◌, Bool, true, false, List, [], ◌∷◌, ◌++◌, Option, Some, None, refl}
+use Rattle.std.proofs.Common.{sym, ap, subst, ◌∙◌, inl, inr}
 use Rattle.c_tokens.specs.declared.token.Spot.{Spot}
 use Rattle.c_syntax.specs.declared.node.Directive.{Directive}
 use Rattle.c_syntax.specs.declared.node.NodeKind.TheVariants as node
 use Rattle.c_syntax.specs.declared.node.Returns.{Returns}
-use Rattle.c_syntax.specs.language.Tree.{Tree, children_of, kind_of, spot_of}
+use Rattle.c_syntax.specs.language.Tree.{Tree, children_of, kind_of}
 use Rattle.c_check.specs.declared.acts.act.Act.{Act}
 use Rattle.c_check.specs.declared.acts.act.Act.TheVariants.{Assign, Begin, Close, Declare, End, Loop, Open}
 use Rattle.c_check.specs.declared.acts.role.Role.TheVariants as role
@@ -20,16 +20,16 @@ use Rattle.c_check.specs.Statements.{shares_loop, statement_of}
 use Rattle.check_laws.specs.Scopes.{Declaration, Position, Sort, behind, declared_as, positions}
 use Rattle.check_laws.specs.ListedNames.{is_construct, used}
 use Rattle.check_laws.proofs.Broken.{BreaksIn, breaks-either, breaks-left, breaks-right}
-use Rattle.check_laws.proofs.Constructing.{IsBegun, open-begun}
-use Rattle.check_laws.proofs.Does.{Does, no-loop}
+use Rattle.check_laws.proofs.Constructing.{open-begun}
+use Rattle.check_laws.proofs.Does.{Does}
 use Rattle.check_laws.proofs.Entries.{Entry, HavePlaces, OwnEntry, TakesAt, entries, entries-calm, own-left, own-right, places-left, places-right, takes}
 use Rattle.check_laws.proofs.Has.{Has, has-either}
 use Rattle.check_laws.proofs.ListConstructs.{Begun, listing-construct}
-use Rattle.check_laws.proofs.ListRule.{AroundEntry, BrokenAt, HasBroken, Listing, Outcome, act-around, act-tells, broken-back, broken-on, listing-act, listing-both, listing-front, listing-more, listing-nothing, listing-scoped, listing-uses, loop_entry, met-counts, outcome-left, outcome-right, own-between, places-between, use_entry, used_as}
+use Rattle.check_laws.proofs.ListRule.{BrokenAt, HasBroken, Listing, Outcome, act-around, act-tells, broken-back, broken-on, listing-act, listing-both, listing-front, listing-more, listing-nothing, listing-scoped, listing-uses, loop_entry, met-counts, outcome-left, outcome-right, own-between, places-between, use_entry, used_as}
 use Rattle.check_laws.proofs.LoopRule.{construct-none, does-mean}
 use Rattle.check_laws.proofs.Means.{begins as function-ready, begun, named, named-met}
 use Rattle.check_laws.proofs.Naming.{Mentioned, Purpose, mentions, mentions-calm}
-use Rattle.check_laws.proofs.NameRule.{anywhere, body_acts, constructs-naming, does-name, headed_here, here-ready, inner-loop-naming, loop, loop_made, loop_nodes, looped_here, me-shares, met-head, misses-naming, open_here, ready-body, ready-open, shared, within_acts}
+use Rattle.check_laws.proofs.NameRule.{constructs-naming, does-name, here-ready, inner-loop-naming, loop, me-shares, met-head, misses-naming, ready-body, ready-open, shared}
 use Rattle.check_laws.proofs.Parts.{LoopParts, odd_acts, part_declared, position}
 use Rattle.check_laws.proofs.SharedLoops.{body-open}
 use Rattle.check_laws.proofs.Sharing.{looping, odd-after}
@@ -249,11 +249,6 @@ pub does-list : {file : Bool} {some : List Act} {made : List Declaration} {nodes
 does-list (Does.nothing file) = listing-nothing (IsReady file)
 does-list (Does.both file some more first second nodes others one two) = listing-both file some more first second nodes others (does-mean one) (does-list one) (does-list two)
 does-list (Does.front file some made one nodes others it) = listing-front (IsReady file) some one nodes others (does-list it)
-does-list (Does.anywhere some made nodes it) = record {
-  around = λ here ready. (does-list it).around here (anywhere here ready);
-  tells = λ here ready. (does-list it).tells here (anywhere here ready);
-  breaks = λ here ready. (does-list it).breaks here (anywhere here ready);
-}
 does-list (Does.plainly file some made nodes tree scope plain it) = listing-more (IsReady file) some nodes tree scope plain.still.no_construct (does-list it)
 does-list (Does.silent file act is) = listing-act (IsReady file) act
 does-list (Does.uses file some tree still are) = listing-more (IsReady file) some [] tree [] still.no_construct (listing-uses file some (used tree) are)

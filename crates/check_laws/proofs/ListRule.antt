@@ -1,11 +1,10 @@
 -- What a part of a tree does by the rule on names that are listed.
-use Rattle.std.specs.Prelude.{ℕ, nat_le, ◌≡◌, ◌⊎◌, ◌<◌, ◌≤◌, ◌+◌, ◌&&◌, not, Bool, true, false, is_none, List, [], ◌∷◌, ◌++◌, length, Option, Some, None, sum_by, refl}
+use Rattle.std.specs.Prelude.{ℕ, ◌≡◌, ◌⊎◌, ◌≤◌, Bool, true, false, List, [], ◌∷◌, ◌++◌, Option, Some, refl}
 use Rattle.std.proofs.Common.{sym, ap, subst, ◌∙◌, inl, inr, arith, true≢false, append_assoc}
-use Rattle.std.specs.List.{Contains, IsAmong}
-use Rattle.std.proofs.lemmas.Bool.{cases_Bool, leb-false, lt-leb}
+use Rattle.std.specs.List.{IsAmong}
 use Rattle.std.proofs.lemmas.List.Sums.{sum_by-append, sum_by-cons}
 use Rattle.c_tokens.specs.declared.token.Spot.{Spot}
-use Rattle.c_syntax.specs.language.Tree.{Tree, children_of, kind_of, spot_of}
+use Rattle.c_syntax.specs.language.Tree.{Tree, children_of, kind_of}
 use Rattle.c_check.specs.declared.acts.act.Act.{Act}
 use Rattle.c_check.specs.declared.acts.act.Act.TheVariants.{Close, Loop, Open, Use}
 use Rattle.c_check.specs.declared.scopes.declared.Declared.{Declared}
@@ -14,10 +13,10 @@ use Rattle.c_check.specs.Constructs.{Construct}
 use Rattle.c_check.specs.Declarations.{Declarations, find}
 use Rattle.c_check.specs.Here.{Here, after}
 use Rattle.check_laws.specs.Scopes.{Declaration, Position, behind, meaning, under}
-use Rattle.check_laws.specs.ListedNames.{HasDefaultNone, Lists, Used, is_construct, is_listable, positions_inside, used, with_inside}
+use Rattle.check_laws.specs.ListedNames.{HasDefaultNone, Lists, Used, is_construct, is_listable, positions_inside, with_inside}
 use Rattle.code_slots.specs.OwnPlaces.{placed_at}
 use Rattle.check_laws.proofs.Broken.{BreaksIn, breaks-either, breaks-left, breaks-right}
-use Rattle.check_laws.proofs.Does.{AreUses, IsUse}
+use Rattle.check_laws.proofs.Does.{AreUses}
 use Rattle.check_laws.proofs.Entries.{Entry, HavePlaces, IsEntry, OwnEntry, TakesAt, count_at, entries, entries-calm, entry-found, found-entry, own-left, own-right, places-left, places-right}
 use Rattle.check_laws.proofs.Has.{Has, front-has, has-either, has-front, has-left, has-map, has-mapped, has-right, has-weaker}
 use Rattle.check_laws.proofs.LoopRule.{use-is-silent}

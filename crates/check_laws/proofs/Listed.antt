@@ -1,7 +1,6 @@
 -- A program breaks the rule on names that are listed where its tree does.
-use Rattle.std.specs.Prelude.{ℕ, ◌≡◌, ◌⊎◌, ◌≤◌, ◌+◌, Bool, true, false, List, [], ◌∷◌, ◌++◌, None, sum_by, refl}
-use Rattle.std.proofs.Common.{sym, ap, subst, ◌∙◌, inl, inr, arith, true≢false, append-nil}
-use Rattle.std.specs.List.{Contains, IsAmong}
+use Rattle.std.specs.Prelude.{ℕ, ◌≡◌, Bool, true, false, List, [], ◌∷◌, ◌++◌, None, refl}
+use Rattle.std.proofs.Common.{sym, subst, ◌∙◌, inl, inr, arith, true≢false, append-nil}
 use Rattle.std.proofs.lemmas.List.Sums.{sum_by-append}
 use Rattle.c_tokens.specs.declared.token.Spot.{Spot}
 use Rattle.c_syntax.specs.language.Numbered.{TreeView, root_tree}
@@ -10,13 +9,12 @@ use Rattle.c_syntax.specs.language.Tree.{Tree, children_of}
 use Rattle.c_check.specs.declared.acts.act.Act.{Act}
 use Rattle.c_check.specs.declared.acts.act.Act.TheVariants.{Finish}
 use Rattle.c_check.specs.declared.acts.role.Role.TheVariants as role
-use Rattle.c_check.specs.declared.constructs.parts.Unlisted.{Unlisted}
 use Rattle.c_check.specs.Acts.{acts}
 use Rattle.c_check.specs.Checked.{IsBroken, after_all}
 use Rattle.c_check.specs.Here.{Here, before_all}
 use Rattle.c_check.specs.Rules.{is_loop_inside, unlisted_uses}
 use Rattle.check_laws.specs.Scopes.{Declaration, Position, meaning, positions}
-use Rattle.check_laws.specs.ListedNames.{BreaksListing, Lists, SharesLoopOf, Used, is_listable, positions_inside, used, with_inside}
+use Rattle.check_laws.specs.ListedNames.{BreaksListing, Lists, SharesLoopOf, is_listable, positions_inside, used, with_inside}
 use Rattle.code_slots.specs.OwnPlaces.{HasOwnPlaces, placed_at}
 use Rattle.code_slots.proofs.ProductionPlaces.{texts_have_own_places}
 use Rattle.check_laws.proofs.Broken.{BreaksIn, breaks-broken, breaks-either, breaks-right, broken-breaks}
@@ -92,7 +90,7 @@ module _ (program : TreeView) (spot : Spot) (told : IsTold (root_tree program)) 
   last = after_all first tree_acts
 
   listing : Listing (IsReady true) tree_acts (positions (root_tree program))
-  listing = does-list told.means
+  listing = does-list told.does
 
   -- what is kept at the end is broken in the tree
   kept-broken : (slot : ℕ) (at : Spot) → is_loop_inside last.constructs.loops slot at ≡ false → Outcome first tree_acts (positions (root_tree program)) spot slot at → Has (BrokenAt [] spot) (positions (root_tree program))
@@ -112,7 +110,7 @@ module _ (program : TreeView) (spot : Spot) (told : IsTold (root_tree program)) 
   rule-broken : IsBroken unlisted_uses program spot → Has (BrokenAt [] spot) (positions (root_tree program))
   rule-broken broken =
       elim (breaks-either unlisted_uses spot first tree_acts ends (broken-breaks unlisted_uses program spot broken)) [
-        | inl within ↦ absurd (none-before first tree_acts (does-unfinished told.means) spot within)
+        | inl within ↦ absurd (none-before first tree_acts (does-unfinished told.does) spot within)
         | inr (inl finish) ↦ told-broken (listed-told last.constructs.loops last.constructs.unlisted spot finish)
         | inr (inr never) ↦ absurd never
       ]

@@ -4,10 +4,9 @@ use Rattle.std.proofs.Common.{sym, ap, subst, ◌∙◌, inl, inr, append-nil, a
 use Rattle.std.proofs.lemmas.Bool.{cases_Bool}
 use Rattle.std.proofs.lemmas.List.{map-append}
 use Rattle.c_syntax.specs.declared.node.Directive.{Directive}
-use Rattle.c_syntax.specs.declared.node.NodeKind.{NodeKind}
 use Rattle.c_syntax.specs.declared.node.NodeKind.TheVariants as node
 use Rattle.c_syntax.specs.language.Words.{Word}
-use Rattle.c_syntax.specs.language.Tree.{Tree, Children, children_of, kind_of}
+use Rattle.c_syntax.specs.language.Tree.{Tree, Children, kind_of}
 use Rattle.c_syntax.specs.language.Tree.Children.{Over, Child}
 use Rattle.c_syntax.specs.language.Productions.{ConditionPart, FirstPart, StepPart, kids, made_at, maybe}
 use Rattle.c_check.specs.declared.acts.act.Act.{Act}
@@ -95,19 +94,19 @@ module _ {limit depth : ℕ} {one two three four five six : List Word} {begins t
   loop-shared = record {
     parts = parts-here;
     head = Does.both false (part_acts begins) (part_acts tests ++ part_acts steps) (part_declared begins) [] (part_nodes begins) (part_nodes tests ++ behind [] (part_nodes steps)) (first_of first)
-        (Does.both false (part_acts tests) (part_acts steps) [] [] (part_nodes tests) (part_nodes steps) (condition_part second).means (step_part third).means);
-    inner = inner.means;
+        (Does.both false (part_acts tests) (part_acts steps) [] [] (part_nodes tests) (part_nodes steps) (condition_part second).does (step_part third).does);
+    inner = inner.does;
   }
 
   pub loop-quiet : Quiet role.Plain loop_here
   unfolding acts positions declared loop-shared parts-here
   loop-quiet =
       let shared = loop-shared.parts in
-      let both = Does.both false shared.head_acts (acts role.Plain body) (part_declared begins) [] shared.head_nodes (positions body) loop-shared.head inner.means in
+      let both = Does.both false shared.head_acts (acts role.Plain body) (part_declared begins) [] shared.head_nodes (positions body) loop-shared.head inner.does in
       let scoped = Does.scoped false (shared.head_acts ++ acts role.Plain body) ([] ++ part_declared begins) (shared.head_nodes ++ behind (part_declared begins) (positions body)) both in
       let whole = Does.plainly false (Open ∷ (shared.head_acts ++ acts role.Plain body) ++ Close ∷ []) [] (shared.head_nodes ++ behind (part_declared begins) (positions body)) loop_here [] (plain loop_here refl refl refl) scoped in
       record {
-        means = does-of false _ (acts role.Plain loop_here) [] [] _ (positions loop_here) (ap (λ (some : List Act). Open ∷ some ++ Close ∷ []) (sym (parts-acts []))) refl (sym shared.nodes_are) whole;
+        does = does-of false _ (acts role.Plain loop_here) [] [] _ (positions loop_here) (ap (λ (some : List Act). Open ∷ some ++ Close ∷ []) (sym (parts-acts []))) refl (sym shared.nodes_are) whole;
         none = refl;
       }
 
@@ -146,7 +145,7 @@ module _ (which : Directive) (word : Word) (trees : List Tree) (tree : Tree) (he
       → Does false (acts_over (statements (role_with name) over_here)) [] (position construct_here ∷ positions tree)
   construct-named shared None named =
       subst (λ (some : List Act). Does false (acts_over some) [] (position construct_here ∷ positions tree)) (sym (statements-are role.Plain))
-      (Does.misses construct_here which (name_of_critical over_here) (acts role.Plain tree) (positions tree) refl shares named inside-is quiet.means)
+      (Does.misses construct_here which (name_of_critical over_here) (acts role.Plain tree) (positions tree) refl shares named inside-is quiet.does)
   construct-named (inl unnamed) (Some name) named = absurd (let no : None ≡ Some name = sym unnamed ∙ ap loop_name (sym loop-is) ∙ named in cc)
   construct-named (inr shared) (Some name) named =
       let there : DoneLoop (statement_of over_here) = subst DoneLoop (sym loop-is) shared in

@@ -1,6 +1,6 @@
 -- What a part of a tree does by the rule on loops.
-use Rattle.std.specs.Prelude.{ℕ, ◌≡◌, Bool, true, false, List, [], ◌∷◌, ◌++◌, None, refl}
-use Rattle.std.proofs.Common.{sym, ap, subst, ◌∙◌, inl, inr}
+use Rattle.std.specs.Prelude.{◌≡◌, Bool, true, false, List, [], ◌∷◌, ◌++◌, None}
+use Rattle.std.proofs.Common.{ap, ◌∙◌, inl, inr}
 use Rattle.c_syntax.specs.declared.node.Directive.{Directive}
 use Rattle.c_syntax.specs.declared.node.NodeKind.{NodeKind}
 use Rattle.c_syntax.specs.declared.node.NodeKind.TheVariants as node
@@ -18,7 +18,7 @@ use Rattle.check_laws.proofs.Constructing.{construct-means, inner-plain, inner-p
 use Rattle.check_laws.proofs.Does.{AreUses, Does, IsStill, IsUse, is_silent, no-loop, still-no-loop}
 use Rattle.check_laws.proofs.Has.{Has, front-has, has-front}
 use Rattle.check_laws.proofs.Informing.{inside-informs}
-use Rattle.check_laws.proofs.Means.{IsPlain, IsSilent, Means, barrier-silent, means-assign, means-both, means-declare, means-file, means-function, means-nothing, means-plain, means-same, means-scope, means-silent, print-silent, return-silent, use-silent}
+use Rattle.check_laws.proofs.Means.{IsPlain, IsSilent, Means, barrier-silent, means-assign, means-both, means-declare, means-function, means-nothing, means-plain, means-same, means-scope, means-silent, print-silent, return-silent, use-silent}
 use Rattle.check_laws.proofs.Parts.{LoopParts, part_declared, position}
 use Rattle.check_laws.proofs.SharedLoops.{SharedLoop, inner-loop}
 use Rattle.check_laws.proofs.Sharing.{inner-other}
@@ -54,28 +54,12 @@ pub construct-none : (me : Tree) (which : Directive) → kind_of me ≡ node.Con
 construct-none me which kind = ap (λ (kind : NodeKind). assigned_by kind (children_of me)) kind
 
 abbrev pub shared-loop : (loop : Tree) (it : LoopParts loop) → Means false it.head_acts (part_declared it.begins) it.head_nodes → Means false (acts role.Plain it.body) [] (positions it.body) → SharedLoop loop
-shared-loop loop it head inner = record {
-  begins = it.begins;
-  tests = it.tests;
-  steps = it.steps;
-  body = it.body;
-  kind = it.kind;
-  children = it.children;
-  head_acts = it.head_acts;
-  head_nodes = it.head_nodes;
-  acts_are = it.acts_are;
-  nodes_are = it.nodes_are;
-  head = head;
-  calm = it.calm;
-  inner = inner;
-  heads = it.heads;
-}
+shared-loop loop it head inner = record { parts = it; head = head; inner = inner }
 
 pub does-mean : {file : Bool} {some : List Act} {made : List Declaration} {nodes : List Position} → Does file some made nodes → Means file some made nodes
 does-mean (Does.nothing file) = means-nothing file
 does-mean (Does.both file some more first second nodes others one two) = means-both file some more first second nodes others (does-mean one) (does-mean two)
 does-mean (Does.front file acts made one nodes others it) = means-same file acts made (nodes ++ one ∷ others) (one ∷ (nodes ++ others)) (front-has one nodes others) (has-front one nodes others) (does-mean it)
-does-mean (Does.anywhere acts made nodes it) = means-file acts made nodes (does-mean it)
 does-mean (Does.plainly file acts made nodes tree scope plain it) = means-plain file acts made nodes tree scope (still-plain tree plain.still) (does-mean it)
 does-mean (Does.silent file act is) = means-silent file act (silent act is)
 does-mean (Does.uses file acts tree still are) = means-plain file acts [] [] tree [] (still-plain tree still) (uses-mean file acts (used tree) are)

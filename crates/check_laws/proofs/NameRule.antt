@@ -1,5 +1,5 @@
 -- The names that stand in a part of a tree are those that its acts tell of.
-use Rattle.std.specs.Prelude.{ℕ, ◌≡◌, ◌⊎◌, ◌<◌, ◌≤◌, Bool, true, false, List, [], ◌∷◌, ◌++◌, length, Option, Some, None, unwrap_or, refl}
+use Rattle.std.specs.Prelude.{ℕ, ◌≡◌, ◌<◌, Bool, true, false, List, [], ◌∷◌, ◌++◌, length, Option, Some, None, unwrap_or, refl}
 use Rattle.std.proofs.Common.{sym, ap, subst, ◌∙◌, inl, inr, arith, true≢false}
 use Rattle.std.specs.List.{IsAmong}
 use Rattle.c_tokens.specs.declared.token.Spot.{Spot}
@@ -9,7 +9,7 @@ use Rattle.c_syntax.specs.declared.node.NodeKind.TheVariants as node
 use Rattle.c_syntax.specs.declared.node.Returns.{Returns}
 use Rattle.c_syntax.specs.language.Tree.{Tree, Children, at_place, children_of, kind_of, name_of, nothing, spot_of}
 use Rattle.c_check.specs.declared.acts.act.Act.{Act}
-use Rattle.c_check.specs.declared.acts.act.Act.TheVariants.{Assign, Barrier, Begin, Close, Declare, End, Enter, Leave, Loop, Open, Print, Return, Use}
+use Rattle.c_check.specs.declared.acts.act.Act.TheVariants.{Assign, Barrier, Begin, Close, Declare, End, Enter, Leave, Loop, Open, Print, Return}
 use Rattle.c_check.specs.declared.acts.role.Role.TheVariants as role
 use Rattle.c_check.specs.declared.scopes.declared.Declared.{Declared}
 use Rattle.c_check.specs.Acts.{acts}
@@ -21,22 +21,22 @@ use Rattle.c_check.specs.Here.{Here, after}
 use Rattle.c_check.specs.Loops.{child_at, has_form, loop_name}
 use Rattle.c_check.specs.Statements.{shares_loop, statement_of}
 use Rattle.check_laws.specs.Scopes.{Declaration, Position, Sort, behind, declared, declared_as, meaning, positions}
-use Rattle.check_laws.specs.LoopForm.{assigned_by, assigned_variable, is_loop_construct}
-use Rattle.check_laws.specs.ListedNames.{Used, is_construct, used, used_by}
+use Rattle.check_laws.specs.LoopForm.{assigned_by, is_loop_construct}
+use Rattle.check_laws.specs.ListedNames.{is_construct, used, used_by}
 use Rattle.check_laws.proofs.Broken.{BreaksIn, breaks-either, breaks-left, breaks-right}
 use Rattle.check_laws.proofs.Constructing.{Inner, IsBegun, begins, begun-ready, informed, inner-plain}
-use Rattle.check_laws.proofs.Does.{AreUses, Does, IsPlain, is_silent, no-loop, still-no-loop}
+use Rattle.check_laws.proofs.Does.{AreUses, Does, is_silent, no-loop, still-no-loop}
 use Rattle.check_laws.proofs.Forms.{first-part}
-use Rattle.check_laws.proofs.Has.{Has, front-has, has-either, has-front, has-left, has-right, has-weaker}
+use Rattle.check_laws.proofs.Has.{Has, front-has, has-either, has-front, has-left, has-right}
 use Rattle.check_laws.proofs.Informing.{Informed, inside-informs}
 use Rattle.check_laws.proofs.LoopRule.{construct-none, does-mean, shared-loop, shares-same}
 use Rattle.check_laws.proofs.Means.{Means, begins as function-ready, begun, means-nothing, named, named-met, opened}
-use Rattle.check_laws.proofs.Naming.{IsNamed, IsUsedAt, Mentioned, Mentions, NamedBy, Purpose, SharesLoop, case-mentioned, mentioned-case, mentions, mentions-back, mentions-calm, mentions-on, plain-names-none, uses-break, uses-tell}
+use Rattle.check_laws.proofs.Naming.{IsUsedAt, Mentioned, Mentions, NamedBy, Purpose, SharesLoop, case-mentioned, mentioned-case, mentions, mentions-back, mentions-calm, mentions-on, plain-names-none, uses-break, uses-tell}
 use Rattle.check_laws.proofs.Parts.{LoopParts, odd_acts, part_declared, position}
 use Rattle.check_laws.proofs.SharedLoops.{SharedLoop, body-ready, head-met, open-ready}
 use Rattle.check_laws.proofs.Sharing.{declared-part}
 use Rattle.check_laws.proofs.Standing.{IsReady, Met, ready-after}
-use Rattle.check_laws.proofs.Unnamed.{all-unnamed, behind-first, behind-odd, between, enclosed, inside-informing, is_naming, none-of, not-one, put-behind-odd, put-between, put-enclosed}
+use Rattle.check_laws.proofs.Unnamed.{all-unnamed, behind-odd, between, enclosed, inside-informing, is_naming, not-one, put-behind-odd, put-between, put-enclosed}
 use Rattle.check_laws.proofs.Visible.{HasSlot, find-older, older, scope_of}
 
 pub record Naming (file : Bool) (acts : List Act) (nodes : List Position) : Type 0 where
@@ -71,9 +71,6 @@ naming-front file acts one nodes others it = record {
   tells = λ here ready what less breaks. front-has one nodes others (Mentions here.names.visible what) (it.tells here ready what less breaks);
   breaks = λ here ready what has. it.breaks here ready what (has-front one nodes others (Mentions here.names.visible what) has);
 }
-
-pub anywhere : (here : Here) → IsReady true here → IsReady false here
-anywhere here ready = record { names = ready.names; loops = ready.loops; outside = λ is. absurd (let wrong : false ≡ true = is in cc) }
 
 -- one more node that names nothing
 abbrev NamesNothing : Tree → Type 0
@@ -355,7 +352,6 @@ pub does-name : {file : Bool} {some : List Act} {made : List Declaration} {nodes
 does-name (Does.nothing file) = naming-nothing file
 does-name (Does.both file some more first second nodes others one two) = naming-both file some more first second nodes others (does-mean one) (does-name one) (does-name two)
 does-name (Does.front file some made one nodes others it) = naming-front file some one nodes others (does-name it)
-does-name (Does.anywhere some made nodes it) = record { tells = λ here ready. (does-name it).tells here (anywhere here ready); breaks = λ here ready. (does-name it).breaks here (anywhere here ready) }
 does-name (Does.plainly file some made nodes tree scope plain it) = naming-more file some nodes tree scope (plain-names-none tree plain) (does-name it)
 does-name (Does.silent file act is) = naming-none file act (silent-unnamed act is)
 does-name (Does.uses file some tree still are) = naming-uses file some tree (still-no-loop tree still) are

@@ -1,13 +1,12 @@
 -- Which declarations the names of a part of a tree mean, as the checker finds them and in the tree's words.
-use Rattle.std.specs.Prelude.{ℕ, ◌≡◌, ◌⊎◌, ◌<◌, Bool, true, false, List, [], ◌∷◌, ◌++◌, length, Option, Some, None, unwrap_or, refl}
-use Rattle.std.proofs.Common.{sym, ap, subst, ◌∙◌, inl, inr, arith, true≢false}
+use Rattle.std.specs.Prelude.{ℕ, ◌≡◌, ◌<◌, true, List, [], ◌∷◌, ◌++◌, length, Option, Some, None, refl}
+use Rattle.std.proofs.Common.{sym, ap, subst, ◌∙◌, inl, inr, true≢false}
 use Rattle.std.specs.List.{IsAmong}
 use Rattle.c_tokens.specs.declared.token.Spot.{Spot}
-use Rattle.c_syntax.specs.language.Tree.{Tree, at_place, children_of, kind_of, nothing, spot_of}
+use Rattle.c_syntax.specs.language.Tree.{Tree, children_of, kind_of}
 use Rattle.c_check.specs.declared.acts.act.Act.{Act}
 use Rattle.c_check.specs.declared.acts.act.Act.TheVariants.{Loop, Use}
 use Rattle.c_check.specs.declared.scopes.declared.Declared.{Declared}
-use Rattle.c_check.specs.Checked.{after_all}
 use Rattle.c_check.specs.Declarations.{Declarations, find}
 use Rattle.c_check.specs.Here.{Here, after}
 use Rattle.c_check.specs.Loops.{child_at, loop_name}
@@ -16,11 +15,11 @@ use Rattle.check_laws.specs.Scopes.{Declaration, Position, behind, declared, mea
 use Rattle.check_laws.specs.LoopForm.{is_loop_construct}
 use Rattle.check_laws.specs.ListedNames.{Used, used}
 use Rattle.check_laws.proofs.Broken.{BreaksIn}
-use Rattle.check_laws.proofs.Does.{AreUses, IsPlain, IsStill, IsUse, still-no-loop}
+use Rattle.check_laws.proofs.Does.{AreUses, IsPlain, IsUse, still-no-loop}
 use Rattle.check_laws.proofs.Has.{Has, among-case, among-first, has-map, has-mapped, has-weaker}
 use Rattle.check_laws.proofs.Means.{not-among, use-silent}
 use Rattle.check_laws.proofs.Standing.{Names}
-use Rattle.check_laws.proofs.Unnamed.{Unnaming, is_naming}
+use Rattle.check_laws.proofs.Unnamed.{Unnaming}
 use Rattle.check_laws.proofs.Visible.{HasSlot, find-older, meaning-both, meaning-left, meaning-right, older, scope_of}
 
 -- a name is used at a place, or is that of the variable of a loop that is shared out

@@ -1,5 +1,5 @@
 -- Parts of a text that declare nothing for what stands behind them: expressions, calls, lists of names, steps, clauses.
-use Rattle.std.specs.Prelude.{ℕ, ◌≡◌, Bool, true, false, List, [], ◌∷◌, ◌++◌, None, refl}
+use Rattle.std.specs.Prelude.{ℕ, ◌≡◌, Bool, true, false, List, [], ◌∷◌, ◌++◌, refl}
 use Rattle.std.proofs.Common.{sym, subst, append-nil}
 use Rattle.c_syntax.specs.declared.head.Head.{Head}
 use Rattle.c_syntax.specs.language.Words.{Word}
@@ -10,7 +10,6 @@ use Rattle.c_tokens.specs.declared.token.Spot.{Spot}
 use Rattle.c_check.specs.declared.acts.act.Act.{Act}
 use Rattle.c_check.specs.declared.acts.act.Act.TheVariants.{Use}
 use Rattle.c_check.specs.declared.acts.act.Usage.{Usage}
-use Rattle.c_check.specs.declared.acts.act.Usage.TheVariants as usage
 use Rattle.c_check.specs.declared.acts.role.Role.{Role}
 use Rattle.c_check.specs.declared.acts.role.Role.TheVariants as role
 use Rattle.c_check.specs.declared.acts.role.Naming.{Naming}
@@ -19,28 +18,27 @@ use Rattle.c_check.specs.Acts.{acts, each}
 use Rattle.c_check.specs.NameLists.{named, names}
 use Rattle.c_check.specs.Usages.{assigned}
 use Rattle.check_laws.specs.Scopes.{Declaration, Position, behind, declared, positions, positions_among}
-use Rattle.check_laws.specs.ListedNames.{Used, each_used, used}
+use Rattle.check_laws.specs.ListedNames.{each_used, used}
 use Rattle.check_laws.proofs.Does.{AreUses, Does, IsStill, IsUse, does-node, does-of, is_silent, plain, still}
 use Rattle.check_laws.proofs.Parts.{position}
-use Rattle.check_laws.proofs.Visible.{behind-nothing}
 
 -- a part that declares nothing
 pub record Quiet (around : Role) (tree : Tree) : Type 0 where
-  pub means : Does false (acts around tree) [] (positions tree)
+  pub does : Does false (acts around tree) [] (positions tree)
   pub none : declared tree ≡ []
 
 pub record Row (around : Role) (children : Children) : Type 0 where
-  pub means : Does false (each around children) [] (positions_among children)
+  pub does : Does false (each around children) [] (positions_among children)
 
 pub row-end : (around : Role) → Row around Over
 unfolding each positions_among
-row-end around = record { means = Does.nothing false }
+row-end around = record { does = Does.nothing false }
 
 pub row-then : {around : Role} {tree : Tree} {rest : Children} → Quiet around tree → Row around rest → Row around (Child tree rest)
 unfolding each positions_among
 row-then {around} {tree} {rest} first more =
-    let both = Does.both false (acts around tree) (each around rest) [] [] (positions tree) (positions_among rest) first.means more.means in
-    record { means = subst (λ (scope : List Declaration). Does false (acts around tree ++ each around rest) [] (positions tree ++ behind scope (positions_among rest))) (sym first.none) both }
+    let both = Does.both false (acts around tree) (each around rest) [] [] (positions tree) (positions_among rest) first.does more.does in
+    record { does = subst (λ (scope : List Declaration). Does false (acts around tree ++ each around rest) [] (positions tree ++ behind scope (positions_among rest))) (sym first.none) both }
 
 -- a node that uses a name, over what follows the use
 pub use-node : {some : List Act} {nodes : List Position} (name : ℕ) (spot : Spot) (usage : Usage) (tree : Tree) → IsStill tree → used tree ≡ record { name = name; spot = spot } ∷ []
@@ -72,27 +70,27 @@ mutual
   ranked (Ranked.operand one) around calm = operand one around calm
   ranked (Ranked.above less one) around calm = ranked one around calm
   ranked (Ranked.joined operator left sign right) around calm = record {
-    means = does-node false _ [] _ _ (plain _ refl refl refl) (row-then (ranked left role.Plain refl) (row-then (ranked right role.Plain refl) (row-end role.Plain))).means;
+    does = does-node false _ [] _ _ (plain _ refl refl refl) (row-then (ranked left role.Plain refl) (row-then (ranked right role.Plain refl) (row-end role.Plain))).does;
     none = refl;
   }
 
   pub operand : {limit depth : ℕ} {at : Head} {words rest : List Word} {tree : Tree} → Operand limit depth at words rest tree → (around : Role) → is_target around ≡ false → Quiet around tree
   operand (Operand.signed operator sign deep one) around calm = record {
-    means = does-node false _ [] _ _ (plain _ refl refl refl) (row-then (operand one role.Plain refl) (row-end role.Plain)).means;
+    does = does-node false _ [] _ _ (plain _ refl refl refl) (row-then (operand one role.Plain refl) (row-end role.Plain)).does;
     none = refl;
   }
-  operand (Operand.number is) around calm = record { means = does-node false [] [] [] _ (plain _ refl refl refl) (Does.nothing false); none = refl }
+  operand (Operand.number is) around calm = record { does = does-node false [] [] [] _ (plain _ refl refl refl) (Does.nothing false); none = refl }
   operand (Operand.placed one) around calm = place one around calm
   operand (Operand.parenthesis first deep one last) around calm = record {
-    means = does-node false _ [] _ _ (plain _ refl refl refl) (row-then (ranked one role.Plain refl) (row-end role.Plain)).means;
+    does = does-node false _ [] _ _ (plain _ refl refl refl) (row-then (ranked one role.Plain refl) (row-end role.Plain)).does;
     none = refl;
   }
-  operand (Operand.getter which is first last) around calm = record { means = does-node false [] [] [] _ (plain _ refl refl refl) (Does.nothing false); none = refl }
+  operand (Operand.getter which is first last) around calm = record { does = does-node false [] [] [] _ (plain _ refl refl refl) (Does.nothing false); none = refl }
 
   pub place : {limit depth : ℕ} {at : Head} {words rest : List Word} {tree : Tree} → Place limit depth at words rest tree → (around : Role) → is_target around ≡ false → Quiet around tree
   place (Place.place {word = word} {children = children} is index) around calm = record {
-    means = use-node word.value word.spot _ _ (still _ refl refl) refl
-        (subst (λ (some : List Act). Does false (some ++ each role.Plain children) [] (positions_among children)) (sym (assigned-none around _ word.value calm)) (index_part index).means);
+    does = use-node word.value word.spot _ _ (still _ refl refl) refl
+        (subst (λ (some : List Act). Does false (some ++ each role.Plain children) [] (positions_among children)) (sym (assigned-none around _ word.value calm)) (index_part index).does);
     none = refl;
   }
 
@@ -160,10 +158,10 @@ lock_of (Lock.lock {word = word} first second is last) tree still uses = names-n
 pub call_of : {limit depth : ℕ} {words rest : List Word} {tree : Tree} → Call limit depth words rest tree → (around : Role) → Quiet around tree
 unfolding acts positions declared
 call_of (Call.call {word = word} is first arguments last) around = record {
-  means = use-node word.value word.spot _ _ (still _ refl refl) refl (arguments_part arguments).means;
+  does = use-node word.value word.spot _ _ (still _ refl refl) refl (arguments_part arguments).does;
   none = refl;
 }
-call_of (Call.test is locked) around = record { means = lock_of locked _ (still _ refl refl) refl; none = refl }
+call_of (Call.test is locked) around = record { does = lock_of locked _ (still _ refl refl) refl; none = refl }
 
 pub value_of : {limit depth : ℕ} {words rest : List Word} {tree : Tree} → Value limit depth words rest tree → (around : Role) → is_target around ≡ false → Quiet around tree
 value_of (Value.expression one) around calm = ranked one around calm

@@ -1,15 +1,14 @@
 -- What the clauses of a construct say of it: that it has `default(none)`, and which names it lists.
-use Rattle.std.specs.Prelude.{ℕ, nat_eq, ◌≡◌, ◌⊎◌, Bool, true, false, if◌then◌else◌, List, [], ◌∷◌, ◌++◌, Option, Some, None, is_none, option_map, refl}
-use Rattle.std.proofs.Common.{sym, ap, subst, ◌∙◌, inl, inr}
+use Rattle.std.specs.Prelude.{ℕ, nat_eq, ◌≡◌, ◌⊎◌, Bool, true, false, List, [], ◌∷◌, ◌++◌, Option, Some, None, is_none, option_map, refl}
+use Rattle.std.proofs.Common.{sym, ap, ◌∙◌, inl, inr}
 use Rattle.std.proofs.lemmas.Bool.{cases_Bool, eqb-true}
 use Rattle.std.proofs.lemmas.Bool.Decides.{nat_tests}
 use Rattle.std.proofs.Common.{arith}
-use Rattle.c_tokens.specs.declared.token.Spot.{Spot}
 use Rattle.c_syntax.specs.declared.node.Default.{Default}
 use Rattle.c_syntax.specs.declared.node.Default.TheVariants as default
 use Rattle.c_syntax.specs.declared.node.NodeKind.{NodeKind}
 use Rattle.c_syntax.specs.declared.node.NodeKind.TheVariants as node
-use Rattle.c_syntax.specs.language.Tree.{Tree, Children, children_of, kind_of, name_of, spot_of}
+use Rattle.c_syntax.specs.language.Tree.{Tree, Children, children_of, kind_of}
 use Rattle.c_syntax.specs.language.Tree.Tree.{Node}
 use Rattle.c_syntax.specs.language.Tree.Children.{Over, Child, Absent}
 use Rattle.c_check.specs.declared.acts.act.Act.{Act}
@@ -22,7 +21,7 @@ use Rattle.c_check.specs.declared.constructs.parts.Clauses.{Clauses}
 use Rattle.c_check.specs.declared.constructs.parts.Mention.{Mention}
 use Rattle.c_check.specs.declared.scopes.declared.Declared.{Declared}
 use Rattle.c_check.specs.Checked.{after_all}
-use Rattle.c_check.specs.Clauses.{chunk_of, clause_inside, first_inside, inside_acts}
+use Rattle.c_check.specs.Clauses.{chunk_of, clause_inside, inside_acts}
 use Rattle.c_check.specs.Constructs.{Construct, Constructs, mention, with_single}
 use Rattle.c_check.specs.Declarations.{Declarations, find}
 use Rattle.c_check.specs.Here.{Here, after, listed}

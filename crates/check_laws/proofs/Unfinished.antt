@@ -1,11 +1,11 @@
 -- No act of a tree ends the text.
 use Rattle.std.specs.Prelude.{◌≡◌, Bool, true, false, List, [], ◌∷◌, ◌++◌, refl}
-use Rattle.std.proofs.Common.{inl, inr, subst, sym, true≢false}
+use Rattle.std.proofs.Common.{inl, inr, subst, true≢false}
 use Rattle.std.specs.List.{IsAmong}
 use Rattle.c_tokens.specs.declared.token.Spot.{Spot}
 use Rattle.c_syntax.specs.language.Tree.{children_of}
 use Rattle.c_check.specs.declared.acts.act.Act.{Act}
-use Rattle.c_check.specs.declared.acts.act.Act.TheVariants.{Barrier, Clause, Close, End, Finish, Leave, List as Listing, Open, Print, Return, Use}
+use Rattle.c_check.specs.declared.acts.act.Act.TheVariants.{Close, End, Finish, Leave, Use}
 use Rattle.c_check.specs.Clauses.{inside_acts}
 use Rattle.c_check.specs.Loops.{has_form}
 use Rattle.c_check.specs.Here.{Here, after}
@@ -60,7 +60,6 @@ pub does-unfinished : {file : Bool} {some : List Act} {made : List Declaration} 
 does-unfinished (Does.nothing file) = tt
 does-unfinished (Does.both file some more first second nodes others one two) = both-unfinished some more (does-unfinished one) (does-unfinished two)
 does-unfinished (Does.front file some made one nodes others it) = does-unfinished it
-does-unfinished (Does.anywhere some made nodes it) = does-unfinished it
 does-unfinished (Does.plainly file some made nodes tree scope plain it) = does-unfinished it
 does-unfinished (Does.silent file act is) = (silent-unfinished act is, tt)
 does-unfinished (Does.uses file some tree still are) = uses-unfinished some (used tree) are
@@ -70,14 +69,18 @@ does-unfinished (Does.scoped file some made nodes it) = (refl, both-unfinished s
 does-unfinished (Does.function name spot returns parameters some made nodes it) = (refl, both-unfinished some (End ∷ []) (does-unfinished it) (refl, tt))
 does-unfinished (Does.constructs me which critical some nodes kind shares inside it) =
     (refl, both-unfinished (inside_acts (children_of me)) _ (all-unfinished (inside_acts (children_of me)) (inside-informing (children_of me))) (both-unfinished some (Leave ∷ []) (does-unfinished it) (refl, tt)))
-does-unfinished (Does.misses me which critical some nodes kind shares unnamed inside it) =
-    (refl, both-unfinished (inside_acts (children_of me)) _ (all-unfinished (inside_acts (children_of me)) (inside-informing (children_of me)))
-    (both-unfinished _ (Leave ∷ []) (both-unfinished (odd_acts (has_form (statement_of (children_of me)))) some (odd-unfinished (has_form (statement_of (children_of me)))) (does-unfinished it)) (refl, tt)))
-does-unfinished (Does.shares me which critical name it kind shares named inside head inner) =
-    (refl, both-unfinished (inside_acts (children_of me)) _ (all-unfinished (inside_acts (children_of me)) (inside-informing (children_of me)))
-    (both-unfinished _ (Leave ∷ [])
-    (both-unfinished (odd_acts (has_form (statement_of (children_of me)))) _ (odd-unfinished (has_form (statement_of (children_of me))))
-    (refl, both-unfinished _ (Close ∷ []) (both-unfinished it.head_acts _ (does-unfinished head) (refl, does-unfinished inner)) (refl, tt))) (refl, tt)))
+does-unfinished (Does.misses me which critical some nodes kind shares unnamed inside it) = (
+  refl,
+  both-unfinished (inside_acts (children_of me)) _ (all-unfinished (inside_acts (children_of me)) (inside-informing (children_of me)))
+      (both-unfinished _ (Leave ∷ []) (both-unfinished (odd_acts (has_form (statement_of (children_of me)))) some (odd-unfinished (has_form (statement_of (children_of me)))) (does-unfinished it)) (refl, tt)),
+)
+does-unfinished (Does.shares me which critical name it kind shares named inside head inner) = (
+  refl,
+  both-unfinished (inside_acts (children_of me)) _ (all-unfinished (inside_acts (children_of me)) (inside-informing (children_of me)))
+      (both-unfinished _ (Leave ∷ [])
+      (both-unfinished (odd_acts (has_form (statement_of (children_of me)))) _ (odd-unfinished (has_form (statement_of (children_of me))))
+      (refl, both-unfinished _ (Close ∷ []) (both-unfinished it.head_acts _ (does-unfinished head) (refl, does-unfinished inner)) (refl, tt))) (refl, tt)),
+)
 
 unlisted-later : (here : Here) (act : Act) → is_finish act ≡ false → unlisted_uses here act ≡ []
 unlisted-later here (Finish spot) is = absurd (true≢false is)

@@ -1,6 +1,6 @@
 -- The uses and loops that the checker has kept at the end of a program, and what it tells of them.
 use Rattle.std.specs.Prelude.{ℕ, nat_eq, ◌≡◌, ◌⊎◌, ◌&&◌, ◌||◌, Bool, true, false, if◌then◌else◌, List, [], ◌∷◌, ◌++◌, Option, Some, None, refl}
-use Rattle.std.proofs.Common.{sym, ap, subst, ◌∙◌, inl, inr, arith, true≢false, append-nil}
+use Rattle.std.proofs.Common.{sym, ap, subst, ◌∙◌, inl, inr, arith, append-nil}
 use Rattle.std.specs.List.{IsAmong}
 use Rattle.std.proofs.lemmas.Bool.{and_parts, cases_Bool, eqb-true}
 use Rattle.std.proofs.lemmas.Bool.Decides.{nat_tests}
@@ -20,7 +20,7 @@ use Rattle.c_check.specs.Rules.{is_loop_inside, not_listed}
 use Rattle.c_check.proofs.Places.{same-spot}
 use Rattle.code_slots.proofs.ActPlaces.{same_spot_itself}
 use Rattle.check_laws.proofs.Broken.{BreaksIn}
-use Rattle.check_laws.proofs.Entries.{Entry, TakesAt, entries, entries_for, entry-found, found-entry}
+use Rattle.check_laws.proofs.Entries.{TakesAt, entries, entries_for, entry-found, found-entry}
 use Rattle.check_laws.proofs.Has.{Has, among-behind, among-case, among-first, has-one, has-weaker}
 use Rattle.check_laws.proofs.ListRule.{loop_entry, use_entry}
 use Rattle.check_laws.proofs.Means.{not-among}

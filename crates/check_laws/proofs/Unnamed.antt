@@ -1,5 +1,5 @@
 -- What only acts that name a variable add: what stands around them adds nothing.
-use Rattle.std.specs.Prelude.{ℕ, ◌≡◌, ◌⊎◌, Bool, true, false, not, if◌then◌else◌, IsTrue, List, [], ◌∷◌, ◌++◌, refl}
+use Rattle.std.specs.Prelude.{◌≡◌, Bool, true, false, List, [], ◌∷◌, ◌++◌, refl}
 use Rattle.std.proofs.Common.{sym, subst, inl, inr}
 use Rattle.std.specs.List.{IsAmong}
 use Rattle.c_syntax.specs.declared.node.NodeKind.{NodeKind}

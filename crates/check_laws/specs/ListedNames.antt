@@ -82,7 +82,7 @@ positions_inside Over = []
 positions_inside (Absent rest) = []
 positions_inside (Child tree rest) = if is_head (kind_of tree) then positions_inside rest else positions_among (Child tree rest)
 
--- A `for` construct that stands there shares out a loop whose variable has this name and is declared outside, also of the loop.
+-- A `for` or `parallel for` that stands there shares out a loop whose variable has this name and is declared outside, also of the loop.
 pub record SharesLoopOf (name : ℕ) (position : Position) : Type 0 where
   pub shares : is_loop_construct (kind_of position.node) ≡ true
   pub variable : loop_name (statement_of (children_of position.node)) ≡ Some name
