@@ -7,6 +7,7 @@ pub mod Forms
 pub mod Parts
 pub mod Does
 pub mod Calm
+pub mod Inside
 pub mod Informing
 pub mod Constructing
 pub mod Sharing

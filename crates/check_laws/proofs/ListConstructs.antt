@@ -35,7 +35,8 @@ use Rattle.check_laws.proofs.Parts.{position}
 use Rattle.check_laws.proofs.Saying.{IsMentioned, IsNoneClause, IsUsedWith, ListsIn, ListsSlot, SaysNone, all-head, all-listed, all-none, all-said, list-says, list-tells, listed-all, none-all, none-says, none-tells, said_all}
 use Rattle.check_laws.proofs.Sharing.{no-meaning, same-option}
 use Rattle.check_laws.proofs.Standing.{IsReady, around_here}
-use Rattle.check_laws.proofs.Unnamed.{AreUnnamed, all-unnamed, enclosed, inside-informing, put-enclosed}
+use Rattle.check_laws.proofs.Inside.{inside-informing}
+use Rattle.check_laws.proofs.Unnamed.{AreUnnamed, all-unnamed, enclosed, put-enclosed}
 use Rattle.check_laws.proofs.Visible.{HasSlot, found-below, meaning-found, one-name, scope_of, sort_found, sort_of}
 
 -- a construct that stands there has begun last

@@ -36,7 +36,8 @@ use Rattle.check_laws.proofs.Parts.{LoopParts, odd_acts, part_declared, position
 use Rattle.check_laws.proofs.SharedLoops.{SharedLoop, body-ready, head-met, open-ready}
 use Rattle.check_laws.proofs.Sharing.{declared-part}
 use Rattle.check_laws.proofs.Standing.{IsReady, Met, ready-after}
-use Rattle.check_laws.proofs.Unnamed.{all-unnamed, behind-odd, between, enclosed, inside-informing, is_naming, not-one, put-behind-odd, put-between, put-enclosed}
+use Rattle.check_laws.proofs.Inside.{inside-informing}
+use Rattle.check_laws.proofs.Unnamed.{all-unnamed, behind-odd, between, enclosed, is_naming, not-one, put-behind-odd, put-between, put-enclosed}
 use Rattle.check_laws.proofs.Visible.{HasSlot, find-older, older, scope_of}
 
 pub record Naming (file : Bool) (acts : List Act) (nodes : List Position) : Type 0 where

@@ -28,7 +28,7 @@ use Rattle.c_check.specs.Here.{Here, after, listed}
 use Rattle.c_check.specs.NameLists.{names}
 use Rattle.check_laws.specs.ListedNames.{Used, clauses_of, each_used, is_data, is_default_none, used}
 use Rattle.check_laws.proofs.Has.{Has, has-either, has-left, has-right}
-use Rattle.check_laws.proofs.Unnamed.{AreInforming, is_informing}
+use Rattle.check_laws.proofs.Inside.{AreInforming, is_informing}
 use Rattle.check_laws.proofs.Visible.{HasSlot}
 
 -- a construct behind an act that says something of it

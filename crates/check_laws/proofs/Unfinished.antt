@@ -17,7 +17,7 @@ use Rattle.check_laws.proofs.Broken.{BreaksIn}
 use Rattle.check_laws.proofs.Does.{AreUses, Does, IsUse, is_silent}
 use Rattle.check_laws.proofs.Means.{not-among}
 use Rattle.check_laws.proofs.Parts.{odd_acts}
-use Rattle.check_laws.proofs.Unnamed.{AreInforming, inside-informing, is_informing}
+use Rattle.check_laws.proofs.Inside.{AreInforming, inside-informing, is_informing}
 
 abbrev pub is_finish : Act → Bool
 is_finish (Finish spot) = true
