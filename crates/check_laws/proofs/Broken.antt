@@ -11,7 +11,7 @@ abbrev pub Rule : Type 0
 Rule = Here → Act → List Spot
 
 -- one of some acts breaks a rule at a place
-abbrev pub BreaksIn : Rule → Here → List Act → Spot → Type 0
+abbrev pub BreaksIn : {X : Type 0} → (Here → Act → List X) → Here → List Act → X → Type 0
 BreaksIn rule here [] spot = ⊥
 BreaksIn rule here (act ∷ rest) spot = IsAmong (rule here act) spot ⊎ BreaksIn rule (after here act) rest spot
 
@@ -20,7 +20,7 @@ unfolding after_all
 after-both here [] more = refl
 after-both here (act ∷ some) more = after-both (after here act) some more
 
-module _ (rule : Rule) (spot : Spot) where
+module _ {X : Type 0} (rule : Here → Act → List X) (spot : X) where
   pub breaks-left : (here : Here) (some more : List Act) → BreaksIn rule here some spot → BreaksIn rule here (some ++ more) spot
   breaks-left here [] more breaks = absurd breaks
   breaks-left here (act ∷ some) more (inl first) = inl first

@@ -19,17 +19,7 @@ use Rattle.c_check.specs.Constructs.{Constructs, with_use}
 use Rattle.c_check.specs.Declarations.{find}
 use Rattle.c_check.specs.Here.{Here, after, is_variable, used, used_in}
 use Rattle.c_check.specs.Usages.{assigned}
-use Rattle.check_laws.proofs.Stepping.{part_acts}
-
-abbrev pub is_calm : Act → Bool
-is_calm (Use name spot used) = true
-is_calm (Assign name) = true
-is_calm (Declare name spot what) = true
-is_calm other = false
-
-abbrev pub AreCalm : List Act → Type 0
-AreCalm [] = Unit {0}
-AreCalm (act ∷ rest) = IsTrue (is_calm act) × AreCalm rest
+use Rattle.check_laws.proofs.Parts.{AreCalm, is_calm, part_acts}
 
 pub calm-both : (some more : List Act) → AreCalm some → AreCalm more → AreCalm (some ++ more)
 calm-both [] more calm also = also

@@ -63,17 +63,17 @@ ended-open : (constructs : Constructs) (first : Construct) (outer : List Constru
 ended-open constructs first outer is = ap (λ (around : List Construct). open_constructs (without_innermost around constructs)) is
 
 module _ (spot : Spot) (which : Directive) (critical : ℕ) (inside acts : List Act) (nodes : List Position) (informs : Informs inside) (inner : Inner spot acts nodes) where
-  abbrev entered : Here → Here
+  abbrev pub entered : Here → Here
   entered here = after here (Enter spot which critical)
 
-  abbrev begun_first : Here → Construct
+  abbrev pub begun_first : Here → Construct
   begun_first here = begun_construct spot which critical (length here.names.all)
 
-  informed : (here : Here) → Informed (entered here) (after_all (entered here) inside) (begun_first here)
+  pub informed : (here : Here) → Informed (entered here) (after_all (entered here) inside) (begun_first here)
   unfolding after
   informed here = informs.informs (entered here) (begun_first here) refl
 
-  begins : (here : Here) → IsReady false here → IsBegun spot (after_all (entered here) inside) (informed here).now
+  pub begins : (here : Here) → IsReady false here → IsBegun spot (after_all (entered here) inside) (informed here).now
   unfolding after
   begins here ready =
       let it = informed here in
@@ -107,10 +107,10 @@ module _ (spot : Spot) (which : Directive) (critical : ℕ) (inside acts : List 
       (subst (λ (names : Declarations). OwnOdd names.visible nodes at ⊎ Spoiled names.visible nodes at (around_here here)) (sym names) result)
 
   -- behind the clauses, and behind what stands inside
-  abbrev told_all : Here → Here
+  abbrev pub told_all : Here → Here
   told_all here = after_all (entered here) inside
 
-  abbrev left : Here → Here
+  abbrev pub left : Here → Here
   left here = after (after_all (told_all here) acts) Leave
 
   after-construct : (here : Here) → after_all here (Enter spot which critical ∷ inside ++ (acts ++ Leave ∷ [])) ≡ left here

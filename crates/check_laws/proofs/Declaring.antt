@@ -16,56 +16,56 @@ use Rattle.c_check.specs.declared.acts.role.Naming.TheVariants as naming
 use Rattle.c_check.specs.Acts.{acts, each}
 use Rattle.c_check.specs.NameLists.{names}
 use Rattle.check_laws.specs.Scopes.{Declaration, Position, Sort, behind, declared, declared_among, declared_as, each_as, positions, positions_among}
-use Rattle.check_laws.proofs.Means.{IsPlain, Means, means-both, means-declare, means-node, means-nothing, means-of, means-plain}
-use Rattle.check_laws.proofs.Quiet.{plain, row-end, row-then, value_of}
-use Rattle.check_laws.proofs.Sharing.{position}
+use Rattle.check_laws.proofs.Does.{Does, IsPlain, does-node, does-of, plain}
+use Rattle.check_laws.proofs.Parts.{position}
+use Rattle.check_laws.proofs.Quiet.{row-end, row-then, value_of}
 use Rattle.check_laws.proofs.Visible.{behind-nothing, sort_of}
 
 -- declarations
-pub means-named : (file : Bool) (tree : Tree) (name : ℕ) (spot : Spot) (what : Thing) → IsPlain tree → Means file (Declare name spot what ∷ []) (declared_as (sort_of what) name) (position tree ∷ behind [] [])
-means-named file tree name spot what is = means-node file _ _ [] tree is (means-declare file name spot what)
+pub does-named : (file : Bool) (tree : Tree) (name : ℕ) (spot : Spot) (what : Thing) → IsPlain tree → Does file (Declare name spot what ∷ []) (declared_as (sort_of what) name) (position tree ∷ behind [] [])
+does-named file tree name spot what is = does-node file _ _ [] tree is (Does.declares file name spot what)
 
-local_of : {limit depth : ℕ} {words rest : List Word} {tree : Tree} → Local limit depth words rest tree → Means false (acts role.Plain tree) (declared tree) (positions tree)
+local_of : {limit depth : ℕ} {words rest : List Word} {tree : Tree} → Local limit depth words rest tree → Does false (acts role.Plain tree) (declared tree) (positions tree)
 unfolding acts each declared positions positions_among
-local_of (Local.plain is) = means-named false _ _ _ thing.Int (plain _ refl refl)
-local_of (Local.array {number = number} is sized) = means-named false _ _ _ (thing.Array number) (plain _ refl refl)
+local_of (Local.plain is) = does-named false _ _ _ thing.Int (plain _ refl refl refl)
+local_of (Local.array {number = number} is sized) = does-named false _ _ _ (thing.Array number) (plain _ refl refl refl)
 local_of (Local.set {word = word} {tree = tree} is equals value) =
     let row = row-then (value_of value role.Used refl) (row-end role.Used) in
-    let both = means-both false (each role.Used (Child tree Over)) (Declare word.value word.spot thing.Int ∷ []) [] (declared_as Sort.variable word.value) (positions_among (Child tree Over)) [] row.means
-    (means-declare false word.value word.spot thing.Int) in
-    means-node false _ _ _ _ (plain _ refl refl) (means-of false _ _ _ _ (positions_among (Child tree Over) ++ []) (positions_among (Child tree Over)) refl refl (append-nil (positions_among (Child tree Over))) both)
+    let both = Does.both false (each role.Used (Child tree Over)) (Declare word.value word.spot thing.Int ∷ []) [] (declared_as Sort.variable word.value) (positions_among (Child tree Over)) [] row.does
+    (Does.declares false word.value word.spot thing.Int) in
+    does-node false _ _ _ _ (plain _ refl refl refl) (does-of false _ _ _ _ (positions_among (Child tree Over) ++ []) (positions_among (Child tree Over)) refl refl (append-nil (positions_among (Child tree Over))) both)
 
-more_locals : {limit depth : ℕ} {words rest : List Word} {trees : List Tree} → MoreLocals limit depth words rest trees → Means false (each role.Plain (kids trees)) (declared_among (kids trees)) (positions_among (kids trees))
+more_locals : {limit depth : ℕ} {words rest : List Word} {trees : List Tree} → MoreLocals limit depth words rest trees → Does false (each role.Plain (kids trees)) (declared_among (kids trees)) (positions_among (kids trees))
 unfolding each declared_among positions_among
-more_locals MoreLocals.last = means-nothing false
-more_locals (MoreLocals.further comma one more) = means-both false _ _ _ _ _ _ (local_of one) (more_locals more)
+more_locals MoreLocals.last = Does.nothing false
+more_locals (MoreLocals.further comma one more) = Does.both false _ _ _ _ _ _ (local_of one) (more_locals more)
 
-pub locals_of : {limit depth : ℕ} {words rest : List Word} {tree : Tree} → Locals limit depth words rest tree → Means false (acts role.Plain tree) (declared tree) (positions tree)
+pub locals_of : {limit depth : ℕ} {words rest : List Word} {tree : Tree} → Locals limit depth words rest tree → Does false (acts role.Plain tree) (declared tree) (positions tree)
 unfolding acts each declared declared_among positions positions_among
-locals_of (Locals.locals is one more last) = means-node false _ _ _ _ (plain _ refl refl) (means-both false _ _ _ _ _ _ (local_of one) (more_locals more))
+locals_of (Locals.locals is one more last) = does-node false _ _ _ _ (plain _ refl refl refl) (Does.both false _ _ _ _ _ _ (local_of one) (more_locals more))
 
 -- names that are declared: their positions break nothing
-pub names-plain : (file : Bool) (acts : List Act) (made : List Declaration) (nodes : List Position) (word : Word) (rest : Children) → ((scope : List Declaration) → Means file acts made (behind scope (positions_among rest) ++ nodes))
-    → (scope : List Declaration) → Means file acts made (behind scope (positions_among (Child (name_node word) rest)) ++ nodes)
+pub names-plain : (file : Bool) (acts : List Act) (made : List Declaration) (nodes : List Position) (word : Word) (rest : Children) → ((scope : List Declaration) → Does file acts made (behind scope (positions_among rest) ++ nodes))
+    → (scope : List Declaration) → Does file acts made (behind scope (positions_among (Child (name_node word) rest)) ++ nodes)
 unfolding positions positions_among declared
 names-plain file acts made nodes word rest more scope =
-    means-plain file acts made (behind scope (behind [] (positions_among rest)) ++ nodes) (name_node word) scope (plain _ refl refl)
-    (subst (λ (some : List Position). Means file acts made (behind scope some ++ nodes)) (sym (behind-nothing (positions_among rest))) (more scope))
+    Does.plainly file acts made (behind scope (behind [] (positions_among rest)) ++ nodes) (name_node word) scope (plain _ refl refl refl)
+    (subst (λ (some : List Position). Does file acts made (behind scope some ++ nodes)) (sym (behind-nothing (positions_among rest))) (more scope))
 
-more-names-plain : {at : Head} {words rest : List Word} {trees : List Tree} (file : Bool) (acts : List Act) (made : List Declaration) (nodes : List Position) → MoreNames at words rest trees → Means file acts made nodes
-    → (scope : List Declaration) → Means file acts made (behind scope (positions_among (kids trees)) ++ nodes)
+more-names-plain : {at : Head} {words rest : List Word} {trees : List Tree} (file : Bool) (acts : List Act) (made : List Declaration) (nodes : List Position) → MoreNames at words rest trees → Does file acts made nodes
+    → (scope : List Declaration) → Does file acts made (behind scope (positions_among (kids trees)) ++ nodes)
 unfolding positions_among
 more-names-plain file acts made nodes MoreNames.last it scope = it
 more-names-plain file acts made nodes (MoreNames.further {word = word} {trees = trees} comma is more) it scope = names-plain file acts made nodes word (kids trees) (more-names-plain file acts made nodes more it) scope
 
-lock-names : {at : Head} {words rest : List Word} {trees : List Tree} (file : Bool) → MoreNames at words rest trees → Means file (names naming.Locks (kids trees)) (each_as Sort.lock (kids trees)) []
+lock-names : {at : Head} {words rest : List Word} {trees : List Tree} (file : Bool) → MoreNames at words rest trees → Does file (names naming.Locks (kids trees)) (each_as Sort.lock (kids trees)) []
 unfolding names each_as
-lock-names file MoreNames.last = means-nothing file
-lock-names file (MoreNames.further {word = word} comma is more) = means-both file _ _ _ _ [] [] (means-declare file word.value word.spot thing.Lock) (lock-names file more)
+lock-names file MoreNames.last = Does.nothing file
+lock-names file (MoreNames.further {word = word} comma is more) = Does.both file _ _ _ _ [] [] (Does.declares file word.value word.spot thing.Lock) (lock-names file more)
 
-pub locks_of : {words rest : List Word} {tree : Tree} (file : Bool) → Locks words rest tree → Means file (acts role.Plain tree) (declared tree) (positions tree)
+pub locks_of : {words rest : List Word} {tree : Tree} (file : Bool) → Locks words rest tree → Does file (acts role.Plain tree) (declared tree) (positions tree)
 unfolding acts names declared each_as positions
 locks_of file (Locks.locks {word = outer} is (Names.names {word = word} {trees = trees} named more) last) =
-    let told = means-both file _ _ _ _ [] [] (means-declare file word.value word.spot thing.Lock) (lock-names file more) in
+    let told = Does.both file _ _ _ _ [] [] (Does.declares file word.value word.spot thing.Lock) (lock-names file more) in
     let with_names = names-plain file _ _ [] word (kids trees) (more-names-plain file _ _ [] more told) [] in
-    means-plain file _ _ _ _ [] (plain _ refl refl) (means-of file _ _ _ _ (behind [] (positions_among (Child (name_node word) (kids trees))) ++ []) (behind [] (positions_among (Child (name_node word) (kids trees)))) refl refl (append-nil _) with_names)
+    Does.plainly file _ _ _ _ [] (plain _ refl refl refl) (does-of file _ _ _ _ (behind [] (positions_among (Child (name_node word) (kids trees))) ++ []) (behind [] (positions_among (Child (name_node word) (kids trees)))) refl refl (append-nil _) with_names)

@@ -1,6 +1,6 @@
 -- What a construct executes, and the construct around it.
 use Rattle.std.specs.Prelude.{ℕ, ◌≡◌, true, false, List, [], ◌∷◌, ◌++◌, refl}
-use Rattle.std.proofs.Common.{sym, ap, subst, ◌∙◌, inl, inr, append-nil, append_assoc}
+use Rattle.std.proofs.Common.{sym, ap, subst, ◌∙◌, append-nil, append_assoc}
 use Rattle.c_syntax.specs.declared.node.Directive.{Directive}
 use Rattle.c_syntax.specs.declared.node.NodeKind.TheVariants as node
 use Rattle.c_syntax.specs.language.Words.{Word}
@@ -16,12 +16,10 @@ use Rattle.c_check.specs.Acts.{acts, outside_acts, statements}
 use Rattle.c_check.specs.Clauses.{inside_acts}
 use Rattle.c_check.specs.Statements.{is_head, name_of_critical, odd_loop, shares_loop, statement_of, statement_role}
 use Rattle.check_laws.specs.Scopes.{Declaration, Position, behind, declared, positions, positions_among}
-use Rattle.check_laws.proofs.Constructing.{Inner, construct-means, inner-plain, inner-position}
-use Rattle.check_laws.proofs.Has.{Has, has-either, has-left, has-right}
-use Rattle.check_laws.proofs.Informing.{inside-informs}
-use Rattle.check_laws.proofs.Means.{Means, means-both, means-nothing, means-of, means-same}
-use Rattle.check_laws.proofs.Quiet.{Quiet, plain}
-use Rattle.check_laws.proofs.Sharing.{position}
+use Rattle.check_laws.specs.ListedNames.{positions_inside}
+use Rattle.check_laws.proofs.Does.{Does, does-of}
+use Rattle.check_laws.proofs.Quiet.{Quiet}
+use Rattle.check_laws.proofs.Parts.{position}
 use Rattle.check_laws.proofs.Visible.{behind-nothing}
 use Rattle.check_laws.proofs.Heads.{Heads}
 
@@ -59,24 +57,30 @@ pub statements-first : (around : Role) (tree : Tree) (rest : Children) → is_he
 unfolding statements
 statements-first around tree rest is = rw is refl
 
+pub inside-first : (tree : Tree) (rest : Children) → is_head (kind_of tree) ≡ false → positions_inside (Child tree rest) ≡ positions_among (Child tree rest)
+unfolding positions_inside
+inside-first tree rest is = rw is refl
+
 -- parts that a construct executes
 pub record Executed (trees : List Tree) : Type 0 where
-  pub means : Means false (statements role.Plain (kids trees)) [] (positions_among (kids trees))
+  pub does : Does false (statements role.Plain (kids trees)) [] (positions_among (kids trees))
   pub outside : outside_acts (kids trees) ≡ []
+  pub inside : positions_inside (kids trees) ≡ positions_among (kids trees)
 
 pub none-executed : Executed []
-unfolding statements positions_among outside_acts
-none-executed = record { means = means-nothing false; outside = refl }
+unfolding statements positions_among outside_acts positions_inside
+none-executed = record { does = Does.nothing false; outside = refl; inside = refl }
 
 pub executed-then : (tree : Tree) (trees : List Tree) → is_head (kind_of tree) ≡ false → Quiet role.Plain tree → Executed trees → Executed (tree ∷ trees)
 unfolding positions_among
 executed-then tree trees apart first more =
-    let both = means-both false (acts role.Plain tree) (statements role.Plain (kids trees)) [] [] (positions tree) (positions_among (kids trees)) first.means more.means in
+    let both = Does.both false (acts role.Plain tree) (statements role.Plain (kids trees)) [] [] (positions tree) (positions_among (kids trees)) first.does more.does in
     record {
-      means =
-          subst (λ (acts : List Act). Means false acts [] (positions tree ++ behind (declared tree) (positions_among (kids trees)))) (sym (statements-first role.Plain tree (kids trees) apart))
-          (subst (λ (scope : List Declaration). Means false (acts role.Plain tree ++ statements role.Plain (kids trees)) [] (positions tree ++ behind scope (positions_among (kids trees)))) (sym first.none) both);
+      does =
+          subst (λ (acts : List Act). Does false acts [] (positions tree ++ behind (declared tree) (positions_among (kids trees)))) (sym (statements-first role.Plain tree (kids trees) apart))
+          (subst (λ (scope : List Declaration). Does false (acts role.Plain tree ++ statements role.Plain (kids trees)) [] (positions tree ++ behind scope (positions_among (kids trees)))) (sym first.none) both);
       outside = outside-apart tree (kids trees) apart ∙ more.outside;
+      inside = inside-first tree (kids trees) apart;
     }
 
 -- a construct
@@ -95,40 +99,24 @@ module _ (which : Directive) (word : Word) (trees parts : List Tree) where
   abbrev pub inner_acts : List Act
   inner_acts = odd_loop which children_here ++ statements (statement_role which children_here) children_here
 
-  front-has : (nodes others : List Position) (P : Position → Type 0) → Has P (nodes ++ behind [] (position me ∷ others)) → Has P (position me ∷ behind [] (nodes ++ others))
-  front-has nodes others P has =
-      elim (has-either P nodes (behind [] (position me ∷ others)) has) [
-        | inl left ↦ inr (subst (Has P) (sym (behind-nothing (nodes ++ others))) (has-left P nodes others left))
-        | inr right ↦ elim (let same : Has P (position me ∷ others) = subst (Has P) (behind-nothing (position me ∷ others)) right in same) [
-          | inl here ↦ inl here
-          | inr there ↦ inr (subst (Has P) (sym (behind-nothing (nodes ++ others))) (has-right P nodes others there))
-        ]
-      ]
+  -- from where it begins to where it ends
+  abbrev pub own_acts : List Act → List Act
+  own_acts inner = Enter word.spot which (name_of_critical children_here) ∷ inside_acts children_here ++ (inner ++ Leave ∷ [])
 
-  has-front : (nodes others : List Position) (P : Position → Type 0) → Has P (position me ∷ behind [] (nodes ++ others)) → Has P (nodes ++ behind [] (position me ∷ others))
-  has-front nodes others P (inl here) = has-right P nodes (behind [] (position me ∷ others)) (subst (Has P) (sym (behind-nothing (position me ∷ others))) (inl here))
-  has-front nodes others P (inr there) =
-      elim (has-either P nodes others (subst (Has P) (behind-nothing (nodes ++ others)) there)) [
-        | inl left ↦ has-left P nodes (behind [] (position me ∷ others)) left
-        | inr right ↦ has-right P nodes (behind [] (position me ∷ others)) (subst (Has P) (sym (behind-nothing (position me ∷ others))) (inr right))
-      ]
-
-  pub construct-quiet : Heads trees → outside_acts (kids parts) ≡ [] → Inner word.spot inner_acts (position me ∷ positions_among (kids parts)) → Quiet role.Plain me
+  pub construct-quiet : Heads trees → outside_acts (kids parts) ≡ [] → Does false (own_acts inner_acts) [] (position me ∷ positions_among (kids parts)) → Quiet role.Plain me
   unfolding acts declared positions
-  construct-quiet heads apart inner =
-      let within = construct-means word.spot which (name_of_critical children_here) (inside_acts children_here) inner_acts (position me ∷ positions_among (kids parts)) (inside-informs children_here) inner in
-      let both = means-both false (outside_acts (kids trees)) _ [] [] (positions_among (kids trees)) (position me ∷ positions_among (kids parts)) heads.means within in
+  construct-quiet heads apart within =
+      let both = Does.both false (outside_acts (kids trees)) (own_acts inner_acts) [] [] (positions_among (kids trees)) (position me ∷ positions_among (kids parts)) heads.does within in
       let outside : outside_acts (kids trees) ≡ outside_acts children_here =
       sym (heads.acts_behind parts ∙ ap (λ (acts : List Act). outside_acts (kids trees) ++ acts) apart ∙ append-nil (outside_acts (kids trees))) in
-      let whole = subst (λ (acts : List Act). Means false (acts ++ (Enter word.spot which (name_of_critical children_here) ∷ inside_acts children_here ++ (inner_acts ++ Leave ∷ []))) []
-      (positions_among (kids trees) ++ behind [] (position me ∷ positions_among (kids parts)))) outside both in
-      let parted = means-of false _ _ [] [] _ _ (sym (acts-parted (outside_acts children_here) (inside_acts children_here) (odd_loop which children_here) (statements (statement_role which children_here) children_here)
-      (Enter word.spot which (name_of_critical children_here)) Leave)) refl refl whole in
+      let whole = subst (λ (acts : List Act). Does false (acts ++ own_acts inner_acts) [] (positions_among (kids trees) ++ behind [] (position me ∷ positions_among (kids parts)))) outside both in
+      let parted = does-of false _ (acts role.Plain me) [] [] _ (positions_among (kids trees) ++ position me ∷ positions_among (kids parts))
+      (sym (acts-parted (outside_acts children_here) (inside_acts children_here) (odd_loop which children_here) (statements (statement_role which children_here) children_here)
+      (Enter word.spot which (name_of_critical children_here)) Leave)) refl
+      (ap (λ (nodes : List Position). positions_among (kids trees) ++ nodes) (behind-nothing (position me ∷ positions_among (kids parts)))) whole in
+      let first = Does.front false (acts role.Plain me) [] (position me) (positions_among (kids trees)) (positions_among (kids parts)) parted in
       record {
-        means = subst (λ (nodes : List Position). Means false (acts role.Plain me) [] (position me ∷ behind [] nodes)) (sym (heads.nodes_behind parts))
-            (means-same false (acts role.Plain me) [] (positions_among (kids trees) ++ behind [] (position me ∷ positions_among (kids parts)))
-            (position me ∷ behind [] (positions_among (kids trees) ++ positions_among (kids parts)))
-            (front-has (positions_among (kids trees)) (positions_among (kids parts))) (has-front (positions_among (kids trees)) (positions_among (kids parts))) parted);
+        does = subst (λ (nodes : List Position). Does false (acts role.Plain me) [] (position me ∷ nodes)) (sym (behind-nothing (positions_among children_here) ∙ heads.nodes_behind parts)) first;
         none = refl;
       }
 
@@ -139,6 +127,5 @@ module _ (which : Directive) (word : Word) (trees parts : List Tree) where
   pub construct-other : Heads trees → shares_loop which ≡ false → Executed parts → Quiet role.Plain me
   construct-other heads shares executed =
       construct-quiet heads executed.outside
-      (subst (λ (acts : List Act). Inner word.spot acts (position me ∷ positions_among (kids parts))) (sym (other-acts heads shares))
-      (inner-position word.spot (statements role.Plain (kids parts)) (positions_among (kids parts)) me (plain me shares refl)
-      (inner-plain word.spot (statements role.Plain (kids parts)) (positions_among (kids parts)) executed.means)))
+      (subst (λ (acts : List Act). Does false (own_acts acts) [] (position me ∷ positions_among (kids parts))) (sym (other-acts heads shares))
+      (Does.constructs me which (name_of_critical children_here) (statements role.Plain (kids parts)) (positions_among (kids parts)) refl shares (heads.inside_behind parts ∙ executed.inside) executed.does))

@@ -83,3 +83,20 @@ among-behind first rest one (at, (within, same)) = (at + 1, (omega arith, rw add
 pub among-case : {X : Type 0} (first : X) (rest : List X) (one : X) → IsAmong (first ∷ rest) one → (one ≡ first) ⊎ IsAmong rest one
 among-case first rest one (zero, (within, same)) = inl same
 among-case first rest one (suc at, (within, same)) = inr (at, (omega arith, same))
+
+-- one of some, put before them
+pub front-has : {X : Type 0} (one : X) (some others : List X) (P : X → Type 0) → Has P (some ++ one ∷ others) → Has P (one ∷ (some ++ others))
+front-has one some others P has =
+    elim (has-either P some (one ∷ others) has) [
+      | inl left ↦ inr (has-left P some others left)
+      | inr (inl here) ↦ inl here
+      | inr (inr right) ↦ inr (has-right P some others right)
+    ]
+
+pub has-front : {X : Type 0} (one : X) (some others : List X) (P : X → Type 0) → Has P (one ∷ (some ++ others)) → Has P (some ++ one ∷ others)
+has-front one some others P (inl here) = has-right P some (one ∷ others) (inl here)
+has-front one some others P (inr there) =
+    elim (has-either P some others there) [
+      | inl left ↦ has-left P some (one ∷ others) left
+      | inr right ↦ has-right P some (one ∷ others) (inr right)
+    ]

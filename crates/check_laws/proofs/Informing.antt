@@ -1,26 +1,21 @@
 -- What the clauses of a construct say of it changes neither its place nor its loop, nor what is in scope.
-use Rattle.std.specs.Prelude.{ℕ, ◌≡◌, List, [], ◌∷◌, ◌++◌, Option, Some, None, option_map, refl}
+use Rattle.std.specs.Prelude.{ℕ, ◌≡◌, true, false, List, [], ◌∷◌, ◌++◌, Option, Some, None, option_map, refl}
 use Rattle.std.proofs.Common.{sym, ap, subst, ◌∙◌, inl, inr}
 use Rattle.c_tokens.specs.declared.token.Spot.{Spot}
-use Rattle.c_syntax.specs.declared.node.NodeKind.{NodeKind}
-use Rattle.c_syntax.specs.declared.node.NodeKind.TheVariants as node
-use Rattle.c_syntax.specs.language.Tree.{Children, name_of, spot_of}
-use Rattle.c_syntax.specs.language.Tree.Tree.{Node}
-use Rattle.c_syntax.specs.language.Tree.Children.{Over, Child, Absent}
+use Rattle.c_syntax.specs.language.Tree.{Children}
 use Rattle.c_check.specs.declared.acts.act.Act.{Act}
 use Rattle.c_check.specs.declared.acts.act.Act.TheVariants.{Clause, List as Listing}
 use Rattle.c_check.specs.declared.acts.act.DataClause.{DataClause}
 use Rattle.c_check.specs.declared.acts.act.Single.{Single}
-use Rattle.c_check.specs.declared.acts.role.Naming.TheVariants as naming
 use Rattle.c_check.specs.declared.scopes.declared.Declared.{Declared}
 use Rattle.c_check.specs.Checked.{after_all}
-use Rattle.c_check.specs.Clauses.{clause_inside, first_inside, inside_acts}
+use Rattle.c_check.specs.Clauses.{inside_acts}
 use Rattle.c_check.specs.Constructs.{Construct, with_single}
 use Rattle.c_check.specs.Declarations.{find}
 use Rattle.c_check.specs.Here.{Here, after, listed}
-use Rattle.c_check.specs.NameLists.{names}
 use Rattle.c_check.specs.Rules.{bad_loops}
 use Rattle.check_laws.proofs.Broken.{BreaksIn, after-both, breaks-either}
+use Rattle.check_laws.proofs.Inside.{AreInforming, inside-informing, is_informing}
 use Rattle.check_laws.proofs.Means.{not-among}
 
 -- the construct that began last, before and behind
@@ -98,32 +93,14 @@ listing-informs name spot clause = record {
   right = λ here at breaks. elim breaks [ inl broken ↦ not-among at broken | inr later ↦ later ];
 }
 
-names-inform : (clause : DataClause) (children : Children) → Informs (names (naming.Listed clause) children)
-unfolding names
-names-inform clause Over = informs-nothing
-names-inform clause (Absent rest) = informs-nothing
-names-inform clause (Child tree rest) =
-    informs-both (Listing (name_of tree) (spot_of tree) clause ∷ []) (names (naming.Listed clause) rest) (listing-informs (name_of tree) (spot_of tree) clause) (names-inform clause rest)
+act-informs : (act : Act) → is_informing act ≡ true → Informs (act ∷ [])
+act-informs (Clause one) is = clause-informs one
+act-informs (Listing name spot clause) is = listing-informs name spot clause
+act-informs other is = absurd (let wrong : false ≡ true = is in cc)
 
-kind-informs : (kind : NodeKind) (children : Children) → Informs (clause_inside kind children)
-kind-informs node.NumThreads children = clause-informs _
-kind-informs (node.Default word) children = clause-informs _
-kind-informs (node.Data which) children = names-inform _ children
-kind-informs (node.Reduction operator) children = names-inform _ children
-kind-informs (node.Schedule kind) children = clause-informs _
-kind-informs node.Nowait children = clause-informs _
-kind-informs node.IfClause children = clause-informs _
-kind-informs other children = informs-nothing
-
-first-informs : (children : Children) → Informs (first_inside children)
-first-informs Over = informs-nothing
-first-informs (Absent rest) = informs-nothing
-first-informs (Child (Node kind spot name number text children) rest) = kind-informs kind children
+all-inform : (acts : List Act) → AreInforming acts → Informs acts
+all-inform [] are = informs-nothing
+all-inform (act ∷ acts) are = informs-both (act ∷ []) acts (act-informs act are.0) (all-inform acts are.1)
 
 pub inside-informs : (children : Children) → Informs (inside_acts children)
-unfolding inside_acts
-inside-informs Over = informs-nothing
-inside-informs (Absent rest) = informs-nothing
-inside-informs (Child (Node (node.Clause lead) spot name number text children) rest) =
-    informs-both (first_inside children) (inside_acts rest) (first-informs children) (inside-informs rest)
-inside-informs (Child (Node other spot name number text children) rest) = inside-informs rest
+inside-informs children = all-inform (inside_acts children) (inside-informing children)

@@ -26,7 +26,7 @@ use Rattle.check_laws.specs.LoopForm.{assigned_variable, is_loop_construct}
 use Rattle.check_laws.proofs.Broken.{BreaksIn, after-both, breaks-either, breaks-left, breaks-right}
 use Rattle.check_laws.proofs.Has.{Has, among-behind, among-case, among-first, has-either, has-left, has-none, has-right, has-weaker}
 use Rattle.check_laws.proofs.Standing.{Assigns, IsOddAt, IsReady, Met, Names, Result, Spoiled, Spoils, around_here, ready-after, result-back, result-map, result-on}
-use Rattle.check_laws.proofs.Visible.{AreNew, Falls, HasSlot, IsSound, Levels, behind-nothing, dropped, falls-more, levels-more, new-both, scope_of, sort_of, told}
+use Rattle.check_laws.proofs.Visible.{AreNew, Falls, HasSlot, IsSound, Levels, dropped, falls-more, levels-more, new-both, scope_of, sort_of, told}
 
 pub record Means (file : Bool) (acts : List Act) (made : List Declaration) (nodes : List Position) : Type 0 where
   pub meets : (here : Here) → IsReady file here → Met here (after_all here acts) made
@@ -117,22 +117,6 @@ means-same file acts made nodes others there back it = record {
   breaks = λ here ready spot result. it.breaks here ready spot (result-map here others nodes spot back result);
 }
 
-pub means-of : (file : Bool) (some more : List Act) (made other : List Declaration) (nodes others : List Position) → some ≡ more → made ≡ other → nodes ≡ others → Means file some made nodes → Means file more other others
-means-of file some more made other nodes others acts declarations positions it =
-    subst (λ (acts : List Act). Means file acts other others) acts
-    (subst (λ (made : List Declaration). Means file some made others) declarations (subst (λ (nodes : List Position). Means file some made nodes) positions it))
-
--- acts of a part of a file, which may stand outside of constructs only
-pub means-file : (acts : List Act) (made : List Declaration) (nodes : List Position) → Means false acts made nodes → Means true acts made nodes
-means-file acts made nodes it = record {
-  meets = λ here ready. it.meets here (anywhere here ready);
-  tells = λ here ready spot breaks. it.tells here (anywhere here ready) spot breaks;
-  breaks = λ here ready spot result. it.breaks here (anywhere here ready) spot result;
-}
-  where
-    anywhere : (here : Here) → IsReady true here → IsReady false here
-    anywhere here ready = record { names = ready.names; loops = ready.loops; outside = λ is. absurd (let wrong : false ≡ true = is in cc) }
-
 -- a node that breaks nothing by itself
 pub record IsPlain (tree : Tree) : Type 0 where
   pub is_no_loop : is_loop_construct (kind_of tree) ≡ false
@@ -164,12 +148,6 @@ means-plain file acts made nodes tree scope plain it = record {
           ];
         }) (around_here here) spoiled)
 
--- .. over children of which none is in a scope of its own
-pub means-node : (file : Bool) (acts : List Act) (made : List Declaration) (nodes : List Position) (tree : Tree) → IsPlain tree → Means file acts made nodes
-    → Means file acts made (record { node = tree; scope = [] } ∷ behind [] nodes)
-means-node file acts made nodes tree plain it =
-    subst (λ (nodes : List Position). Means file acts made (record { node = tree; scope = [] } ∷ nodes)) (sym (behind-nothing nodes)) (means-plain file acts made nodes tree [] plain it)
-
 -- acts that declare nothing and break nothing
 pub record IsSilent (act : Act) : Type 0 where
   pub names : (here : Here) → (after here act).names ≡ here.names
@@ -197,11 +175,11 @@ used-around constructs spot it = either (is_variable it.thing)
     either true = refl
     either false = refl
 
-use-names : (here : Here) (spot : Spot) (found : Option Declared) → (used here spot found).names ≡ here.names
+pub use-names : (here : Here) (spot : Spot) (found : Option Declared) → (used here spot found).names ≡ here.names
 use-names here spot None = refl
 use-names here spot (Some it) = refl
 
-use-around : (here : Here) (spot : Spot) (found : Option Declared) → around_here (used here spot found) ≡ around_here here
+pub use-around : (here : Here) (spot : Spot) (found : Option Declared) → around_here (used here spot found) ≡ around_here here
 use-around here spot None = refl
 use-around here spot (Some it) = used-around here.constructs spot it
 
@@ -300,20 +278,20 @@ function-names old new name what made sound names =
     names-both old (with_next old name what) (scope_ended new) (declared_as (sort_of what) name) [] first rest
 
 module _ (name : ℕ) (spot : Spot) (returns : Returns) (parameters : ℕ) where
-  abbrev begun : Here → Here
+  abbrev pub begun : Here → Here
   begun here = after here (Begin name spot returns parameters)
 
-  abbrev made_here : List Declaration
+  abbrev pub made_here : List Declaration
   made_here = declared_as Sort.function name
 
   -- the function is declared
-  abbrev named : Here → Here
+  abbrev pub named : Here → Here
   named here = record here { names = with_next here.names name (thing.Function returns parameters) }
 
-  named-met : (here : Here) → IsReady true here → Met here (named here) made_here
+  pub named-met : (here : Here) → IsReady true here → Met here (named here) made_here
   named-met here ready = record { names = next-names here.names name (thing.Function returns parameters) ready.names; around = refl }
 
-  begins : (here : Here) → IsReady true here → IsReady false (begun here)
+  pub begins : (here : Here) → IsReady true here → IsReady false (begun here)
   unfolding after
   begins here ready = record {
     names = begun-sound (with_next here.names name (thing.Function returns parameters)) (next-names here.names name (thing.Function returns parameters) ready.names).sound;

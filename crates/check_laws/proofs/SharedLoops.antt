@@ -4,7 +4,6 @@ use Rattle.std.proofs.Common.{sym, ap, subst, ◌∙◌, inl, inr, true≢false}
 use Rattle.std.specs.List.{Contains, IsAmong}
 use Rattle.std.proofs.lemmas.Bool.{cases_Bool}
 use Rattle.c_tokens.specs.declared.token.Spot.{Spot}
-use Rattle.c_syntax.specs.declared.node.NodeKind.TheVariants as node
 use Rattle.c_syntax.specs.language.Tree.{Tree, Children, at_place, children_of, kind_of, nothing, spot_of}
 use Rattle.c_syntax.specs.language.Productions.{kids}
 use Rattle.c_check.specs.declared.acts.act.Act.{Act}
@@ -22,32 +21,21 @@ use Rattle.c_check.specs.Statements.{statement_of}
 use Rattle.check_laws.specs.Scopes.{Declaration, Position, Sort, behind, declared, meaning, positions}
 use Rattle.check_laws.specs.LoopForm.{AssignsOutside, IsLoopOfForm, assigned_variable, is_loop_construct}
 use Rattle.check_laws.proofs.Broken.{BreaksIn, after-both, breaks-either, breaks-left, breaks-right}
-use Rattle.check_laws.proofs.Calm.{AreCalm, calm-keeps}
+use Rattle.check_laws.proofs.Calm.{calm-keeps}
 use Rattle.check_laws.proofs.Constructing.{Inner, InnerMet, InnerResult, IsBegun, begun-ready, open-begun}
 use Rattle.check_laws.proofs.Forms.{HasHead, body-part, first-part, head-name, loop_parts, part_or}
 use Rattle.check_laws.proofs.Has.{Has, has-either, has-left, has-one, has-or-not, has-right, has-weaker, one-has}
 use Rattle.check_laws.proofs.Means.{Means, ended-names, means-nothing, names-both, not-among, opened, spoils-either}
-use Rattle.check_laws.proofs.Sharing.{assigns-or-not, declared-part, form-head, found-int, int-found, looped-around, looped-newest, looping, newest-spot, odd-after, odd-breaks, odd-here, odd-tells, odd_acts, position, spoiled-behind, spoiled-more, spot-newest}
+use Rattle.check_laws.proofs.Sharing.{assigns-or-not, declared-part, form-head, found-int, int-found, looped-around, looped-newest, looping, newest-spot, odd-after, odd-breaks, odd-here, odd-tells, spoiled-behind, spoiled-more, spot-newest}
 use Rattle.check_laws.proofs.Standing.{Assigns, IsBelow, IsOddAt, IsReady, LoopsBelow, Met, Result, Spoiled, Spoils, around_here, loops-more, odd-back, odd-on, scope-after, spoiled-back, spoiled-on}
-use Rattle.check_laws.proofs.Stepping.{part_declared}
+use Rattle.check_laws.proofs.Parts.{LoopParts, odd_acts, part_declared, position}
 use Rattle.check_laws.proofs.Visible.{Falls, HasSlot, found-below, meaning-found, one-name, scope_of}
 
 -- a `for` with its parts, by what their acts mean
 pub record SharedLoop (tree : Tree) : Type 0 where
-  pub begins : Option Tree
-  pub tests : Option Tree
-  pub steps : Option Tree
-  pub body : Tree
-  pub kind : kind_of tree ≡ node.For
-  pub children : children_of tree ≡ loop_parts begins tests steps body
-  pub head_acts : List Act
-  pub head_nodes : List Position
-  pub acts_are : (name : ℕ) → acts (role.Looped name) tree ≡ Open ∷ (head_acts ++ Loop name ∷ acts role.Plain body) ++ Close ∷ []
-  pub nodes_are : positions tree ≡ position tree ∷ (head_nodes ++ behind (part_declared begins) (positions body))
-  pub head : Means false head_acts (part_declared begins) head_nodes
-  pub calm : AreCalm head_acts
-  pub inner : Means false (acts role.Plain body) [] (positions body)
-  pub heads : (i : ℕ) → loop_name tree ≡ Some i → has_form tree ≡ true → HasHead tree
+  pub parts : LoopParts tree
+  pub head : Means false parts.head_acts (part_declared parts.begins) parts.head_nodes
+  pub inner : Means false (acts role.Plain parts.body) [] (positions parts.body)
 
 -- whether the loop's variable is an int is told where the body begins
 broken-loop : (int : Bool) (spots : List Spot) (at : Spot) → IsAmong (if int then [] else spots) at → (int ≡ false) × IsAmong spots at
@@ -82,74 +70,74 @@ found-slot construct (Some it) int = record { slot = it.slot; loop = refl; is = 
 
 module _ (me : Tree) (shares : is_loop_construct (kind_of me) ≡ true) (assigns_none : assigned_variable me ≡ None) (it : SharedLoop (statement_of (children_of me))) (name : ℕ)
     (named : loop_name (statement_of (children_of me)) ≡ Some name) where
-  abbrev loop : Tree
+  abbrev pub loop : Tree
   loop = statement_of (children_of me)
 
-  abbrev made : List Declaration
-  made = part_declared it.begins
+  abbrev pub made : List Declaration
+  made = part_declared it.parts.begins
 
-  abbrev loop_nodes : List Position
-  loop_nodes = it.head_nodes ++ behind made (positions it.body)
+  abbrev pub loop_nodes : List Position
+  loop_nodes = it.parts.head_nodes ++ behind made (positions it.parts.body)
 
-  abbrev body_acts : List Act
-  body_acts = acts role.Plain it.body
+  abbrev pub body_acts : List Act
+  body_acts = acts role.Plain it.parts.body
 
-  abbrev loop_acts : List Act
-  loop_acts = Open ∷ (it.head_acts ++ Loop name ∷ body_acts) ++ Close ∷ []
+  abbrev pub loop_acts : List Act
+  loop_acts = Open ∷ (it.parts.head_acts ++ Loop name ∷ body_acts) ++ Close ∷ []
 
   -- the parts of a head are those of the loop
   module _ (head : HasHead loop) where
-    parts-same : kids (head.first ∷ head.second ∷ head.third ∷ head.body ∷ []) ≡ loop_parts it.begins it.tests it.steps it.body
-    parts-same = sym head.parts_are.1 ∙ it.children
+    parts-same : kids (head.first ∷ head.second ∷ head.third ∷ head.body ∷ []) ≡ loop_parts it.parts.begins it.parts.tests it.parts.steps it.parts.body
+    parts-same = sym head.parts_are.1 ∙ it.parts.children
 
     name-same : head.variable ≡ name
     name-same = let both : Some head.variable ≡ Some name = sym (head-name loop head) ∙ named in cc
 
     first-same : declared head.first ≡ made
     first-same =
-        let same : head.first ≡ part_or it.begins = ap (λ (children : Children). unwrap_or (at_place children 0) nothing) parts-same ∙ first-part it.begins it.tests it.steps it.body in
-        ap declared same ∙ declared-part it.begins
+        let same : head.first ≡ part_or it.parts.begins = ap (λ (children : Children). unwrap_or (at_place children 0) nothing) parts-same ∙ first-part it.parts.begins it.parts.tests it.parts.steps it.parts.body in
+        ap declared same ∙ declared-part it.parts.begins
 
-    body-same : head.body ≡ it.body
-    body-same = ap (λ (children : Children). unwrap_or (at_place children 3) nothing) parts-same ∙ body-part it.begins it.tests it.steps it.body
+    body-same : head.body ≡ it.parts.body
+    body-same = ap (λ (children : Children). unwrap_or (at_place children 3) nothing) parts-same ∙ body-part it.parts.begins it.parts.tests it.parts.steps it.parts.body
 
   module _ (here : Here) (construct : Construct) (begun : IsBegun (spot_of me) here construct) where
-    abbrev open_here : Here
+    abbrev pub open_here : Here
     open_here = after here Open
 
-    abbrev headed : Here
-    headed = after_all open_here it.head_acts
+    abbrev pub headed : Here
+    headed = after_all open_here it.parts.head_acts
 
-    abbrev found : Option Declared
+    abbrev pub found : Option Declared
     found = find headed.names.visible name
 
-    abbrev looped_here : Here
+    abbrev pub looped_here : Here
     looped_here = after headed (Loop name)
 
-    abbrev bodied : Here
+    abbrev pub bodied : Here
     bodied = after_all looped_here body_acts
 
-    abbrev scope : List Declaration
+    abbrev pub scope : List Declaration
     scope = scope_of here.names.visible
 
-    here-ready : IsReady false here
+    pub here-ready : IsReady false here
     here-ready = begun-ready (spot_of me) [] [] (means-nothing false) here construct begun
 
-    open-ready : IsReady false open_here
+    pub open-ready : IsReady false open_here
     open-ready = opened false here here-ready
 
-    head-met : Met open_here headed made
+    pub head-met : Met open_here headed made
     head-met = it.head.meets open_here open-ready
 
-    headed-newest : headed.constructs.newest ≡ Some construct
+    pub headed-newest : headed.constructs.newest ≡ Some construct
     unfolding after
-    headed-newest = (calm-keeps it.head_acts open_here it.calm).newest ∙ begun.newest
+    headed-newest = (calm-keeps it.parts.head_acts open_here it.parts.calm).newest ∙ begun.newest
 
-    headed-around : headed.constructs.around ≡ here.constructs.around
+    pub headed-around : headed.constructs.around ≡ here.constructs.around
     unfolding after
-    headed-around = (calm-keeps it.head_acts open_here it.calm).around
+    headed-around = (calm-keeps it.parts.head_acts open_here it.parts.calm).around
 
-    body-open : around_here looped_here ≡ looping construct found ∷ here.constructs.around
+    pub body-open : around_here looped_here ≡ looping construct found ∷ here.constructs.around
     unfolding after
     body-open =
         open-begun looped_here.constructs (looping construct found) (looped-newest headed.constructs construct found headed-newest)
@@ -159,7 +147,7 @@ module _ (me : Tree) (shares : is_loop_construct (kind_of me) ≡ true) (assigns
     unfolding after
     loops-grown = loops-more (length here.names.all) (length headed.names.all) here.constructs.around head-met.names.grows begun.loops
 
-    body-ready : IsReady false looped_here
+    pub body-ready : IsReady false looped_here
     unfolding after
     body-ready = record {
       names = head-met.names.sound;
@@ -168,7 +156,7 @@ module _ (me : Tree) (shares : is_loop_construct (kind_of me) ≡ true) (assigns
       outside = λ is. absurd (true≢false (sym is));
     }
 
-    body-met : Met looped_here bodied []
+    pub body-met : Met looped_here bodied []
     body-met = it.inner.meets looped_here body-ready
 
     closed-met : InnerMet here (after bodied Close)
@@ -192,10 +180,10 @@ module _ (me : Tree) (shares : is_loop_construct (kind_of me) ≡ true) (assigns
         (subst (λ (some : List Declaration). meaning (some ++ scope) head.variable ≡ Some Sort.variable) (first-same head) form.is_int) in
         int-found found (sym (meaning-found headed.names.visible name) ∙ ap (λ (scope : List Declaration). meaning scope name) scope-headed ∙ so)
 
-    form-never : IsLoopOfForm scope loop → (slot : ℕ) → HasSlot found slot → Has (Assigns headed.names.visible slot) (positions it.body) → ⊥
+    form-never : IsLoopOfForm scope loop → (slot : ℕ) → HasSlot found slot → Has (Assigns headed.names.visible slot) (positions it.parts.body) → ⊥
     form-never form slot is assigns =
         let head = form-head me shares assigns_none scope form in
-        let one = has-one (Assigns headed.names.visible slot) (positions it.body) assigns in
+        let one = has-one (Assigns headed.names.visible slot) (positions it.parts.body) assigns in
         let same : one.is.name ≡ name = one-name (length headed.names.all) headed.names.visible one.is.name name slot head-met.names.sound.falls one.is.found is in
         let variable : one.is.name ≡ form.variable = same ∙ sym (name-same head) in
         form.never_assigns one.one (subst (λ (body : Tree). Contains (positions body) one.one) (sym (body-same head)) one.contains)
@@ -204,7 +192,7 @@ module _ (me : Tree) (shares : is_loop_construct (kind_of me) ≡ true) (assigns
           outside = subst (λ (name : ℕ). meaning one.one.scope name ≡ None) variable one.is.hidden;
         })
 
-    found-form : HasHead loop → is_int found ≡ true → (Has (AssignsOutside name) (positions it.body) → ⊥) → IsLoopOfForm scope loop
+    found-form : HasHead loop → is_int found ≡ true → (Has (AssignsOutside name) (positions it.parts.body) → ⊥) → IsLoopOfForm scope loop
     found-form head int never = record {
       variable = head.variable;
       way = head.way;
@@ -222,44 +210,44 @@ module _ (me : Tree) (shares : is_loop_construct (kind_of me) ≡ true) (assigns
       compares = head.compares;
       steps = head.steps;
       never_assigns = λ at contains assigns.
-          never (one-has (AssignsOutside name) (positions it.body) at (subst (λ (body : Tree). Contains (positions body) at) (body-same head) contains)
+          never (one-has (AssignsOutside name) (positions it.parts.body) at (subst (λ (body : Tree). Contains (positions body) at) (body-same head) contains)
           (subst (λ (i : ℕ). AssignsOutside i at) (name-same head) assigns));
     }
 
     -- breaches are seen
-    spoils-odd : (at : Spot) → Spoils headed.names.visible (positions it.body) at (looping construct found) → IsOddAt scope at (position me)
+    spoils-odd : (at : Spot) → Spoils headed.names.visible (positions it.parts.body) at (looping construct found) → IsOddAt scope at (position me)
     spoils-odd at spoils =
         odd-here me shares assigns_none here at (sym begun.at ∙ sym (looping-spot construct found) ∙ spoils.at)
         (λ form. form-never form spoils.slot (looping-slot construct found spoils.slot begun.loop spoils.loop) spoils.assigns)
 
-    head-seen : (at : Spot) → Result open_here it.head_nodes at → InnerResult here (position me ∷ loop_nodes) at
+    head-seen : (at : Spot) → Result open_here it.parts.head_nodes at → InnerResult here (position me ∷ loop_nodes) at
     unfolding after
-    head-seen at (inl own) = inl (inr (has-left (IsOddAt scope at) it.head_nodes (behind made (positions it.body)) own))
+    head-seen at (inl own) = inl (inr (has-left (IsOddAt scope at) it.parts.head_nodes (behind made (positions it.parts.body)) own))
     head-seen at (inr spoiled) =
-        elim (subst (λ (around : List Construct). Spoiled here.names.visible it.head_nodes at around) (open-begun here.constructs construct begun.newest) spoiled) [
+        elim (subst (λ (around : List Construct). Spoiled here.names.visible it.parts.head_nodes at around) (open-begun here.constructs construct begun.newest) spoiled) [
           | inl this ↦ absurd (let no : None ≡ Some this.slot = sym begun.loop ∙ this.loop in cc)
-          | inr others ↦ inr (spoiled-more me shares assigns_none here.names.visible it.head_nodes (position me ∷ loop_nodes) at here.constructs.around
-              (λ P has. inr (has-left P it.head_nodes (behind made (positions it.body)) has)) others)
+          | inr others ↦ inr (spoiled-more me shares assigns_none here.names.visible it.parts.head_nodes (position me ∷ loop_nodes) at here.constructs.around
+              (λ P has. inr (has-left P it.parts.head_nodes (behind made (positions it.parts.body)) has)) others)
         ]
 
-    body-seen : (at : Spot) → Result looped_here (positions it.body) at → InnerResult here (position me ∷ loop_nodes) at
+    body-seen : (at : Spot) → Result looped_here (positions it.parts.body) at → InnerResult here (position me ∷ loop_nodes) at
     unfolding after
     body-seen at (inl own) =
-        inl (inr (has-right (IsOddAt scope at) it.head_nodes (behind made (positions it.body)) (odd-back open_here.names headed.names made head-met.names (positions it.body) at own)))
+        inl (inr (has-right (IsOddAt scope at) it.parts.head_nodes (behind made (positions it.parts.body)) (odd-back open_here.names headed.names made head-met.names (positions it.parts.body) at own)))
     body-seen at (inr spoiled) =
-        elim (subst (λ (around : List Construct). Spoiled headed.names.visible (positions it.body) at around) body-open spoiled) [
+        elim (subst (λ (around : List Construct). Spoiled headed.names.visible (positions it.parts.body) at around) body-open spoiled) [
           | inl this ↦ inl (inl (spoils-odd at this))
-          | inr others ↦ inr (spoiled-more me shares assigns_none here.names.visible (behind made (positions it.body)) (position me ∷ loop_nodes) at here.constructs.around
-              (λ P has. inr (has-right P it.head_nodes (behind made (positions it.body)) has))
-              (spoiled-back open_here.names headed.names made head-met.names (positions it.body) at here.constructs.around begun.loops others))
+          | inr others ↦ inr (spoiled-more me shares assigns_none here.names.visible (behind made (positions it.parts.body)) (position me ∷ loop_nodes) at here.constructs.around
+              (λ P has. inr (has-right P it.parts.head_nodes (behind made (positions it.parts.body)) has))
+              (spoiled-back open_here.names headed.names made head-met.names (positions it.parts.body) at here.constructs.around begun.loops others))
         ]
 
     loop-tells : (at : Spot) → BreaksIn bad_loops here loop_acts at → InnerResult here (position me ∷ loop_nodes) at
     loop-tells at breaks = elim breaks [
       | inl broken ↦ absurd (not-among at broken)
-      | inr later ↦ elim (breaks-either bad_loops at open_here (it.head_acts ++ Loop name ∷ body_acts) (Close ∷ []) later) [
+      | inr later ↦ elim (breaks-either bad_loops at open_here (it.parts.head_acts ++ Loop name ∷ body_acts) (Close ∷ []) later) [
         | inr end ↦ elim end [ inl broken ↦ absurd (not-among at broken) | inr never ↦ absurd never ]
-        | inl within ↦ elim (breaks-either bad_loops at open_here it.head_acts (Loop name ∷ body_acts) within) [
+        | inl within ↦ elim (breaks-either bad_loops at open_here it.parts.head_acts (Loop name ∷ body_acts) within) [
           | inl head ↦ head-seen at (it.head.tells open_here open-ready at head)
           | inr behind_head ↦ elim behind_head [
             | inl broken ↦
@@ -273,63 +261,63 @@ module _ (me : Tree) (shares : is_loop_construct (kind_of me) ≡ true) (assigns
     ]
 
     -- and what is seen is a breach
-    head-breaks : (at : Spot) → Result open_here it.head_nodes at → BreaksIn bad_loops here loop_acts at
+    head-breaks : (at : Spot) → Result open_here it.parts.head_nodes at → BreaksIn bad_loops here loop_acts at
     head-breaks at result =
-        inr (breaks-left bad_loops at open_here (it.head_acts ++ Loop name ∷ body_acts) (Close ∷ [])
-        (breaks-left bad_loops at open_here it.head_acts (Loop name ∷ body_acts) (it.head.breaks open_here open-ready at result)))
+        inr (breaks-left bad_loops at open_here (it.parts.head_acts ++ Loop name ∷ body_acts) (Close ∷ [])
+        (breaks-left bad_loops at open_here it.parts.head_acts (Loop name ∷ body_acts) (it.head.breaks open_here open-ready at result)))
 
     behind-breaks : (at : Spot) → BreaksIn bad_loops headed (Loop name ∷ body_acts) at → BreaksIn bad_loops here loop_acts at
     behind-breaks at breaks =
-        inr (breaks-left bad_loops at open_here (it.head_acts ++ Loop name ∷ body_acts) (Close ∷ []) (breaks-right bad_loops at open_here it.head_acts (Loop name ∷ body_acts) breaks))
+        inr (breaks-left bad_loops at open_here (it.parts.head_acts ++ Loop name ∷ body_acts) (Close ∷ []) (breaks-right bad_loops at open_here it.parts.head_acts (Loop name ∷ body_acts) breaks))
 
-    body-breaks : (at : Spot) → Result looped_here (positions it.body) at → BreaksIn bad_loops here loop_acts at
+    body-breaks : (at : Spot) → Result looped_here (positions it.parts.body) at → BreaksIn bad_loops here loop_acts at
     body-breaks at result = behind-breaks at (inr (it.inner.breaks looped_here body-ready at result))
 
     -- the assignment by which the construct is odd
-    assigned-breaks : (at : Spot) → spot_of me ≡ at → is_int found ≡ true → Has (AssignsOutside name) (positions it.body) → BreaksIn bad_loops here loop_acts at
+    assigned-breaks : (at : Spot) → spot_of me ≡ at → is_int found ≡ true → Has (AssignsOutside name) (positions it.parts.body) → BreaksIn bad_loops here loop_acts at
     unfolding after
     assigned-breaks at same int assigns =
         let slot = found-slot construct found int in
-        let spoils : Spoils headed.names.visible (positions it.body) at (looping construct found) = record {
+        let spoils : Spoils headed.names.visible (positions it.parts.body) at (looping construct found) = record {
           at = looping-spot construct found ∙ begun.at ∙ same;
           slot = slot.slot;
           loop = slot.loop;
           assigns = has-weaker (AssignsOutside name) (Assigns headed.names.visible slot.slot)
-              (λ position one. record { name = name; assigns = one.assigns; hidden = one.outside; found = slot.is }) (positions it.body) assigns;
+              (λ position one. record { name = name; assigns = one.assigns; hidden = one.outside; found = slot.is }) (positions it.parts.body) assigns;
         } in
-        body-breaks at (inr (subst (λ (around : List Construct). Spoiled headed.names.visible (positions it.body) at around) (sym body-open) (inl spoils)))
+        body-breaks at (inr (subst (λ (around : List Construct). Spoiled headed.names.visible (positions it.parts.body) at around) (sym body-open) (inl spoils)))
 
     odd-loop-breaks : (at : Spot) → IsOddAt scope at (position me) → has_form loop ≡ true → BreaksIn bad_loops here loop_acts at
     odd-loop-breaks at this form =
         elim (cases_Bool (is_int found)) [
           | inr other ↦ behind-breaks at (inl (loop-broken (is_int found) (newest_spot headed.constructs.newest) at other
               (spot-newest headed.constructs.newest construct (spot_of me) at headed-newest begun.at this.at)))
-          | inl int ↦ elim (has-or-not (AssignsOutside name) (assigns-or-not name) (positions it.body)) [
+          | inl int ↦ elim (has-or-not (AssignsOutside name) (assigns-or-not name) (positions it.parts.body)) [
             | inl assigns ↦ assigned-breaks at this.at int assigns
-            | inr never ↦ absurd (this.odd (found-form (it.heads name named form) int never))
+            | inr never ↦ absurd (this.odd (found-form (it.parts.heads name named form) int never))
           ]
         ]
 
     nodes-break : (at : Spot) → InnerResult here loop_nodes at → BreaksIn bad_loops here loop_acts at
     unfolding after
     nodes-break at (inl own) =
-        elim (has-either (IsOddAt scope at) it.head_nodes (behind made (positions it.body)) own) [
+        elim (has-either (IsOddAt scope at) it.parts.head_nodes (behind made (positions it.parts.body)) own) [
           | inl head ↦ head-breaks at (inl head)
-          | inr body ↦ body-breaks at (inl (odd-on open_here.names headed.names made head-met.names (positions it.body) at body))
+          | inr body ↦ body-breaks at (inl (odd-on open_here.names headed.names made head-met.names (positions it.parts.body) at body))
         ]
     nodes-break at (inr spoiled) =
-        elim (spoils-either here.names.visible it.head_nodes (behind made (positions it.body)) at here.constructs.around spoiled) [
-          | inl head ↦ head-breaks at (inr (subst (λ (around : List Construct). Spoiled here.names.visible it.head_nodes at around) (sym (open-begun here.constructs construct begun.newest)) (inr head)))
-          | inr body ↦ body-breaks at (inr (subst (λ (around : List Construct). Spoiled headed.names.visible (positions it.body) at around) (sym body-open)
-              (inr (spoiled-on open_here.names headed.names made head-met.names (positions it.body) at here.constructs.around body))))
+        elim (spoils-either here.names.visible it.parts.head_nodes (behind made (positions it.parts.body)) at here.constructs.around spoiled) [
+          | inl head ↦ head-breaks at (inr (subst (λ (around : List Construct). Spoiled here.names.visible it.parts.head_nodes at around) (sym (open-begun here.constructs construct begun.newest)) (inr head)))
+          | inr body ↦ body-breaks at (inr (subst (λ (around : List Construct). Spoiled headed.names.visible (positions it.parts.body) at around) (sym body-open)
+              (inr (spoiled-on open_here.names headed.names made head-met.names (positions it.parts.body) at here.constructs.around body))))
         ]
 
-  after-loop : (here : Here) → after_all here (odd_acts (has_form loop) ++ loop_acts) ≡ after (after_all (after (after_all (after here Open) it.head_acts) (Loop name)) body_acts) Close
+  pub after-loop : (here : Here) → after_all here (odd_acts (has_form loop) ++ loop_acts) ≡ after (after_all (after (after_all (after here Open) it.parts.head_acts) (Loop name)) body_acts) Close
   unfolding after_all
   after-loop here =
       after-both here (odd_acts (has_form loop)) loop_acts ∙ ap (λ (here : Here). after_all here loop_acts) (odd-after here (has_form loop))
-      ∙ after-both (after here Open) (it.head_acts ++ Loop name ∷ body_acts) (Close ∷ [])
-      ∙ ap (λ (here : Here). after here Close) (after-both (after here Open) it.head_acts (Loop name ∷ body_acts))
+      ∙ after-both (after here Open) (it.parts.head_acts ++ Loop name ∷ body_acts) (Close ∷ [])
+      ∙ ap (λ (here : Here). after here Close) (after-both (after here Open) it.parts.head_acts (Loop name ∷ body_acts))
 
   pub inner-loop : Inner (spot_of me) (odd_acts (has_form loop) ++ loop_acts) (position me ∷ loop_nodes)
   inner-loop = record {

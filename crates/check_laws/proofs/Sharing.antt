@@ -1,12 +1,11 @@
 -- The statement of a `for` construct: a loop that it shares out, or something else.
-use Rattle.std.specs.Prelude.{ℕ, nat_eq, ◌≡◌, ◌⊎◌, Bool, true, false, not, if◌then◌else◌, List, [], ◌∷◌, ◌++◌, Option, Some, None, option_map, refl}
+use Rattle.std.specs.Prelude.{ℕ, nat_eq, ◌≡◌, ◌⊎◌, Bool, true, false, List, [], ◌∷◌, ◌++◌, Option, Some, None, option_map, refl}
 use Rattle.std.proofs.Common.{sym, ap, subst, ◌∙◌, inl, inr, true≢false}
 use Rattle.std.specs.List.{IsAmong}
 use Rattle.std.proofs.lemmas.Bool.{cases_Bool, eqb-false, eqb-true}
 use Rattle.c_tokens.specs.declared.token.Spot.{Spot}
 use Rattle.c_syntax.specs.language.Tree.{Tree, children_of, kind_of, spot_of}
 use Rattle.c_check.specs.declared.acts.act.Act.{Act}
-use Rattle.c_check.specs.declared.acts.act.Act.TheVariants.{OddLoop}
 use Rattle.c_check.specs.declared.acts.act.Thing.{Thing}
 use Rattle.c_check.specs.declared.acts.act.Thing.TheVariants as thing
 use Rattle.c_check.specs.declared.scopes.declared.Declared.{Declared}
@@ -24,12 +23,8 @@ use Rattle.check_laws.proofs.Forms.{HasHead, head-form, part_or}
 use Rattle.check_laws.proofs.Has.{Has, among-case, among-first, has-weaker}
 use Rattle.check_laws.proofs.Means.{Means, not-among}
 use Rattle.check_laws.proofs.Standing.{Assigns, IsOddAt, Spoiled, Spoils}
-use Rattle.check_laws.proofs.Stepping.{part_declared}
+use Rattle.check_laws.proofs.Parts.{odd_acts, part_declared, position}
 use Rattle.check_laws.proofs.Visible.{scope_of, sort_found, sort_of}
-
--- what the checker is told where the statement isn't of the form
-abbrev pub odd_acts : Bool → List Act
-odd_acts form = if not form then OddLoop ∷ [] else []
 
 pub odd-after : (here : Here) (form : Bool) → after_all here (odd_acts form) ≡ here
 unfolding after_all after
@@ -66,9 +61,6 @@ int-found (Some it) is = thing-int it.thing is
 pub found-int : (found : Option Declared) → is_int found ≡ true → sort_found found ≡ Some Sort.variable
 found-int None is = absurd (let no : false ≡ true = is in cc)
 found-int (Some it) is = int-thing it.thing is
-
-abbrev pub position : Tree → Position
-position tree = record { node = tree; scope = [] }
 
 -- a construct `me` whose statement is this, where it stands
 module _ (me : Tree) (shares : is_loop_construct (kind_of me) ≡ true) (assigns_none : assigned_variable me ≡ None) where
@@ -179,14 +171,14 @@ declared-part None = refl
 declared-part (Some tree) = refl
 
 -- whether a position assigns a variable that is declared outside
-same-option : (one : Option ℕ) (i : ℕ) → (one ≡ Some i) ⊎ (one ≡ Some i → ⊥)
+pub same-option : (one : Option ℕ) (i : ℕ) → (one ≡ Some i) ⊎ (one ≡ Some i → ⊥)
 same-option None i = inr (λ is. absurd (let no : None ≡ Some i = is in cc))
 same-option (Some one) i = elim (cases_Bool (nat_eq one i)) [
   | inl same ↦ inl (ap (λ (one : ℕ). Some one) (eqb-true one i same))
   | inr differs ↦ inr (λ is. eqb-false one i differs (let both : Some one ≡ Some i = is in cc))
 ]
 
-no-meaning : (sort : Option Sort) → (sort ≡ None) ⊎ (sort ≡ None → ⊥)
+pub no-meaning : (sort : Option Sort) → (sort ≡ None) ⊎ (sort ≡ None → ⊥)
 no-meaning None = inl refl
 no-meaning (Some sort) = inr (λ is. absurd (let no : Some sort ≡ None = is in cc))
 

@@ -1,2 +1,3 @@
 pub mod Scopes
 pub mod LoopForm
+pub mod ListedNames
