@@ -53,5 +53,5 @@ pub joined_ten : (a b c d e f g h i j : List ℕ)
     → a ++ (b ++ (c ++ (d ++ (e ++ (f ++ (g ++ (h ++ (i ++ j)))))))) ≡ ((((((((a ++ b) ++ c) ++ d) ++ e) ++ f) ++ g) ++ h) ++ i) ++ j
 joined_ten a b c d e f g h i j = simp append_assoc
 
-pub joined_twice : (a w s h q b c : List ℕ) → (a ++ (w ++ (s ++ (h ++ q)))) ++ (b ++ c) ≡ (((a ++ w) ++ (s ++ h)) ++ (q ++ b)) ++ c
-joined_twice a w s h q b c = simp append_assoc
+pub joined_head : (a w s h q b c d : List ℕ) → ((a ++ (w ++ (s ++ (h ++ q)))) ++ (b ++ d)) ++ (c ++ d) ≡ ((((a ++ w) ++ (s ++ h)) ++ (q ++ b)) ++ (d ++ c)) ++ d
+joined_head a w s h q b c d = simp append_assoc

@@ -1,5 +1,5 @@
 -- A picture of states with at most 16 threads and 200 columns is short.
-use Rattle.std.proofs.Common.{ℕ, zero, suc, ◌≡◌, ◌+◌, ◌*◌, ◌<◌, ◌≤◌, ◌==◌, Bool, true, false, cond, List, [], ◌∷◌, ◌++◌, length, refl, ap, arith, inl, inr}
+use Rattle.std.proofs.Common.{ℕ, zero, suc, ◌≡◌, ◌+◌, ◌*◌, ◌<◌, ◌≤◌, ◌==◌, Bool, true, false, cond, List, [], ◌∷◌, ◌++◌, length, max, refl, ap, arith, inl, inr}
 use Rattle.std.specs.Prelude.{codes}
 use Rattle.std.specs.Fmt.{decimal}
 use Rattle.std.specs.List.{flat_map, range_with_len}
@@ -162,14 +162,14 @@ tick-legend-short threads few =
           (codes "\">task switch</text>") (10 ∷ []),
     )
 
-head-short : (columns threads : ℕ) → columns ≤ 200 → threads ≤ 16 → length (svg_head columns threads) ≤ 130
+head-short : (columns threads : ℕ) → columns ≤ 200 → threads ≤ 16 → length (svg_head columns threads) ≤ 190
 head-short columns threads short few =
-    let width = length-decimal-le 4 (columns * 6 + 200) (omega arith) (omega arith) (omega arith) in
+    let width = length-decimal-le 4 (max (columns * 6 + 40) 200) (omega arith) (omega arith) (omega arith) in
     let height = length-decimal-le 3 (threads * 20 + 172) (omega arith) (omega arith) (omega arith) in
     omega (
       arith,
-      long-five (codes "<svg xmlns=\"http://www.w3.org/2000/svg\" viewBox=\"0 0 ") (decimal (columns * 6 + 200)) (32 ∷ decimal (threads * 20 + 172))
-          (codes "\" font-family=\"sans-serif\" font-size=\"12\">") (10 ∷ []),
+      long-six (codes "<svg xmlns=\"http://www.w3.org/2000/svg\" viewBox=\"0 0 ") (decimal (max (columns * 6 + 40) 200)) (32 ∷ decimal (threads * 20 + 172))
+          (codes "\" font-family=\"sans-serif\" font-size=\"12\">") (10 ∷ codes "<rect width=\"100%\" height=\"100%\" fill=\"#FFFFFF\"/>") (10 ∷ []),
     )
 
 shade-head-short : (shade : ℕ) → length (shade_head shade) ≤ 50

@@ -47,7 +47,8 @@ AreAfter cells events from past =
 -- the cells of the first so many columns, one column after the other
 pub record IsGrid (columns : ℕ) (events : List EventRecord) (done : ℕ) (cells : List Cell) : Type 0 where
   pub count : length cells ≡ done * 16
-  pub each : (thread column : ℕ) → thread < 16 → column < done → get_or cells (column * 16 + thread) no_cell ≡ cell_of columns events thread column
+  pub each : (thread column : ℕ) → thread < 16 → column < done
+      → get_or cells (column * 16 + thread) no_cell ≡ cell_of columns events thread column
 
 -- what is drawn of a cell, of a row, and of all rows
 abbrev pub mark_text : Mark → Cell → ℕ → ℕ → List ℕ
@@ -80,5 +81,5 @@ shade_paths columns threads cells = flat_map (path_of columns threads cells) (ra
 
 abbrev pub drawing_of : ℕ → ℕ → List Cell → List ℕ
 drawing_of columns threads cells =
-    svg_head columns threads ++ flat_map thread_label (range_with_len 0 threads) ++ shade_paths columns threads cells ++ path_text Tick columns threads cells
-    ++ flat_map (legend_line threads) (range_with_len 1 9) ++ tick_legend threads ++ svg_end
+    svg_head columns threads ++ flat_map thread_label (range_with_len 0 threads) ++ shade_paths columns threads cells
+    ++ path_text Tick columns threads cells ++ flat_map (legend_line threads) (range_with_len 1 9) ++ tick_legend threads ++ svg_end

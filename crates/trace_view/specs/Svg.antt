@@ -7,11 +7,13 @@ use Rattle.ompt_calls.specs.declared.call.Call.{Call}
 use Rattle.ompt_calls.specs.declared.call.Call.TheVariants.{TaskSchedule}
 use Rattle.ompt_calls.specs.declared.event.EventRecord.{EventRecord}
 
--- the shade of a state: serial work, parallel work, waits at a barrier, at a taskwait, for a lock and for a critical, idle, overhead, and any other
+-- the shade of a state: serial work, parallel work, waits at a barrier, at a taskwait, for a lock and for a critical, idle, overhead, and
+-- any other
 abbrev pub shade_of : ℕ → ℕ
 shade_of state =
     if state == WORK_SERIAL then 1 else if state == WORK_PARALLEL then 2
-    else if state == WAIT_BARRIER_IMPLICIT_PARALLEL then 3 else if state == WAIT_BARRIER_IMPLICIT_WORKSHARE then 3 else if state == WAIT_BARRIER_EXPLICIT then 3
+    else if state == WAIT_BARRIER_IMPLICIT_PARALLEL then 3 else if state == WAIT_BARRIER_IMPLICIT_WORKSHARE then 3
+    else if state == WAIT_BARRIER_EXPLICIT then 3
     else if state == WAIT_TASKWAIT then 4 else if state == WAIT_LOCK then 5 else if state == WAIT_CRITICAL then 6
     else if state == IDLE then 7 else if state == OVERHEAD then 8 else 9
 
@@ -25,7 +27,8 @@ colour_of shade =
 abbrev pub shade_text : ℕ → List ℕ
 shade_text shade =
     if shade == 1 then codes "work, serial" else if shade == 2 then codes "work, parallel" else if shade == 3 then codes "wait at a barrier"
-    else if shade == 4 then codes "wait at a taskwait" else if shade == 5 then codes "wait for a lock" else if shade == 6 then codes "wait for a critical"
+    else if shade == 4 then codes "wait at a taskwait" else if shade == 5 then codes "wait for a lock"
+    else if shade == 6 then codes "wait for a critical"
     else if shade == 7 then codes "idle" else if shade == 8 then codes "overhead" else codes "other"
 
 -- the shade of the last of these events: 0 where there is none
@@ -43,7 +46,8 @@ abbrev pub threads_of : List EventRecord → ℕ
 threads_of [] = 0
 threads_of (event ∷ rest) = max (event.thread + 1) (threads_of rest)
 
--- An event lies in the column c where c × span ≤ seq × columns < (c + 1) × span: so many columns share the positions, as in the runner's report.
+-- An event lies in the column c where c × span ≤ seq × columns < (c + 1) × span: so many columns share the positions, as in the report of
+-- `ompt timeline`.
 abbrev pub is_by : ℕ → ℕ → ℕ → ℕ → Bool
 is_by columns span column seq = nat_lt (seq * columns) ((column + 1) * span)
 
@@ -102,33 +106,38 @@ path_end = codes "\"/>" ++ 10 ∷ []
 
 abbrev pub shade_path : ℕ → List EventRecord → ℕ → List ℕ
 shade_path columns events shade =
-    shade_head shade ++ over_cells columns events (λ (thread column : ℕ). stroke_of shade (cell_shade columns events thread column) thread column) ++ path_end
+    shade_head shade
+    ++ over_cells columns events (λ (thread column : ℕ). stroke_of shade (cell_shade columns events thread column) thread column) ++ path_end
 
 abbrev pub tick_path : ℕ → List EventRecord → List ℕ
 tick_path columns events =
-    tick_head ++ over_cells columns events (λ (thread column : ℕ). tick_of (has_switch columns events thread column) thread column) ++ path_end
+    tick_head
+    ++ over_cells columns events (λ (thread column : ℕ). tick_of (has_switch columns events thread column) thread column) ++ path_end
 
 -- the number of a thread, at the left of its row
 abbrev pub thread_label : ℕ → List ℕ
-thread_label thread = codes "<text x=\"6\" y=\"" ++ decimal (middle_of thread + 4) ++ codes "\">" ++ decimal thread ++ codes "</text>" ++ 10 ∷ []
+thread_label thread =
+    codes "<text x=\"6\" y=\"" ++ decimal (middle_of thread + 4) ++ codes "\">" ++ decimal thread ++ codes "</text>" ++ 10 ∷ []
 
 -- a line of the legend, below the rows
 abbrev pub legend_line : ℕ → ℕ → List ℕ
 legend_line threads shade =
-    codes "<path stroke=\"" ++ colour_of shade ++ codes "\" stroke-width=\"10\" d=\"M30 " ++ decimal (threads * 20 + shade * 16) ++ codes "h12\"/><text x=\"48\" y=\""
-    ++ decimal (threads * 20 + shade * 16 + 4) ++ codes "\">" ++ shade_text shade ++ codes "</text>" ++ 10 ∷ []
+    codes "<path stroke=\"" ++ colour_of shade ++ codes "\" stroke-width=\"10\" d=\"M30 " ++ decimal (threads * 20 + shade * 16)
+    ++ codes "h12\"/><text x=\"48\" y=\"" ++ decimal (threads * 20 + shade * 16 + 4) ++ codes "\">" ++ shade_text shade
+    ++ codes "</text>" ++ 10 ∷ []
 
--- how it begins: as wide as the columns and a legend, as high as the rows and the legend
+-- how it begins: as wide as the columns or the legend, as high as the rows and the legend, on white
 abbrev pub svg_head : ℕ → ℕ → List ℕ
 svg_head columns threads =
-    codes "<svg xmlns=\"http://www.w3.org/2000/svg\" viewBox=\"0 0 " ++ decimal (columns * 6 + 200) ++ 32 ∷ decimal (threads * 20 + 172)
-    ++ codes "\" font-family=\"sans-serif\" font-size=\"12\">" ++ 10 ∷ []
+    codes "<svg xmlns=\"http://www.w3.org/2000/svg\" viewBox=\"0 0 " ++ decimal (max (columns * 6 + 40) 200)
+    ++ 32 ∷ decimal (threads * 20 + 172) ++ codes "\" font-family=\"sans-serif\" font-size=\"12\">"
+    ++ 10 ∷ codes "<rect width=\"100%\" height=\"100%\" fill=\"#FFFFFF\"/>" ++ 10 ∷ []
 
 -- the line of the legend on the ticks
 abbrev pub tick_legend : ℕ → List ℕ
 tick_legend threads =
-    codes "<path stroke=\"#000000\" d=\"M36 " ++ decimal (threads * 20 + 155) ++ codes "v9\"/><text x=\"48\" y=\"" ++ decimal (threads * 20 + 164)
-    ++ codes "\">task switch</text>" ++ 10 ∷ []
+    codes "<path stroke=\"#000000\" d=\"M36 " ++ decimal (threads * 20 + 155) ++ codes "v9\"/><text x=\"48\" y=\""
+    ++ decimal (threads * 20 + 164) ++ codes "\">task switch</text>" ++ 10 ∷ []
 
 abbrev pub svg_end : List ℕ
 svg_end = codes "</svg>" ++ 10 ∷ []

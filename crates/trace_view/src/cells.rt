@@ -126,7 +126,8 @@ fn is_before(event: &EventRecord, columns: u8, end: u64) -> bool
 /// Takes an event.
 fn take(event: &EventRecord, cells: &mut [Cell])
     requires { event.now.thread < length cells.old }
-    ensures { cells.new ≡ set cells.old event.now.thread (next_cell (get_or cells.old event.now.thread no_cell) event.now) }
+    ensures { cells.new
+        ≡ set cells.old event.now.thread (next_cell (get_or cells.old event.now.thread no_cell) event.now) }
 {
     let thread = usize::from(event.thread);
     cells[thread] = next_cell(cells[thread], event);

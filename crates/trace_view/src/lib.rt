@@ -36,6 +36,9 @@
 //!   positions of the ends, less those of the begins;
 //! - at `Refused`, `Broken` and `ReadFault` it is as `tool_tasks::read_nested` says, and at these and at `Memory` nothing was written.
 //!
+//! Proved by the contract of [`svg_text`]: the text is `svg_of`, and has at most 80,000 bytes where there are at most 200 columns, however long the
+//! trace is.
+//!
 //! The memory of [`view_items`] doesn't grow with the trace: that isn't proved, but plain in the code. Want of memory is free. That what is
 //! written in the style `Chrome` is JSON is tested, and neither that a viewer opens it nor that Graphviz and viewers of SVG read the pictures is
 //! proved.

@@ -43,13 +43,14 @@ fn drawing(alloc: Global, columns: u8, threads: u8, cells: &[Cell]) -> Result<Ve
 fn head(alloc: Global, columns: u8, threads: u8) -> Result<Vec<u8>, AllocError>
     ensures { IfOk result (λ text. text.items ≡ svg_head columns threads) }
 {
-    let width = columns as u32 * 6 + 200;
+    let width = (columns as u32 * 6 + 40).max(200);
     let height = threads as u32 * 20 + 172;
     let head = format!(in alloc;
         "<svg xmlns=\"http://www.w3.org/2000/svg\" viewBox=\"0 0 {width} {height}\""
     )?;
     let mut text = head.into_bytes();
     text.extend_from_slice(b" font-family=\"sans-serif\" font-size=\"12\">\n")?;
+    text.extend_from_slice(b"<rect width=\"100%\" height=\"100%\" fill=\"#FFFFFF\"/>\n")?;
     Ok(text)
 }
 
@@ -110,12 +111,12 @@ fn put_legend_line(
 ) -> Result<(), AllocError>
     ensures { OnOk result (text.new.items ≡ text.old.items ++ legend_line threads shade) }
 {
-    let middle = threads as u32 * 20 + shade as u32 * 16;
-    let base = middle + 4;
+    let at = threads as u32 * 20 + shade as u32 * 16;
+    let base = at + 4;
     let colour = Colour { shade };
     let name = ShadeName { shade };
     let line = format!(in alloc;
-        "<path stroke=\"{colour}\" stroke-width=\"10\" d=\"M30 {middle}h12\"/><text x=\"48\" y=\"{base}\">{name}</text>\n"
+        "<path stroke=\"{colour}\" stroke-width=\"10\" d=\"M30 {at}h12\"/><text x=\"48\" y=\"{base}\">{name}</text>\n"
     )?;
     text.extend_from_slice(line.as_bytes())
 }
