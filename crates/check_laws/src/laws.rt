@@ -19,8 +19,8 @@ pub fn loop_form()
 {}
 
 /// A program breaks the rule on listed names at a place exactly where a name is used there inside of a construct with `default(none)` of its
-/// tree, which means a variable, an array or a lock that is declared outside, and which no data clause of the construct lists. It isn't that
-/// of the variable of a loop that a directive shares out there.
+/// tree, which means a variable, an array or a lock that is declared outside, and which no data clause of the construct lists. Nor is it
+/// the name of the variable of a loop that a directive inside shares out.
 pub fn listed_names()
     ensures broken { (text : List ℕ) (program : TreeView) (spot : Spot) → Spells text (root_tree program) →
         Breaks program (NotListed spot) → BreaksListing (root_tree program) spot }

@@ -14,7 +14,7 @@
 //!   the form;
 //! - [`listed_names`]: the rule on listed names (14) is broken at a place exactly where a name is used there inside of a construct with
 //!   `default(none)`, which means a variable, an array or a lock that is declared outside of it, and which none of its data clauses lists.
-//!   It isn't that of the variable of a loop that a directive shares out there.
+//!   Nor is it the name of the variable of a loop that a directive inside shares out.
 //!
 //! The crate has no code that runs.
 #![tactic(auto)]

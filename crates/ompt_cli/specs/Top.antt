@@ -53,8 +53,8 @@ pub record FollowsWords {Table : Type 0} {Behind : Table → Type 0} (words : Li
 
 -- What a report says of its run. It ran with the command, the threads and the steps that the words ask for, and serially where they do: where they are in
 -- the form, their own with the defaults. What ran is the program that the text spells, which is the source's. Its history is legal, and ends in the cause that is reported: whole
--- exactly at Done or Returned, and with no thread inside a callback. A serial history is one to the end, and it is the one in which nothing is stored for all
--- commands but `run`, and where no tool stored anything. The end is the run's, unless a write or memory fails. Over what the source has left.
+-- exactly at Done or Returned, and with no thread inside a callback. Unless its cause is Memory, a serial history is one to the end, and it is the one in which
+-- nothing is stored for all commands but `run`, and where no tool stored anything. The end is the run's, unless a write or memory fails. Over what the source has left.
 pub record IsRunOf {Table : Type 0} {Behind : Table → Type 0} (words : List (List ℕ)) (left : Option (List ℕ)) (end : End) (report : Report Table Behind) : Type 0 where
   pub asked : AreReadAs words (request.Run (settings_in report))
   pub own : (form : InForm words) → settings_in report ≡ own_settings form

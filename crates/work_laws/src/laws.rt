@@ -28,8 +28,8 @@ ghost use Rattle.omp_model.specs.Turn.{walk};
 ghost use Rattle.work_laws.specs.Sizes.{as_written};
 ghost use Rattle.work_laws.specs.Told.{HaveEnded, meeting_of, told_of};
 
-/// After a legal history, of a meeting of a region's team at which each member has ended its work: where it is a loop, each
-/// iteration is in exactly one of the chunks that were told, and no chunk has anything else. Where it is sections, as many
+/// This is of a meeting of a region's team, after a legal history, at which each member has ended its work. Where it is a loop,
+/// each iteration is in exactly one of the chunks that were told, and no chunk has anything else. Where it is sections, as many
 /// were told as the construct has. Meetings are counted from 0. The run has 1 to 16 threads, and its program breaks no rule.
 pub fn each_iteration_once_in_a_run()
     ensures iterations { (run : Run) (history : List Entry) (r n at count iteration : ℕ) (start step : ℤ) (how : Schedule) →
@@ -45,10 +45,9 @@ pub fn each_iteration_once_in_a_run()
         meeting_of team n ≡ Sections at count → HaveEnded team told → length told.sections ≡ count }
 {}
 
-/// Where the next silent step of a thread asks for a section, after a legal history and any number of silent steps that the
-/// thread makes then, it is answered the section with the number of those that were told before of the meeting that its
-/// member has had last, or that none is left where as many were told as the construct has. So sections are told one after
-/// another in the order of the text. The run has 1 to 16 threads, and its program breaks no rule.
+/// The next silent step of a thread asks for a section, after a legal history and any number of silent steps that the thread
+/// makes then. It is answered the section whose number is how many were told before of its member's last meeting. Where as many
+/// were told as the construct has, it is answered that none is left. The run has 1 to 16 threads, and its program breaks no rule.
 pub fn sections_are_told_in_order()
     ensures { (run : Run) (history : List Entry) (t steps : ℕ) (construct : Part) → 1 ≤ run.threads → run.threads ≤ 16 →
         Checked run.program → IsProgramFormed run.program → Legal run history →
@@ -60,9 +59,8 @@ pub fn sections_are_told_in_order()
         ≡ answer.Section (if nat_lt before (sections_asked (items_asking W t)) then Some before else None) }
 {}
 
-/// Where a thread comes to the begin of a loop, after any entries and any number of silent steps of the thread, the team
-/// deals its iterations by the schedule as it is written: a size of a dynamic or guided one is at least 1, and none is
-/// raised. The program breaks no rule.
+/// Where a thread comes to the begin of a loop, after any entries and any number of its silent steps, the team deals iterations
+/// by the schedule as it is written. So a size of a dynamic or guided one is at least 1, and none is raised. The program breaks no rule.
 pub fn chunks_have_a_size()
     ensures { (run : Run) (history : List Entry) (t steps codeptr count : ℕ) (start step : ℤ) (how : Written)
         (construct : Part) → Checked run.program → IsProgramFormed run.program →

@@ -1,9 +1,8 @@
-//! Each iteration of a loop, and each section, is told once.
+//! Each iteration of a loop is told once, and as many sections as there are.
 //!
 //! The members of a team share a loop's iterations: each takes chunks, and each chunk that it takes is told by an event,
 //! dispatch. `team_parts` has what a team deals. Here it is shown of whole runs: what the events of a history tell is what
-//! the team has dealt, so nothing is told twice and nothing is left out, whatever the program's code does between, and
-//! whichever callbacks are registered.
+//! the team has dealt. That is so whatever the program's code does between, and whichever callbacks are registered.
 //!
 //! - `specs/Told.antt` goes over a history and has what its events tell of one meeting of one team: the chunks, the
 //!   sections, and whose work has ended.
