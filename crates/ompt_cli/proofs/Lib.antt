@@ -11,7 +11,7 @@ pub mod Walks
 pub mod Telling
 pub mod Recorded
 pub mod Traced
-pub mod Tasked
+pub mod Written
 pub mod NestedRuns
 pub mod Filing
 pub mod Carrying

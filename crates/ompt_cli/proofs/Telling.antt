@@ -14,11 +14,6 @@ use Rattle.std.specs.Prelude.{Err, IsErrAnd, Ok, Result}
 use Rattle.ompt_cli.specs.declared.end.Refusal.{Refusal}
 use Rattle.ompt_cli.specs.Text.{Spells}
 
--- what follows from what is so where there is a value
-pub where_some : {A : Type 0} {P Q : A → Type 0} (found : Option A) → IfSome found P → ((value : A) → P value → Q value) → IfSome found Q
-where_some None so more = tt
-where_some (Some value) so more = more value so
-
 -- the settings of a report are those that were read
 pub settings-as : {Table : Type 0} {Behind : Table → Type 0} (report : Report Table Behind) (settings : Settings) → report.command ≡ settings.command → report.threads ≡ settings.threads
     → report.steps ≡ settings.steps → report.serial ≡ settings.serial → settings_in report ≡ settings
@@ -51,34 +46,18 @@ is-none None none = refl
 is-none (Some value) none = absurd cc
 
 -- a count that rose shows a write that failed
-pub lost-write : (told : End) (before now : ℕ) → (told ≢ end.WriteFault → now ≡ before) → before < now → told ≡ end.WriteFault
+lost-write : (told : End) (before now : ℕ) → (told ≢ end.WriteFault → now ≡ before) → before < now → told ≡ end.WriteFault
 lost-write end.WriteFault before now steady rose = refl
-lost-write (end.Ended why) before now steady rose = absurd (omega (arith, steady (λ is. cc), rose))
-lost-write end.Shown before now steady rose = absurd (omega (arith, steady (λ is. cc), rose))
-lost-write end.Read before now steady rose = absurd (omega (arith, steady (λ is. cc), rose))
-lost-write end.Usage before now steady rose = absurd (omega (arith, steady (λ is. cc), rose))
-lost-write (end.Refused why) before now steady rose = absurd (omega (arith, steady (λ is. cc), rose))
-lost-write (end.TraceRefused refusal) before now steady rose = absurd (omega (arith, steady (λ is. cc), rose))
-lost-write (end.HistoryRefused reason offset) before now steady rose = absurd (omega (arith, steady (λ is. cc), rose))
-lost-write (end.Broken breach) before now steady rose = absurd (omega (arith, steady (λ is. cc), rose))
-lost-write (end.Illegal place) before now steady rose = absurd (omega (arith, steady (λ is. cc), rose))
-lost-write end.ReadFault before now steady rose = absurd (omega (arith, steady (λ is. cc), rose))
-lost-write end.Memory before now steady rose = absurd (omega (arith, steady (λ is. cc), rose))
+lost-write other before now steady rose = absurd (omega (arith, steady (λ is. cc), rose))
 
--- and so does a count of the reads
-pub lost-read : (told : End) (before now : ℕ) → (told ≢ end.ReadFault → now ≡ before) → before < now → told ≡ end.ReadFault
+-- or a read
+lost-read : (told : End) (before now : ℕ) → (told ≢ end.ReadFault → now ≡ before) → before < now → told ≡ end.ReadFault
 lost-read end.ReadFault before now steady rose = refl
-lost-read (end.Ended why) before now steady rose = absurd (omega (arith, steady (λ is. cc), rose))
-lost-read end.Shown before now steady rose = absurd (omega (arith, steady (λ is. cc), rose))
-lost-read end.Read before now steady rose = absurd (omega (arith, steady (λ is. cc), rose))
-lost-read end.Usage before now steady rose = absurd (omega (arith, steady (λ is. cc), rose))
-lost-read (end.Refused why) before now steady rose = absurd (omega (arith, steady (λ is. cc), rose))
-lost-read (end.TraceRefused refusal) before now steady rose = absurd (omega (arith, steady (λ is. cc), rose))
-lost-read (end.HistoryRefused reason offset) before now steady rose = absurd (omega (arith, steady (λ is. cc), rose))
-lost-read (end.Broken breach) before now steady rose = absurd (omega (arith, steady (λ is. cc), rose))
-lost-read (end.Illegal place) before now steady rose = absurd (omega (arith, steady (λ is. cc), rose))
-lost-read end.WriteFault before now steady rose = absurd (omega (arith, steady (λ is. cc), rose))
-lost-read end.Memory before now steady rose = absurd (omega (arith, steady (λ is. cc), rose))
+lost-read other before now steady rose = absurd (omega (arith, steady (λ is. cc), rose))
+
+pub shows-faults : (told : End) (source source_now out out_now : ℕ) → CountsFaults told end.ReadFault source source_now → CountsFaults told end.WriteFault out out_now → ShowsFaults told source source_now out out_now
+shows-faults told source source_now out out_now reads writes =
+    record { read = reads.rose; write = writes.rose; unread = lost-read told source source_now reads.steady; lost = lost-write told out out_now writes.steady }
 
 -- the end of a command whose run ended so is one of those behind a run
 ends-after : (why : Cause) (told : End) → EndsAs why told → IsAfterRun told
