@@ -42,6 +42,8 @@ pub(crate) fn run_command<X: Runner, O: Sink>(
         Command::Record => record(runner, alloc, job, guests, out),
         Command::Profile => report::<X, Profile, O>(runner, alloc, job, guests, out),
         Command::Timeline(_) => report::<X, Timeline, O>(runner, alloc, job, guests, out),
-        Command::List | Command::Generate(_) => report::<X, Recorder, O>(runner, alloc, job, guests, out),
+        Command::List | Command::Generate(_) => report::<X, Recorder, O>(
+            runner, alloc, job, guests, out,
+        ),
     }
 }

@@ -85,10 +85,16 @@ impl End {
                 "usage: ompt run, list, record, profile, timeline, show, check, gen, migrate, rerun or tasks\n",
             ),
             End::Refused(why) => why.line(),
-            End::TraceRefused(refusal) =>
-                line_at("trace refused ", refusal.reason.number(), refusal.offset),
-            End::HistoryRefused(reason, offset) =>
-                line_at("history refused ", reason.number(), offset),
+            End::TraceRefused(refusal) => line_at(
+                "trace refused ",
+                refusal.reason.number(),
+                refusal.offset,
+            ),
+            End::HistoryRefused(reason, offset) => line_at(
+                "history refused ",
+                reason.number(),
+                offset,
+            ),
             End::Broken(breach) => line_at("breach ", breach.rule, u64::from(breach.seq)),
             End::Illegal(place) => line_with("illegal at ", place),
             End::ReadFault => line_of("read fault\n"),

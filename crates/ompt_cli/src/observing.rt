@@ -85,10 +85,20 @@ fn with_report<P>(
     guests: Vec<Box<dyn GuestTool>>,
 ) -> Observed<P>
     ensures { result ≡ record {
-        report = record {
-            command = settings.command; cause = ran.cause; program = program; mask = ran.mask; threads = settings.threads; steps = settings.steps;
-            serial = settings.serial; history = ran.history; guests = guests };
-        parts = ran.parts; text = ran.text } }
+      report = record {
+        command = settings.command;
+        cause = ran.cause;
+        program = program;
+        mask = ran.mask;
+        threads = settings.threads;
+        steps = settings.steps;
+        serial = settings.serial;
+        history = ran.history;
+        guests = guests;
+      };
+      parts = ran.parts;
+      text = ran.text;
+    } }
 {
     Observed {
         report: Report {
