@@ -5,8 +5,8 @@ use Rattle.ompt_cli.proofs.Carrying.{end_carried, run_carried}
 use Rattle.ompt_cli.proofs.Telling.{err-end, ok-not-refused}
 use Rattle.ompt_cli.proofs.settings_run.run_settings.Goals as goal
 
-pub returns-in-Ok-clause-carried : goal.returns-in-Ok-clause-carried
-returns-in-Ok-clause-carried g c = λ words taken.
+pub returns-in-Ok-run_command-clause-carried : goal.returns-in-Ok-run_command-clause-carried
+returns-in-Ok-run_command-clause-carried g c = λ words taken.
     run_carried g.S.Source.left g.S.Source.faults g.O.Sink.held g.O.Sink.faults words c.args.settings taken c.in-Ok-run_command.end c.in-Ok-run_command.report _ c.args.source.now c.program_for.new.source c.args.out.now c.run_command.new.out
     refl c.in-Ok.ensures.text c.in-Ok.ensures.program
     (λ why refused. ok-not-refused why c.in-Ok.loaded c.program_for.result c.in-Ok.is (c.program_for.ensures.accepted why refused))
@@ -16,7 +16,7 @@ returns-in-Ok-clause-carried g c = λ words taken.
 
 pub returns-in-Err-run_command-clause-carried : goal.returns-in-Err-run_command-clause-carried
 returns-in-Err-run_command-clause-carried g c = λ words taken.
-    rw (c.without_run.ensures, c.in-Err-run_command.ensures.untouched)
+    rw (c.without_run-in-Err-run_command.ensures, c.in-Err-run_command.ensures.untouched)
     (end_carried g.S.Source.left g.S.Source.faults g.O.Sink.held g.O.Sink.faults words c.args.settings taken Memory c.args.source.now c.program_for.new.source c.args.out.now
     tt (λ why is. absurd cc) (λ why refused. tt) (λ program. tt)
     (record { rose = λ is. absurd cc; steady = λ other. c.program_for.ensures.steady (λ is. let same = sym c.in-Ok.is ∙ is in cc) })
