@@ -1,5 +1,5 @@
 -- What is so of a history file that is a certificate.
-use Rattle.std.proofs.Common.{◌≡◌, ℕ, List, [], ◌∷◌, ◌++◌, map, Option, Some, None, IsSomeAnd, ap, ◌∙◌, arith}
+use Rattle.std.proofs.Common.{◌≡◌, ℕ, List, [], ◌∷◌, ◌++◌, map, Option, Some, None, IsSomeAnd, refl, ap, ◌∙◌, arith}
 use Rattle.run_edges.specs.Edges.{ConsumesMore}
 use Rattle.c_syntax.specs.language.Numbered.{TreeView}
 use Rattle.ompt_calls.specs.Item.{Item}

@@ -7,7 +7,6 @@ pub mod Keeping
 pub mod Observed
 pub mod Ending
 pub mod Reading
-pub mod Walks
 pub mod Telling
 pub mod Recorded
 pub mod Traced

@@ -4,13 +4,11 @@ use Rattle.std.proofs.lemmas.Bool.{ltb-false, ltb-true}
 use Rattle.c_tokens.specs.declared.token.Spot.{Spot}
 use Rattle.c_tokens.specs.declared.token.Token.{Token}
 use Rattle.c_tokens.specs.declared.token.TokenFault.{TokenFault}
-use Rattle.c_tokens.specs.declared.token.TokenFault.TheVariants as fault
 use Rattle.c_tokens.specs.workings.Tokens.{tokens_of}
 use Rattle.c_tokens.specs.language.Pieces.{Reads}
 use Rattle.c_tokens.specs.language.Places.{beginning}
 use Rattle.c_tokens.specs.language.Ending.{EndsIn}
 use Rattle.c_syntax.specs.declared.fault.SyntaxFault.{SyntaxFault}
-use Rattle.c_syntax.specs.declared.fault.SyntaxFault.TheVariants as syntax
 use Rattle.c_syntax.specs.language.Words.{main_of}
 use Rattle.c_syntax.specs.language.Tree.{Tree}
 use Rattle.c_syntax.specs.language.Texts.{HasSyntaxFault, Spells as IsTreeOf}
@@ -21,14 +19,9 @@ use Rattle.c_syntax.specs.language.Numbered.{TreeView, root_tree}
 use Rattle.c_check.specs.Checked.{rule_fault, rule_fault_in}
 use Rattle.c_syntax.proofs.OneAnswer.{fault_one, not_both, tree_one, tree_or_fault}
 use Rattle.c_check.specs.declared.fault.CheckFault.{CheckFault}
-use Rattle.c_check.specs.declared.fault.CheckFault.TheVariants as rule
 use Rattle.ompt_cli.specs.declared.end.Refusal.{Refusal}
 use Rattle.ompt_cli.specs.declared.end.Refusal.TheVariants.{Tokens, Syntax, Rule, TooLong}
-use Rattle.ompt_cli.specs.declared.end.End.{End}
-use Rattle.ompt_cli.specs.declared.end.End.TheVariants.{Refused, Memory}
-use Rattle.ompt_cli.specs.Commands.{MayRefuse, MayRun}
-use Rattle.ompt_cli.specs.Ends.{end_of_check_fault, end_of_fault, end_of_syntax_fault}
-use Rattle.ompt_cli.specs.Text.{HasCheckFault, HasTree, IsProgram, IsReadAs, IsRefused, Spells, end_at, end_of, rule_broken}
+use Rattle.ompt_cli.specs.Text.{HasTree, IsProgram, IsReadAs, IsRefused, Spells, end_at, end_of, rule_broken}
 use Rattle.numbered_runs.specs.Alike.{AreAlike}
 
 module _ (text : List ℕ) where
@@ -85,41 +78,13 @@ module _ (text : List ℕ) where
       cc
   program-not_refused TooLong program over = absurd (omega (arith, program.1.short, over))
 
-  -- an end that tells a refusal of the text, or that there was no memory
-  abbrev pub IsRefusal : End → Type 0
-  IsRefusal told = (told ≡ Memory) ⊎ ((why : Refusal) × IsRefused why text × (told ≡ Refused why))
-
-  -- the refusal is the one, and there is none where the text runs
-  pub end-accepted : (told : End) → IsRefusal told → (why : Refusal) → IsRefused why text → MayRefuse why told
-  end-accepted told (inl is) why refused = subst (MayRefuse why) (sym is) tt
-  end-accepted told (inr (found, has, is)) why refused = subst (MayRefuse why) (sym is) (refusal-one found why has refused)
-
-  pub end-runs : (told : End) → IsRefusal told → IsProgram text → MayRun told
-  end-runs told (inl is) program = subst MayRun (sym is) tt
-  end-runs told (inr (found, has, is)) program = absurd (program-not_refused found program has)
-
-  pub tokens-end : length text ≤ 65536 → (found : TokenFault) → (found ≢ fault.Memory → EndsIn beginning text found) → IsRefusal (end_of_fault found)
-  tokens-end short fault.Memory known = inl refl
-  tokens-end short found known = inr (Tokens _, (short, known (λ same. cc)), refl)
-
-  pub syntax-end : length text ≤ 65536 → (found : SyntaxFault) → (found ≢ syntax.Memory → HasSyntaxFault text found) → IsRefusal (end_of_syntax_fault found)
-  syntax-end short syntax.Memory known = inl refl
-  syntax-end short found known = inr (Syntax _, (short, known (λ same. cc)), refl)
-
-  -- what was read of a text
+  -- what was read of a text that isn't too long
   module _ (program : TreeView) (is : IsReadAs text program) (short : length text ≤ 65536) where
     pub spells-by : (now : TreeView) → now ≡ program → rule_fault program ≡ None → Spells text now
     spells-by now same keeps = subst (λ (view : TreeView). Spells text view) (sym same) (record { short = short; read = is; keeps = keeps })
 
-    pub runs-by : rule_fault program ≡ None → IsProgram text
-    runs-by keeps = (program, record { short = short; read = is; keeps = keeps })
-
-    broken-by : (found : CheckFault) → rule_fault program ≡ Some found → HasCheckFault found text
+    pub broken-by : (found : CheckFault) → rule_fault program ≡ Some found → IsRefused (Rule found) text
     broken-by found same = (short, (is.tokens, root_tree program, is.has, rule-is program is (Some found) same))
-
-    pub check-end : (found : CheckFault) → (found ≢ rule.Memory → rule_fault program ≡ Some found) → IsRefusal (end_of_check_fault found)
-    check-end rule.Memory known = inl refl
-    check-end found known = inr (Rule _, broken-by _ (known (λ same. cc)), refl)
 
 -- the last token stands where the text ends
 end_at-last : (spot : Spot) (front : List Token) (last : Token) → end_at spot (front ++ last ∷ []) ≡ last.spot

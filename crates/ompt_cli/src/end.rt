@@ -4,7 +4,7 @@ ghost use Rattle.std.specs.Prelude.{◌≡◌, ◌≤◌, ◌+◌, ◌∷◌, �
 ghost use Rattle.std.specs.Fmt.{decimal, signed_decimal};
 ghost use Rattle.arrayvec.specs.ArrayString.{array_string_len};
 ghost use Rattle.run_trace.specs.TraceOf.{status_of as status_of_cause};
-ghost use Rattle.ompt_cli.specs.Ends.{end_of_check_fault, end_of_fault, end_of_syntax_fault, line_of_cause, line_of_end, refusal_number, refusal_spot, refusal_text, status_of};
+ghost use Rattle.ompt_cli.specs.Ends.{line_of_cause, line_of_end, refusal_number, refusal_spot, refusal_text, status_of};
 
 use arrayvec::ArrayString;
 use c_check::CheckFault;
@@ -85,10 +85,16 @@ impl End {
                 "usage: ompt run, list, record, profile, timeline, show, check, gen, migrate, rerun or tasks\n",
             ),
             End::Refused(why) => why.line(),
-            End::TraceRefused(refusal) =>
-                line_at("trace refused ", refusal.reason.number(), refusal.offset),
-            End::HistoryRefused(reason, offset) =>
-                line_at("history refused ", reason.number(), offset),
+            End::TraceRefused(refusal) => line_at(
+                "trace refused ",
+                refusal.reason.number(),
+                refusal.offset,
+            ),
+            End::HistoryRefused(reason, offset) => line_at(
+                "history refused ",
+                reason.number(),
+                offset,
+            ),
             End::Broken(breach) => line_at("breach ", breach.rule, u64::from(breach.seq)),
             End::Illegal(place) => line_with("illegal at ", place),
             End::ReadFault => line_of("read fault\n"),
@@ -172,36 +178,6 @@ fn line_of_cause(cause: Cause) -> ArrayString<160>
         Cause::Limit(6) => line_of("limit depth\n"),
         Cause::Limit(_) => line_of("limit text\n"),
         Cause::Memory => line_of("memory\n"),
-    }
-}
-
-/// The end of a command whose text has this fault in its tokens.
-pub(crate) fn end_of_fault(fault: TokenFault) -> End
-    ensures { result ≡ end_of_fault fault }
-{
-    match fault {
-        TokenFault::Memory => End::Memory,
-        _ => End::Refused(Refusal::Tokens(fault)),
-    }
-}
-
-/// The end of a command whose tokens are no program for this fault.
-pub(crate) fn end_of_syntax_fault(fault: SyntaxFault) -> End
-    ensures { result ≡ end_of_syntax_fault fault }
-{
-    match fault {
-        SyntaxFault::Memory => End::Memory,
-        _ => End::Refused(Refusal::Syntax(fault)),
-    }
-}
-
-/// The end of a command whose program breaks a rule so.
-pub(crate) fn end_of_check_fault(fault: CheckFault) -> End
-    ensures { result ≡ end_of_check_fault fault }
-{
-    match fault {
-        CheckFault::Memory => End::Memory,
-        _ => End::Refused(Refusal::Rule(fault)),
     }
 }
 
