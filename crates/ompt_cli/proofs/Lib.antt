@@ -7,11 +7,10 @@ pub mod Keeping
 pub mod Observed
 pub mod Ending
 pub mod Reading
-pub mod Walks
 pub mod Telling
 pub mod Recorded
 pub mod Traced
-pub mod Tasked
+pub mod Written
 pub mod NestedRuns
 pub mod Filing
 pub mod Carrying

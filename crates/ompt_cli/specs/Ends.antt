@@ -8,14 +8,8 @@ use Rattle.run_trace.specs.TraceOf.{status_of as status_of_cause}
 use Rattle.ompt_cli.specs.declared.end.Refusal.{Refusal}
 use Rattle.ompt_cli.specs.declared.end.Refusal.TheVariants.{Tokens, Syntax, Rule, TooLong}
 use Rattle.c_tokens.specs.declared.token.Spot.{Spot}
-use Rattle.c_tokens.specs.declared.token.TokenFault.{TokenFault}
-use Rattle.c_tokens.specs.declared.token.TokenFault.TheVariants as token
 use Rattle.c_tokens.specs.language.Faults.{nowhere, fault_number as token_number, fault_spot as token_spot}
-use Rattle.c_syntax.specs.declared.fault.SyntaxFault.{SyntaxFault}
-use Rattle.c_syntax.specs.declared.fault.SyntaxFault.TheVariants as syntax
 use Rattle.c_syntax.specs.language.Faults.{fault_number as syntax_number, fault_spot as syntax_spot}
-use Rattle.c_check.specs.declared.fault.CheckFault.{CheckFault}
-use Rattle.c_check.specs.declared.fault.CheckFault.TheVariants as rule
 use Rattle.c_check.specs.Faults.{fault_number as rule_number, fault_spot as rule_spot}
 use Rattle.std.specs.Fmt.{decimal, signed_decimal}
 use Rattle.trace_format.specs.declared.refusal.Refusal.{Refusal as TraceRefusal}
@@ -52,20 +46,6 @@ refusal_spot (Tokens found) = token_spot found
 refusal_spot (Syntax found) = syntax_spot found
 refusal_spot (Rule found) = rule_spot found
 refusal_spot TooLong = nowhere
-
--- the end of a command whose text has this fault in its tokens, of one whose tokens are no program for this fault, and of one whose
--- program breaks a rule so
-abbrev pub end_of_fault : TokenFault → End
-end_of_fault token.Memory = Memory
-end_of_fault found = Refused (Tokens found)
-
-abbrev pub end_of_syntax_fault : SyntaxFault → End
-end_of_syntax_fault syntax.Memory = Memory
-end_of_syntax_fault found = Refused (Syntax found)
-
-abbrev pub end_of_check_fault : CheckFault → End
-end_of_check_fault rule.Memory = Memory
-end_of_check_fault found = Refused (Rule found)
 
 -- the line on standard error that tells a refusal, without its newline
 abbrev pub refusal_at : ℕ → Spot → List ℕ

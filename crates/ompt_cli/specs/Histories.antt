@@ -20,7 +20,7 @@ use Rattle.ompt_cli.specs.Text.{IsProgram, IsRefused, Spells}
 
 -- the history file of the run that is reported
 abbrev pub file_of_report : {Table : Type 0} {Behind : Table → Type 0} → Report Table Behind → HistoryFile
-file_of_report report = file_of report.program.text (run_of report) report.cause report.history
+file_of_report report = file_of report.program.text.value.items (run_of report) report.cause report.history
 
 -- a line for each call
 abbrev pub lines_of_calls : List HeardCall → List ℕ

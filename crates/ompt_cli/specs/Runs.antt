@@ -10,12 +10,10 @@ use Rattle.omp_model.specs.Gates.{main_returned}
 use Rattle.omp_model.specs.Heard.{heard_of}
 use Rattle.omp_model.specs.Legal.{Legal, after}
 use Rattle.omp_model.specs.Serial.{Serial, serial}
-use Rattle.team_run.specs.Program.{run_of_program}
-use Rattle.team_run.specs.Serving.{AreSame, Becomes}
-use Rattle.team_run.specs.Standing.{HearsOwn, HearsSilent}
+use Rattle.team_run.specs.Serving.{Becomes}
+use Rattle.team_run.specs.Standing.{HearsSilent}
 use Rattle.tool_api.specs.Registering.{AreAlways, mask_of}
 use Rattle.team_run.specs.Unheard.{IsUnheard}
-use Rattle.ompt_cli.specs.Job.{JobView}
 use Rattle.thread_run.specs.Driving.{LeftAt, called_for, record_of_first}
 
 -- every thread that was made has ended, and main has returned
@@ -65,10 +63,6 @@ pub record RunsParts {P : Type 0} (stands_for : P → Record → Type 0) (serial
   pub first : Becomes stands_for parts others 0 (record_of_first answer registered (heard_of run history 0) (missed 0))
   pub each : (k : ℕ) → 0 < k → k < length parts → Becomes stands_for parts others k (called_for (heard_of run history k) (missed k))
 
--- the run of a job where these callbacks are registered
-abbrev pub run_of_job : JobView → ℕ → Run
-run_of_job job mask = run_of_program job.program mask job.threads job.steps
-
 -- A run that ended in this cause with this history: a legal one that ends in its cause, with no thread inside a callback, and serially where it is to be. Where
 -- nothing is stored, a serial run is the one that there is. Each callback that was registered is one that is called always
 pub record RunsTo (run : Run) (is_serial : Bool) (cause : Cause) (history : List Entry) : Type 0 where
@@ -79,11 +73,3 @@ pub record RunsTo (run : Run) (is_serial : Bool) (cause : Cause) (history : List
   pub whole : is_serial ≡ true → cause ≢ causes.Memory → HearsSilent run history → history ≡ serial run
   pub begun : cause ≡ causes.Memory → history ≢ []
   pub always : AreAlways run.mask
-
--- a run of the job with these parts, which printed this text. The parts that come back are those that were given
-pub record RunsJob {P : Type 0} (stands_for : P → Record → Type 0) (Same : P → P → Type 0) (job : JobView) (mask : ℕ) (cause : Cause) (history : List Entry) (text : List ℕ) (parts others : List P) : Type 0 where
-  pub to : RunsTo (run_of_job job mask) job.serial cause history
-  pub runs : RunsParts stands_for job.serial (run_of_job job mask) cause history parts others
-  pub same : AreSame Same parts others
-  pub own : HearsOwn (run_of_job job mask) history
-  pub printed : text ≡ (after (run_of_job job mask) history).world.store.text

@@ -58,8 +58,8 @@ pub record FollowsWords {Table : Type 0} {Behind : Table → Type 0} (words : Li
 pub record IsRunOf {Table : Type 0} {Behind : Table → Type 0} (words : List (List ℕ)) (left : Option (List ℕ)) (end : End) (report : Report Table Behind) : Type 0 where
   pub asked : AreReadAs words (request.Run (settings_in report))
   pub own : (form : InForm words) → settings_in report ≡ own_settings form
-  pub text : IfSome (text_for report.command left) (λ text. text ≡ report.program.text)
-  pub spelled : Spells report.program.text report.program.tree
+  pub text : IfSome (text_for report.command left) (λ text. text ≡ report.program.text.value.items)
+  pub spelled : Spells report.program.text.value.items report.program.tree.value
   pub mask : ¬ HasGuests report.command → report.mask ≡ PROFILE_MASK
   pub always : AreAlways report.mask
   pub legal : Legal (run_of report) report.history
