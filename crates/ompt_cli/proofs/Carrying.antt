@@ -22,7 +22,7 @@ use Rattle.ompt_cli.specs.declared.end.End.TheVariants as end
 use Rattle.ompt_cli.specs.declared.end.Refusal.{Refusal}
 use Rattle.ompt_cli.specs.declared.job.Job.{Job}
 use Rattle.ompt_cli.specs.declared.report.Report.{Report}
-use Rattle.ompt_cli.specs.Commands.{CountsFaults, EndsAs, HasWritten, IsBeforeRun, IsReading, IsShowing, IsUnread, MayRefuse, MayRun, out_of, run_of, run_text, settings_in}
+use Rattle.ompt_cli.specs.Commands.{CountsFaults, EndsAs, HasWritten, IsBeforeRun, IsReading, IsShowing, IsUnread, MayRefuse, MayRun, out_of, program_in, run_of, run_text, settings_in, text_in}
 use Rattle.run_laws.proofs.Ended.{whole-ended}
 use Rattle.history_file.specs.declared.file.HistoryFile.{HistoryFile}
 use Rattle.history_file.specs.Validity.{WritesHistory}
@@ -107,7 +107,7 @@ module _ {S O : Type 0} (left : S → Option (List ℕ)) (reads_failed : S → �
         → CarriesOut left reads_failed held writes_failed words told None None (Some report) source source_now out out_now
     run_carried told report job r source source_now out out_now asked sourced spelled unrefused unread steady written faults =
         let is : settings_in report ≡ settings = r.observes.asked ∙ asked in
-        let spells : Spells report.program.text.value.items report.program.tree.value = rw (r.observes.text_is, r.observes.program_is) spelled in
+        let spells : Spells (text_in report) (program_in report) = rw (r.observes.text_is, r.observes.program_is) spelled in
         let ends : (other : End) → told ≡ other → EndsAs report.cause other = λ other same. subst (EndsAs report.cause) same r.ended in
         record {
           words = run-words told (Some report) (ends end.Usage) (ends end.Shown) (λ why same. sym (ends (end.Ended why) same).0) (ends end.WriteFault);
@@ -143,7 +143,7 @@ module _ {S O : Type 0} (left : S → Option (List ℕ)) (reads_failed : S → �
               record {
                 traced = r.traced;
                 nested = λ other found.
-                    nested-run (run_of report) report.history report.cause (some-threads job report r.observes) (few-threads job report r.observes) (r.stays other).mask_is (report.program.text.value.items, spells) r.observes.to.legal (r.observes.to.ends found) (r.observes.to.outside found);
+                    nested-run (run_of report) report.history report.cause (some-threads job report r.observes) (few-threads job report r.observes) (r.stays other).mask_is (text_in report, spells) r.observes.to.legal (r.observes.to.ends found) (r.observes.to.outside found);
                 history_file = λ whole memory filed.
                     record { is_file = (r.certified whole memory filed).is_file; bytes_are = sym (filed-text report filed (ends-found report.cause told r.ended memory)) };
                 certificate = λ whole memory filed. (r.certified whole memory filed).certificate;

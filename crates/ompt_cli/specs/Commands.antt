@@ -4,6 +4,7 @@ use Rattle.std.specs.Io.KnownBytes.{Appends, Keeps}
 use Rattle.std.specs.declared.string.String.{String}
 use Rattle.run_edges.specs.Edges.{AppendsFront, Rose}
 use Rattle.std.specs.declared.alloc.Global.{Global}
+use Rattle.c_syntax.specs.language.Numbered.{TreeView}
 use Rattle.omp_model.specs.declared.cause.Cause.{Cause}
 use Rattle.omp_model.specs.declared.cause.Cause.TheVariants as cause
 use Rattle.omp_model.specs.State.{Run}
@@ -30,9 +31,16 @@ use Rattle.ompt_cli.specs.declared.end.End.{End}
 use Rattle.ompt_cli.specs.declared.end.End.TheVariants.{Ended, Shown, Read, TraceRefused, HistoryRefused, Broken, Illegal, Usage, Refused, ReadFault, WriteFault, Memory}
 use Rattle.ompt_cli.specs.declared.report.Report.{Report}
 
--- the run that a report is of. A guest is a box of a vtable and what lies behind it
+-- the program that ran, by its tree and by its text. A guest of the report is a box of a vtable and what lies behind it
+abbrev pub program_in : {Table : Type 0} {Behind : Table → Type 0} → Report Table Behind → TreeView
+program_in report = report.program.tree.value
+
+abbrev pub text_in : {Table : Type 0} {Behind : Table → Type 0} → Report Table Behind → List ℕ
+text_in report = report.program.text.value.items
+
+-- the run that a report is of
 abbrev pub run_of : {Table : Type 0} {Behind : Table → Type 0} → Report Table Behind → Run
-run_of report = run_of_program report.program.tree.value report.mask report.threads report.steps
+run_of report = run_of_program (program_in report) report.mask report.threads report.steps
 
 -- nothing is written of a run that found no memory
 abbrev pub unless_memory : Cause → List ℕ → List ℕ
@@ -73,7 +81,7 @@ written_by (Generating blocks) text run cause history = summary_of (generated bl
 -- what a command writes of its run, if there was one
 abbrev pub run_text : {Table : Type 0} {Behind : Table → Type 0} → Option (Report Table Behind) → List ℕ
 run_text None = []
-run_text (Some report) = unless_memory report.cause (written_by report.command report.program.text.value.items (run_of report) report.cause report.history)
+run_text (Some report) = unless_memory report.cause (written_by report.command (text_in report) (run_of report) report.cause report.history)
 
 -- what a command writes: the text that its words ask for, or else what it writes of its run
 abbrev pub out_of : {Table : Type 0} {Behind : Table → Type 0} → Option (String Global) → Option (Report Table Behind) → List ℕ

@@ -20,15 +20,15 @@ use Rattle.ompt_cli.specs.declared.end.End.{End}
 use Rattle.ompt_cli.specs.declared.end.End.TheVariants.{Memory, WriteFault}
 use Rattle.history_file.specs.Certificates.{IsCertificate}
 use Rattle.history_file.specs.Validity.{IsHistoryFile}
-use Rattle.ompt_cli.specs.Commands.{EndsAs, HasGuests, run_of, settings_in}
+use Rattle.ompt_cli.specs.Commands.{EndsAs, HasGuests, program_in, run_of, settings_in, text_in}
 use Rattle.ompt_cli.specs.Histories.{file_of_report}
 use Rattle.ompt_cli.specs.Runs.{RunsParts, RunsTo}
 
 -- the report is of a run of this job
 pub record Observes {Table : Type 0} {Behind : Table → Type 0} (job : Job) (report : Report Table Behind) : Type 0 where
   pub asked : settings_in report ≡ job.settings
-  pub program_is : report.program.tree.value ≡ job.loaded.program
-  pub text_is : report.program.text.value.items ≡ job.loaded.text.items
+  pub program_is : program_in report ≡ job.loaded.program
+  pub text_is : text_in report ≡ job.loaded.text.items
   pub to : RunsTo (run_of report) report.serial report.cause report.history
 
 -- where the parts are no guests, all callbacks of the profile are registered, and nothing is stored

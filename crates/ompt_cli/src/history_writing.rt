@@ -5,7 +5,7 @@ ghost use Rattle.history_file.specs.declared.file.TheConstants.{ENTRY_LIMIT};
 ghost use Rattle.history_file.specs.Fields.{fields_of, spelling};
 ghost use Rattle.history_file.specs.Fitting.{FitsFile, HasThread};
 ghost use Rattle.ompt_cli.specs.declared.job.Job.{Job};
-ghost use Rattle.ompt_cli.specs.Commands.{CountsFaults, EndsAs, HasWritten, run_text};
+ghost use Rattle.ompt_cli.specs.Commands.{CountsFaults, EndsAs, HasWritten, run_text, text_in};
 ghost use Rattle.ompt_cli.specs.Reports.{HasCertificate, Observes};
 
 use crate::end::End;
@@ -20,7 +20,7 @@ use run_edges::Sink;
 pub(crate) fn write_history_of_run<O: Sink>(report: Report, text: FileText, out: &mut O) -> Ended
     requires command { report.command ≡ Command.Run RunOutput.History }
     requires observes { (job : Job) × Observes job report }
-    requires text { report.program.text.value.items ≡ text }
+    requires text { text_in report ≡ text }
     ensures report { result.report ≡ report }
     ensures end { EndsAs report.cause result.end }
     ensures memory { report.cause ≢ Cause.Memory → result.end ≢ End.Memory }

@@ -3,7 +3,7 @@ use Rattle.std.proofs.lemmas.Result.{IfOk-weaker}
 use Rattle.omp_model.specs.Records.{records_of}
 use Rattle.tool_report.specs.Profile.{profile_of}
 use Rattle.ompt_words.specs.declared.settings.Command.{Command}
-use Rattle.ompt_cli.specs.Commands.{run_of, written_by}
+use Rattle.ompt_cli.specs.Commands.{run_of, text_in, written_by}
 use Rattle.ompt_cli.proofs.Telling.{command-is}
 use Rattle.ompt_cli.proofs.profiling.run_profiled.Goals as goal
 
@@ -15,4 +15,4 @@ returns-clause-written g c =
     c.write_made-end.ensures.written _
     (IfOk-weaker c.with_profile-made.result _ _ (λ text is. is records (rw c.deref.ensures.value has.counted)
     ∙ ap (λ (printed : List ℕ). printed ++ profile_of records) has.printed
-    ∙ sym (ap (λ (command : Command). written_by command report.program.text.value.items (run_of report) report.cause report.history) (command-is c.args.job report has.observes ∙ c.requires.command))) c.with_profile-made.ensures)
+    ∙ sym (ap (λ (command : Command). written_by command (text_in report) (run_of report) report.cause report.history) (command-is c.args.job report has.observes ∙ c.requires.command))) c.with_profile-made.ensures)

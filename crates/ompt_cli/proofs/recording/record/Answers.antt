@@ -5,7 +5,7 @@ use Rattle.run_trace.proofs.Traces.{traces_of_runs}
 use Rattle.trace_format.specs.Fields.{fields_of, spelling}
 use Rattle.tool_report.specs.Order.{AreShared}
 use Rattle.ompt_words.specs.declared.settings.Command.{Command}
-use Rattle.ompt_cli.specs.Commands.{HasGuests, HasWritten, run_of, unless_memory, written_by}
+use Rattle.ompt_cli.specs.Commands.{HasGuests, HasWritten, run_of, text_in, unless_memory, written_by}
 use Rattle.ompt_cli.proofs.Keeping.{kept-shared}
 use Rattle.ompt_cli.proofs.Recorded.{ends-found, shared-few}
 use Rattle.ompt_cli.proofs.Telling.{command-is, few-threads, guests-kept, some-threads}
@@ -51,5 +51,5 @@ returns-clause-written g c =
     let shared : AreShared (records_of (run_of report) report.history) c.deref.result.now = rw c.deref.ensures.value (kept-shared _ _ has.kept) in
     subst (λ (bytes : List ℕ). HasWritten c.write_trace_of_run-end.result (unless_memory report.cause bytes) (g.O.Sink.held c.args.out.now) (g.O.Sink.held c.write_trace_of_run-end.new.out))
     (ap (λ (callbacks : ℕ). spelling (fields_of (trace_with report.threads callbacks report.cause (records_of (run_of report) report.history)))) (sym has.stays.mask_is)
-    ∙ sym (ap (λ (command : Command). written_by command report.program.text.value.items (run_of report) report.cause report.history) command))
+    ∙ sym (ap (λ (command : Command). written_by command (text_in report) (run_of report) report.cause report.history) command))
     (c.write_trace_of_run-end.ensures.written (records_of (run_of report) report.history) shared)

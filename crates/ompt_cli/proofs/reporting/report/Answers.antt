@@ -2,7 +2,7 @@ use Rattle.std.proofs.Common.{ℕ, ◌∙◌, List, ap, subst, sym}
 use Rattle.std.proofs.lemmas.Result.{IfOk-weaker}
 use Rattle.omp_model.specs.Records.{records_of}
 use Rattle.ompt_words.specs.declared.settings.Command.{Command}
-use Rattle.ompt_cli.specs.Commands.{HasGuests, run_of, written_by}
+use Rattle.ompt_cli.specs.Commands.{HasGuests, run_of, text_in, written_by}
 use Rattle.ompt_cli.proofs.Telling.{command-is, guests-kept}
 use Rattle.ompt_cli.proofs.reporting.report.Goals as goal
 
@@ -33,5 +33,5 @@ returns-clause-written g c =
     let records = records_of run report.history in
     c.write_made-end.ensures.written _
     (IfOk-weaker c.text-made.result _ _ (λ text is. is records (rw c.deref.ensures.value has.kept) ∙ ap (λ (printed : List ℕ). g.P.Keeper.text_of c.args.job.settings.command records printed) (c.deref-2.ensures.value ∙ has.printed)
-    ∙ sym (c.requires.text report.program.text.value.items run report.cause report.history)
-    ∙ ap (λ (command : Command). written_by command report.program.text.value.items run report.cause report.history) (sym (command-is c.args.job report has.observes))) c.text-made.ensures)
+    ∙ sym (c.requires.text (text_in report) run report.cause report.history)
+    ∙ ap (λ (command : Command). written_by command (text_in report) run report.cause report.history) (sym (command-is c.args.job report has.observes))) c.text-made.ensures)
