@@ -15,9 +15,8 @@ use Rattle.omp_model.specs.State.{Run}
 use Rattle.omp_model.specs.Heard.{heard_of}
 use Rattle.omp_model.specs.Legal.{Legal}
 use Rattle.omp_model.specs.Records.{record_of, records_of}
-use Rattle.team_run.specs.Serving.{AreSame}
+use Rattle.team_run.specs.Serving.{AreSame, RunsParts, called_for, record_of_first}
 use Rattle.team_run.specs.Standing.{AreSilent, HearsOwn}
-use Rattle.thread_run.specs.Driving.{called_for, record_of_first}
 use Rattle.tool_both.specs.declared.masks.Masks.{Masks}
 use Rattle.tool_both.specs.Joined.{starts_of}
 use Rattle.tool_both.specs.Tools.{fresh_both}
@@ -29,7 +28,6 @@ use Rattle.tool_profiled.proofs.Hearing.{first-heard, with_mark, other-heard, ot
 use Rattle.tool_profiled.proofs.Standing.{each-unsaid, first-is, first-marked, other-is, other-marked}
 use Rattle.tool_profiled.proofs.Union.{in-union}
 use Rattle.ompt_cli.specs.Guests.{GuestsJoin, HandOut, ComesTo, guests_of}
-use Rattle.ompt_cli.specs.Runs.{RunsParts}
 use Rattle.ompt_cli.proofs.Calls.{called-finished, called-unheard, first-finished, first-unheard, same-first, same-missed}
 use Rattle.ompt_cli.proofs.Handing.{For, SamePart, as-many, fresh-quiet, guest-in, guest-out, guest-past, guest-same, none-in, none-out}
 use Rattle.ompt_cli.proofs.Keeping.{kept-shares, nothing_called, silent-each}

@@ -18,10 +18,9 @@ use Rattle.omp_model.specs.Records.{record_of, records_of}
 use Rattle.omp_model.proofs.Recording.{records-by_thread}
 use Rattle.run_trace.proofs.Heard.{AreBelow, places-below}
 use Rattle.trace_format.specs.declared.trace.TheConstants.{SEQ_LIMIT}
-use Rattle.team_run.specs.Serving.{served}
+use Rattle.team_run.specs.Serving.{RunsParts, served}
 use Rattle.tool_api.specs.Registering.{mask_of}
 use Rattle.team_run.specs.Standing.{AreSilent, HearsOwn, HearsSilent}
-use Rattle.ompt_cli.specs.Runs.{RunsParts}
 use Rattle.ompt_cli.proofs.Calls.{SameCalls, same-first, same-missed}
 
 -- positions from one on are from each smaller one on

@@ -1,5 +1,4 @@
 pub mod Calls
-pub mod Runs
 pub mod Halting
 pub mod Finishing
 pub mod Handing

@@ -10,10 +10,10 @@ use Rattle.omp_model.specs.declared.cause.Cause.TheVariants as causes
 use Rattle.omp_model.specs.declared.history.Entry.{Entry}
 use Rattle.omp_model.specs.State.{Run}
 use Rattle.omp_model.specs.Heard.{heard_of}
-use Rattle.team_run.specs.Serving.{Becomes}
+use Rattle.team_run.specs.Serving.{Becomes, called_for, record_of_first}
 use Rattle.tool_api.specs.Registering.{mask_of}
 use Rattle.team_run.specs.Standing.{AreSilent}
-use Rattle.thread_run.specs.Driving.{called_for, record_of_first}
+use Rattle.team_run.specs.Unheard.{AreMissed}
 use Rattle.tool_profiled.specs.Hearing.{HasHeard, HasStarted}
 use Rattle.ompt_words.specs.declared.settings.Command.{Command}
 use Rattle.ompt_words.specs.declared.settings.Command.TheVariants.{Run as Running}
@@ -22,7 +22,6 @@ use Rattle.std.specs.declared.alloc.Global.{Global}
 use Rattle.std.specs.declared.dyn_box.DynBox.{DynBox}
 use Rattle.ompt_cli.specs.declared.report.Report.{Report}
 use Rattle.ompt_cli.specs.Commands.{run_of}
-use Rattle.ompt_cli.specs.Runs.{AreMissed}
 
 -- guest 0 was started, with this answer and these callbacks registered, called for what thread 0 heard, and finished after all
 -- that where it is active; guest t was called for what thread t heard; those past the threads are as they were. Beside that a guest

@@ -7,7 +7,7 @@ use Rattle.omp_model.specs.Records.{records_of}
 use Rattle.ompt_calls.specs.declared.event.EventRecord.{EventRecord}
 use Rattle.tool_report.specs.Order.{AreKept}
 use Rattle.tool_api.specs.Record.{Record}
-use Rattle.team_run.specs.Serving.{AreSame}
+use Rattle.team_run.specs.Serving.{AreSame, RunsParts}
 use Rattle.team_run.specs.Standing.{HearsOwn, HearsSilent}
 use Rattle.ompt_words.specs.declared.settings.Command.TheVariants.{Record as Recording, Run as Running}
 use Rattle.ompt_words.specs.declared.settings.RunOutput.TheVariants as output
@@ -22,7 +22,7 @@ use Rattle.history_file.specs.Certificates.{IsCertificate}
 use Rattle.history_file.specs.Validity.{IsHistoryFile}
 use Rattle.ompt_cli.specs.Commands.{EndsAs, HasGuests, program_in, run_of, settings_in, text_in}
 use Rattle.ompt_cli.specs.Histories.{file_of_report}
-use Rattle.ompt_cli.specs.Runs.{RunsParts, RunsTo}
+use Rattle.ompt_cli.specs.Runs.{RunsTo}
 
 -- the report is of a run of this job
 pub record Observes {Table : Type 0} {Behind : Table → Type 0} (job : Job) (report : Report Table Behind) : Type 0 where

@@ -1,6 +1,5 @@
-use Rattle.std.proofs.Common.{ap, refl}
-use Rattle.ompt_cli.proofs.Finishing.{threads-outside}
-use Rattle.ompt_cli.proofs.Runs.{thread-parts}
+use Rattle.std.proofs.Common.{ap, false, refl}
+use Rattle.ompt_cli.proofs.Finishing.{parts-outside}
 use Rattle.ompt_cli.proofs.observing.observe.Goals as goal
 
 pub returns-clause-observed : goal.returns-clause-observed
@@ -18,14 +17,14 @@ returns-clause-observed g c =
                 record {
                   legal = of.legal;
                   ends = of.cause;
-                  outside = λ found. threads-outside g.P.ToolPart.stands_for _ ran.cause ran.history c.args.parts.items ran.parts.items found of.parts;
+                  outside = λ found. parts-outside g.P.ToolPart.stands_for false _ ran.cause ran.history c.args.parts.items ran.parts.items found of.parts;
                   in_order = λ serial. absurd cc;
                   whole = λ serial. absurd cc;
                   begun = rw c.in_ok-begun.ensures.run at c.in_ok-begun.ensures.begun;
                   always = of.always;
                 };
           };
-      runs = thread-parts g.P.ToolPart.stands_for _ ran.cause ran.history c.args.parts.items ran.parts.items c.args.job.settings.serial c.if-job.false of.parts;
+      runs = rw c.if-job.false of.parts;
       same = of.same;
       own = of.own;
       printed = of.text;

@@ -1,6 +1,5 @@
-use Rattle.std.proofs.Common.{ap, refl}
-use Rattle.ompt_cli.proofs.Finishing.{serial-outside}
-use Rattle.ompt_cli.proofs.Runs.{serial-parts}
+use Rattle.std.proofs.Common.{ap, refl, true}
+use Rattle.ompt_cli.proofs.Finishing.{parts-outside}
 use Rattle.ompt_cli.proofs.observing.observe_alone.Goals as goal
 
 pub returns-clause-observed : goal.returns-clause-observed
@@ -18,14 +17,14 @@ returns-clause-observed g c =
                 record {
                   legal = of.serial.legal;
                   ends = of.cause;
-                  outside = λ found. serial-outside g.P.ToolPart.stands_for _ ran.cause ran.history c.args.parts.items ran.parts.items found of.parts;
+                  outside = λ found. parts-outside g.P.ToolPart.stands_for true _ ran.cause ran.history c.args.parts.items ran.parts.items found of.parts;
                   in_order = λ serial. of.serial;
                   whole = λ serial. of.whole;
                   begun = of.begun;
                   always = of.always;
                 };
           };
-      runs = serial-parts g.P.ToolPart.stands_for _ ran.cause ran.history c.args.parts.items ran.parts.items c.args.job.settings.serial c.requires.serial of.parts;
+      runs = rw c.requires.serial of.parts;
       same = of.same;
       own = of.own;
       printed = of.text;
