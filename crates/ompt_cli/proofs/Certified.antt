@@ -11,10 +11,7 @@ use Rattle.history_file.specs.Certificates.{IsCertificate, run_of_file}
 use Rattle.history_file.specs.Validity.{WritesHistory}
 use Rattle.history_file.specs.Verdicts.{heard_call}
 use Rattle.history_file.proofs.Lengths.{written_short}
-use Rattle.ompt_cli.specs.declared.end.End.{End}
-use Rattle.ompt_cli.specs.declared.end.End.TheVariants as end
-use Rattle.ompt_cli.specs.Commands.{IsBeforeRun, MayRun}
-use Rattle.ompt_cli.specs.Histories.{MayCertify, lines_of_calls}
+use Rattle.ompt_cli.specs.Histories.{lines_of_calls}
 use Rattle.numbered_runs.proofs.Histories.{same_cause, same_legal}
 use Rattle.ompt_cli.specs.Text.{Spells}
 use Rattle.ompt_cli.proofs.Ending.{longer}
@@ -25,13 +22,6 @@ pub never-long : (left rest : Option (List ℕ)) (file : HistoryFile) → IsSome
 never-long None rest file is more = is
 never-long (Some text) None file is more = more.2
 never-long (Some text) (Some rest) file is more = absurd (omega (arith, longer text more.0 rest more.2, more.1, written_short file text is))
-
--- the text of a certificate is a program, and isn't refused
-pub may-certify : (told : End) → IsBeforeRun told → MayRun told → MayCertify told
-may-certify end.ReadFault before may = tt
-may-certify end.Memory before may = tt
-may-certify (end.Refused why) before may = absurd may
-may-certify other before may = absurd before
 
 -- the lines of the calls are those of the records
 pub lines-heard : (items : List Item) → lines_of_calls (map heard_call items) ≡ lines_of (map record_of items)

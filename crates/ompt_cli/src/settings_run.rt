@@ -1,6 +1,6 @@
 //! The commands that run a program, from their settings.
 
-ghost use Rattle.std.specs.Prelude.{ℕ, ◌≡◌, IfSome, List};
+ghost use Rattle.std.specs.Prelude.{ℕ, IfSome, List};
 ghost use Rattle.ompt_words.specs.declared.settings.Request.TheVariants as request;
 ghost use Rattle.ompt_cli.specs.Guests.{GuestsAfter};
 ghost use Rattle.ompt_cli.specs.Top.{CarriesOut};

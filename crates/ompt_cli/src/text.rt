@@ -1,6 +1,6 @@
 //! The texts that run.
 
-ghost use Rattle.std.specs.Prelude.{ℕ, ◌≡◌, ◌≢◌, ◌≤◌, List, IfSome, IsSomeAnd, IfOk, IfErr, IsErrAnd, length};
+ghost use Rattle.std.specs.Prelude.{ℕ, ◌≡◌, ◌≢◌, ◌≤◌, IfSome, IsSomeAnd, IfOk, IfErr, IsErrAnd, length};
 ghost use Rattle.run_edges.specs.Edges.{Rose};
 ghost use Rattle.ompt_cli.specs.Text.{IsProgram, IsReadAs, IsRefused, Spells, text_for};
 ghost use Rattle.tool_report.specs.Generator.{generated};

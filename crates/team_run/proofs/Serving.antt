@@ -47,10 +47,6 @@ told_on-served t k h items item is =
     subst (λ u. told_on t k item (served h items) ≡ served h (items ++ cond (u == k) (item ∷ []) [])) (sym is) (told-by (t == k) h items item)
 
 module _ {P : Type 0} (stands_for : P → Record → Type 0) (run : Run) where
-  -- where nothing changes
-  pub serves-same : (parts : List P) (H : List Entry) → Serves stands_for run parts H None parts H
-  serves-same parts H = record { as_many = refl; each = λ k d h below stands. stands }
-
   -- one step after another
   pub serves-then : (parts between after : List P) (H K L : List Entry) (unheard : Option ℕ) → Serves stands_for run parts H None between K → Serves stands_for run between K unheard after L → Serves stands_for run parts H unheard after L
   serves-then parts between after H K L unheard first second =

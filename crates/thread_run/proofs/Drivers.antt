@@ -14,7 +14,7 @@ use Rattle.step_book.specs.Owing.{NotBy}
 use Rattle.step_book.specs.Rule.{NoneBy, entries_of}
 use Rattle.step_book.specs.Sharing.{AreOwn, IsClosed, Sight, any_ended, fresh_pass}
 use Rattle.step_book.proofs.Others.{entries-append, holds-others, own-back}
-use Rattle.thread_run.specs.Driving.{GoesOn, IsDriven}
+use Rattle.thread_run.specs.Driving.{IsDriven}
 use Rattle.thread_run.specs.Drivers.{AreDrivers, AreFor, AreKept, HaveServed, IsDriver}
 use Rattle.team_run.specs.Serving.{called_for}
 use Rattle.team_run.specs.Unheard.{LeftAt}
@@ -45,16 +45,6 @@ module _ {P : Type 0} (stands_for : P → Record → Type 0) (Same : P → P →
         same_is = itself first_part;
       } in
       rw (fresh, same) (record { thread = refl; driven = driven })
-
-  -- a driver that has gone on
-  pub driver-on : (t : ℕ) (whose : P) (pass later : Sight) (part next : P) → GoesOn stands_for Same run pass part later next → IsDriver stands_for Same run t whose pass part → IsDriver stands_for Same run t whose later next
-  driver-on t whose pass later part next goes driver = record { thread = goes.thread ∙ driver.thread; driven = goes.driven whose driver.driven }
-
-  pub goes-not : (pass : Sight) (part : P) → GoesOn stands_for Same run pass part pass part
-  goes-not pass part = record { thread = refl; driven = λ whose driven. driven }
-
-  pub goes-then : (pass between later : Sight) (part middle next : P) → GoesOn stands_for Same run pass part between middle → GoesOn stands_for Same run between middle later next → GoesOn stands_for Same run pass part later next
-  goes-then pass between later part middle next one two = record { thread = two.thread ∙ one.thread; driven = λ whose driven. two.driven whose (one.driven whose driven) }
 
 -- one more of a list
 pub for-more : {P L : Type 0} (is : ℕ → P → L → Type 0) (parts : List P) (slots : List L) (slot : L) → AreFor is parts slots → ((e : P) → is (length slots) (get_or parts (length slots) e) slot) → AreFor is parts (slots ++ slot ∷ [])
