@@ -13,10 +13,10 @@ use Rattle.omp_model.specs.declared.cause.Cause.TheVariants as causes
 use Rattle.omp_model.specs.declared.history.Entry.{Entry}
 use Rattle.omp_model.specs.State.{Run}
 use Rattle.omp_model.specs.Heard.{heard_of}
+use Rattle.omp_model.specs.Legal.{Legal}
 use Rattle.omp_model.specs.Records.{record_of, records_of}
-use Rattle.team_run.specs.Serving.{AreSame}
+use Rattle.team_run.specs.Serving.{AreSame, RunsParts, called_for, record_of_first}
 use Rattle.team_run.specs.Standing.{AreSilent, HearsOwn}
-use Rattle.thread_run.specs.Driving.{called_for, record_of_first}
 use Rattle.tool_both.specs.declared.masks.Masks.{Masks}
 use Rattle.tool_both.specs.Joined.{starts_of}
 use Rattle.tool_both.specs.Tools.{fresh_both}
@@ -28,7 +28,6 @@ use Rattle.tool_profiled.proofs.Hearing.{first-heard, with_mark, other-heard, ot
 use Rattle.tool_profiled.proofs.Standing.{each-unsaid, first-is, first-marked, other-is, other-marked}
 use Rattle.tool_profiled.proofs.Union.{in-union}
 use Rattle.ompt_cli.specs.Guests.{GuestsJoin, HandOut, ComesTo, guests_of}
-use Rattle.ompt_cli.specs.Runs.{RunsParts}
 use Rattle.ompt_cli.proofs.Calls.{called-finished, called-unheard, first-finished, first-unheard, same-first, same-missed}
 use Rattle.ompt_cli.proofs.Handing.{For, SamePart, as-many, fresh-quiet, guest-in, guest-out, guest-past, guest-same, none-in, none-out}
 use Rattle.ompt_cli.proofs.Keeping.{kept-shares, nothing_called, silent-each}
@@ -107,10 +106,10 @@ module _ {G : Type 0} {B : Type 0} (box : G → B) (stands : B → Record → Ty
   counts-at (suc k) below =
       profile-counts PartFor masks (slice_index_or others (suc k) e) (after-other k nothing_said) (unsaid-other k below) nothing_said.started (other-within k nothing_said) (joins.was_asked p).profile_mask (heard_of run H (suc k)) (other-calls k nothing_said)
 
-  pub profiles-kept : HearsOwn run H → AreKept counts_of (records_of run H) (map profile_in others)
-  profiles-kept own =
+  pub profiles-kept : Legal run H → HearsOwn run H → AreKept counts_of (records_of run H) (map profile_in others)
+  profiles-kept legal own =
       kept-shares counts_of run H run.threads (map profile_in others) (length-map others profile_in ∙ many)
-      (λ k d below. get_or-map profile_in others k e d (omega (arith, below, many)) ∙ counts-at k (omega (arith, below, asked-many, each))) refl own
+      (λ k d below. get_or-map profile_in others k e d (omega (arith, below, many)) ∙ counts-at k (omega (arith, below, asked-many, each))) (omega (arith, each)) legal refl own
 
   -- the parts after the run: as many, and each what it was
   part-at : (k : ℕ) (d : Handed G) → k < run.threads → slice_index_or (map part_in others) k d ≡ part_in (slice_index_or others k e)
@@ -252,7 +251,7 @@ module _ {G : Type 0} {B : Type 0} (box : G → B) (stands : B → Record → Ty
       guests-join box stands Same serial run cause H p ps masks j (j ∷ js) others each joins runs onward kinds guests rest out itself
 
   pub profiles_beside : (parts : List (Handed G)) (joined others : List (Profiled (Handed G))) → length parts ≡ run.threads → AreJoined (For box stands Same) (SamePart box stands Same) parts masks joined
-      → RunsParts (ProfiledFor (For box stands Same)) serial run cause H joined others → HearsOwn run H → AreKept counts_of (records_of run H) (map profile_in others)
-  profiles_beside [] joined others each joins runs own = absurd (omega (arith, some, each))
-  profiles_beside (p ∷ ps) [] others each joins runs own = absurd (omega (arith, joins.as_many))
-  profiles_beside (p ∷ ps) (j ∷ js) others each joins runs own = profiles-kept box stands Same serial run cause H p ps masks j (j ∷ js) others each joins runs own
+      → RunsParts (ProfiledFor (For box stands Same)) serial run cause H joined others → Legal run H → HearsOwn run H → AreKept counts_of (records_of run H) (map profile_in others)
+  profiles_beside [] joined others each joins runs legal own = absurd (omega (arith, some, each))
+  profiles_beside (p ∷ ps) [] others each joins runs legal own = absurd (omega (arith, joins.as_many))
+  profiles_beside (p ∷ ps) (j ∷ js) others each joins runs legal own = profiles-kept box stands Same serial run cause H p ps masks j (j ∷ js) others each joins runs legal own

@@ -2,8 +2,7 @@
 use Rattle.std.proofs.Common.{◌≡◌, ℕ, ◌==◌, ◌++◌, Bool, true, false, if◌then◌else◌, List, [], ◌∷◌, length, refl, ◌∙◌}
 use Rattle.ompt_calls.specs.Item.{Item}
 use Rattle.tool_api.specs.Record.{Record, initialized, finalized}
-use Rattle.team_run.specs.Serving.{served, finished_by}
-use Rattle.thread_run.specs.Driving.{called_for, record_of_first}
+use Rattle.team_run.specs.Serving.{called_for, finished_by, record_of_first, served}
 
 -- they differ at most in how often the tool was finished, and how often it found no memory
 pub record SameCalls (g h : Record) : Type 0 where

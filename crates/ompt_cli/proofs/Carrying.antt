@@ -1,47 +1,42 @@
 -- What each way through the top call carries out, in the words of its contract.
-use Rattle.std.proofs.Common.{ℕ, ◌≡◌, ◌≢◌, ◌≤◌, ◌⊎◌, ◌∙◌, List, [], Option, Some, None, IfSome, IsSomeAnd, Bool, not, true, false, inl, inr, refl, sym, ap, subst, arith}
+use Rattle.std.proofs.Common.{ℕ, ◌≡◌, ◌≢◌, ◌⊎◌, ◌∙◌, List, [], Option, Some, None, IfSome, IsNone, IsSomeAnd, Bool, not, true, false, inl, inr, refl, sym, ap, subst}
 use Rattle.std.proofs.lemmas.List.{append-nil}
 use Rattle.std.specs.Prelude.{IsSome, string_bytes}
 use Rattle.std.specs.Io.KnownBytes.{Appends, Keeps}
 use Rattle.std.specs.declared.string.String.{String}
 use Rattle.std.specs.declared.alloc.Global.{Global}
-use Rattle.run_edges.specs.Edges.{Rose}
+use Rattle.omp_model.specs.declared.cause.Cause.{Cause}
+use Rattle.omp_model.specs.declared.cause.Cause.TheVariants as causes
 use Rattle.ompt_words.specs.declared.fault.WordsFault.{WordsFault}
 use Rattle.ompt_words.specs.declared.fault.WordsFault.TheVariants as fault
-use Rattle.ompt_words.specs.declared.settings.Command.{Command}
-use Rattle.ompt_words.specs.declared.settings.Command.TheVariants.{Generate as Generating, Record as Recording, Run as Running}
+use Rattle.ompt_words.specs.declared.settings.Command.TheVariants.{Generate as Generating}
 use Rattle.ompt_words.specs.declared.settings.Request.{Request}
 use Rattle.ompt_words.specs.declared.settings.Request.TheVariants as request
 use Rattle.ompt_words.specs.declared.settings.Settings.{Settings}
 use Rattle.ompt_words.specs.declared.settings.ReadCommand.{ReadCommand}
 use Rattle.ompt_words.specs.declared.settings.ReadCommand.TheVariants as reads
-use Rattle.ompt_words.specs.Answers.{AreReadAs, HoldBoth, IsTextOrMemory, IsUsageOrMemory}
+use Rattle.ompt_words.specs.Answers.{AreReadAs, AskForText, HoldBoth, IsTextOrMemory, IsUsageOrMemory}
 use Rattle.ompt_words.specs.Form.{AskInForm, InForm, ReadInForm, own_settings}
 use Rattle.ompt_cli.specs.declared.end.End.{End}
 use Rattle.ompt_cli.specs.declared.end.End.TheVariants as end
 use Rattle.ompt_cli.specs.declared.end.Refusal.{Refusal}
+use Rattle.ompt_cli.specs.declared.job.Job.{Job}
 use Rattle.ompt_cli.specs.declared.report.Report.{Report}
-use Rattle.ompt_cli.specs.Commands.{CountsFaults, EndsAs, HasGuests, HasWritten, IsAfterRun, IsBeforeRun, IsReading, IsShowing, IsUnread, MayRefuse, MayRun, out_of, run_of, run_text, settings_in}
-use Rattle.ompt_cli.specs.Job.{JobView}
-use Rattle.omp_model.specs.declared.cause.Cause.TheVariants as causes
+use Rattle.ompt_cli.specs.Commands.{CountsFaults, EndsAs, HasWritten, IsBeforeRun, IsReading, IsShowing, IsUnread, MayRefuse, MayRun, out_of, program_in, run_of, run_text, settings_in, text_in}
 use Rattle.run_laws.proofs.Ended.{whole-ended}
-use Rattle.run_trace.specs.TraceOf.{trace_of}
-use Rattle.trace_format.specs.Validity.{IsTrace}
-use Rattle.c_syntax.specs.language.Numbered.{TreeView}
 use Rattle.history_file.specs.declared.file.HistoryFile.{HistoryFile}
 use Rattle.history_file.specs.Validity.{WritesHistory}
-use Rattle.ompt_words.specs.declared.settings.RunOutput.TheVariants as output
 use Rattle.ompt_cli.specs.Histories.{Certifies, MayCertify}
-use Rattle.ompt_cli.specs.Reports.{HasCertificate, HasRun, Reports}
+use Rattle.ompt_cli.specs.Reports.{Reports}
 use Rattle.ompt_cli.specs.Text.{IsProgram, IsRefused, Spells, text_for}
-use Rattle.ompt_cli.specs.Top.{CarriesOut, HasTrace, IsRunOf}
+use Rattle.ompt_cli.specs.Top.{CarriesOut, FollowsWords, IsRunOf, StaysUntouched}
 use Rattle.ompt_cli.specs.Traces.{HasRead}
 use Rattle.ompt_cli.specs.Words.{AreFaulty, AreInRange, AreTakenAs, AskFor, AskForRun, AskToRead}
 use Rattle.ompt_cli.proofs.Finishing.{finished}
 use Rattle.ompt_cli.proofs.NestedRuns.{nested-run}
-use Rattle.ompt_cli.proofs.Telling.{after-may, after-run, ends-found, ends-told, is-none, lost-read, lost-write, none-if, same-settings, settings-as, spelled-as, text-as}
+use Rattle.ompt_cli.proofs.Telling.{ends-may, few-threads, same-settings, shows-faults, some-threads}
 use Rattle.ompt_cli.proofs.Filing.{filed-text}
-use Rattle.ompt_cli.proofs.Recorded.{ends-found as found-of}
+use Rattle.ompt_cli.proofs.Recorded.{ends-found}
 use Rattle.ompt_cli.proofs.Traced.{trace_unbroken, trace_unrefused}
 
 -- nothing is appended where nothing changed, and nothing is written
@@ -49,13 +44,17 @@ nothing-appended : (held : Option (List ℕ)) → Appends held held []
 nothing-appended None = tt
 nothing-appended (Some bytes) = sym (append-nil bytes)
 
-pub nothing-kept : (held : Option (List ℕ)) → Keeps held held
+nothing-kept : (held : Option (List ℕ)) → Keeps held held
 nothing-kept None = tt
 nothing-kept (Some bytes) = refl
 
 nothing-written : (told : End) (held : Option (List ℕ)) → told ≢ end.WriteFault → HasWritten told [] held held
 nothing-written told held other =
     record { listed = λ whole memory. nothing-appended held; part = λ is. absurd (other is); kept = λ is. nothing-kept held }
+
+-- nor counted
+nothing-counted : (told faulty : End) (count : ℕ) → told ≢ faulty → CountsFaults told faulty count count
+nothing-counted told faulty count other = record { rose = λ is. absurd (other is); steady = λ is. refl }
 
 module _ {S O : Type 0} (left : S → Option (List ℕ)) (reads_failed : S → ℕ) (held : O → Option (List ℕ)) (writes_failed : O → ℕ) (words : List (List ℕ)) where
   -- words that are read as settings ask for no others, and for no trace to be read
@@ -74,121 +73,94 @@ module _ {S O : Type 0} (left : S → Option (List ℕ)) (reads_failed : S → �
     text-of : (other : Settings) → AskFor words other → (P : Option (List ℕ) → Type 0) → (source : S) → P (text_for other.command (left source)) → P (text_for settings.command (left source))
     text-of other ask P source so = subst (λ (of : Settings). P (text_for of.command (left source))) (sym (asked-is other ask)) so
 
+    -- so no text is shown and nothing is read for them
+    run-untouched : (told : End) (source source_now : S) (out out_now : O) → told ≢ end.Usage → ((blocks : ℕ) → settings.command ≡ Generating blocks → source_now ≡ source) → StaysUntouched words told None None source source_now out out_now
+    run-untouched told source source_now out out_now used unread =
+        record {
+          untouched = λ is. absurd (used is);
+          unasked = λ no_run no_read. absurd (no_run asks-run);
+          unread = tt;
+          unread_input = λ command ask none. absurd (not-read command ask);
+          generates = λ other ask blocks is. unread blocks (ap (λ (of : Settings). of.command) (asked-is other ask) ∙ is);
+        }
+
+    run-words : {Table : Type 0} {Behind : Table → Type 0} (told : End) (ran : Option (Report Table Behind)) → told ≢ end.Usage → told ≢ end.Shown → ((why : Cause) → told ≡ end.Ended why → IsSomeAnd ran (λ report. report.cause ≡ why)) → (told ≡ end.WriteFault → IsSomeAnd ran (λ report. report.cause ≢ causes.Memory)) → FollowsWords words told None None ran
+    run-words told ran used shown ended written =
+        record {
+          usage = λ is. absurd (used is);
+          formed = λ ask. (used, shown, refl, refl);
+          other = λ no_run no_read. absurd (no_run asks-run);
+          shown_alone = tt;
+          displayed = λ is. absurd (shown is);
+          help = λ ask. absurd (taken.no_help ask);
+          clash = λ both. absurd (taken.not_both both);
+          reads = λ command ask. absurd (not-read command ask);
+          read_alone = tt;
+          ended = ended;
+          unwritten = λ is none. inr (written is);
+        }
+
     -- a program was read and run
-    module _ {Table : Type 0} {Behind : Table → Type 0} (some : 1 ≤ settings.threads) (few : settings.threads ≤ 16) (source source_now : S) (out out_now : O) (job : JobView) (threads_are : job.threads ≡ settings.threads) (steps_are : job.steps ≡ settings.steps) (serial_is : job.serial ≡ settings.serial) (sourced : IfSome (text_for settings.command (left source)) (λ text. text ≡ job.text)) (spelled : Spells job.text job.program) (unrefused : (why : Refusal) → IsSomeAnd (text_for settings.command (left source)) (IsRefused why) → ⊥) (unread : (blocks : ℕ) → settings.command ≡ Generating blocks → source_now ≡ source) (steady : reads_failed source_now ≡ reads_failed source) where
-      run-of : (told : End) (report : Report Table Behind) → Reports settings.command job report → EndsAs report.cause told → (HasGuests settings.command → settings.command ≢ Running output.Profile → report.cause ≢ causes.Memory → told ≢ end.Memory) → IsRunOf words (left source) told report
-      run-of told report r ends memory =
-          let is = settings-as report settings r.observes.command_is (r.observes.threads_are ∙ threads_are) (r.observes.steps_are ∙ steps_are) (r.observes.serial_is ∙ serial_is) in
-          record {
-            asked = subst (λ (one : Settings). AreReadAs words (request.Run one)) (sym is) taken.read;
-            own = λ form. is ∙ same-settings (request.Run settings) settings (own_settings form) refl (taken.form form);
-            text = subst (λ (command : Command). IfSome (text_for command (left source)) (λ text. text ≡ report.program.text)) (sym r.observes.command_is) (text-as _ _ report.program.text sourced r.observes.text_is);
-            spelled = spelled-as job.text report.program.text job.program report.program.tree spelled r.observes.text_is r.observes.program_is;
-            mask = λ other. (r.stays (λ guests. other (subst HasGuests (sym r.observes.command_is) guests))).mask_is;
-            always = r.observes.to.always;
-            legal = r.observes.to.legal;
-            cause = r.observes.to.ends;
-            finished = λ found. finished (run_of report) report.history report.cause r.observes.to.legal (r.observes.to.ends found);
-            outside = r.observes.to.outside;
-            serial = r.observes.to.in_order;
-            whole = λ serial other found. r.observes.to.whole serial found (r.stays (λ guests. other (subst HasGuests (sym r.observes.command_is) guests))).silent;
-            silent_run = r.observes.to.whole;
-            to_the_end = λ serial found. whole-ended (run_of report) report.history (r.observes.to.in_order serial) (subst IsSome (sym (r.observes.to.ends found)) refl) (r.observes.to.outside found);
-            ended = ends;
-            memory = λ guests other. memory (subst HasGuests r.observes.command_is guests) (λ is. other (r.observes.command_is ∙ is));
-            begun = r.observes.to.begun;
-          }
+    pub run_carried : {Table : Type 0} {Behind : Table → Type 0} (told : End) (report : Report Table Behind) (job : Job) → Reports job told report → (source source_now : S) (out out_now : O) → job.settings ≡ settings → IfSome (text_for settings.command (left source)) (λ text. text ≡ job.loaded.text.items) → Spells job.loaded.text.items job.loaded.program
+        → ((why : Refusal) → IsSomeAnd (text_for settings.command (left source)) (IsRefused why) → ⊥) → ((blocks : ℕ) → settings.command ≡ Generating blocks → source_now ≡ source) → reads_failed source_now ≡ reads_failed source
+        → HasWritten told (run_text (Some report)) (held out) (held out_now) → CountsFaults told end.WriteFault (writes_failed out) (writes_failed out_now)
+        → CarriesOut left reads_failed held writes_failed words told None None (Some report) source source_now out out_now
+    run_carried told report job r source source_now out out_now asked sourced spelled unrefused unread steady written faults =
+        let is : settings_in report ≡ settings = r.observes.asked ∙ asked in
+        let spells : Spells (text_in report) (program_in report) = rw (r.observes.text_is, r.observes.program_is) spelled in
+        let ends : (other : End) → told ≡ other → EndsAs report.cause other = λ other same. subst (EndsAs report.cause) same r.ended in
+        record {
+          words = run-words told (Some report) (ends end.Usage) (ends end.Shown) (λ why same. sym (ends (end.Ended why) same).0) (ends end.WriteFault);
+          ran =
+              record {
+                asked = subst (λ (one : Settings). AreReadAs words (request.Run one)) (sym is) taken.read;
+                own = λ form. is ∙ same-settings (request.Run settings) settings (own_settings form) refl (taken.form form);
+                text = rw (ap (λ (one : Settings). one.command) is, r.observes.text_is) sourced;
+                spelled = spells;
+                mask = λ other. (r.stays other).mask_is;
+                always = r.observes.to.always;
+                legal = r.observes.to.legal;
+                cause = r.observes.to.ends;
+                finished = λ found. finished (run_of report) report.history report.cause r.observes.to.legal (r.observes.to.ends found);
+                outside = r.observes.to.outside;
+                serial = r.observes.to.in_order;
+                whole = λ serial other found. r.observes.to.whole serial found (r.stays other).silent;
+                silent_run = r.observes.to.whole;
+                to_the_end = λ serial found. whole-ended (run_of report) report.history (r.observes.to.in_order serial) (subst IsSome (sym (r.observes.to.ends found)) refl) (r.observes.to.outside found);
+                ended = r.ended;
+                memory = r.memory;
+                begun = r.observes.to.begun;
+              };
+          read = tt;
+          text =
+              record {
+                refused = λ none why same. absurd (ends (end.Refused why) same);
+                accepted = λ other ask why refused. absurd (unrefused why (text-of other ask (λ text. IsSomeAnd text (IsRefused why)) source refused));
+                runs = λ other ask program. ends-may report.cause told r.ended;
+              };
+          written = λ none. written;
+          recorded =
+              record {
+                traced = r.traced;
+                nested = λ other found.
+                    nested-run (run_of report) report.history report.cause (some-threads job report r.observes) (few-threads job report r.observes) (r.stays other).mask_is (text_in report, spells) r.observes.to.legal (r.observes.to.ends found) (r.observes.to.outside found);
+                history_file = λ whole memory filed.
+                    record { is_file = (r.certified whole memory filed).is_file; bytes_are = sym (filed-text report filed (ends-found report.cause told r.ended memory)) };
+                certificate = λ whole memory filed. (r.certified whole memory filed).certificate;
+              };
+          faults = shows-faults told _ _ _ _ (record { rose = λ same. absurd (ends end.ReadFault same); steady = λ other. steady }) faults;
+          untouched = run-untouched told source source_now out out_now (ends end.Usage) unread;
+        }
 
-      trace-of : (told : End) (report : Report Table Behind) → Reports settings.command job report → (told ≢ end.WriteFault → told ≢ end.Memory → settings.command ≡ Recording → IsTrace (trace_of (run_of report) report.cause report.history))
-          → (told ≢ end.WriteFault → told ≢ end.Memory → settings.command ≡ Running output.History → HasCertificate report) → EndsAs report.cause told → HasTrace told report
-      trace-of told report r traced filed ends =
-          let threads = r.observes.threads_are ∙ threads_are in
-          record {
-            traced = λ whole memory is. traced whole memory (sym r.observes.command_is ∙ is);
-            nested = λ other found.
-                nested-run (run_of report) report.history report.cause (subst (λ (n : ℕ). 1 ≤ n) (sym threads) some) (subst (λ (n : ℕ). n ≤ 16) (sym threads) few) (r.stays (λ guests. other (subst HasGuests (sym r.observes.command_is) guests))).mask_is
-                (job.text, subst (λ (tree : TreeView). Spells job.text tree) (sym r.observes.program_is) spelled) r.observes.to.legal (r.observes.to.ends found) (r.observes.to.outside found);
-            history_file = λ whole memory is.
-                record { is_file = (filed whole memory (sym r.observes.command_is ∙ is)).is_file; bytes_are = sym (filed-text report is (found-of report.cause told ends memory)) };
-            certificate = λ whole memory is. (filed whole memory (sym r.observes.command_is ∙ is)).certificate;
-          }
-
-      runs-of : (told : End) (ran : Option (Report Table Behind)) → IfSome ran (Reports settings.command job) → IfSome ran (λ report. EndsAs report.cause told) → (HasGuests settings.command → settings.command ≢ Running output.Profile → IfSome ran (λ report. report.cause ≢ causes.Memory → told ≢ end.Memory)) → IfSome ran (IsRunOf words (left source) told)
-      runs-of told None r ends memory = tt
-      runs-of told (Some report) r ends memory = run-of told report r ends memory
-
-      traces-of : (told : End) (ran : Option (Report Table Behind)) → IfSome ran (Reports settings.command job) → (told ≢ end.WriteFault → told ≢ end.Memory → settings.command ≡ Recording → IfSome ran (λ report. IsTrace (trace_of (run_of report) report.cause report.history)))
-          → (told ≢ end.WriteFault → told ≢ end.Memory → settings.command ≡ Running output.History → IfSome ran HasCertificate) → IfSome ran (λ report. EndsAs report.cause told) → IfSome ran (HasTrace told)
-      traces-of told None r traced filed ends = tt
-      traces-of told (Some report) r traced filed ends = trace-of told report r traced filed ends
-
-      pub run_carried : (told : End) (shown : Option (String Global)) (read : Option ReadCommand) (ran : Option (Report Table Behind)) → HasRun settings.command job told shown read ran → HasWritten told (run_text ran) (held out) (held out_now) → CountsFaults told end.WriteFault (writes_failed out) (writes_failed out_now)
-          → CarriesOut left reads_failed held writes_failed words told shown read ran source source_now out out_now
-      run_carried told shown read ran has written faults =
-          let after = after-run ran told has.ended has.missing in
-          record {
-            words =
-                record {
-                  usage = λ is. absurd (subst IsAfterRun is after);
-                  formed = λ ask. ((λ is. subst IsAfterRun is after), (λ is. subst IsAfterRun is after), has.nothing_shown, has.nothing_read);
-                  other = λ no_run no_read. absurd (no_run asks-run);
-                  shown_alone = none-if _ shown has.nothing_shown;
-                  displayed = λ is. absurd (subst IsAfterRun is after);
-                  help = λ ask. absurd (taken.no_help ask);
-                  clash = λ both. absurd (taken.not_both both);
-                  reads = λ command ask. absurd (not-read command ask);
-                  read_alone = none-if _ read has.nothing_read;
-                  ended = λ why is. ends-told why ran told has.ended has.missing is;
-                  unwritten = λ is none. inr (ends-found ran told has.ended has.missing is);
-                };
-            ran = runs-of told ran has.report has.ended has.memory;
-            read = none-if _ read has.nothing_read;
-            text =
-                record {
-                  refused = λ none why is. absurd (subst IsAfterRun is after);
-                  accepted = λ other ask why refused. absurd (unrefused why (text-of other ask (λ text. IsSomeAnd text (IsRefused why)) source refused));
-                  runs = λ other ask program. after-may told after;
-                };
-            written = λ none. subst (λ (text : Option (String Global)). HasWritten told (out_of text ran) (held out) (held out_now)) (sym (is-none shown has.nothing_shown)) written;
-            recorded = traces-of told ran has.report has.traced has.certified has.ended;
-            faults =
-                record {
-                  read = λ is. absurd (subst IsAfterRun is after);
-                  write = faults.rose;
-                  unread = λ rose. absurd (omega (arith, rose, steady));
-                  lost = lost-write told _ _ faults.steady;
-                };
-            untouched =
-                record {
-                  untouched = λ is. absurd (subst IsAfterRun is after);
-                  unasked = λ no_run no_read. absurd (no_run asks-run);
-                  unread = none-if _ shown has.nothing_shown;
-                  unread_input = λ command ask none. absurd (not-read command ask);
-                  generates = λ other ask blocks is. unread blocks (ap (λ (of : Settings). of.command) (asked-is other ask) ∙ is);
-                };
-          }
-
-    -- no program was read
+    -- no program was read or run
     pub end_carried : {Table : Type 0} {Behind : Table → Type 0} (told : End) (source source_now : S) (out : O) → IsBeforeRun told → ((why : Refusal) → told ≡ end.Refused why → IfSome (text_for settings.command (left source)) (IsRefused why))
         → ((why : Refusal) → IsSomeAnd (text_for settings.command (left source)) (IsRefused why) → MayRefuse why told) → (IsSomeAnd (text_for settings.command (left source)) IsProgram → MayRun told)
-        → (told ≡ end.ReadFault → Rose (reads_failed source) (reads_failed source_now)) → (told ≢ end.ReadFault → reads_failed source_now ≡ reads_failed source) → ((blocks : ℕ) → settings.command ≡ Generating blocks → source_now ≡ source)
+        → CountsFaults told end.ReadFault (reads_failed source) (reads_failed source_now) → ((blocks : ℕ) → settings.command ≡ Generating blocks → source_now ≡ source)
         → CarriesOut {Table = Table} {Behind = Behind} left reads_failed held writes_failed words told None None None source source_now out out
-    end_carried told source source_now out before refused accepted runs rose steady unread =
+    end_carried told source source_now out before refused accepted runs faults unread =
+        let ends : (other : End) → told ≡ other → IsBeforeRun other = λ other same. subst IsBeforeRun same before in
         record {
-          words =
-              record {
-                usage = λ is. absurd (subst IsBeforeRun is before);
-                formed = λ ask. ((λ is. subst IsBeforeRun is before), (λ is. subst IsBeforeRun is before), refl, refl);
-                other = λ no_run no_read. absurd (no_run asks-run);
-                shown_alone = tt;
-                displayed = λ is. absurd (subst IsBeforeRun is before);
-                help = λ ask. absurd (taken.no_help ask);
-                clash = λ both. absurd (taken.not_both both);
-                reads = λ command ask. absurd (not-read command ask);
-                read_alone = tt;
-                ended = λ why is. absurd (subst IsBeforeRun is before);
-                unwritten = λ is none. absurd (subst IsBeforeRun is before);
-              };
+          words = run-words told None (ends end.Usage) (ends end.Shown) (λ why. ends (end.Ended why)) (ends end.WriteFault);
           ran = tt;
           read = tt;
           text =
@@ -197,23 +169,10 @@ module _ {S O : Type 0} (left : S → Option (List ℕ)) (reads_failed : S → �
                 accepted = λ other ask why so. accepted why (text-of other ask (λ text. IsSomeAnd text (IsRefused why)) source so);
                 runs = λ other ask so. runs (text-of other ask (λ text. IsSomeAnd text IsProgram) source so);
               };
-          written = λ none. nothing-written told (held out) (λ is. subst IsBeforeRun is before);
+          written = λ none. nothing-written told (held out) (ends end.WriteFault);
           recorded = tt;
-          faults =
-              record {
-                read = rose;
-                write = λ is. absurd (subst IsBeforeRun is before);
-                unread = lost-read told _ _ steady;
-                lost = λ more. absurd (omega (arith, more));
-              };
-          untouched =
-              record {
-                untouched = λ is. absurd (subst IsBeforeRun is before);
-                unasked = λ no_run no_read. absurd (no_run asks-run);
-                unread = tt;
-                unread_input = λ command ask none. absurd (not-read command ask);
-                generates = λ other ask blocks is. unread blocks (ap (λ (of : Settings). of.command) (asked-is other ask) ∙ is);
-              };
+          faults = shows-faults told _ _ _ _ faults (nothing-counted told end.WriteFault (writes_failed out) (ends end.WriteFault));
+          untouched = run-untouched told source source_now out out (ends end.Usage) unread;
         }
 
   -- a trace was read
@@ -231,19 +190,20 @@ module _ {S O : Type 0} (left : S → Option (List ℕ)) (reads_failed : S → �
         → CountsFaults told end.ReadFault (reads_failed source) (reads_failed source_now) → CountsFaults told end.WriteFault (writes_failed out) (writes_failed out_now)
         → CarriesOut {Table = Table} {Behind = Behind} left reads_failed held writes_failed words told None (Some command) None source source_now out out_now
     read_carried told source source_now out out_now reading copied memory certified read_faults write_faults =
+        let ends : (other : End) → told ≡ other → IsReading other = λ other same. subst IsReading same reading in
         record {
           words =
               record {
-                usage = λ is. absurd (subst IsReading is reading);
+                usage = λ is. absurd (ends end.Usage is);
                 formed = λ ask. absurd (not-run ask);
                 other = λ no_run no_read. absurd (no_read command (inr taken.read));
                 shown_alone = tt;
-                displayed = λ is. absurd (subst IsReading is reading);
+                displayed = λ is. absurd (ends end.Shown is);
                 help = λ ask. absurd (taken.no_help ask);
                 clash = λ both. absurd (taken.not_both both);
                 reads = λ other ask. inl (ap (λ (one : ReadCommand). Some one) (command-is other ask));
                 read_alone = (taken.read, reading, refl, refl);
-                ended = λ why is. absurd (subst IsReading is reading);
+                ended = λ why is. absurd (ends (end.Ended why) is);
                 unwritten = λ is none. absurd cc;
               };
           ran = tt;
@@ -263,16 +223,10 @@ module _ {S O : Type 0} (left : S → Option (List ℕ)) (reads_failed : S → �
               };
           written = λ none. absurd cc;
           recorded = tt;
-          faults =
-              record {
-                read = read_faults.rose;
-                write = write_faults.rose;
-                unread = lost-read told _ _ read_faults.steady;
-                lost = lost-write told _ _ write_faults.steady;
-              };
+          faults = shows-faults told _ _ _ _ read_faults write_faults;
           untouched =
               record {
-                untouched = λ is. absurd (subst IsReading is reading);
+                untouched = λ is. absurd (ends end.Usage is);
                 unasked = λ no_run no_read. absurd (no_read command (inr taken.read));
                 unread = tt;
                 unread_input = λ other ask none. absurd cc;
@@ -290,149 +244,114 @@ module _ {S O : Type 0} (left : S → Option (List ℕ)) (reads_failed : S → �
     no-memory_read command (inl form) = faulty.read_form command form
     no-memory_read command (inr asked) = faulty.exact (request.Read command) asked
 
-    pub usage_carried : {Table : Type 0} {Behind : Table → Type 0} (source : S) (out : O) → found ≡ fault.Usage → CarriesOut {Table = Table} {Behind = Behind} left reads_failed held writes_failed words end.Usage None None None source source out out
-    usage_carried source out is =
-        let never : (found ≡ fault.Memory → ⊥) = λ memory. cc in
-        record {
-          words =
-              record {
-                usage = λ same. (faulty.usage is, refl, refl, refl);
-                formed = λ ask. absurd (never (no-memory ask));
-                other = λ no_run no_read. (tt, refl, refl);
-                shown_alone = tt;
-                displayed = λ same. absurd cc;
-                help = λ ask. absurd (subst IsTextOrMemory is (faulty.help ask));
-                clash = λ both. inl refl;
-                reads = λ command ask. absurd (never (no-memory_read command ask));
-                read_alone = tt;
-                ended = λ why same. absurd cc;
-                unwritten = λ same none. absurd cc;
-              };
-          ran = tt;
-          read = tt;
-          text =
-              record {
-                refused = λ none why same. absurd cc;
-                accepted = λ settings ask. absurd (never (no-memory (settings, ask)));
-                runs = λ settings ask. absurd (never (no-memory (settings, ask)));
-              };
-          written = λ none. nothing-written end.Usage (held out) (λ same. cc);
-          recorded = tt;
-          faults =
-              record {
-                read = λ same. absurd cc;
-                write = λ same. absurd cc;
-                unread = λ more. absurd (omega (arith, more));
-                lost = λ more. absurd (omega (arith, more));
-              };
-          untouched =
-              record {
-                untouched = λ same. (refl, refl);
-                unasked = λ no_run no_read. refl;
-                unread = tt;
-                unread_input = λ command ask none. (refl, refl);
-                generates = λ settings ask blocks same. refl;
-              };
-        }
+    -- how a command ends that runs and reads nothing for them, and what it shows
+    record Answers (told : End) (shown : Option (String Global)) : Type 0 where
+      unread : IsUnread told
+      used : told ≡ end.Usage → found ≡ fault.Usage
+      unshown : (told ≡ end.Usage) ⊎ (found ≡ fault.Memory) → IsNone shown
+      memory : found ≡ fault.Memory → told ≡ end.Memory
+      shows : IfSome shown (λ text. (found ≡ fault.Shown text) × IsShowing told)
+      displayed : (told ≡ end.Shown) ⊎ (told ≡ end.WriteFault) → IsSome shown
+      help : IsTextOrMemory found → IsShowing told
+      clash : IsUsageOrMemory found → (told ≡ end.Usage) ⊎ (told ≡ end.Memory)
 
-    pub memory_carried : {Table : Type 0} {Behind : Table → Type 0} (source : S) (out : O) → CarriesOut {Table = Table} {Behind = Behind} left reads_failed held writes_failed words end.Memory None None None source source out out
-    memory_carried source out =
+    unread_carried : {Table : Type 0} {Behind : Table → Type 0} (told : End) (shown : Option (String Global)) (source : S) (out out_now : O) → Answers told shown → HasWritten told (out_of {Table = Table} {Behind = Behind} shown None) (held out) (held out_now)
+        → CountsFaults told end.WriteFault (writes_failed out) (writes_failed out_now) → (IsNone shown → out_now ≡ out)
+        → CarriesOut {Table = Table} {Behind = Behind} left reads_failed held writes_failed words told shown None None source source out out_now
+    unread_carried {Table} {Behind} told shown source out out_now answers written faults kept =
+        let ends : (other : End) → told ≡ other → IsUnread other = λ other same. subst IsUnread same answers.unread in
+        let memory : AskForRun words → told ≡ end.Memory = λ ask. answers.memory (no-memory ask) in
         record {
           words =
               record {
-                usage = λ same. absurd cc;
-                formed = λ ask. ((λ same. cc), (λ same. cc), refl, refl);
-                other = λ no_run no_read. (tt, refl, refl);
-                shown_alone = tt;
-                displayed = λ same. absurd cc;
-                help = λ ask. tt;
-                clash = λ both. inr refl;
-                reads = λ command ask. inr (refl, refl, refl, refl);
+                usage = λ is. (faulty.usage (answers.used is), refl, answers.unshown (inl is), refl);
+                formed = λ ask. let is = memory ask in ((λ same. cc), (λ same. cc), answers.unshown (inr (no-memory ask)), refl);
+                other = λ no_run no_read. (answers.unread, refl, refl);
+                shown_alone = shows-text None None refl refl shown answers.shows;
+                displayed = λ is. answers.displayed (inl is);
+                help = λ ask. answers.help (faulty.help ask);
+                clash = λ both. answers.clash (faulty.clash both);
+                reads = λ command ask. let none = no-memory_read command ask in inr (answers.memory none, refl, answers.unshown (inr none), refl);
                 read_alone = tt;
-                ended = λ why same. absurd cc;
-                unwritten = λ same none. absurd cc;
+                ended = λ why is. absurd (ends (end.Ended why) is);
+                unwritten = λ is none. inl (answers.displayed (inr is));
               };
           ran = tt;
           read = tt;
           text =
               record {
-                refused = λ none why same. absurd cc;
-                accepted = λ settings ask why so. tt;
-                runs = λ settings ask so. tt;
-              };
-          written = λ none. nothing-written end.Memory (held out) (λ same. cc);
-          recorded = tt;
-          faults =
-              record {
-                read = λ same. absurd cc;
-                write = λ same. absurd cc;
-                unread = λ more. absurd (omega (arith, more));
-                lost = λ more. absurd (omega (arith, more));
-              };
-          untouched =
-              record {
-                untouched = λ same. (refl, refl);
-                unasked = λ no_run no_read. refl;
-                unread = tt;
-                unread_input = λ command ask none. (refl, refl);
-                generates = λ settings ask blocks same. refl;
-              };
-        }
-
-    pub shown_carried : {Table : Type 0} {Behind : Table → Type 0} (text : String Global) (told : End) (source : S) (out out_now : O) → found ≡ fault.Shown text → (told ≡ end.Shown) ⊎ (told ≡ end.WriteFault) → HasWritten told (string_bytes text) (held out) (held out_now)
-        → CountsFaults told end.WriteFault (writes_failed out) (writes_failed out_now) → CarriesOut {Table = Table} {Behind = Behind} left reads_failed held writes_failed words told (Some text) None None source source out out_now
-    shown_carried text told source out out_now is ends written faults =
-        let never : (found ≡ fault.Memory → ⊥) = λ memory. cc in
-        let shows = showing told ends in
-        record {
-          words =
-              record {
-                usage = λ same. absurd (subst IsShowing same shows);
-                formed = λ ask. absurd (never (no-memory ask));
-                other = λ no_run no_read. (unread-of told ends, refl, refl);
-                shown_alone = (faulty.shown text is, shows, refl, refl);
-                displayed = λ same. cc;
-                help = λ ask. shows;
-                clash = λ both. absurd (subst IsUsageOrMemory is (faulty.clash both));
-                reads = λ command ask. absurd (never (no-memory_read command ask));
-                read_alone = tt;
-                ended = λ why same. absurd (subst IsShowing same shows);
-                unwritten = λ same none. inl cc;
-              };
-          ran = tt;
-          read = tt;
-          text =
-              record {
-                refused = λ none why same. absurd (subst IsShowing same shows);
-                accepted = λ settings ask. absurd (never (no-memory (settings, ask)));
-                runs = λ settings ask. absurd (never (no-memory (settings, ask)));
+                refused = λ none why is. absurd (ends (end.Refused why) is);
+                accepted = λ settings ask why so. subst (MayRefuse why) (sym (memory (settings, ask))) tt;
+                runs = λ settings ask so. subst MayRun (sym (memory (settings, ask))) tt;
               };
           written = λ none. written;
           recorded = tt;
-          faults =
-              record {
-                read = λ same. absurd (subst IsShowing same shows);
-                write = faults.rose;
-                unread = λ more. absurd (omega (arith, more));
-                lost = lost-write told _ _ faults.steady;
-              };
+          faults = shows-faults told _ _ _ _ (nothing-counted told end.ReadFault (reads_failed source) (ends end.ReadFault)) faults;
           untouched =
               record {
-                untouched = λ same. absurd (subst IsShowing same shows);
+                untouched = λ is. (refl, kept (answers.unshown (inl is)));
                 unasked = λ no_run no_read. refl;
-                unread = refl;
-                unread_input = λ command ask none. absurd (never (no-memory_read command ask));
+                unread = shown-same shown;
+                unread_input = λ command ask none. (refl, kept (answers.unshown (inr (no-memory_read command ask))));
                 generates = λ settings ask blocks same. refl;
               };
         }
       where
-        showing : (told : End) → (told ≡ end.Shown) ⊎ (told ≡ end.WriteFault) → IsShowing told
-        showing told (inl same) = subst IsShowing (sym same) tt
-        showing told (inr same) = subst IsShowing (sym same) tt
+        shows-text : (ran : Option (Report Table Behind)) (read : Option ReadCommand) → IsNone ran → IsNone read → (shown : Option (String Global)) → IfSome shown (λ text. (found ≡ fault.Shown text) × IsShowing told)
+            → IfSome shown (λ text. AskForText words × IsShowing told × IsNone ran × IsNone read)
+        shows-text ran read no_run no_read None shows = tt
+        shows-text ran read no_run no_read (Some text) shows = (faulty.shown text shows.0, shows.1, no_run, no_read)
 
-        unread-of : (told : End) → (told ≡ end.Shown) ⊎ (told ≡ end.WriteFault) → IsUnread told
-        unread-of told (inl same) = subst IsUnread (sym same) tt
-        unread-of told (inr same) = subst IsUnread (sym same) tt
+        shown-same : (shown : Option (String Global)) → IfSome shown (λ text. source ≡ source)
+        shown-same None = tt
+        shown-same (Some text) = refl
+
+    pub usage_carried : {Table : Type 0} {Behind : Table → Type 0} (source : S) (out : O) → found ≡ fault.Usage → CarriesOut {Table = Table} {Behind = Behind} left reads_failed held writes_failed words end.Usage None None None source source out out
+    usage_carried source out is =
+        unread_carried end.Usage None source out out
+        (record {
+          unread = tt;
+          used = λ same. is;
+          unshown = λ why. refl;
+          memory = λ same. absurd cc;
+          shows = tt;
+          displayed = λ why. absurd (elim why [ inl same ↦ cc | inr same ↦ cc ]);
+          help = λ ask. absurd (subst IsTextOrMemory is ask);
+          clash = λ both. inl refl;
+        })
+        (nothing-written end.Usage (held out) (λ same. cc)) (nothing-counted end.Usage end.WriteFault (writes_failed out) (λ same. cc)) (λ none. refl)
+
+    pub memory_carried : {Table : Type 0} {Behind : Table → Type 0} (source : S) (out : O) → CarriesOut {Table = Table} {Behind = Behind} left reads_failed held writes_failed words end.Memory None None None source source out out
+    memory_carried source out =
+        unread_carried end.Memory None source out out
+        (record {
+          unread = tt;
+          used = λ same. absurd cc;
+          unshown = λ why. refl;
+          memory = λ same. refl;
+          shows = tt;
+          displayed = λ why. absurd (elim why [ inl same ↦ cc | inr same ↦ cc ]);
+          help = λ ask. tt;
+          clash = λ both. inr refl;
+        })
+        (nothing-written end.Memory (held out) (λ same. cc)) (nothing-counted end.Memory end.WriteFault (writes_failed out) (λ same. cc)) (λ none. refl)
+
+    pub shown_carried : {Table : Type 0} {Behind : Table → Type 0} (text : String Global) (told : End) (source : S) (out out_now : O) → found ≡ fault.Shown text → (told ≡ end.Shown) ⊎ (told ≡ end.WriteFault) → HasWritten told (string_bytes text) (held out) (held out_now)
+        → CountsFaults told end.WriteFault (writes_failed out) (writes_failed out_now) → CarriesOut {Table = Table} {Behind = Behind} left reads_failed held writes_failed words told (Some text) None None source source out out_now
+    shown_carried text told source out out_now is ends written faults =
+        let shows : IsShowing told = elim ends [ inl same ↦ subst IsShowing (sym same) tt | inr same ↦ subst IsShowing (sym same) tt ] in
+        unread_carried told (Some text) source out out_now
+        (record {
+          unread = elim ends [ inl same ↦ subst IsUnread (sym same) tt | inr same ↦ subst IsUnread (sym same) tt ];
+          used = λ same. absurd (subst IsShowing same shows);
+          unshown = λ why. absurd (elim why [ inl same ↦ subst IsShowing same shows | inr same ↦ cc ]);
+          memory = λ same. absurd cc;
+          shows = (is, shows);
+          displayed = λ why. cc;
+          help = λ ask. shows;
+          clash = λ both. absurd (subst IsUsageOrMemory is both);
+        })
+        written faults (λ none. absurd cc)
 
 -- what was read of the words is what is asked of them
 pub taken-as : (words : List (List ℕ)) (found given : Request) → found ≡ given → AreReadAs words found → ((other : Request) → AreReadAs words other → found ≡ other) → ((form : InForm words) → found ≡ request.Run (own_settings form))

@@ -1,5 +1,5 @@
 -- What a history file of a run is, and that it is a certificate of the run.
-use Rattle.std.proofs.Common.{◌≡◌, ◌≢◌, ◌≤◌, ◌⊎◌, inl, inr, ℕ, List, length, Option, Some, None, refl, sym, ap, subst, ◌∙◌}
+use Rattle.std.proofs.Common.{◌≡◌, ◌≢◌, ◌≤◌, ◌⊎◌, inl, inr, ℕ, List, length, Option, Some, None, refl, sym, ap, subst, ◌∙◌, arith}
 use Rattle.omp_model.specs.declared.cause.Cause.{Cause}
 use Rattle.omp_model.specs.declared.cause.Cause.TheVariants as causes
 use Rattle.run_trace.specs.TraceOf.{FitsCause, detail_of, status_of}
@@ -12,11 +12,13 @@ use Rattle.ompt_words.specs.declared.settings.RunOutput.TheVariants as output
 use Rattle.ompt_cli.specs.declared.end.End.{End}
 use Rattle.ompt_cli.specs.declared.end.End.TheVariants as end
 use Rattle.ompt_cli.specs.declared.report.Report.{Report}
-use Rattle.ompt_cli.specs.Commands.{EndsAs, run_of, run_text, written_by}
+use Rattle.ompt_cli.specs.Commands.{EndsAs, run_of, run_text, text_in, written_by}
 use Rattle.ompt_cli.specs.Histories.{file_of_report}
-use Rattle.ompt_cli.specs.Reports.{HasCertificate}
-use Rattle.ompt_cli.specs.Runs.{RunsTo}
+use Rattle.ompt_words.specs.declared.settings.Settings.{Settings}
+use Rattle.ompt_cli.specs.declared.job.Job.{Job}
+use Rattle.ompt_cli.specs.Reports.{HasCertificate, Observes}
 use Rattle.ompt_cli.proofs.Recorded.{unless-found}
+use Rattle.ompt_cli.proofs.Telling.{few-threads, some-threads}
 
 -- a cause that has an end in a file isn't want of memory
 pub found-by : (cause : Cause) (result : Option (ℕ × ℕ)) (status detail : ℕ) → result ≡ Some (status, detail) → (cause ≡ causes.Memory → result ≡ None) → cause ≢ causes.Memory
@@ -29,7 +31,7 @@ ended-as cause told found (inr is) = subst (EndsAs cause) (sym is) found
 
 module _ {Table : Type 0} {Behind : Table → Type 0} (report : Report Table Behind) where
   -- the file that was made is that of the report
-  pub file-is : (text : List ℕ) (result : Option (ℕ × ℕ)) (status detail : ℕ) → report.program.text ≡ text → result ≡ Some (status, detail) → result ≡ Some (status_of report.cause, detail_of report.cause)
+  pub file-is : (text : List ℕ) (result : Option (ℕ × ℕ)) (status detail : ℕ) → text_in report ≡ text → result ≡ Some (status, detail) → result ≡ Some (status_of report.cause, detail_of report.cause)
       → record { threads = report.threads; mask = report.mask; steps = report.steps; text = text; history = report.history; status = status; detail = detail } ≡ file_of_report report
   file-is text result status detail text_is is of =
       let ends = pair-is (status, detail) (status_of report.cause, detail_of report.cause) (sym is ∙ of) in
@@ -45,11 +47,12 @@ module _ {Table : Type 0} {Behind : Table → Type 0} (report : Report Table Beh
   -- what is written of the run is what is written of the file
   pub filed-text : report.command ≡ Running output.History → report.cause ≢ causes.Memory → history_spelling (history_fields (file_of_report report)) ≡ run_text (Some report)
   filed-text is found =
-      sym (unless-found report.cause _ found ∙ ap (λ (command : Command). written_by command report.program.text (run_of report) report.cause report.history) is)
+      sym (unless-found report.cause _ found ∙ ap (λ (command : Command). written_by command (text_in report) (run_of report) report.cause report.history) is)
 
   -- and the file is a certificate
-  pub filed : 1 ≤ report.threads → report.threads ≤ 16 → 1 ≤ report.steps → report.steps ≤ 30000000 → length report.program.text ≤ 65536 → RunsTo (run_of report) report.serial report.cause report.history → report.cause ≢ causes.Memory
-      → FitsFile (file_of_report report) → FitsCause report.cause → HasCertificate report
-  filed some few steps bounded short to found fits fits_cause =
-      let both = files_of_runs (run_of report) report.program.text report.history report.cause some few steps bounded to.always short to.legal (to.ends found) fits fits_cause in
+  pub filed : (job : Job) → Observes job report → report.cause ≢ causes.Memory → FitsFile (file_of_report report) → FitsCause report.cause → HasCertificate report
+  filed job observes found fits fits_cause =
+      let steps : report.steps ≡ job.settings.steps = ap (λ (settings : Settings). settings.steps) observes.asked in
+      let both = files_of_runs (run_of report) (text_in report) report.history report.cause (some-threads job report observes) (few-threads job report observes) (omega (arith, steps, job.steps)) (omega (arith, steps, job.bounded))
+      observes.to.always (subst (λ (text : List ℕ). length text ≤ 65536) (sym observes.text_is) job.short) observes.to.legal (observes.to.ends found) fits fits_cause in
       record { is_file = both.0; certificate = both.1 }

@@ -12,9 +12,8 @@ use Rattle.omp_model.specs.State.{Run, State}
 use Rattle.omp_model.specs.Cause.{cause_of, cause_by_halt, cause_of_halt, cause_of_value, cause_of_whole, is_stuck, main_value, threads_over, whole_value}
 use Rattle.omp_model.specs.Gates.{main_returned}
 use Rattle.omp_model.specs.Legal.{Legal, after}
-use Rattle.team_run.specs.Serving.{RunsFor}
-use Rattle.team_run.specs.Unheard.{IsUnheard}
-use Rattle.thread_run.specs.Driving.{LeftAt, RunsThreads}
+use Rattle.team_run.specs.Serving.{RunsParts}
+use Rattle.team_run.specs.Unheard.{IsUnheard, LeftAt}
 use Rattle.ompt_cli.specs.Runs.{AreOutside, IsReturn, IsWhole}
 use Rattle.ompt_cli.proofs.Halting.{not_halted}
 
@@ -65,9 +64,7 @@ each-outside (None ∷ rest) zero none = refl
 each-outside (None ∷ rest) (suc k) none = each-outside rest k none
 each-outside (Some callback ∷ rest) k none = cc
 
-module _ {P : Type 0} (stands_for : P → Record → Type 0) (run : Run) (cause : Cause) (history : List Entry) (parts others : List P) (found : cause ≢ causes.Memory) where
-  pub serial-outside : RunsFor stands_for run cause history parts others → AreOutside run history
-  serial-outside runs = λ k below. each-outside (after run history).pending k (subst (IsUnheard run history) (runs.all_heard found) runs.is_unheard)
-
-  pub threads-outside : RunsThreads stands_for run cause history parts others → AreOutside run history
-  threads-outside runs = λ k below. subst (LeftAt run history k) (runs.all_heard found k below) (runs.left k below)
+pub parts-outside : {P : Type 0} (stands_for : P → Record → Type 0) (serial : Bool) (run : Run) (cause : Cause) (history : List Entry) (parts others : List P) → cause ≢ causes.Memory → RunsParts stands_for serial run cause history parts others → AreOutside run history
+parts-outside stands_for true run cause history parts others found runs =
+    λ k below. each-outside (after run history).pending k (subst (IsUnheard run history) (runs.are_missed.all_heard found) runs.are_missed.is_unheard)
+parts-outside stands_for false run cause history parts others found runs = λ k below. subst (LeftAt run history k) (runs.all_heard found k below) (runs.are_missed k below)

@@ -10,10 +10,8 @@ use Rattle.omp_model.specs.declared.cause.Cause.{Cause}
 use Rattle.omp_model.specs.declared.history.Entry.{Entry}
 use Rattle.omp_model.specs.State.{Run}
 use Rattle.omp_model.specs.Heard.{heard_of}
-use Rattle.team_run.specs.Serving.{AreSame}
+use Rattle.team_run.specs.Serving.{AreSame, RunsParts, called_for, record_of_first}
 use Rattle.team_run.specs.Standing.{AreSilent}
-use Rattle.thread_run.specs.Driving.{called_for, record_of_first}
-use Rattle.ompt_cli.specs.Runs.{RunsParts}
 use Rattle.ompt_cli.specs.Guests.{GuestsServe, HandOut, guests_of}
 use Rattle.ompt_cli.proofs.Calls.{SameCalls, same-first, same-missed}
 use Rattle.ompt_cli.proofs.Keeping.{nothing_called, silent-each}

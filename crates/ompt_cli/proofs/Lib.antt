@@ -1,5 +1,4 @@
 pub mod Calls
-pub mod Runs
 pub mod Halting
 pub mod Finishing
 pub mod Handing
@@ -7,11 +6,10 @@ pub mod Keeping
 pub mod Observed
 pub mod Ending
 pub mod Reading
-pub mod Walks
 pub mod Telling
 pub mod Recorded
 pub mod Traced
-pub mod Tasked
+pub mod Written
 pub mod NestedRuns
 pub mod Filing
 pub mod Carrying

@@ -1,16 +1,14 @@
 -- A text spells a program, or is refused for one thing, and not both.
-use Rattle.std.proofs.Common.{◌≡◌, ◌≢◌, ℕ, ◌≤◌, ◌⊎◌, Bool, true, false, ltb, inl, inr, List, [], ◌∷◌, ◌++◌, length, Option, Some, None, Ok, refl, sym, ap, subst, ◌∙◌, arith}
+use Rattle.std.proofs.Common.{◌≡◌, ℕ, ◌≤◌, ◌⊎◌, Bool, true, false, ltb, inl, inr, List, [], ◌∷◌, ◌++◌, length, Option, Some, None, Ok, refl, sym, ap, subst, ◌∙◌, arith}
 use Rattle.std.proofs.lemmas.Bool.{ltb-false, ltb-true}
 use Rattle.c_tokens.specs.declared.token.Spot.{Spot}
 use Rattle.c_tokens.specs.declared.token.Token.{Token}
 use Rattle.c_tokens.specs.declared.token.TokenFault.{TokenFault}
-use Rattle.c_tokens.specs.declared.token.TokenFault.TheVariants as fault
 use Rattle.c_tokens.specs.workings.Tokens.{tokens_of}
 use Rattle.c_tokens.specs.language.Pieces.{Reads}
 use Rattle.c_tokens.specs.language.Places.{beginning}
 use Rattle.c_tokens.specs.language.Ending.{EndsIn}
 use Rattle.c_syntax.specs.declared.fault.SyntaxFault.{SyntaxFault}
-use Rattle.c_syntax.specs.declared.fault.SyntaxFault.TheVariants as syntax
 use Rattle.c_syntax.specs.language.Words.{main_of}
 use Rattle.c_syntax.specs.language.Tree.{Tree}
 use Rattle.c_syntax.specs.language.Texts.{HasSyntaxFault, Spells as IsTreeOf}
@@ -21,14 +19,9 @@ use Rattle.c_syntax.specs.language.Numbered.{TreeView, root_tree}
 use Rattle.c_check.specs.Checked.{rule_fault, rule_fault_in}
 use Rattle.c_syntax.proofs.OneAnswer.{fault_one, not_both, tree_one, tree_or_fault}
 use Rattle.c_check.specs.declared.fault.CheckFault.{CheckFault}
-use Rattle.c_check.specs.declared.fault.CheckFault.TheVariants as rule
 use Rattle.ompt_cli.specs.declared.end.Refusal.{Refusal}
 use Rattle.ompt_cli.specs.declared.end.Refusal.TheVariants.{Tokens, Syntax, Rule, TooLong}
-use Rattle.ompt_cli.specs.declared.end.End.{End}
-use Rattle.ompt_cli.specs.declared.end.End.TheVariants.{Refused, Memory}
-use Rattle.ompt_cli.specs.Commands.{MayRefuse, MayRun}
-use Rattle.ompt_cli.specs.Ends.{end_of_check_fault, end_of_fault, end_of_syntax_fault}
-use Rattle.ompt_cli.specs.Text.{HasCheckFault, HasTree, IsProgram, IsReadAs, IsRefused, Spells, end_at, end_of, rule_broken}
+use Rattle.ompt_cli.specs.Text.{HasTree, IsProgram, IsReadAs, IsRefused, Spells, end_at, end_of, rule_broken}
 use Rattle.numbered_runs.specs.Alike.{AreAlike}
 
 module _ (text : List ℕ) where
@@ -41,14 +34,15 @@ module _ (text : List ℕ) where
 
   -- it is refused for one thing
   pub refusal-one : (first second : Refusal) → IsRefused first text → IsRefused second text → first ≡ second
+  refusal-one TooLong TooLong over too = refl
+  refusal-one TooLong other over too = absurd (omega (arith, too.0, over))
+  refusal-one other TooLong has over = absurd (omega (arith, has.0, over))
   refusal-one (Tokens found) (Tokens other) has too = ap Tokens (ends-one text found other has.1 too.1)
   refusal-one (Tokens found) (Syntax other) has too = absurd (reads-no_end text too.1.tokens found too.1.read has.1)
   refusal-one (Tokens found) (Rule other) has too = absurd (reads-no_end text too.1.0 found too.1.2.read has.1)
-  refusal-one (Tokens found) TooLong has over = absurd (omega (arith, has.0, over))
   refusal-one (Syntax found) (Tokens other) has too = absurd (reads-no_end text has.1.tokens other has.1.read too.1)
   refusal-one (Syntax found) (Syntax other) has too = ap Syntax (fault_one text found other has.1 too.1)
   refusal-one (Syntax found) (Rule other) has too = absurd (not_both text too.1.1 found too.1.2.tree_is has.1)
-  refusal-one (Syntax found) TooLong has over = absurd (omega (arith, has.0, over))
   refusal-one (Rule found) (Tokens other) has too = absurd (reads-no_end text has.1.0 other has.1.2.read too.1)
   refusal-one (Rule found) (Syntax other) has too = absurd (not_both text has.1.1 other has.1.2.tree_is too.1)
   refusal-one (Rule found) (Rule other) has too =
@@ -56,11 +50,6 @@ module _ (text : List ℕ) where
       let one = has.1.3 in
       let two = too.1.3 in
       cc
-  refusal-one (Rule found) TooLong has over = absurd (omega (arith, has.0, over))
-  refusal-one TooLong (Tokens other) over too = absurd (omega (arith, too.0, over))
-  refusal-one TooLong (Syntax other) over too = absurd (omega (arith, too.0, over))
-  refusal-one TooLong (Rule other) over too = absurd (omega (arith, too.0, over))
-  refusal-one TooLong TooLong over too = refl
 
   -- what is read of a text breaks the rule that the text does
   rule-is : (program : TreeView) (is : IsReadAs text program) (known : Option CheckFault) → rule_fault program ≡ known → rule_broken text is.tokens (root_tree program) ≡ known
@@ -89,65 +78,13 @@ module _ (text : List ℕ) where
       cc
   program-not_refused TooLong program over = absurd (omega (arith, program.1.short, over))
 
-  -- so a refusal that was found is the one, and there is none where the text runs
-  found-accepted : (found why : Refusal) → IsRefused found text → IsRefused why text → MayRefuse why (Refused found)
-  found-accepted found why has refused = refusal-one found why has refused
+  -- what was read of a text that isn't too long
+  module _ (program : TreeView) (is : IsReadAs text program) (short : length text ≤ 65536) where
+    pub spells-by : (now : TreeView) → now ≡ program → rule_fault program ≡ None → Spells text now
+    spells-by now same keeps = subst (λ (view : TreeView). Spells text view) (sym same) (record { short = short; read = is; keeps = keeps })
 
-  pub tokens-accepted : length text ≤ 65536 → (found : TokenFault) → (found ≢ fault.Memory → EndsIn beginning text found) → (why : Refusal) → IsRefused why text → MayRefuse why (end_of_fault found)
-  tokens-accepted short fault.Memory known why refused = tt
-  tokens-accepted short (fault.BadByte spot) known why refused = found-accepted _ why (short, known (λ same. cc)) refused
-  tokens-accepted short (fault.OpenComment spot) known why refused = found-accepted _ why (short, known (λ same. cc)) refused
-  tokens-accepted short (fault.BadNumber spot) known why refused = found-accepted _ why (short, known (λ same. cc)) refused
-
-  pub tokens-runs : length text ≤ 65536 → (found : TokenFault) → (found ≢ fault.Memory → EndsIn beginning text found) → IsProgram text → MayRun (end_of_fault found)
-  tokens-runs short fault.Memory known program = tt
-  tokens-runs short (fault.BadByte spot) known program = program-not_refused (Tokens _) program (short, known (λ same. cc))
-  tokens-runs short (fault.OpenComment spot) known program = program-not_refused (Tokens _) program (short, known (λ same. cc))
-  tokens-runs short (fault.BadNumber spot) known program = program-not_refused (Tokens _) program (short, known (λ same. cc))
-
-  -- what is refused for this fault of the grammar, if it is one
-  module _ (short : length text ≤ 65536) where
-    syntax-ends : (P : End → Type 0) → P Memory → ((found : SyntaxFault) → IsRefused (Syntax found) text → P (Refused (Syntax found))) → (found : SyntaxFault) → (found ≢ syntax.Memory → HasSyntaxFault text found) → P (end_of_syntax_fault found)
-    syntax-ends P memory other syntax.Memory known = memory
-    syntax-ends P memory other (syntax.Unexpected spot) known = other _ (short, known (λ same. cc))
-    syntax-ends P memory other (syntax.UnknownDirective spot) known = other _ (short, known (λ same. cc))
-    syntax-ends P memory other (syntax.OutOfProfile spot) known = other _ (short, known (λ same. cc))
-    syntax-ends P memory other (syntax.TooDeep spot) known = other _ (short, known (λ same. cc))
-
-    pub syntax-accepted : (found : SyntaxFault) → (found ≢ syntax.Memory → HasSyntaxFault text found) → (why : Refusal) → IsRefused why text → MayRefuse why (end_of_syntax_fault found)
-    syntax-accepted found known why refused = syntax-ends (MayRefuse why) tt (λ one has. found-accepted (Syntax one) why has refused) found known
-
-    pub syntax-runs : (found : SyntaxFault) → (found ≢ syntax.Memory → HasSyntaxFault text found) → IsProgram text → MayRun (end_of_syntax_fault found)
-    syntax-runs found known program = syntax-ends MayRun tt (λ one has. program-not_refused (Syntax one) program has) found known
-
-  -- what was read of a text
-  module _ (program : TreeView) (is : IsReadAs text program) where
-    module _ (short : length text ≤ 65536) where
-      pub spells-by : (now : TreeView) → now ≡ program → rule_fault program ≡ None → Spells text now
-      spells-by now same keeps = subst (λ (view : TreeView). Spells text view) (sym same) (record { short = short; read = is; keeps = keeps })
-
-      pub runs-by : rule_fault program ≡ None → IsProgram text
-      runs-by keeps = (program, record { short = short; read = is; keeps = keeps })
-
-      broken-by : (found : CheckFault) → rule_fault program ≡ Some found → HasCheckFault found text
-      broken-by found same = (short, (is.tokens, root_tree program, is.has, rule-is program is (Some found) same))
-
-      -- what is refused for this broken rule, if it is one
-      check-ends : (P : End → Type 0) → P Memory → ((found : CheckFault) → IsRefused (Rule found) text → P (Refused (Rule found))) → (found : CheckFault) → (found ≢ rule.Memory → rule_fault program ≡ Some found) → P (end_of_check_fault found)
-      check-ends P memory other rule.Memory known = memory
-      check-ends P memory other (rule.UnknownName spot) known = other _ (broken-by _ (known (λ same. cc)))
-      check-ends P memory other (rule.TwiceDeclared spot) known = other _ (broken-by _ (known (λ same. cc)))
-      check-ends P memory other (rule.WrongUse spot) known = other _ (broken-by _ (known (λ same. cc)))
-      check-ends P memory other (rule.BadNesting spot) known = other _ (broken-by _ (known (λ same. cc)))
-      check-ends P memory other (rule.BadLoop spot) known = other _ (broken-by _ (known (λ same. cc)))
-      check-ends P memory other (rule.NoMain spot) known = other _ (broken-by _ (known (λ same. cc)))
-      check-ends P memory other (rule.NotListed spot) known = other _ (broken-by _ (known (λ same. cc)))
-
-      pub check-accepted : (found : CheckFault) → (found ≢ rule.Memory → rule_fault program ≡ Some found) → (why : Refusal) → IsRefused why text → MayRefuse why (end_of_check_fault found)
-      check-accepted found known why refused = check-ends (MayRefuse why) tt (λ one has. found-accepted (Rule one) why has refused) found known
-
-      pub check-runs : (found : CheckFault) → (found ≢ rule.Memory → rule_fault program ≡ Some found) → IsProgram text → MayRun (end_of_check_fault found)
-      check-runs found known program = check-ends MayRun tt (λ one has. program-not_refused (Rule one) program has) found known
+    pub broken-by : (found : CheckFault) → rule_fault program ≡ Some found → IsRefused (Rule found) text
+    broken-by found same = (short, (is.tokens, root_tree program, is.has, rule-is program is (Some found) same))
 
 -- the last token stands where the text ends
 end_at-last : (spot : Spot) (front : List Token) (last : Token) → end_at spot (front ++ last ∷ []) ≡ last.spot

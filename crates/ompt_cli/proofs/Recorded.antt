@@ -15,26 +15,14 @@ use Rattle.ompt_cli.specs.Commands.{EndsAs, IsSharedFew, unless_memory}
 
 -- something is written of each run that found memory
 pub unless-found : (of : Cause) (lines : List ℕ) → of ≢ cause.Memory → unless_memory of lines ≡ lines
-unless-found cause.Done lines found = refl
-unless-found (cause.Returned value) lines found = refl
-unless-found (cause.Trapped number) lines found = refl
-unless-found cause.Deadlock lines found = refl
-unless-found (cause.Limit number) lines found = refl
 unless-found cause.Memory lines found = absurd (found refl)
+unless-found other lines found = refl
 
 memory-end : (told : End) → EndsAs cause.Memory told → told ≡ end.Memory
 memory-end end.Memory ends = refl
 memory-end end.WriteFault ends = absurd (ends refl)
 memory-end (end.Ended why) ends = absurd (ends.1 refl)
-memory-end end.Shown ends = absurd ends
-memory-end end.Read ends = absurd ends
-memory-end end.Usage ends = absurd ends
-memory-end (end.Refused why) ends = absurd ends
-memory-end (end.TraceRefused refusal) ends = absurd ends
-memory-end (end.HistoryRefused reason offset) ends = absurd ends
-memory-end (end.Broken breach) ends = absurd ends
-memory-end (end.Illegal place) ends = absurd ends
-memory-end end.ReadFault ends = absurd ends
+memory-end other ends = absurd ends
 
 -- an end that isn't want of memory tells of a run that found memory
 pub ends-found : (of : Cause) (told : End) → EndsAs of told → told ≢ end.Memory → of ≢ cause.Memory

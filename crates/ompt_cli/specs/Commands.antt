@@ -4,6 +4,7 @@ use Rattle.std.specs.Io.KnownBytes.{Appends, Keeps}
 use Rattle.std.specs.declared.string.String.{String}
 use Rattle.run_edges.specs.Edges.{AppendsFront, Rose}
 use Rattle.std.specs.declared.alloc.Global.{Global}
+use Rattle.c_syntax.specs.language.Numbered.{TreeView}
 use Rattle.omp_model.specs.declared.cause.Cause.{Cause}
 use Rattle.omp_model.specs.declared.cause.Cause.TheVariants as cause
 use Rattle.omp_model.specs.State.{Run}
@@ -30,9 +31,16 @@ use Rattle.ompt_cli.specs.declared.end.End.{End}
 use Rattle.ompt_cli.specs.declared.end.End.TheVariants.{Ended, Shown, Read, TraceRefused, HistoryRefused, Broken, Illegal, Usage, Refused, ReadFault, WriteFault, Memory}
 use Rattle.ompt_cli.specs.declared.report.Report.{Report}
 
--- the run that a report is of. A guest is a box of a vtable and what lies behind it
+-- the program that ran, by its tree and by its text. A guest of the report is a box of a vtable and what lies behind it
+abbrev pub program_in : {Table : Type 0} {Behind : Table → Type 0} → Report Table Behind → TreeView
+program_in report = report.program.tree.value
+
+abbrev pub text_in : {Table : Type 0} {Behind : Table → Type 0} → Report Table Behind → List ℕ
+text_in report = report.program.text.value.items
+
+-- the run that a report is of
 abbrev pub run_of : {Table : Type 0} {Behind : Table → Type 0} → Report Table Behind → Run
-run_of report = run_of_program report.program.tree report.mask report.threads report.steps
+run_of report = run_of_program (program_in report) report.mask report.threads report.steps
 
 -- nothing is written of a run that found no memory
 abbrev pub unless_memory : Cause → List ℕ → List ℕ
@@ -45,12 +53,18 @@ IsSharedFew parts = (events : List EventRecord) × AreShared events parts × (le
 
 -- the command runs the guests, and not the parts that this program has itself
 abbrev pub HasGuests : Command → Type 0
-HasGuests Listing = ⊥
-HasGuests Recording = ⊥
-HasGuests Profiling = ⊥
-HasGuests (Timelining columns) = ⊥
 HasGuests (Running what) = ⊤
-HasGuests (Generating blocks) = ⊥
+HasGuests other = ⊥
+
+-- what `list` writes of these events, or `gen` of a run of which the program printed this
+abbrev pub text_of_events : Command → List EventRecord → List ℕ → List ℕ
+text_of_events (Generating blocks) events printed = summary_of (generated blocks) events printed
+text_of_events other events printed = lines_of events
+
+-- how many columns a timeline has
+abbrev pub columns_in : Command → ℕ
+columns_in (Timelining columns) = columns
+columns_in other = 0
 
 -- what a command writes of its run of the program of this text, which ended in this cause: a listing a line for each record, a recording the trace, a
 -- profile the counts, a timeline the states, `run` what the program printed, the history file, or what was printed and then the counts, and `gen` the summary
@@ -67,7 +81,7 @@ written_by (Generating blocks) text run cause history = summary_of (generated bl
 -- what a command writes of its run, if there was one
 abbrev pub run_text : {Table : Type 0} {Behind : Table → Type 0} → Option (Report Table Behind) → List ℕ
 run_text None = []
-run_text (Some report) = unless_memory report.cause (written_by report.command report.program.text (run_of report) report.cause report.history)
+run_text (Some report) = unless_memory report.cause (written_by report.command (text_in report) (run_of report) report.cause report.history)
 
 -- what a command writes: the text that its words ask for, or else what it writes of its run
 abbrev pub out_of : {Table : Type 0} {Behind : Table → Type 0} → Option (String Global) → Option (Report Table Behind) → List ℕ
@@ -138,13 +152,6 @@ EndsAs why (Ended told) = (told ≡ why) × (why ≢ cause.Memory)
 EndsAs why WriteFault = why ≢ cause.Memory
 EndsAs why Memory = ⊤
 EndsAs why other = ⊥
-
--- the end of a command that has run
-abbrev pub IsAfterRun : End → Type 0
-IsAfterRun (Ended why) = ⊤
-IsAfterRun WriteFault = ⊤
-IsAfterRun Memory = ⊤
-IsAfterRun other = ⊥
 
 -- What a command has written of this text, by how it ended: all of it, a front of it where a write failed, and nothing where memory failed. Over what the
 -- output holds before and after.

@@ -8,21 +8,12 @@ use Rattle.run_trace.specs.TraceOf.{status_of as status_of_cause}
 use Rattle.ompt_cli.specs.declared.end.Refusal.{Refusal}
 use Rattle.ompt_cli.specs.declared.end.Refusal.TheVariants.{Tokens, Syntax, Rule, TooLong}
 use Rattle.c_tokens.specs.declared.token.Spot.{Spot}
-use Rattle.c_tokens.specs.declared.token.TokenFault.{TokenFault}
-use Rattle.c_tokens.specs.declared.token.TokenFault.TheVariants as token
 use Rattle.c_tokens.specs.language.Faults.{nowhere, fault_number as token_number, fault_spot as token_spot}
-use Rattle.c_syntax.specs.declared.fault.SyntaxFault.{SyntaxFault}
-use Rattle.c_syntax.specs.declared.fault.SyntaxFault.TheVariants as syntax
 use Rattle.c_syntax.specs.language.Faults.{fault_number as syntax_number, fault_spot as syntax_spot}
-use Rattle.c_check.specs.declared.fault.CheckFault.{CheckFault}
-use Rattle.c_check.specs.declared.fault.CheckFault.TheVariants as rule
 use Rattle.c_check.specs.Faults.{fault_number as rule_number, fault_spot as rule_spot}
 use Rattle.std.specs.Fmt.{decimal, signed_decimal}
-use Rattle.trace_format.specs.declared.refusal.Refusal.{Refusal as TraceRefusal}
 use Rattle.trace_format.specs.Refusing.{number_of_reason}
-use Rattle.history_file.specs.declared.reason.HistoryReason.{HistoryReason}
 use Rattle.history_file.specs.Refusing.{number_of_reason as number_of_history_reason}
-use Rattle.trace_check.specs.declared.breach.Breach.{Breach}
 use Rattle.ompt_cli.specs.declared.end.End.{End}
 use Rattle.ompt_cli.specs.declared.end.End.TheVariants.{Ended, Shown, Read, TraceRefused, HistoryRefused, Broken, Illegal, Usage, Refused, ReadFault, WriteFault, Memory}
 
@@ -53,42 +44,12 @@ refusal_spot (Syntax found) = syntax_spot found
 refusal_spot (Rule found) = rule_spot found
 refusal_spot TooLong = nowhere
 
--- the end of a command whose text has this fault in its tokens, of one whose tokens are no program for this fault, and of one whose
--- program breaks a rule so
-abbrev pub end_of_fault : TokenFault → End
-end_of_fault token.Memory = Memory
-end_of_fault found = Refused (Tokens found)
-
-abbrev pub end_of_syntax_fault : SyntaxFault → End
-end_of_syntax_fault syntax.Memory = Memory
-end_of_syntax_fault found = Refused (Syntax found)
-
-abbrev pub end_of_check_fault : CheckFault → End
-end_of_check_fault rule.Memory = Memory
-end_of_check_fault found = Refused (Rule found)
-
 -- the line on standard error that tells a refusal, without its newline
 abbrev pub refusal_at : ℕ → Spot → List ℕ
 refusal_at number spot = codes "refused " ++ decimal number ++ codes " at " ++ decimal spot.line ++ codes ":" ++ decimal spot.column
 
 abbrev pub refusal_text : Refusal → List ℕ
 refusal_text why = refusal_at (refusal_number why) (refusal_spot why)
-
--- the line that tells a refused trace, without its newline
-abbrev pub trace_refusal_text : TraceRefusal → List ℕ
-trace_refusal_text refusal = codes "trace refused " ++ decimal (number_of_reason refusal.reason) ++ codes " at " ++ decimal refusal.offset
-
--- the line that tells refused bytes of a history file, without its newline
-abbrev pub history_refusal_text : HistoryReason → ℕ → List ℕ
-history_refusal_text reason offset = codes "history refused " ++ decimal (number_of_history_reason reason) ++ codes " at " ++ decimal offset
-
--- the line that tells how many first entries of an illegal history are legal together, without its newline
-abbrev pub illegal_text : ℕ → List ℕ
-illegal_text place = codes "illegal at " ++ decimal place
-
--- the line that tells the first breach of a trace, without its newline
-abbrev pub breach_text : Breach → List ℕ
-breach_text breach = codes "breach " ++ decimal breach.rule ++ codes " at " ++ decimal breach.seq
 
 -- the names of the limits, which have the numbers 1 to 7
 abbrev pub limit_text : ℕ → List ℕ
@@ -111,10 +72,10 @@ line_of_end Shown = []
 line_of_end Read = []
 line_of_end Usage = codes "usage: ompt run, list, record, profile, timeline, show, check, gen, migrate, rerun or tasks" ++ 10 ∷ []
 line_of_end (Refused why) = refusal_text why ++ 10 ∷ []
-line_of_end (TraceRefused refusal) = trace_refusal_text refusal ++ 10 ∷ []
-line_of_end (HistoryRefused reason offset) = history_refusal_text reason offset ++ 10 ∷ []
-line_of_end (Broken breach) = breach_text breach ++ 10 ∷ []
-line_of_end (Illegal place) = illegal_text place ++ 10 ∷ []
+line_of_end (TraceRefused refusal) = (codes "trace refused " ++ decimal (number_of_reason refusal.reason) ++ codes " at " ++ decimal refusal.offset) ++ 10 ∷ []
+line_of_end (HistoryRefused reason offset) = (codes "history refused " ++ decimal (number_of_history_reason reason) ++ codes " at " ++ decimal offset) ++ 10 ∷ []
+line_of_end (Broken breach) = (codes "breach " ++ decimal breach.rule ++ codes " at " ++ decimal breach.seq) ++ 10 ∷ []
+line_of_end (Illegal place) = (codes "illegal at " ++ decimal place) ++ 10 ∷ []
 line_of_end ReadFault = codes "read fault" ++ 10 ∷ []
 line_of_end WriteFault = codes "write fault" ++ 10 ∷ []
 line_of_end Memory = codes "memory" ++ 10 ∷ []

@@ -10,15 +10,18 @@ use Rattle.omp_model.specs.declared.cause.Cause.TheVariants as causes
 use Rattle.omp_model.specs.declared.history.Entry.{Entry}
 use Rattle.omp_model.specs.State.{Run}
 use Rattle.omp_model.specs.Heard.{heard_of}
-use Rattle.team_run.specs.Serving.{Becomes}
+use Rattle.team_run.specs.Serving.{Becomes, called_for, record_of_first}
 use Rattle.tool_api.specs.Registering.{mask_of}
 use Rattle.team_run.specs.Standing.{AreSilent}
-use Rattle.thread_run.specs.Driving.{called_for, record_of_first}
+use Rattle.team_run.specs.Unheard.{AreMissed}
 use Rattle.tool_profiled.specs.Hearing.{HasHeard, HasStarted}
 use Rattle.ompt_words.specs.declared.settings.Command.{Command}
-use Rattle.ompt_words.specs.declared.settings.Command.TheVariants.{Generate as Generating, List as Listing, Profile as Profiling, Record as Recording, Run as Running, Timeline as Timelining}
+use Rattle.ompt_words.specs.declared.settings.Command.TheVariants.{Run as Running}
 use Rattle.ompt_words.specs.declared.settings.RunOutput.TheVariants as output
-use Rattle.ompt_cli.specs.Runs.{AreMissed}
+use Rattle.std.specs.declared.alloc.Global.{Global}
+use Rattle.std.specs.declared.dyn_box.DynBox.{DynBox}
+use Rattle.ompt_cli.specs.declared.report.Report.{Report}
+use Rattle.ompt_cli.specs.Commands.{run_of}
 
 -- guest 0 was started, with this answer and these callbacks registered, called for what thread 0 heard, and finished after all
 -- that where it is active; guest t was called for what thread t heard; those past the threads are as they were. Beside that a guest
@@ -64,15 +67,16 @@ pub record GuestsJoin {B : Type 0} (stands_for : B → Record → Type 0) (Same 
   pub guestless : (k : ℕ) → length guests ≤ k → k < run.threads → AreSilent (heard_of run history k)
 
 -- what guests stand for after a command: all but `run` leave them as they were
-abbrev pub GuestsAfter : {B : Type 0} → (B → Record → Type 0) → (B → B → Type 0) → Command → Bool → Run → Cause → List Entry → List B → List B → Type 0
-GuestsAfter stands_for Same Listing serial run cause history guests after = after ≡ guests
-GuestsAfter stands_for Same Recording serial run cause history guests after = after ≡ guests
-GuestsAfter stands_for Same Profiling serial run cause history guests after = after ≡ guests
-GuestsAfter stands_for Same (Timelining columns) serial run cause history guests after = after ≡ guests
-GuestsAfter stands_for Same (Generating blocks) serial run cause history guests after = after ≡ guests
-GuestsAfter stands_for Same (Running output.Printed) serial run cause history guests after = GuestsServe stands_for Same serial run cause history guests after
-GuestsAfter stands_for Same (Running output.History) serial run cause history guests after = GuestsServe stands_for Same serial run cause history guests after
-GuestsAfter stands_for Same (Running output.Profile) serial run cause history guests after = GuestsJoin stands_for Same run cause history guests after
+abbrev pub AfterCommand : {B : Type 0} → (B → Record → Type 0) → (B → B → Type 0) → Command → Bool → Run → Cause → List Entry → List B → List B → Type 0
+AfterCommand stands_for Same (Running output.Printed) serial run cause history guests after = GuestsServe stands_for Same serial run cause history guests after
+AfterCommand stands_for Same (Running output.History) serial run cause history guests after = GuestsServe stands_for Same serial run cause history guests after
+AfterCommand stands_for Same (Running output.Profile) serial run cause history guests after = GuestsJoin stands_for Same run cause history guests after
+AfterCommand stands_for Same other serial run cause history guests after = after ≡ guests
+
+-- what the guests of a report stand for, which were these before its run: each is of the type that was handed in
+abbrev pub GuestsAfter : {Table : Type 0} {Behind : Table → Type 0} → (DynBox Table Global Behind → Record → Type 0) → List (DynBox Table Global Behind) → Report Table Behind → Type 0
+GuestsAfter stands_for guests report =
+    AfterCommand stands_for (λ guest other. guest.vtable ≡ other.vtable) report.command report.serial (run_of report) report.cause report.history guests report.guests.items
 
 -- the guests that these parts hold, in order
 abbrev pub guests_of : {G : Type 0} {B : Type 0} → (G → B) → List (Handed G) → List B

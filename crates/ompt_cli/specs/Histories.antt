@@ -15,12 +15,12 @@ use Rattle.history_file.specs.Validity.{WritesHistory}
 use Rattle.ompt_cli.specs.declared.end.End.{End}
 use Rattle.ompt_cli.specs.declared.end.End.TheVariants.{HistoryRefused, Illegal, Memory, Read, ReadFault, Refused, WriteFault}
 use Rattle.ompt_cli.specs.declared.report.Report.{Report}
-use Rattle.ompt_cli.specs.Commands.{run_of}
-use Rattle.ompt_cli.specs.Text.{IsProgram, IsRefused, Spells}
+use Rattle.ompt_cli.specs.Commands.{run_of, text_in}
+use Rattle.ompt_cli.specs.Text.{IsRefused, Spells}
 
 -- the history file of the run that is reported
 abbrev pub file_of_report : {Table : Type 0} {Behind : Table → Type 0} → Report Table Behind → HistoryFile
-file_of_report report = file_of report.program.text (run_of report) report.cause report.history
+file_of_report report = file_of (text_in report) (run_of report) report.cause report.history
 
 -- a line for each call
 abbrev pub lines_of_calls : List HeardCall → List ℕ

@@ -2,9 +2,8 @@ pub mod Words
 pub mod Text
 pub mod Ends
 pub mod Runs
-pub mod Guests
-pub mod Job
 pub mod Commands
+pub mod Guests
 pub mod Reports
 pub mod Histories
 pub mod Traces

@@ -1,22 +1,15 @@
 -- What a run gives, whether one thread has all turns in the serial order or each thread number has a thread of its own.
-use Rattle.std.specs.Prelude.{ℕ, ⊤, ◌≡◌, ◌≢◌, ◌<◌, ◌==◌, Bool, true, false, List, [], length, Option, Some, None}
-use Rattle.tool_api.specs.Record.{Record}
+use Rattle.std.specs.Prelude.{ℕ, ⊤, ◌≡◌, ◌≢◌, ◌<◌, Bool, true, List, [], Some, None}
 use Rattle.omp_model.specs.declared.cause.Cause.{Cause}
 use Rattle.omp_model.specs.declared.cause.Cause.TheVariants as causes
 use Rattle.omp_model.specs.declared.history.Entry.{Entry}
 use Rattle.omp_model.specs.State.{Run, pending_at}
 use Rattle.omp_model.specs.Cause.{cause_of, threads_over}
 use Rattle.omp_model.specs.Gates.{main_returned}
-use Rattle.omp_model.specs.Heard.{heard_of}
 use Rattle.omp_model.specs.Legal.{Legal, after}
 use Rattle.omp_model.specs.Serial.{Serial, serial}
-use Rattle.team_run.specs.Program.{run_of_program}
-use Rattle.team_run.specs.Serving.{AreSame, Becomes}
-use Rattle.team_run.specs.Standing.{HearsOwn, HearsSilent}
-use Rattle.tool_api.specs.Registering.{AreAlways, mask_of}
-use Rattle.team_run.specs.Unheard.{IsUnheard}
-use Rattle.ompt_cli.specs.Job.{JobView}
-use Rattle.thread_run.specs.Driving.{LeftAt, called_for, record_of_first}
+use Rattle.team_run.specs.Standing.{HearsSilent}
+use Rattle.tool_api.specs.Registering.{AreAlways}
 
 -- every thread that was made has ended, and main has returned
 pub record IsWhole (run : Run) (history : List Entry) : Type 0 where
@@ -27,47 +20,11 @@ pub record IsWhole (run : Run) (history : List Entry) : Type 0 where
 abbrev pub IsReturn : Cause → Type 0
 IsReturn causes.Done = ⊤
 IsReturn (causes.Returned value) = ⊤
-IsReturn (causes.Trapped number) = ⊥
-IsReturn causes.Deadlock = ⊥
-IsReturn (causes.Limit number) = ⊥
-IsReturn causes.Memory = ⊥
+IsReturn other = ⊥
 
 -- no thread of the run is inside a callback
 abbrev pub AreOutside : Run → List Entry → Type 0
 AreOutside run history = (k : ℕ) → k < run.threads → pending_at (after run history) k ≡ None
-
-abbrev pub is_just : Option ℕ → ℕ → Bool
-is_just None k = false
-is_just (Some t) k = t == k
-
--- after a serial run the one thread inside whose callback the history ends, if it ends so, missed an event: its part was called for it, and found no memory
-pub record IsOneMissed (run : Run) (cause : Cause) (history : List Entry) (missed : ℕ → Bool) : Type 0 where
-  pub unheard : Option ℕ
-  pub is_unheard : IsUnheard run history unheard
-  pub all_heard : cause ≢ causes.Memory → unheard ≡ None
-  pub missed_is : (k : ℕ) → missed k ≡ is_just unheard k
-
--- the threads that missed an event: after a run by threads those that owe an answer still
-abbrev pub AreMissed : Bool → Run → Cause → List Entry → (ℕ → Bool) → Type 0
-AreMissed true run cause history missed = IsOneMissed run cause history missed
-AreMissed false run cause history missed = (k : ℕ) → k < run.threads → LeftAt run history k (missed k)
-
--- The parts of a run that ended in this cause with this history: the first was started, and at the end finished where it is active, and each was called
--- for what its thread heard, in order. Beside that a part was called once more where its thread missed an event, and then the cause says so.
-pub record RunsParts {P : Type 0} (stands_for : P → Record → Type 0) (serial : Bool) (run : Run) (cause : Cause) (history : List Entry) (parts others : List P) : Type 0 where
-  pub as_many : length others ≡ length parts
-  pub answer : ℕ
-  pub registered : ℕ
-  pub mask_is : run.mask ≡ mask_of answer registered
-  pub missed : ℕ → Bool
-  pub are_missed : AreMissed serial run cause history missed
-  pub all_heard : cause ≢ causes.Memory → (k : ℕ) → k < run.threads → missed k ≡ false
-  pub first : Becomes stands_for parts others 0 (record_of_first answer registered (heard_of run history 0) (missed 0))
-  pub each : (k : ℕ) → 0 < k → k < length parts → Becomes stands_for parts others k (called_for (heard_of run history k) (missed k))
-
--- the run of a job where these callbacks are registered
-abbrev pub run_of_job : JobView → ℕ → Run
-run_of_job job mask = run_of_program job.program mask job.threads job.steps
 
 -- A run that ended in this cause with this history: a legal one that ends in its cause, with no thread inside a callback, and serially where it is to be. Where
 -- nothing is stored, a serial run is the one that there is. Each callback that was registered is one that is called always
@@ -79,11 +36,3 @@ pub record RunsTo (run : Run) (is_serial : Bool) (cause : Cause) (history : List
   pub whole : is_serial ≡ true → cause ≢ causes.Memory → HearsSilent run history → history ≡ serial run
   pub begun : cause ≡ causes.Memory → history ≢ []
   pub always : AreAlways run.mask
-
--- a run of the job with these parts, which printed this text. The parts that come back are those that were given
-pub record RunsJob {P : Type 0} (stands_for : P → Record → Type 0) (Same : P → P → Type 0) (job : JobView) (mask : ℕ) (cause : Cause) (history : List Entry) (text : List ℕ) (parts others : List P) : Type 0 where
-  pub to : RunsTo (run_of_job job mask) job.serial cause history
-  pub runs : RunsParts stands_for job.serial (run_of_job job mask) cause history parts others
-  pub same : AreSame Same parts others
-  pub own : HearsOwn (run_of_job job mask) history
-  pub printed : text ≡ (after (run_of_job job mask) history).world.store.text

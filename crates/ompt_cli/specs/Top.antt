@@ -22,7 +22,7 @@ use Rattle.ompt_words.specs.declared.settings.Request.TheVariants as request
 use Rattle.ompt_words.specs.declared.settings.Settings.{Settings}
 use Rattle.ompt_words.specs.declared.settings.ReadCommand.{ReadCommand}
 use Rattle.ompt_words.specs.declared.settings.RunOutput.TheVariants as output
-use Rattle.ompt_cli.specs.Commands.{EndsAs, HasOutput, HasWritten, IsReading, IsShowing, HasGuests, IsUnread, MayRefuse, MayRun, out_of, run_of, run_text, settings_in}
+use Rattle.ompt_cli.specs.Commands.{EndsAs, HasOutput, HasWritten, IsReading, IsShowing, HasGuests, IsUnread, MayRefuse, MayRun, out_of, program_in, run_of, run_text, settings_in, text_in}
 use Rattle.ompt_cli.specs.Runs.{AreOutside, IsReturn, IsWhole}
 use Rattle.ompt_cli.specs.Histories.{file_of_report}
 use Rattle.ompt_cli.specs.Text.{IsProgram, IsRefused, Spells, text_for}
@@ -58,8 +58,8 @@ pub record FollowsWords {Table : Type 0} {Behind : Table → Type 0} (words : Li
 pub record IsRunOf {Table : Type 0} {Behind : Table → Type 0} (words : List (List ℕ)) (left : Option (List ℕ)) (end : End) (report : Report Table Behind) : Type 0 where
   pub asked : AreReadAs words (request.Run (settings_in report))
   pub own : (form : InForm words) → settings_in report ≡ own_settings form
-  pub text : IfSome (text_for report.command left) (λ text. text ≡ report.program.text)
-  pub spelled : Spells report.program.text report.program.tree
+  pub text : IfSome (text_for report.command left) (λ text. text ≡ text_in report)
+  pub spelled : Spells (text_in report) (program_in report)
   pub mask : ¬ HasGuests report.command → report.mask ≡ PROFILE_MASK
   pub always : AreAlways report.mask
   pub legal : Legal (run_of report) report.history

@@ -1,46 +1,49 @@
 //! The commands that run a program.
 
-ghost use Rattle.std.specs.Prelude.{◌≡◌, IfSome};
-ghost use Rattle.ompt_cli.specs.Commands.{CountsFaults, HasWritten, run_of, run_text};
+ghost use Rattle.std.specs.Prelude.{◌≡◌, IfOk, OnErr, Some};
+ghost use Rattle.ompt_cli.specs.Commands.{CountsFaults, HasWritten, run_text};
 ghost use Rattle.ompt_cli.specs.Guests.{GuestsAfter};
-ghost use Rattle.ompt_cli.specs.Reports.{HasRun};
+ghost use Rattle.ompt_cli.specs.Reports.{Reports};
 
 use crate::end::End;
 use crate::job::Job;
-use crate::outcome::Outcome;
+use crate::outcome::Ended;
+use crate::profiling::run_profiled;
 use crate::recording::record;
-use crate::reporting::{generate, list, profile, timeline};
-use crate::run::run;
+use crate::reporting::report;
+use crate::run::{run_history, run_printed};
 use crate::runner::Runner;
-use ompt_words::Command;
+use ompt_words::{Command, RunOutput};
 use run_edges::Sink;
-use std::alloc::Global;
+use std::alloc::{AllocError, Global};
 use tool_api::GuestTool;
+use tool_report::{Profile, Recorder, Timeline};
 
-/// Runs the job, and writes what the command writes of its run.
+/// Runs the job, and writes what its command writes of its run. An error says that there was no memory for the run.
 pub(crate) fn run_command<X: Runner, O: Sink>(
     runner: &X,
     alloc: Global,
-    command: Command,
     job: Job,
     guests: Vec<Box<dyn GuestTool>>,
     out: &mut O,
-) -> Outcome
-    requires { X.may_run runner.now job.serial }
-    ensures ran { HasRun command job result.end result.shown result.read result.ran }
-    ensures guests { IfSome result.ran (λ report.
-        GuestsAfter (λ guest h. (GuestTool-box guest).stands_for guest.value h) (λ guest other. guest.vtable ≡ other.vtable)
-        report.command report.serial (run_of report)
-        report.cause report.history guests.items report.guests.items) }
-    ensures written { HasWritten result.end (run_text result.ran) (O.held out.old) (O.held out.new) }
-    ensures faults { CountsFaults result.end End.WriteFault (O.faults out.old) (O.faults out.new) }
+) -> Result<Ended, AllocError>
+    requires { X.may_run runner.now job.settings.serial }
+    ensures ran { IfOk result (λ ended. Reports job ended.end ended.report) }
+    ensures guests { IfOk result (λ ended.
+        GuestsAfter (λ guest h. (GuestTool-box guest).stands_for guest.value h) guests.items ended.report) }
+    ensures written { IfOk result (λ ended. HasWritten ended.end (run_text (Some ended.report)) (O.held out.old) (O.held out.new)) }
+    ensures faults { IfOk result (λ ended. CountsFaults ended.end End.WriteFault (O.faults out.old) (O.faults out.new)) }
+    ensures untouched { OnErr result (out.new ≡ out.old) }
 {
-    match command {
-        Command::Run(output) => run(runner, alloc, output, job, guests, out),
-        Command::List => list(runner, alloc, job, guests, out),
+    match job.settings.command {
+        Command::Run(RunOutput::Printed) => run_printed(runner, alloc, job, guests, out),
+        Command::Run(RunOutput::History) => run_history(runner, alloc, job, guests, out),
+        Command::Run(RunOutput::Profile) => run_profiled(runner, alloc, job, guests, out),
         Command::Record => record(runner, alloc, job, guests, out),
-        Command::Profile => profile(runner, alloc, job, guests, out),
-        Command::Timeline(columns) => timeline(runner, alloc, columns, job, guests, out),
-        Command::Generate(blocks) => generate(runner, alloc, blocks, job, guests, out),
+        Command::Profile => report::<X, Profile, O>(runner, alloc, job, guests, out),
+        Command::Timeline(_) => report::<X, Timeline, O>(runner, alloc, job, guests, out),
+        Command::List | Command::Generate(_) => report::<X, Recorder, O>(
+            runner, alloc, job, guests, out,
+        ),
     }
 }

@@ -4,7 +4,7 @@ ghost use Rattle.std.specs.Prelude.{◌≡◌, ◌≤◌, ◌+◌, ◌∷◌, �
 ghost use Rattle.std.specs.Fmt.{decimal, signed_decimal};
 ghost use Rattle.arrayvec.specs.ArrayString.{array_string_len};
 ghost use Rattle.run_trace.specs.TraceOf.{status_of as status_of_cause};
-ghost use Rattle.ompt_cli.specs.Ends.{breach_text, end_of_check_fault, end_of_fault, end_of_syntax_fault, history_refusal_text, illegal_text, line_of_cause, line_of_end, refusal_number, refusal_spot, refusal_text, status_of, trace_refusal_text};
+ghost use Rattle.ompt_cli.specs.Ends.{line_of_cause, line_of_end, refusal_number, refusal_spot, refusal_text, status_of};
 
 use arrayvec::ArrayString;
 use c_check::CheckFault;
@@ -85,10 +85,18 @@ impl End {
                 "usage: ompt run, list, record, profile, timeline, show, check, gen, migrate, rerun or tasks\n",
             ),
             End::Refused(why) => why.line(),
-            End::TraceRefused(refusal) => line_of_trace_refused(refusal),
-            End::HistoryRefused(reason, offset) => line_of_history_refused(reason, offset),
-            End::Broken(breach) => line_of_breach(breach),
-            End::Illegal(place) => line_of_illegal(place),
+            End::TraceRefused(refusal) => line_at(
+                "trace refused ",
+                refusal.reason.number(),
+                refusal.offset,
+            ),
+            End::HistoryRefused(reason, offset) => line_at(
+                "history refused ",
+                reason.number(),
+                offset,
+            ),
+            End::Broken(breach) => line_at("breach ", breach.rule, u64::from(breach.seq)),
+            End::Illegal(place) => line_with("illegal at ", place),
             End::ReadFault => line_of("read fault\n"),
             End::WriteFault => line_of("write fault\n"),
             End::Memory => line_of("memory\n"),
@@ -160,7 +168,7 @@ fn line_of_cause(cause: Cause) -> ArrayString<160>
     match cause {
         Cause::Done => line_of(""),
         Cause::Returned(value) => line_of_returned(value),
-        Cause::Trapped(number) => line_of_trapped(number),
+        Cause::Trapped(number) => line_with("trapped ", u32::from(number)),
         Cause::Deadlock => line_of("deadlock\n"),
         Cause::Limit(1) => line_of("limit steps\n"),
         Cause::Limit(2) => line_of("limit turns\n"),
@@ -170,36 +178,6 @@ fn line_of_cause(cause: Cause) -> ArrayString<160>
         Cause::Limit(6) => line_of("limit depth\n"),
         Cause::Limit(_) => line_of("limit text\n"),
         Cause::Memory => line_of("memory\n"),
-    }
-}
-
-/// The end of a command whose text has this fault in its tokens.
-pub(crate) fn end_of_fault(fault: TokenFault) -> End
-    ensures { result ≡ end_of_fault fault }
-{
-    match fault {
-        TokenFault::Memory => End::Memory,
-        _ => End::Refused(Refusal::Tokens(fault)),
-    }
-}
-
-/// The end of a command whose tokens are no program for this fault.
-pub(crate) fn end_of_syntax_fault(fault: SyntaxFault) -> End
-    ensures { result ≡ end_of_syntax_fault fault }
-{
-    match fault {
-        SyntaxFault::Memory => End::Memory,
-        _ => End::Refused(Refusal::Syntax(fault)),
-    }
-}
-
-/// The end of a command whose program breaks a rule so.
-pub(crate) fn end_of_check_fault(fault: CheckFault) -> End
-    ensures { result ≡ end_of_check_fault fault }
-{
-    match fault {
-        CheckFault::Memory => End::Memory,
-        _ => End::Refused(Refusal::Rule(fault)),
     }
 }
 
@@ -214,60 +192,27 @@ fn line_of_returned(value: i32) -> ArrayString<160>
     line
 }
 
-/// The line that tells a trap.
-fn line_of_trapped(number: u8) -> ArrayString<160>
-    ensures { result.bytes ≡ codes "trapped " ++ decimal number ++ 10 ∷ [] }
+/// A line of this text and a number.
+fn line_with(text: &str, number: u32) -> ArrayString<160>
+    requires { length text.now ≤ 40 }
+    ensures { result.bytes ≡ (text.now ++ decimal number) ++ 10 ∷ [] }
 {
-    let mut line = line_of("trapped ");
+    let mut line = line_of(text);
+    push_number(&mut line, number);
+    line.push_str("\n");
+    line
+}
+
+/// A line of this text, a number, and a place.
+fn line_at(text: &str, number: u8, place: u64) -> ArrayString<160>
+    requires { length text.now ≤ 40 }
+    ensures { result.bytes ≡ (text.now ++ decimal number ++ codes " at " ++ decimal place) ++ 10 ∷ [] }
+{
+    let mut digits = Buffer::new();
+    let mut line = line_of(text);
     push_number(&mut line, u32::from(number));
-    line.push_str("\n");
-    line
-}
-
-/// The line that tells a refused trace.
-fn line_of_trace_refused(refusal: trace_format::Refusal) -> ArrayString<160>
-    ensures { result.bytes ≡ trace_refusal_text refusal ++ 10 ∷ [] }
-{
-    let mut digits = Buffer::new();
-    let mut line = line_of("trace refused ");
-    push_number(&mut line, u32::from(refusal.reason.number()));
     line.push_str(" at ");
-    line.push_str(digits.format(refusal.offset));
-    line.push_str("\n");
-    line
-}
-
-/// The line that tells refused bytes of a history file.
-fn line_of_history_refused(reason: HistoryReason, offset: u64) -> ArrayString<160>
-    ensures { result.bytes ≡ history_refusal_text reason offset ++ 10 ∷ [] }
-{
-    let mut digits = Buffer::new();
-    let mut line = line_of("history refused ");
-    push_number(&mut line, u32::from(reason.number()));
-    line.push_str(" at ");
-    line.push_str(digits.format(offset));
-    line.push_str("\n");
-    line
-}
-
-/// The line that tells an illegal history.
-fn line_of_illegal(place: u32) -> ArrayString<160>
-    ensures { result.bytes ≡ illegal_text place ++ 10 ∷ [] }
-{
-    let mut line = line_of("illegal at ");
-    push_number(&mut line, place);
-    line.push_str("\n");
-    line
-}
-
-/// The line that tells a breach.
-fn line_of_breach(breach: Breach) -> ArrayString<160>
-    ensures { result.bytes ≡ breach_text breach ++ 10 ∷ [] }
-{
-    let mut line = line_of("breach ");
-    push_number(&mut line, u32::from(breach.rule));
-    line.push_str(" at ");
-    push_number(&mut line, breach.seq);
+    line.push_str(digits.format(place));
     line.push_str("\n");
     line
 }

@@ -1,40 +1,161 @@
-//! The parts that keep what a command reports: one for each thread.
+//! The parts that keep what they are told, and what a command makes of that.
 
-ghost use Rattle.std.specs.Prelude.{◌≡◌, IfOk, [], replicate};
-ghost use Rattle.tool_report.specs.Counts.{counts_of};
+ghost use Rattle.std.specs.Prelude.{ℕ, ◌≡◌, IfOk, List, [], replicate};
+ghost use Rattle.tool_api.specs.Record.{Record};
+ghost use Rattle.ompt_calls.specs.declared.event.EventRecord.{EventRecord};
+ghost use Rattle.tool_report.specs.Generator.{generated, summary_of};
+ghost use Rattle.tool_report.specs.Order.{AreKept, AreShared};
+ghost use Rattle.tool_report.specs.Standing.{KeeperFor};
+ghost use Rattle.ompt_words.specs.declared.settings.Command.{Command as SeenCommand};
+ghost use Rattle.ompt_cli.specs.Commands.{columns_in};
 
+use crate::runner::JobPart;
+use ompt_words::Command;
 use std::alloc::{AllocError, Global};
-use tool_report::{Profile, Recorder, Timeline};
+use tool_report::{
+    Profile, Recorder, Timeline, generated_text, lines_text, merge, profile_text, summary_text,
+    timeline_text,
+};
 
-/// A recorder for each of so many threads.
-pub(crate) fn recorders(alloc: Global, threads: u8) -> Result<Vec<Recorder>, AllocError>
-    ensures { IfOk result (λ parts. parts.items ≡ replicate threads []) }
+/// A part that keeps what it is told, as it likes.
+pub(crate) trait Keeper: JobPart {
+    /// What it keeps of these events.
+    ghost keep: { List EventRecord → Self };
+
+    /// What a command makes of these events and of what the program printed.
+    ghost text_of: { SeenCommand → List EventRecord → List ℕ → List ℕ };
+
+    /// A part that was told nothing yet.
+    fn fresh(alloc: Global) -> Self
+        ensures { result ≡ keep [] };
+
+    /// What the command makes of what these parts keep and of what the program printed.
+    fn text(
+        alloc: Global,
+        command: Command,
+        parts: &[Self],
+        printed: &[u8],
+    ) -> Result<Vec<u8>, AllocError>
+        ensures { IfOk result (λ text. (events : List EventRecord) → AreKept keep events parts.now → text.items ≡ text_of command events printed.now) };
+
+    ghost stands: { (kept : Self) (h : Record) → KeeperFor keep kept h → Self.stands_for kept h };
+
+    ghost stood: { (kept : Self) (h : Record) → Self.stands_for kept h → KeeperFor keep kept h };
+}
+
+impl Keeper for Recorder {
+    ghost use Rattle.ompt_cli.specs.Commands.{text_of_events};
+
+    ghost keep = { λ events. events };
+
+    ghost text_of = { text_of_events };
+
+    fn fresh(alloc: Global) -> Recorder {
+        Recorder::new(alloc)
+    }
+
+    fn text(
+        alloc: Global,
+        command: Command,
+        parts: &[Recorder],
+        printed: &[u8],
+    ) -> Result<Vec<u8>, AllocError> {
+        match command {
+            Command::Generate(blocks) => summary(alloc, blocks, parts, printed),
+            _ => lines_text(alloc, parts),
+        }
+    }
+
+    ghost stands = { λ kept h for. for };
+
+    ghost stood = { λ kept h for. for };
+}
+
+impl Keeper for Profile {
+    ghost use Rattle.tool_report.specs.Counts.{counts_of};
+    ghost use Rattle.tool_report.specs.Profile.{profile_of};
+
+    ghost keep = { counts_of };
+
+    ghost text_of = { λ command events printed. profile_of events };
+
+    fn fresh(_alloc: Global) -> Profile {
+        Profile::new()
+    }
+
+    fn text(
+        alloc: Global,
+        _command: Command,
+        parts: &[Profile],
+        _printed: &[u8],
+    ) -> Result<Vec<u8>, AllocError> {
+        profile_text(alloc, parts)
+    }
+
+    ghost stands = { λ kept h for. for };
+
+    ghost stood = { λ kept h for. for };
+}
+
+impl Keeper for Timeline {
+    ghost use Rattle.tool_report.specs.Moments.{moments_of};
+    ghost use Rattle.tool_report.specs.Timeline.{timeline_of};
+    ghost use Rattle.ompt_cli.specs.Commands.{columns_in};
+
+    ghost keep = { moments_of };
+
+    ghost text_of = { λ command events printed. timeline_of (columns_in command) events };
+
+    fn fresh(alloc: Global) -> Timeline {
+        Timeline::new(alloc)
+    }
+
+    fn text(
+        alloc: Global,
+        command: Command,
+        parts: &[Timeline],
+        _printed: &[u8],
+    ) -> Result<Vec<u8>, AllocError> {
+        timeline_text(alloc, parts, columns_in(command))
+    }
+
+    ghost stands = { λ kept h for. for };
+
+    ghost stood = { λ kept h for. for };
+}
+
+/// A part for each of so many threads, which was told nothing yet.
+pub(crate) fn keepers<P: Keeper>(alloc: Global, threads: u8) -> Result<Vec<P>, AllocError>
+    ensures { IfOk result (λ parts. parts.items ≡ replicate threads (P.keep [])) }
 {
     let mut parts = Vec::new(alloc);
     for _thread in 0..threads {
-        parts.push(Recorder::new(alloc))?;
+        parts.push(P::fresh(alloc))?;
     }
     Ok(parts)
 }
 
-/// A profile for each of so many threads.
-pub(crate) fn profiles(alloc: Global, threads: u8) -> Result<Vec<Profile>, AllocError>
-    ensures { IfOk result (λ parts. parts.items ≡ replicate threads (counts_of [])) }
+/// How many columns a timeline is to have.
+fn columns_in(command: Command) -> u8
+    ensures { result ≡ columns_in command }
 {
-    let mut parts = Vec::new(alloc);
-    for _thread in 0..threads {
-        parts.push(Profile::new())?;
+    match command {
+        Command::Timeline(columns) => columns,
+        _ => 0,
     }
-    Ok(parts)
 }
 
-/// A timeline for each of so many threads.
-pub(crate) fn timelines(alloc: Global, threads: u8) -> Result<Vec<Timeline>, AllocError>
-    ensures { IfOk result (λ parts. parts.items ≡ replicate threads []) }
+/// The summary of a run of the program with so many blocks, of which these recorders were told, and which printed this text.
+fn summary(
+    alloc: Global,
+    blocks: u16,
+    parts: &[Recorder],
+    printed: &[u8],
+) -> Result<Vec<u8>, AllocError>
+    ensures { IfOk result (λ text. (events : List EventRecord) → AreShared events parts.now →
+        text.items ≡ summary_of (generated blocks) events printed.now) }
 {
-    let mut parts = Vec::new(alloc);
-    for _thread in 0..threads {
-        parts.push(Timeline::new(alloc))?;
-    }
-    Ok(parts)
+    let program = generated_text(alloc, blocks)?;
+    let events = merge(alloc, parts)?;
+    summary_text(alloc, &program, &events, printed)
 }

@@ -54,7 +54,6 @@ mod reporting;
 mod rerunning;
 mod run;
 mod runner;
-mod running;
 mod settings_run;
 mod task_tree;
 mod text;

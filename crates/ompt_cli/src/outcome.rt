@@ -1,6 +1,6 @@
 //! How a command ended, before its line is told.
 
-ghost use Rattle.std.specs.Prelude.{◌≡◌, None, Some};
+ghost use Rattle.std.specs.Prelude.{◌≡◌, None};
 
 use crate::end::End;
 use crate::report::Report;
@@ -16,6 +16,13 @@ pub(crate) struct Outcome {
     pub read: Option<ReadCommand>,
 }
 
+/// How a command ended that has run, and what it reports of its run.
+#[derive(Drop)]
+pub(crate) struct Ended {
+    pub end: End,
+    pub report: Report,
+}
+
 /// A command that ended before its run.
 pub(crate) fn without_run(end: End) -> Outcome
     ensures { result ≡ record { end = end; ran = None; shown = None; read = None } }
@@ -25,41 +32,5 @@ pub(crate) fn without_run(end: End) -> Outcome
         ran: None,
         shown: None,
         read: None,
-    }
-}
-
-/// A command that has run.
-pub(crate) fn having_run(end: End, report: Report) -> Outcome
-    ensures { result ≡ record { end = end; ran = Some report; shown = None; read = None } }
-{
-    Outcome {
-        end,
-        ran: Some(report),
-        shown: None,
-        read: None,
-    }
-}
-
-/// A command that was to show this text.
-pub(crate) fn having_shown(end: End, text: String) -> Outcome
-    ensures { result ≡ record { end = end; ran = None; shown = Some text; read = None } }
-{
-    Outcome {
-        end,
-        ran: None,
-        shown: Some(text),
-        read: None,
-    }
-}
-
-/// A command that has read a trace.
-pub(crate) fn having_read(end: End, command: ReadCommand) -> Outcome
-    ensures { result ≡ record { end = end; ran = None; shown = None; read = Some command } }
-{
-    Outcome {
-        end,
-        ran: None,
-        shown: None,
-        read: Some(command),
     }
 }

@@ -1,6 +1,6 @@
 //! The command `run` with a profile: the guests are called beside profiles, and what the program prints is followed by the counts.
 
-ghost use Rattle.std.specs.Prelude.{◌≡◌, ◌++◌, IfOk, IfSome, List};
+ghost use Rattle.std.specs.Prelude.{◌≡◌, ◌++◌, IfOk, List, OnErr, Some};
 ghost use Rattle.omp_model.specs.Legal.{after};
 ghost use Rattle.omp_model.specs.Records.{records_of};
 ghost use Rattle.ompt_calls.specs.declared.event.EventRecord.{EventRecord};
@@ -8,14 +8,14 @@ ghost use Rattle.tool_report.specs.Counts.{counts_of};
 ghost use Rattle.tool_report.specs.Order.{AreKept};
 ghost use Rattle.tool_report.specs.Profile.{profile_of};
 ghost use Rattle.ompt_cli.specs.Commands.{CountsFaults, HasWritten, run_of, run_text};
-ghost use Rattle.ompt_cli.specs.Guests.{GuestsJoin};
-ghost use Rattle.ompt_cli.specs.Reports.{HasRun, Observes};
+ghost use Rattle.ompt_cli.specs.Guests.{GuestsAfter};
+ghost use Rattle.ompt_cli.specs.Reports.{Observes, Reports};
 
 use crate::end::End;
 use crate::guests::{Handing, hand_out_all, take_back_all};
 use crate::job::Job;
 use crate::observing::Observed;
-use crate::outcome::{Outcome, having_run, without_run};
+use crate::outcome::Ended;
 use crate::report::Report;
 use crate::runner::Runner;
 use crate::writing::write_made;
@@ -41,27 +41,24 @@ pub(crate) fn run_profiled<X: Runner, O: Sink>(
     job: Job,
     guests: Vec<Box<dyn GuestTool>>,
     out: &mut O,
-) -> Outcome
-    requires { X.may_run runner.now job.serial }
-    ensures ran { HasRun (Command.Run RunOutput.Profile) job result.end result.shown result.read result.ran }
-    ensures guests { IfSome result.ran (λ report.
-        GuestsJoin (λ guest h. (GuestTool-box guest).stands_for guest.value h) (λ guest other. guest.vtable ≡ other.vtable)
-        (run_of report) report.cause report.history
-        guests.items report.guests.items) }
-    ensures written { HasWritten result.end (run_text result.ran) (O.held out.old) (O.held out.new) }
-    ensures faults { CountsFaults result.end End.WriteFault (O.faults out.old) (O.faults out.new) }
+) -> Result<Ended, AllocError>
+    requires kind { X.may_run runner.now job.settings.serial }
+    requires command { job.settings.command ≡ Command.Run RunOutput.Profile }
+    ensures ran { IfOk result (λ ended. Reports job ended.end ended.report) }
+    ensures guests { IfOk result (λ ended.
+        GuestsAfter (λ guest h. (GuestTool-box guest).stands_for guest.value h) guests.items ended.report) }
+    ensures written { IfOk result (λ ended. HasWritten ended.end (run_text (Some ended.report)) (O.held out.old) (O.held out.new)) }
+    ensures faults { IfOk result (λ ended. CountsFaults ended.end End.WriteFault (O.faults out.old) (O.faults out.new)) }
+    ensures untouched { OnErr result (out.new ≡ out.old) }
 {
-    let Ok(counted) = serve_profiled(runner, alloc, job, guests) else {
-        return without_run(End::Memory);
-    };
     let CountedRun {
         report,
         text,
         profiles,
-    } = counted;
+    } = serve_profiled(runner, alloc, job, guests)?;
     let made = with_profile(alloc, text, &profiles);
     let end = write_made(report.cause, made, out);
-    having_run(end, report)
+    Ok(Ended { end, report })
 }
 
 /// This text, and behind it the report of what these profiles counted.
@@ -85,16 +82,15 @@ fn serve_profiled<X: Runner>(
     job: Job,
     guests: Vec<Box<dyn GuestTool>>,
 ) -> Result<CountedRun, AllocError>
-    requires { X.may_run runner.now job.serial }
-    ensures observes { IfOk result (λ counted. Observes (Command.Run RunOutput.Profile) job counted.report) }
+    requires kind { X.may_run runner.now job.settings.serial }
+    requires command { job.settings.command ≡ Command.Run RunOutput.Profile }
+    ensures observes { IfOk result (λ counted. Observes job counted.report) }
     ensures guests { IfOk result (λ counted.
-        GuestsJoin (λ guest h. (GuestTool-box guest).stands_for guest.value h) (λ guest other. guest.vtable ≡ other.vtable)
-        (run_of counted.report) counted.report.cause counted.report.history
-        guests.items counted.report.guests.items) }
+        GuestsAfter (λ guest h. (GuestTool-box guest).stands_for guest.value h) guests.items counted.report) }
     ensures printed { IfOk result (λ counted. counted.text.items ≡ (after (run_of counted.report) counted.report.history).world.store.text) }
     ensures counted { IfOk result (λ counted. AreKept counts_of (records_of (run_of counted.report) counted.report.history) counted.profiles.items) }
 {
-    let Handing { parts, waiting } = hand_out_all(alloc, job.threads, guests)?;
+    let Handing { parts, waiting } = hand_out_all(alloc, job.settings.threads, guests)?;
     let Joined { parts, room, .. } = join_all(alloc, parts)?;
     let Observed {
         report,

@@ -1,31 +1,30 @@
 //! The tree of a program that ran and its text, as contracts see them.
 
-ghost use Rattle.std.specs.Prelude.{ℕ, ◌≡◌, List};
-ghost use Rattle.std.specs.Coded.{coded_list, coded_ℕ};
-ghost use base.Fml.{ftrue};
-ghost use Rattle.c_syntax.specs.language.Numbered.{TreeView};
-ghost use Rattle.c_syntax.specs.workings.Codes.{tree_view_code};
+ghost use Rattle.std.specs.Prelude.{◌≡◌};
 
 use crate::loaded::Loaded;
-use std::marker::Model;
+use c_check::Program;
+use std::snapshot::Snapshot;
 
 /// The tree of a program that ran, and its text. A run consumes its program, so that nothing of it is left to hold: this takes no memory, and
 /// contracts alone see the two.
 #[derive(Drop)]
 pub struct ProgramTree {
-    pub ghost tree: { TreeView } by { tree_view_code },
-    pub ghost text: { List ℕ } by { coded_list coded_ℕ },
-}
-
-impl Model for ProgramTree {
-    ghost also_owns = { λ _. ftrue };
+    /// The tree of the program.
+    pub tree: Snapshot<Program>,
+    /// Its text.
+    pub text: Snapshot<Vec<u8>>,
 }
 
 impl ProgramTree {
     /// The tree of the program, with its text.
-    pub(crate) fn of(_loaded: &Loaded) -> ProgramTree
-        ensures { (result.tree ≡ _loaded.now.program) × (result.text ≡ _loaded.now.text.items) }
+    pub(crate) fn of(loaded: &Loaded) -> ProgramTree
+        ensures tree { result.tree.value ≡ loaded.now.program }
+        ensures text { result.text.value ≡ loaded.now.text }
     {
-        ProgramTree {}
+        ProgramTree {
+            tree: Snapshot::of(&loaded.program),
+            text: Snapshot::of(&loaded.text),
+        }
     }
 }

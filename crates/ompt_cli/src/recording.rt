@@ -1,8 +1,9 @@
 //! The command `record`: it runs the program, and writes the trace of the run.
 
-ghost use Rattle.std.specs.Prelude.{◌≡◌, ◌≢◌, IfSome, List};
+ghost use Rattle.std.specs.Prelude.{◌≡◌, ◌≢◌, IfOk, List, OnErr, Some};
 ghost use Rattle.ompt_cli.specs.Commands.{CountsFaults, EndsAs, HasWritten, IsSharedFew, run_text, unless_memory};
-ghost use Rattle.ompt_cli.specs.Reports.{HasRun};
+ghost use Rattle.ompt_cli.specs.Guests.{GuestsAfter};
+ghost use Rattle.ompt_cli.specs.Reports.{Reports};
 ghost use Rattle.std.specs.List.{All};
 ghost use Rattle.omp_codes.specs.declared.callbacks.TheConstants.{PROFILE_MASK};
 ghost use Rattle.ompt_calls.specs.declared.event.EventRecord.{EventRecord};
@@ -14,14 +15,15 @@ ghost use Rattle.trace_format.specs.Fitting.{FitsFields};
 use crate::end::End;
 use crate::job::Job;
 use crate::observing::Observed;
-use crate::outcome::{Outcome, having_run, without_run};
+use crate::outcome::Ended;
+use crate::reporting::run_kept;
 use crate::runner::Runner;
 use omp_codes::PROFILE_MASK;
 use omp_model::Cause;
 use ompt_words::Command;
 use run_edges::Sink;
 use run_trace::trace_of;
-use std::alloc::Global;
+use std::alloc::{AllocError, Global};
 use tool_api::GuestTool;
 use tool_report::{Recorder, merge};
 use trace_format::write_trace;
@@ -33,19 +35,19 @@ pub(crate) fn record<X: Runner, O: Sink>(
     job: Job,
     guests: Vec<Box<dyn GuestTool>>,
     out: &mut O,
-) -> Outcome
-    requires { X.may_run runner.now job.serial }
-    ensures ran { HasRun Command.Record job result.end result.shown result.read result.ran }
-    ensures guests { IfSome result.ran (λ report. report.guests ≡ guests) }
-    ensures written { HasWritten result.end (run_text result.ran) (O.held out.old) (O.held out.new) }
-    ensures faults { CountsFaults result.end End.WriteFault (O.faults out.old) (O.faults out.new) }
+) -> Result<Ended, AllocError>
+    requires kind { X.may_run runner.now job.settings.serial }
+    requires command { job.settings.command ≡ Command.Record }
+    ensures ran { IfOk result (λ ended. Reports job ended.end ended.report) }
+    ensures guests { IfOk result (λ ended.
+        GuestsAfter (λ guest h. (GuestTool-box guest).stands_for guest.value h) guests.items ended.report) }
+    ensures written { IfOk result (λ ended. HasWritten ended.end (run_text (Some ended.report)) (O.held out.old) (O.held out.new)) }
+    ensures faults { IfOk result (λ ended. CountsFaults ended.end End.WriteFault (O.faults out.old) (O.faults out.new)) }
+    ensures untouched { OnErr result (out.new ≡ out.old) }
 {
-    let Ok(observed) = runner.run_recorders(alloc, Command::Record, job, guests) else {
-        return without_run(End::Memory);
-    };
-    let Observed { report, parts, .. } = observed;
+    let Observed { report, parts, .. } = run_kept::<X, Recorder>(runner, alloc, job, guests)?;
     let end = write_trace_of_run(alloc, report.threads, report.cause, &parts, out);
-    having_run(end, report)
+    Ok(Ended { end, report })
 }
 
 /// Writes the trace of a run with so many threads that ended in this cause, unless it found no memory. The trace is whole in memory before the first

@@ -1,139 +1,70 @@
-//! The commands that run the program and write a report of its events: a list of them, their counts, the states of the threads, and of a generated
-//! program a summary.
+//! The commands that run a program and report what the parts of their threads kept: `list`, `profile`, `timeline` and `gen`.
 
-ghost use Rattle.std.specs.Prelude.{◌≡◌, ◌≢◌, IfOk, IfSome, List};
-ghost use Rattle.ompt_calls.specs.declared.event.EventRecord.{EventRecord};
-ghost use Rattle.tool_report.specs.Generator.{generated, summary_of};
-ghost use Rattle.tool_report.specs.Order.{AreShared};
-ghost use Rattle.ompt_words.specs.declared.settings.Command.{Command as SeenCommand};
-ghost use Rattle.ompt_cli.specs.Commands.{CountsFaults, HasGuests, HasWritten, run_of, run_text, written_by};
-ghost use Rattle.ompt_cli.specs.Job.{JobView};
-ghost use Rattle.ompt_cli.specs.Reports.{HasRun, Observes, StaysSilent};
+ghost use Rattle.std.specs.Prelude.{ℕ, ◌≡◌, ◌≢◌, IfOk, List, OnErr, Some};
+ghost use Rattle.omp_model.specs.declared.cause.Cause.{Cause};
+ghost use Rattle.omp_model.specs.declared.history.Entry.{Entry};
+ghost use Rattle.omp_model.specs.Legal.{after};
+ghost use Rattle.omp_model.specs.Records.{records_of};
+ghost use Rattle.omp_model.specs.State.{Run};
+ghost use Rattle.ompt_cli.specs.Commands.{CountsFaults, HasGuests, HasWritten, run_text, written_by};
+ghost use Rattle.ompt_cli.specs.Guests.{GuestsAfter};
+ghost use Rattle.ompt_cli.specs.Reports.{HasKept, Reports};
 
 use crate::end::End;
 use crate::job::Job;
-use crate::outcome::{Outcome, having_run, without_run};
-use crate::report::Report;
+use crate::keepers::{Keeper, keepers};
+use crate::observing::Observed;
+use crate::outcome::Ended;
 use crate::runner::Runner;
 use crate::writing::write_made;
 use ompt_words::Command;
 use run_edges::Sink;
 use std::alloc::{AllocError, Global};
 use tool_api::GuestTool;
-use tool_report::{
-    Recorder, generated_text, lines_text, merge, profile_text, summary_text, timeline_text,
-};
 
-/// Runs the job, and writes a line for each event. The guests come back as they were.
-pub(crate) fn list<X: Runner, O: Sink>(
+/// Runs the job, and writes what its command makes of what the parts kept. The guests come back as they were.
+pub(crate) fn report<X: Runner, P: Keeper, O: Sink>(
     runner: &X,
     alloc: Global,
     job: Job,
     guests: Vec<Box<dyn GuestTool>>,
     out: &mut O,
-) -> Outcome
-    requires { X.may_run runner.now job.serial }
-    ensures ran { HasRun Command.List job result.end result.shown result.read result.ran }
-    ensures guests { IfSome result.ran (λ report. report.guests ≡ guests) }
-    ensures written { HasWritten result.end (run_text result.ran) (O.held out.old) (O.held out.new) }
-    ensures faults { CountsFaults result.end End.WriteFault (O.faults out.old) (O.faults out.new) }
+) -> Result<Ended, AllocError>
+    requires kind { X.may_run runner.now job.settings.serial }
+    requires guestless { ¬ HasGuests job.settings.command }
+    requires unrecorded { job.settings.command ≢ Command.Record }
+    requires text { (text : List ℕ) (run : Run) (cause : Cause) (history : List Entry) →
+        written_by job.settings.command text run cause history
+        ≡ P.text_of job.settings.command (records_of run history) (after run history).world.store.text }
+    ensures ran { IfOk result (λ ended. Reports job ended.end ended.report) }
+    ensures guests { IfOk result (λ ended.
+        GuestsAfter (λ guest h. (GuestTool-box guest).stands_for guest.value h) guests.items ended.report) }
+    ensures written { IfOk result (λ ended. HasWritten ended.end (run_text (Some ended.report)) (O.held out.old) (O.held out.new)) }
+    ensures faults { IfOk result (λ ended. CountsFaults ended.end End.WriteFault (O.faults out.old) (O.faults out.new)) }
+    ensures untouched { OnErr result (out.new ≡ out.old) }
 {
-    let Ok(observed) = runner.run_recorders(alloc, Command::List, job, guests) else {
-        return without_run(End::Memory);
-    };
-    let made = lines_text(alloc, &observed.parts);
-    report_made(observed.report, made, out)
-}
-
-/// Runs the job, and writes how many calls of each callback there were. The guests come back as they were.
-pub(crate) fn profile<X: Runner, O: Sink>(
-    runner: &X,
-    alloc: Global,
-    job: Job,
-    guests: Vec<Box<dyn GuestTool>>,
-    out: &mut O,
-) -> Outcome
-    requires { X.may_run runner.now job.serial }
-    ensures ran { HasRun Command.Profile job result.end result.shown result.read result.ran }
-    ensures guests { IfSome result.ran (λ report. report.guests ≡ guests) }
-    ensures written { HasWritten result.end (run_text result.ran) (O.held out.old) (O.held out.new) }
-    ensures faults { CountsFaults result.end End.WriteFault (O.faults out.old) (O.faults out.new) }
-{
-    let Ok(observed) = runner.run_profiles(alloc, Command::Profile, job, guests) else {
-        return without_run(End::Memory);
-    };
-    let made = profile_text(alloc, &observed.parts);
-    report_made(observed.report, made, out)
-}
-
-/// Runs the job, and writes the states of its threads in so many columns. The guests come back as they were.
-pub(crate) fn timeline<X: Runner, O: Sink>(
-    runner: &X,
-    alloc: Global,
-    columns: u8,
-    job: Job,
-    guests: Vec<Box<dyn GuestTool>>,
-    out: &mut O,
-) -> Outcome
-    requires { X.may_run runner.now job.serial }
-    ensures ran { HasRun (Command.Timeline columns) job result.end result.shown result.read result.ran }
-    ensures guests { IfSome result.ran (λ report. report.guests ≡ guests) }
-    ensures written { HasWritten result.end (run_text result.ran) (O.held out.old) (O.held out.new) }
-    ensures faults { CountsFaults result.end End.WriteFault (O.faults out.old) (O.faults out.new) }
-{
-    let Ok(observed) = runner.run_timelines(alloc, Command::Timeline(columns), job, guests) else {
-        return without_run(End::Memory);
-    };
-    let made = timeline_text(alloc, &observed.parts, columns);
-    report_made(observed.report, made, out)
-}
-
-/// Runs the job, whose program has so many generated blocks, and writes the summary. The guests come back as they were.
-pub(crate) fn generate<X: Runner, O: Sink>(
-    runner: &X,
-    alloc: Global,
-    blocks: u16,
-    job: Job,
-    guests: Vec<Box<dyn GuestTool>>,
-    out: &mut O,
-) -> Outcome
-    requires { X.may_run runner.now job.serial }
-    ensures ran { HasRun (Command.Generate blocks) job result.end result.shown result.read result.ran }
-    ensures guests { IfSome result.ran (λ report. report.guests ≡ guests) }
-    ensures written { HasWritten result.end (run_text result.ran) (O.held out.old) (O.held out.new) }
-    ensures faults { CountsFaults result.end End.WriteFault (O.faults out.old) (O.faults out.new) }
-{
-    let Ok(observed) = runner.run_recorders(alloc, Command::Generate(blocks), job, guests) else {
-        return without_run(End::Memory);
-    };
-    let made = summary(alloc, blocks, &observed.parts, &observed.text);
-    report_made(observed.report, made, out)
-}
-
-/// Writes what was made of a run, and reports the run.
-fn report_made<O: Sink>(report: Report, made: Result<Vec<u8>, AllocError>, out: &mut O) -> Outcome
-    ensures ran { (command : SeenCommand) (job : JobView) → Observes command job report → StaysSilent report → ¬ HasGuests command → command ≢ Command.Record →
-        HasRun command job result.end result.shown result.read result.ran }
-    ensures guests { IfSome result.ran (λ other. other.guests ≡ report.guests) }
-    ensures written { IfOk made (λ text. text.items ≡ written_by report.command report.program.text (run_of report) report.cause report.history) →
-        HasWritten result.end (run_text result.ran) (O.held out.old) (O.held out.new) }
-    ensures faults { CountsFaults result.end End.WriteFault (O.faults out.old) (O.faults out.new) }
-{
+    let command = job.settings.command;
+    let Observed {
+        report,
+        parts,
+        text,
+    } = run_kept::<X, P>(runner, alloc, job, guests)?;
+    let made = P::text(alloc, command, &parts, &text);
     let end = write_made(report.cause, made, out);
-    having_run(end, report)
+    Ok(Ended { end, report })
 }
 
-/// The summary of a run of the program with so many blocks, of which these recorders were told, and which printed this text.
-fn summary(
+/// Runs the job with a part for each thread that keeps what it is told. The guests of the report are these.
+pub(crate) fn run_kept<X: Runner, P: Keeper>(
+    runner: &X,
     alloc: Global,
-    blocks: u16,
-    parts: &[Recorder],
-    printed: &[u8],
-) -> Result<Vec<u8>, AllocError>
-    ensures { IfOk result (λ text. (events : List EventRecord) → AreShared events parts.now →
-        text.items ≡ summary_of (generated blocks) events printed.now) }
+    job: Job,
+    guests: Vec<Box<dyn GuestTool>>,
+) -> Result<Observed<P>, AllocError>
+    requires { X.may_run runner.now job.settings.serial }
+    ensures kept { IfOk result (HasKept P.keep job) }
+    ensures guests { IfOk result (λ observed. observed.report.guests ≡ guests) }
 {
-    let program = generated_text(alloc, blocks)?;
-    let events = merge(alloc, parts)?;
-    summary_text(alloc, &program, &events, printed)
+    let mut parts = keepers::<P>(alloc, job.settings.threads)?;
+    runner.run(alloc, job, &mut parts, guests)
 }

@@ -1,93 +1,122 @@
-//! What makes the runs of the commands: one thread with all turns, or a thread for each thread number.
+//! What makes the runs of jobs: one thread with all turns, or a thread for each thread number.
 
-ghost use Rattle.std.specs.Prelude.{◌≡◌, Bool, IfOk, length};
+ghost use Rattle.std.specs.Prelude.{◌≡◌, Bool, IfOk, length, true};
+ghost use Rattle.std.specs.Thread.{IsSync};
 ghost use Rattle.tool_api.specs.Handed.{HandedFor, SameHanded};
 ghost use Rattle.tool_profiled.specs.Joining.{ProfiledFor, SameProfiled};
-ghost use Rattle.tool_report.specs.Counts.{counts_of};
-ghost use Rattle.tool_report.specs.Moments.{moments_of};
-ghost use Rattle.ompt_cli.specs.Reports.{HasKept, HasObserved};
+ghost use Rattle.ompt_cli.specs.Reports.{HasObserved};
 
 use crate::guest_part::GuestPart;
 use crate::job::Job;
-use crate::keepers::{profiles, recorders, timelines};
 use crate::observing::{Observed, observe, observe_alone};
-use ompt_words::{Command, RunOutput};
 use std::alloc::{AllocError, Global};
+use std::mem;
 use std::sync::Wait;
 use std::thread::Threads;
-use tool_api::{GuestTool, Handed};
+use tool_api::{GuestTool, Handed, ToolPart};
 use tool_profiled::Profiled;
 use tool_report::{Profile, Recorder, Timeline};
 
-/// What makes runs of jobs: [`Alone`] of serial ones, and [`WithThreads`] of all. It has a method for each kind of parts, and each reports the
-/// run with the guests that it is given. A run that found no memory for its first entry is none.
+/// A kind of parts with which jobs are run. What a bound promises of sending isn't handed on through a generic method of a trait, so each kind
+/// makes its runs itself. A run takes the parts out of the list.
+pub(crate) trait JobPart: ToolPart {
+    /// Runs a serial job with these parts, as [`observe_alone`] does.
+    fn run_alone(
+        alloc: Global,
+        job: Job,
+        parts: &mut Vec<Self>,
+        guests: Vec<Box<dyn GuestTool>>,
+    ) -> Result<Observed<Self>, AllocError>
+        requires serial { job.settings.serial ≡ true }
+        requires parts { length parts.old.items ≡ job.settings.threads }
+        ensures observed { IfOk result (HasObserved Self.stands_for Self.same job parts.old.items) }
+        ensures guests { IfOk result (λ observed. observed.report.guests ≡ guests) };
+
+    /// Runs the job with these parts, as [`observe`] does.
+    fn run_by_threads<R: Threads + Wait + Sync>(
+        rt: &R,
+        alloc: Global,
+        job: Job,
+        parts: &mut Vec<Self>,
+        guests: Vec<Box<dyn GuestTool>>,
+    ) -> Result<Observed<Self>, AllocError>
+        requires sync { IsSync R.row }
+        requires parts { length parts.old.items ≡ job.settings.threads }
+        ensures observed { IfOk result (HasObserved Self.stands_for Self.same job parts.old.items) }
+        ensures guests { IfOk result (λ observed. observed.report.guests ≡ guests) };
+}
+
+macro_rules! job_parts {
+    ($($part:ty),*) => { $(
+        impl JobPart for $part {
+            fn run_alone(
+                alloc: Global,
+                job: Job,
+                parts: &mut Vec<$part>,
+                guests: Vec<Box<dyn GuestTool>>,
+            ) -> Result<Observed<$part>, AllocError> {
+                observe_alone(alloc, job, mem::replace(parts, Vec::new(alloc)), guests)
+            }
+
+            fn run_by_threads<R: Threads + Wait + Sync>(
+                rt: &R,
+                alloc: Global,
+                job: Job,
+                parts: &mut Vec<$part>,
+                guests: Vec<Box<dyn GuestTool>>,
+            ) -> Result<Observed<$part>, AllocError> {
+                observe(rt, alloc, job, mem::replace(parts, Vec::new(alloc)), guests)
+            }
+        }
+    )* };
+}
+
+job_parts!(Recorder, Profile, Timeline);
+
+/// What makes runs of jobs: [`Alone`] of serial ones, and [`WithThreads`] of all. It has a method for guests, and one for guests beside profiles.
 pub(crate) trait Runner {
     /// Whether it makes runs of jobs that are serial, or of such as aren't.
     ghost may_run: { Self → Bool → Type 0 };
 
-    /// Runs the job of a command with a recorder for each thread.
-    fn run_recorders(
+    /// Runs the job with these parts. The guests of the report are these.
+    fn run<P: JobPart>(
         &self,
         alloc: Global,
-        command: Command,
         job: Job,
+        parts: &mut Vec<P>,
         guests: Vec<Box<dyn GuestTool>>,
-    ) -> Result<Observed<Recorder>, AllocError>
-        requires { Self.may_run self.now job.serial }
-        ensures kept { IfOk result (λ observed. HasKept (λ events. events) command job observed.report observed.parts.items observed.text.items) }
+    ) -> Result<Observed<P>, AllocError>
+        requires kind { may_run self.now job.settings.serial }
+        requires parts { length parts.old.items ≡ job.settings.threads }
+        ensures observed { IfOk result (HasObserved P.stands_for P.same job parts.old.items) }
         ensures guests { IfOk result (λ observed. observed.report.guests ≡ guests) };
 
-    /// Runs the job of a command with a profile for each thread.
-    fn run_profiles(
-        &self,
-        alloc: Global,
-        command: Command,
-        job: Job,
-        guests: Vec<Box<dyn GuestTool>>,
-    ) -> Result<Observed<Profile>, AllocError>
-        requires { Self.may_run self.now job.serial }
-        ensures kept { IfOk result (λ observed. HasKept counts_of command job observed.report observed.parts.items observed.text.items) }
-        ensures guests { IfOk result (λ observed. observed.report.guests ≡ guests) };
-
-    /// Runs the job of a command with a timeline for each thread.
-    fn run_timelines(
-        &self,
-        alloc: Global,
-        command: Command,
-        job: Job,
-        guests: Vec<Box<dyn GuestTool>>,
-    ) -> Result<Observed<Timeline>, AllocError>
-        requires { Self.may_run self.now job.serial }
-        ensures kept { IfOk result (λ observed. HasKept moments_of command job observed.report observed.parts.items observed.text.items) }
-        ensures guests { IfOk result (λ observed. observed.report.guests ≡ guests) };
-
-    /// Runs the job of the command `run` with these parts. The report has no guests.
+    /// Runs the job with these parts. The report has no guests.
     fn run_guests(
         &self,
         alloc: Global,
-        output: RunOutput,
         job: Job,
         parts: Vec<Handed<GuestPart>>,
     ) -> Result<Observed<Handed<GuestPart>>, AllocError>
-        requires kind { Self.may_run self.now job.serial }
-        requires parts { length parts.items ≡ job.threads }
-        ensures { IfOk result (λ observed. HasObserved
+        requires kind { may_run self.now job.settings.serial }
+        requires parts { length parts.items ≡ job.settings.threads }
+        ensures { IfOk result (HasObserved
             (HandedFor (λ guest h. (GuestTool-box guest.0).stands_for guest.0.value h)) (SameHanded (λ guest other. guest.0.vtable ≡ other.0.vtable))
-            (Command.Run output) job observed.report parts.items observed.parts.items observed.text.items) };
+            job parts.items) };
 
-    /// Runs the job of the command `run` with these parts, which are joined with profiles. The report has no guests.
+    /// Runs the job with these parts, which are joined with profiles. The report has no guests.
     fn run_joined(
         &self,
         alloc: Global,
         job: Job,
         parts: Vec<Profiled<Handed<GuestPart>>>,
     ) -> Result<Observed<Profiled<Handed<GuestPart>>>, AllocError>
-        requires kind { Self.may_run self.now job.serial }
-        requires parts { length parts.items ≡ job.threads }
-        ensures { IfOk result (λ observed. HasObserved
+        requires kind { may_run self.now job.settings.serial }
+        requires parts { length parts.items ≡ job.settings.threads }
+        ensures { IfOk result (HasObserved
             (ProfiledFor (HandedFor (λ guest h. (GuestTool-box guest.0).stands_for guest.0.value h)))
             (SameProfiled (SameHanded (λ guest other. guest.0.vtable ≡ other.0.vtable)))
-            (Command.Run RunOutput.Profile) job observed.report parts.items observed.parts.items observed.text.items) };
+            job parts.items) };
 }
 
 /// It makes serial runs, and waits for nobody.
@@ -95,51 +124,25 @@ pub(crate) trait Runner {
 pub(crate) struct Alone;
 
 impl Runner for Alone {
-    ghost use Rattle.std.specs.Prelude.{◌≡◌, true};
-
     ghost may_run = { λ _ serial. serial ≡ true };
 
-    fn run_recorders(
+    fn run<P: JobPart>(
         &self,
         alloc: Global,
-        command: Command,
         job: Job,
+        parts: &mut Vec<P>,
         guests: Vec<Box<dyn GuestTool>>,
-    ) -> Result<Observed<Recorder>, AllocError> {
-        let parts = recorders(alloc, job.threads)?;
-        observe_alone(alloc, command, job, parts, guests)
-    }
-
-    fn run_profiles(
-        &self,
-        alloc: Global,
-        command: Command,
-        job: Job,
-        guests: Vec<Box<dyn GuestTool>>,
-    ) -> Result<Observed<Profile>, AllocError> {
-        let parts = profiles(alloc, job.threads)?;
-        observe_alone(alloc, command, job, parts, guests)
-    }
-
-    fn run_timelines(
-        &self,
-        alloc: Global,
-        command: Command,
-        job: Job,
-        guests: Vec<Box<dyn GuestTool>>,
-    ) -> Result<Observed<Timeline>, AllocError> {
-        let parts = timelines(alloc, job.threads)?;
-        observe_alone(alloc, command, job, parts, guests)
+    ) -> Result<Observed<P>, AllocError> {
+        P::run_alone(alloc, job, parts, guests)
     }
 
     fn run_guests(
         &self,
         alloc: Global,
-        output: RunOutput,
         job: Job,
         parts: Vec<Handed<GuestPart>>,
     ) -> Result<Observed<Handed<GuestPart>>, AllocError> {
-        observe_alone(alloc, Command::Run(output), job, parts, Vec::new(alloc))
+        observe_alone(alloc, job, parts, Vec::new(alloc))
     }
 
     fn run_joined(
@@ -148,13 +151,7 @@ impl Runner for Alone {
         job: Job,
         parts: Vec<Profiled<Handed<GuestPart>>>,
     ) -> Result<Observed<Profiled<Handed<GuestPart>>>, AllocError> {
-        observe_alone(
-            alloc,
-            Command::Run(RunOutput::Profile),
-            job,
-            parts,
-            Vec::new(alloc),
-        )
+        observe_alone(alloc, job, parts, Vec::new(alloc))
     }
 }
 
@@ -163,58 +160,25 @@ impl Runner for Alone {
 pub(crate) struct WithThreads<'a, R>(pub &'a R);
 
 impl<'a, R: Threads + Wait + Sync> Runner for WithThreads<'a, R> {
-    ghost use Rattle.std.specs.Thread.{IsSync};
-
     ghost may_run = { λ _ _. IsSync R.row };
 
-    fn run_recorders(
+    fn run<P: JobPart>(
         &self,
         alloc: Global,
-        command: Command,
         job: Job,
+        parts: &mut Vec<P>,
         guests: Vec<Box<dyn GuestTool>>,
-    ) -> Result<Observed<Recorder>, AllocError> {
-        let parts = recorders(alloc, job.threads)?;
-        observe(self.0, alloc, command, job, parts, guests)
-    }
-
-    fn run_profiles(
-        &self,
-        alloc: Global,
-        command: Command,
-        job: Job,
-        guests: Vec<Box<dyn GuestTool>>,
-    ) -> Result<Observed<Profile>, AllocError> {
-        let parts = profiles(alloc, job.threads)?;
-        observe(self.0, alloc, command, job, parts, guests)
-    }
-
-    fn run_timelines(
-        &self,
-        alloc: Global,
-        command: Command,
-        job: Job,
-        guests: Vec<Box<dyn GuestTool>>,
-    ) -> Result<Observed<Timeline>, AllocError> {
-        let parts = timelines(alloc, job.threads)?;
-        observe(self.0, alloc, command, job, parts, guests)
+    ) -> Result<Observed<P>, AllocError> {
+        P::run_by_threads(self.0, alloc, job, parts, guests)
     }
 
     fn run_guests(
         &self,
         alloc: Global,
-        output: RunOutput,
         job: Job,
         parts: Vec<Handed<GuestPart>>,
     ) -> Result<Observed<Handed<GuestPart>>, AllocError> {
-        observe(
-            self.0,
-            alloc,
-            Command::Run(output),
-            job,
-            parts,
-            Vec::new(alloc),
-        )
+        observe(self.0, alloc, job, parts, Vec::new(alloc))
     }
 
     fn run_joined(
@@ -223,13 +187,6 @@ impl<'a, R: Threads + Wait + Sync> Runner for WithThreads<'a, R> {
         job: Job,
         parts: Vec<Profiled<Handed<GuestPart>>>,
     ) -> Result<Observed<Profiled<Handed<GuestPart>>>, AllocError> {
-        observe(
-            self.0,
-            alloc,
-            Command::Run(RunOutput::Profile),
-            job,
-            parts,
-            Vec::new(alloc),
-        )
+        observe(self.0, alloc, job, parts, Vec::new(alloc))
     }
 }

@@ -1,15 +1,15 @@
 //! The commands that run a program, from their settings.
 
-ghost use Rattle.std.specs.Prelude.{ℕ, ◌≡◌, IfSome, List};
+ghost use Rattle.std.specs.Prelude.{ℕ, IfSome, List};
 ghost use Rattle.ompt_words.specs.declared.settings.Request.TheVariants as request;
-ghost use Rattle.ompt_cli.specs.Commands.{run_of};
 ghost use Rattle.ompt_cli.specs.Guests.{GuestsAfter};
 ghost use Rattle.ompt_cli.specs.Top.{CarriesOut};
 ghost use Rattle.ompt_cli.specs.Words.{AreInRange, AreTakenAs};
 
 use crate::commands::run_command;
+use crate::end::End;
 use crate::job::Job;
-use crate::outcome::{Outcome, without_run};
+use crate::outcome::{Ended, Outcome, without_run};
 use crate::runner::Runner;
 use crate::text::program_for;
 use ompt_words::Settings;
@@ -30,21 +30,19 @@ pub(crate) fn run_settings<X: Runner, S: Source, O: Sink>(
     requires range { AreInRange settings }
     ensures carried { (words : List (List ℕ)) → AreTakenAs words (request.Run settings) →
         CarriesOut S.left S.faults O.held O.faults words result.end result.shown result.read result.ran source.old source.new out.old out.new }
-    ensures guests { IfSome result.ran (λ report.
-        GuestsAfter (λ guest h. (GuestTool-box guest).stands_for guest.value h) (λ guest other. guest.vtable ≡ other.vtable)
-        report.command report.serial (run_of report)
-        report.cause report.history guests.items report.guests.items) }
+    ensures guests { IfSome result.ran (GuestsAfter (λ guest h. (GuestTool-box guest).stands_for guest.value h) guests.items) }
 {
-    let Settings {
-        command,
-        threads,
-        steps,
-        serial,
-    } = settings;
-    let loaded = match program_for(alloc, command, source) {
+    let loaded = match program_for(alloc, settings.command, source) {
         Ok(loaded) => loaded,
         Err(end) => return without_run(end),
     };
-    let job = Job::new(loaded, threads, steps, serial);
-    run_command(runner, alloc, command, job, guests, out)
+    match run_command(runner, alloc, Job { loaded, settings }, guests, out) {
+        Ok(Ended { end, report }) => Outcome {
+            end,
+            ran: Some(report),
+            shown: None,
+            read: None,
+        },
+        Err(_) => without_run(End::Memory),
+    }
 }

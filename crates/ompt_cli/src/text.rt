@@ -1,16 +1,16 @@
 //! The texts that run.
 
-ghost use Rattle.std.specs.Prelude.{ℕ, ◌≡◌, ◌≢◌, ◌≤◌, List, IfSome, IsSomeAnd, IfOk, IfErr, IsErrAnd, length};
+ghost use Rattle.std.specs.Prelude.{ℕ, ◌≡◌, ◌≢◌, ◌≤◌, IfSome, IsSomeAnd, IfOk, IfErr, IsErrAnd, length};
 ghost use Rattle.run_edges.specs.Edges.{Rose};
 ghost use Rattle.ompt_cli.specs.Text.{IsProgram, IsReadAs, IsRefused, Spells, text_for};
 ghost use Rattle.tool_report.specs.Generator.{generated};
 ghost use Rattle.ompt_cli.specs.Commands.{IsBeforeRun, MayRefuse, MayRun};
 
-use crate::end::{End, Refusal, end_of_check_fault, end_of_fault, end_of_syntax_fault};
+use crate::end::{End, Refusal};
 use crate::loaded::Loaded;
-use c_check::{Program, check};
-use c_syntax::{Tree, read_program};
-use c_tokens::tokens;
+use c_check::{CheckFault, Program, check};
+use c_syntax::{SyntaxFault, Tree, read_program};
+use c_tokens::{TokenFault, tokens};
 use ompt_words::Command;
 use run_edges::{ReadAllFault, Source, read_all};
 use std::alloc::Global;
@@ -100,7 +100,7 @@ fn load(alloc: Global, text: Vec<u8>) -> Result<Loaded, End>
     }
 }
 
-/// The program that the text spells. All its tokens are tried before the grammar, and then the rules.
+/// The program that the text spells, by the rules. All its tokens are tried before the grammar, and then the rules.
 pub(crate) fn program_of(alloc: Global, text: &[u8]) -> Result<Program, End>
     requires { length text.now ≤ 65536 }
     ensures program { IfOk result (Spells text.now) }
@@ -110,9 +110,16 @@ pub(crate) fn program_of(alloc: Global, text: &[u8]) -> Result<Program, End>
     ensures runs { IsProgram text.now → IfErr result MayRun }
     ensures read { result ≢ Err End.ReadFault }
 {
-    match tree_of(alloc, text) {
-        Ok(tree) => checked_program(alloc, tree),
-        Err(end) => Err(end),
+    let tree = match tree_of(alloc, text) {
+        Ok(tree) => tree,
+        Err(end) => return Err(end),
+    };
+    match check(alloc, tree) {
+        Ok(program) => Ok(program),
+        Err(fault) => match fault {
+            CheckFault::Memory => Err(End::Memory),
+            _ => Err(End::Refused(Refusal::Rule(fault))),
+        },
     }
 }
 
@@ -128,28 +135,16 @@ fn tree_of(alloc: Global, text: &[u8]) -> Result<Tree, End>
 {
     let tokens = match tokens(alloc, text) {
         Ok(tokens) => tokens,
-        Err(fault) => return Err(end_of_fault(fault)),
+        Err(fault) => match fault {
+            TokenFault::Memory => return Err(End::Memory),
+            _ => return Err(End::Refused(Refusal::Tokens(fault))),
+        },
     };
     match read_program(alloc, text, &tokens) {
         Ok(tree) => Ok(tree),
-        Err(fault) => Err(end_of_syntax_fault(fault)),
-    }
-}
-
-/// The program of a tree that was read, by the rules.
-fn checked_program(alloc: Global, tree: Tree) -> Result<Program, End>
-    ensures program { IfOk result (λ program.
-        (text : List ℕ) → length text ≤ 65536 → IsReadAs text tree → Spells text program) }
-    ensures before { IfErr result IsBeforeRun }
-    ensures refused { (why : Refusal) → result ≡ Err (End.Refused why) →
-        (text : List ℕ) → length text ≤ 65536 → IsReadAs text tree → IsRefused why text }
-    ensures accepted { (why : Refusal) (text : List ℕ) → length text ≤ 65536 → IsReadAs text tree →
-        IsRefused why text → IsErrAnd result (MayRefuse why) }
-    ensures runs { (text : List ℕ) → length text ≤ 65536 → IsReadAs text tree → IsProgram text → IfErr result MayRun }
-    ensures read { result ≢ Err End.ReadFault }
-{
-    match check(alloc, tree) {
-        Ok(program) => Ok(program),
-        Err(fault) => Err(end_of_check_fault(fault)),
+        Err(fault) => match fault {
+            SyntaxFault::Memory => Err(End::Memory),
+            _ => Err(End::Refused(Refusal::Syntax(fault))),
+        },
     }
 }

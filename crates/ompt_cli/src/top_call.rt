@@ -2,7 +2,7 @@
 
 ghost use Rattle.std.specs.Prelude.{ℕ, ◌≡◌, false, true, IfErr, IfOk, IfSome, IsNone, List, ◌⊎◌};
 ghost use Rattle.ompt_words.specs.declared.settings.Request.TheVariants as request;
-ghost use Rattle.ompt_cli.specs.Commands.{CountsFaults, HasWritten, out_of, run_of};
+ghost use Rattle.ompt_cli.specs.Commands.{CountsFaults, HasWritten, out_of};
 ghost use Rattle.ompt_cli.specs.Ends.{TellsEnd};
 ghost use Rattle.ompt_cli.specs.Guests.{GuestsAfter};
 ghost use Rattle.ompt_cli.specs.Top.{CarriesOut, FollowsWords, HasTrace, IsRunOf, JudgesText, ShowsFaults, StaysUntouched};
@@ -10,7 +10,7 @@ ghost use Rattle.ompt_cli.specs.Traces.{HasReadInput};
 ghost use Rattle.ompt_cli.specs.Words.{AreFaulty, AreInRange, AreTakenAs, texts};
 
 use crate::end::End;
-use crate::outcome::{Outcome, having_read, having_shown, without_run};
+use crate::outcome::{Outcome, without_run};
 use crate::read_commands::read_input;
 use crate::report::{ByThreads, Top};
 use crate::runner::{Alone, WithThreads};
@@ -49,10 +49,7 @@ pub fn top<R: Threads + Wait + Sync, S: Source, O: Sink, E: Sink>(
     ensures ran { IfSome result.ran (IsRunOf (texts words.now) (S.left source.old) result.end) }
     // Guest t was called for what thread t heard, in its order, beside a profile for what the guests registered of that, and for nothing else but a call
     // that found no memory, which ends the run.
-    ensures guests { IfSome result.ran (λ report.
-        GuestsAfter (λ guest h. (GuestTool-box guest).stands_for guest.value h) (λ guest other. guest.vtable ≡ other.vtable)
-        report.command report.serial (run_of report)
-        report.cause report.history guests.items report.guests.items) }
+    ensures guests { IfSome result.ran (GuestsAfter (λ guest h. (GuestTool-box guest).stands_for guest.value h) guests.items) }
     // Where a trace or a history file was read, the end says what was read and written of it.
     ensures read { IfSome result.read (λ command.
         HasReadInput command result.end (S.left source.old) (S.left source.new) (O.held out.old) (O.held out.new)) }
@@ -87,10 +84,8 @@ pub fn top_alone<S: Source, O: Sink, E: Sink>(
     ensures told { IfOk result (λ top. TellsEnd E.held E.faults top.status top.end err.old err.new) }
     ensures carried { IfOk result (λ top.
         CarriesOut S.left S.faults O.held O.faults (texts words.now) top.end top.shown top.read top.ran source.old source.new out.old out.new) }
-    ensures guests { IfOk result (λ top. IfSome top.ran (λ report.
-        GuestsAfter (λ guest h. (GuestTool-box guest).stands_for guest.value h) (λ guest other. guest.vtable ≡ other.vtable)
-        report.command report.serial (run_of report)
-        report.cause report.history guests.items report.guests.items)) }
+    ensures guests { IfOk result (λ top.
+        IfSome top.ran (GuestsAfter (λ guest h. (GuestTool-box guest).stands_for guest.value h) guests.items)) }
     // The run that it reports is a serial one.
     ensures serial { IfOk result (λ top. IfSome top.ran (λ report. report.serial ≡ true)) }
     // Only words that ask for a run by threads are given back, with the guests, and nothing was touched then.
@@ -98,40 +93,16 @@ pub fn top_alone<S: Source, O: Sink, E: Sink>(
     ensures kept { IfErr result (λ asked. asked.guests ≡ guests) }
     ensures untouched { IfErr result (λ _. (source.new ≡ source.old) × (out.new ≡ out.old) × (err.new ≡ err.old)) }
 {
-    match outcome_alone(alloc, words, source, out, guests) {
-        Ok(outcome) => Ok(tell(outcome, err)),
-        Err(asked) => Err(asked),
-    }
-}
-
-/// Does what [`top_alone`] does, but for the line of the end.
-fn outcome_alone<S: Source, O: Sink>(
-    alloc: Global,
-    words: &[String],
-    source: &mut S,
-    out: &mut O,
-    guests: Vec<Box<dyn GuestTool>>,
-) -> Result<Outcome, ByThreads>
-    ensures carried { IfOk result (λ outcome.
-        CarriesOut S.left S.faults O.held O.faults (texts words.now) outcome.end outcome.shown outcome.read outcome.ran source.old source.new out.old out.new) }
-    ensures guests { IfOk result (λ outcome. IfSome outcome.ran (λ report.
-        GuestsAfter (λ guest h. (GuestTool-box guest).stands_for guest.value h) (λ guest other. guest.vtable ≡ other.vtable)
-        report.command report.serial (run_of report)
-        report.cause report.history guests.items report.guests.items)) }
-    ensures serial { IfOk result (λ outcome. IfSome outcome.ran (λ report. report.serial ≡ true)) }
-    ensures asked { IfErr result (λ asked. AreTakenAs (texts words.now) (request.Run asked.settings) × AreInRange asked.settings × (asked.settings.serial ≡ false)) }
-    ensures kept { IfErr result (λ asked. asked.guests ≡ guests) }
-    ensures untouched { IfErr result (λ _. (source.new ≡ source.old) × (out.new ≡ out.old)) }
-{
     match request_of(alloc, words) {
         Ok(Request::Run(settings)) => {
             if !settings.serial {
                 return Err(ByThreads { settings, guests });
             }
-            Ok(run_settings(&Alone, alloc, settings, source, out, guests))
+            let outcome = run_settings(&Alone, alloc, settings, source, out, guests);
+            Ok(tell(outcome, err))
         }
-        Ok(Request::Read(command)) => Ok(read_as(alloc, command, source, out)),
-        Err(fault) => Ok(without_request(fault, source, out)),
+        Ok(Request::Read(command)) => Ok(tell(read_as(alloc, command, source, out), err)),
+        Err(fault) => Ok(tell(without_request(fault, source, out), err)),
     }
 }
 
@@ -148,10 +119,7 @@ fn top_by_threads<R: Threads + Wait + Sync, S: Source, O: Sink, E: Sink>(
     ensures told { TellsEnd E.held E.faults result.status result.end err.old err.new }
     ensures carried { (words : List (List ℕ)) → AreTakenAs words (request.Run asked.settings) →
         CarriesOut S.left S.faults O.held O.faults words result.end result.shown result.read result.ran source.old source.new out.old out.new }
-    ensures guests { IfSome result.ran (λ report.
-        GuestsAfter (λ guest h. (GuestTool-box guest).stands_for guest.value h) (λ guest other. guest.vtable ≡ other.vtable)
-        report.command report.serial (run_of report)
-        report.cause report.history asked.guests.items report.guests.items) }
+    ensures guests { IfSome result.ran (GuestsAfter (λ guest h. (GuestTool-box guest).stands_for guest.value h) asked.guests.items) }
 {
     let ByThreads { settings, guests } = asked;
     tell(
@@ -171,7 +139,12 @@ fn read_as<S: Source, O: Sink>(
         CarriesOut S.left S.faults O.held O.faults words result.end result.shown result.read result.ran source.old source.new out.old out.new }
     ensures no_run { IsNone result.ran }
 {
-    having_read(read_input(alloc, command, source, out), command)
+    Outcome {
+        end: read_input(alloc, command, source, out),
+        ran: None,
+        shown: None,
+        read: Some(command),
+    }
 }
 
 /// Shows the text that the words ask for, or refuses them. Nothing is read.
@@ -183,10 +156,12 @@ fn without_request<S: Source, O: Sink>(fault: WordsFault, _source: &S, out: &mut
     match fault {
         WordsFault::Usage => without_run(End::Usage),
         WordsFault::Memory => without_run(End::Memory),
-        WordsFault::Shown(text) => {
-            let end = show(&text, out);
-            having_shown(end, text)
-        }
+        WordsFault::Shown(text) => Outcome {
+            end: show(&text, out),
+            ran: None,
+            shown: Some(text),
+            read: None,
+        },
     }
 }
 

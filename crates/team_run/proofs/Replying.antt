@@ -1,11 +1,10 @@
 -- What the parts stand for once the part of a thread was called.
-use Rattle.std.proofs.Common.{◌≡◌, ℕ, ◌<◌, List, length, slice_index_or, slice_set, sym, subst, ◌∙◌, Some, inl, inr}
+use Rattle.std.proofs.Common.{◌≡◌, ℕ, ◌<◌, List, length, slice_index_or, slice_set, sym, subst, ◌∙◌, inl, inr}
 use Rattle.std.proofs.lemmas.List.{get_or_default, get_or-set_same, get_or-set_other}
 use Rattle.std.proofs.lemmas.Bool.Decides.{eqb_tells}
 use Rattle.ompt_calls.specs.Item.{Item}
-use Rattle.tool_api.specs.Record.{Record, told, one_unheard}
+use Rattle.tool_api.specs.Record.{Record, told}
 use Rattle.team_run.specs.Serving.{AreSame, Becomes, told_on}
-use Rattle.team_run.specs.Unheard.{unheard_on}
 
 module _ {P : Type 0} (stands_for : P → Record → Type 0) (parts : List P) (t : ℕ) (found part : P) (is : found ≡ slice_index_or parts t found) (within : t < length parts) where
   -- the part that was found is the thread's, whatever stands for none
@@ -18,15 +17,6 @@ module _ {P : Type 0} (stands_for : P → Record → Type 0) (parts : List P) (t
       (item : Item) → ((h : Record) → stands_for found h → stands_for part (told h item))
       → (k : ℕ) → k < length parts → Becomes stands_for parts (slice_set parts t part) k (told_on t k item)
   told-at item keeps k below d h stands = elim (eqb_tells t k) [
-    | inl same ↦ rw (same.0, ← same.1, get_or-set_same parts t part d within) (keeps h (found-at k d h same.1 stands))
-    | inr different ↦ rw (different.0, get_or-set_other parts t k part d (λ same. different.1 (sym same))) stands
-  ]
-
-  -- the part of the thread found no memory, and the others are as they were
-  pub unheard-at :
-      ((h : Record) → stands_for found h → stands_for part (one_unheard h))
-      → (k : ℕ) → k < length parts → Becomes stands_for parts (slice_set parts t part) k (unheard_on (Some t) k)
-  unheard-at keeps k below d h stands = elim (eqb_tells t k) [
     | inl same ↦ rw (same.0, ← same.1, get_or-set_same parts t part d within) (keeps h (found-at k d h same.1 stands))
     | inr different ↦ rw (different.0, get_or-set_other parts t k part d (λ same. different.1 (sym same))) stands
   ]

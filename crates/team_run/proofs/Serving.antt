@@ -10,9 +10,9 @@ use Rattle.omp_model.specs.declared.cause.Cause.TheVariants as causes
 use Rattle.omp_model.specs.declared.history.Entry.{Entry}
 use Rattle.omp_model.specs.State.{Run}
 use Rattle.omp_model.specs.Heard.{heard, heard_of}
-use Rattle.team_run.specs.Serving.{Becomes, served, Serves, ServesTo, OnlyUnheard, told_on, finished_by, RunsFor, AreSame}
+use Rattle.team_run.specs.Serving.{Becomes, called_for, served, Serves, OnlyUnheard, told_on, finished_by, RunsParts, AreSame}
 use Rattle.tool_api.specs.Registering.{mask_of}
-use Rattle.team_run.specs.Unheard.{unheard_on}
+use Rattle.team_run.specs.Unheard.{AreMissed, is_just, unheard_on}
 use Rattle.team_run.specs.Standing.{AreSilent, HearsSilent, HearsOwn}
 
 -- the items of one thread
@@ -47,10 +47,6 @@ told_on-served t k h items item is =
     subst (λ u. told_on t k item (served h items) ≡ served h (items ++ cond (u == k) (item ∷ []) [])) (sym is) (told-by (t == k) h items item)
 
 module _ {P : Type 0} (stands_for : P → Record → Type 0) (run : Run) where
-  -- where nothing changes
-  pub serves-same : (parts : List P) (H : List Entry) → Serves stands_for run parts H None parts H
-  serves-same parts H = record { as_many = refl; each = λ k d h below stands. stands }
-
   -- one step after another
   pub serves-then : (parts between after : List P) (H K L : List Entry) (unheard : Option ℕ) → Serves stands_for run parts H None between K → Serves stands_for run between K unheard after L → Serves stands_for run parts H unheard after L
   serves-then parts between after H K L unheard first second =
@@ -125,35 +121,35 @@ pub written-back : {P : Type 0} (new items : List P) (len : ℕ) → length new 
 written-back new items len same all =
     ap (λ more. take len (new ++ more)) (drop_all (length new) items (omega (arith, same))) ∙ ap (take len) (append-nil new) ∙ take_all len new (omega (arith, same, all))
 
+-- parts of which none was called before were called for all that their threads heard
+pub served-all : {P : Type 0} (stands_for : P → Record → Type 0) (run : Run) (started between : List P) (H : List Entry) (unheard : Option ℕ) → Serves stands_for run started [] unheard between H
+    → (k : ℕ) (d : P) (h : Record) → k < length started → stands_for (slice_index_or started k d) h → stands_for (slice_index_or between k d) (called_for (heard_of run H k) (is_just unheard k) h)
+served-all stands_for run started between H unheard serves k d h below stands =
+    serves.each k d h below (subst (λ (h : Record). stands_for (slice_index_or started k d) h) (sym (served-nil h)) stands)
+
 -- the first part was started, all were called, and the first was finished
-pub runs-whole :
-    {P : Type 0} (stands_for : P → Record → Type 0) (run : Run) (cause : Cause) (H : List Entry) (parts started between after : List P) (answer registered : ℕ) → run.mask ≡ mask_of answer registered → 0 < length parts
+pub runs-parts :
+    {P : Type 0} (stands_for : P → Record → Type 0) (serial : Bool) (run : Run) (cause : Cause) (H : List Entry) (parts started between after : List P) (answer registered : ℕ) → run.mask ≡ mask_of answer registered → 0 < length parts
     → length started ≡ length parts → ((d : P) (h : Record) → stands_for (slice_index_or parts 0 d) h → stands_for (slice_index_or started 0 d) (initialized h answer registered))
-    → ((k : ℕ) (d : P) → 0 < k → slice_index_or started k d ≡ slice_index_or parts k d) → (served_to : ServesTo stands_for run started [] between H) → (cause ≢ causes.Memory → served_to.unheard ≡ None)
+    → ((k : ℕ) (d : P) → 0 < k → slice_index_or started k d ≡ slice_index_or parts k d)
+    → (missed : ℕ → Bool) → AreMissed serial run cause H missed → (cause ≢ causes.Memory → (k : ℕ) → k < run.threads → missed k ≡ false) → length between ≡ length started
+    → ((k : ℕ) (d : P) (h : Record) → k < length started → stands_for (slice_index_or started k d) h → stands_for (slice_index_or between k d) (called_for (heard_of run H k) (missed k) h))
     → length after ≡ length between → ((d : P) (h : Record) → stands_for (slice_index_or between 0 d) h → stands_for (slice_index_or after 0 d) (finished_by answer h))
-    → ((k : ℕ) (d : P) → 0 < k → slice_index_or after k d ≡ slice_index_or between k d) → RunsFor stands_for run cause H parts after
-runs-whole {P} stands_for run cause H parts started between after answer registered mask_is some as_many first others served_to all_heard as_many_too last others_too =
+    → ((k : ℕ) (d : P) → 0 < k → slice_index_or after k d ≡ slice_index_or between k d) → RunsParts stands_for serial run cause H parts after
+runs-parts {P} stands_for serial run cause H parts started between after answer registered mask_is some as_many first others missed are_missed all_heard as_many_called called as_many_too last others_too =
     record {
-      as_many = as_many_too ∙ serves.as_many ∙ as_many;
+      as_many = as_many_too ∙ as_many_called ∙ as_many;
       answer = answer;
       registered = registered;
       mask_is = mask_is;
-      unheard = served_to.unheard;
-      is_unheard = served_to.is_unheard;
+      missed = missed;
+      are_missed = are_missed;
       all_heard = all_heard;
-      first = λ d h stands.
-          last d (unheard_on served_to.unheard 0 (served (initialized h answer registered) (heard_of run H 0)))
-          (serves.each 0 d (initialized h answer registered) (omega (arith, some, as_many)) (from-nothing 0 d (initialized h answer registered) (first d h stands)));
-      others = λ k past below d h stands.
-          subst (λ (part : P). stands_for part (unheard_on served_to.unheard k (served h (heard_of run H k)))) (sym (others_too k d past))
-          (serves.each k d h (omega (arith, below, as_many)) (from-nothing k d h (subst (λ (part : P). stands_for part h) (sym (others k d past)) stands)));
+      first = λ d h stands. last d _ (called 0 d (initialized h answer registered) (omega (arith, some, as_many)) (first d h stands));
+      each = λ k past below d h stands.
+          subst (λ (part : P). stands_for part (called_for (heard_of run H k) (missed k) h)) (sym (others_too k d past))
+          (called k d h (omega (arith, below, as_many)) (subst (λ (part : P). stands_for part h) (sym (others k d past)) stands));
     }
-  where
-    serves : Serves stands_for run started [] served_to.unheard between H
-    serves = served_to.serves
-
-    from-nothing : (k : ℕ) (d : P) (h : Record) → stands_for (slice_index_or started k d) h → stands_for (slice_index_or started k d) (served h (heard_of run [] k))
-    from-nothing k d h stands = subst (λ (h : Record). stands_for (slice_index_or started k d) h) (sym (served-nil h)) stands
 
 -- the same parts, where nothing changes, and where one step follows another
 pub same-itself : {P : Type 0} (Same : P → P → Type 0) → ((part : P) → Same part part) → (parts : List P) → AreSame Same parts parts

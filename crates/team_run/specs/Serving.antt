@@ -1,6 +1,6 @@
 -- What the parts of a run are called for: each registered event of its thread, and the first of them also for the start and the
 -- end of the run.
-use Rattle.std.specs.Prelude.{ℕ, ◌≡◌, ◌≢◌, ◌<◌, ◌==◌, if◌then◌else◌, List, ◌++◌, length, slice_index_or, Option, None}
+use Rattle.std.specs.Prelude.{ℕ, ◌≡◌, ◌≢◌, ◌<◌, ◌==◌, if◌then◌else◌, Bool, false, List, ◌++◌, length, slice_index_or, Option}
 use Rattle.ompt_calls.specs.declared.call.Call.{Call}
 use Rattle.ompt_calls.specs.declared.snapshot.Snapshot.{Snapshot}
 use Rattle.ompt_calls.specs.declared.reply.Reply.{Reply}
@@ -13,7 +13,7 @@ use Rattle.omp_model.specs.declared.cause.Cause.TheVariants as causes
 use Rattle.omp_model.specs.declared.history.Entry.{Entry}
 use Rattle.omp_model.specs.State.{Run}
 use Rattle.omp_model.specs.Heard.{heard_of}
-use Rattle.team_run.specs.Unheard.{IsUnheard, unheard_on}
+use Rattle.team_run.specs.Unheard.{AreMissed, IsUnheard, is_just, unheard_if, unheard_on}
 use Rattle.omp_model.specs.Storing.{event_reply}
 
 -- part k, whatever it stood for before, stands afterwards for what this makes of it
@@ -25,15 +25,15 @@ Becomes {P} stands_for parts after k more =
 abbrev pub served : Record → List Item → Record
 served h items = record h { calls = h.calls ++ items }
 
--- the record of part k after the calls of these items, and one more that found no memory if it is the part of this thread
-abbrev pub later_record : ℕ → List Item → Option ℕ → Record → Record
-later_record k items unheard h = unheard_on unheard k (served h items)
+-- the record after the calls of these items, and then one more that found no memory, if there was one
+abbrev pub called_for : List Item → Bool → Record → Record
+called_for items missed h = unheard_if missed (served h items)
 
 -- each part that stood for what its thread had heard of one history stands for what it has heard of the other, and this
 -- thread's, if any, found no memory in one call
 pub record Serves {P : Type 0} (stands_for : P → Record → Type 0) (run : Run) (parts : List P) (history : List Entry) (unheard : Option ℕ) (after : List P) (longer : List Entry) : Type 0 where
   pub as_many : length after ≡ length parts
-  pub each : (k : ℕ) (d : P) (h : Record) → k < length parts → stands_for (slice_index_or parts k d) (served h (heard_of run history k)) → stands_for (slice_index_or after k d) (later_record k (heard_of run longer k) unheard h)
+  pub each : (k : ℕ) (d : P) (h : Record) → k < length parts → stands_for (slice_index_or parts k d) (served h (heard_of run history k)) → stands_for (slice_index_or after k d) (called_for (heard_of run longer k) (is_just unheard k) h)
 
 -- the same, where the longer history says which thread's part found no memory
 pub record ServesTo {P : Type 0} (stands_for : P → Record → Type 0) (run : Run) (parts : List P) (history : List Entry) (after : List P) (longer : List Entry) : Type 0 where
@@ -67,19 +67,19 @@ finished_by answer h = if answer == 0 then h else finalized h
 
 -- the first part's record after a run: it was started with this answer and this registered, then called as the others are, and
 -- at the end finished where it is active
-abbrev pub first_record : ℕ → ℕ → List Item → Option ℕ → Record → Record
-first_record answer registered items unheard h =
-    finished_by answer (later_record 0 items unheard (initialized h answer registered))
+abbrev pub record_of_first : ℕ → ℕ → List Item → Bool → Record → Record
+record_of_first answer registered items missed h = finished_by answer (called_for items missed (initialized h answer registered))
 
--- the parts of a run that ended in this cause with this history: the first was started, and at the end finished, and each was
--- called for what its thread heard, in order. Beside that only one call more was made, where one found no memory
-pub record RunsFor {P : Type 0} (stands_for : P → Record → Type 0) (run : Run) (cause : Cause) (history : List Entry) (parts after : List P) : Type 0 where
-  pub as_many : length after ≡ length parts
+-- The parts of a run that ended in this cause with this history, serially or by threads: the first was started, and at the end
+-- finished where it is active, and each was called for what its thread heard, in order. Beside that a part was called once more
+-- where its thread missed an event, and then the cause says so.
+pub record RunsParts {P : Type 0} (stands_for : P → Record → Type 0) (serial : Bool) (run : Run) (cause : Cause) (history : List Entry) (parts others : List P) : Type 0 where
+  pub as_many : length others ≡ length parts
   pub answer : ℕ
   pub registered : ℕ
   pub mask_is : run.mask ≡ mask_of answer registered
-  pub unheard : Option ℕ
-  pub is_unheard : IsUnheard run history unheard
-  pub all_heard : cause ≢ causes.Memory → unheard ≡ None
-  pub first : Becomes stands_for parts after 0 (first_record answer registered (heard_of run history 0) unheard)
-  pub others : (k : ℕ) → 0 < k → k < length parts → Becomes stands_for parts after k (later_record k (heard_of run history k) unheard)
+  pub missed : ℕ → Bool
+  pub are_missed : AreMissed serial run cause history missed
+  pub all_heard : cause ≢ causes.Memory → (k : ℕ) → k < run.threads → missed k ≡ false
+  pub first : Becomes stands_for parts others 0 (record_of_first answer registered (heard_of run history 0) (missed 0))
+  pub each : (k : ℕ) → 0 < k → k < length parts → Becomes stands_for parts others k (called_for (heard_of run history k) (missed k))

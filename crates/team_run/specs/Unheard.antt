@@ -1,12 +1,17 @@
--- The thread whose part found no memory in a call, and what that adds to the records of the parts.
-use Rattle.std.specs.Prelude.{ℕ, ◌≡◌, ◌==◌, IsTrue, if◌then◌else◌, List, [], ◌∷◌, ◌++◌, Option, Some, None}
+-- The threads that missed an event: the part of one was called for it, and found no memory. And what that adds to the records of the parts.
+use Rattle.std.specs.Prelude.{ℕ, ◌≡◌, ◌≢◌, ◌<◌, ◌==◌, Bool, true, false, IsTrue, if◌then◌else◌, List, [], ◌∷◌, ◌++◌, Option, Some, None}
+use Rattle.ompt_calls.specs.declared.call.Call.{Call}
+use Rattle.ompt_calls.specs.declared.snapshot.Snapshot.{Snapshot}
 use Rattle.tool_api.specs.Record.{Record, one_unheard}
+use Rattle.omp_model.specs.declared.cause.Cause.{Cause}
+use Rattle.omp_model.specs.declared.cause.Cause.TheVariants as causes
 use Rattle.omp_model.specs.declared.history.Entry.{Entry}
 use Rattle.omp_model.specs.declared.event.Callback.{Callback}
 use Rattle.omp_model.specs.State.{Run, pending_at}
 use Rattle.omp_model.specs.Legal.{after, is_told}
 use Rattle.omp_model.specs.Cause.{none_pending}
 use Rattle.omp_model.specs.Storing.{go_at}
+use Rattle.step_book.specs.Owing.{Owes}
 
 -- the history ends with this thread's Go, and the thread is inside a callback that is registered: it was called, and has not
 -- returned
@@ -23,7 +28,39 @@ abbrev pub IsUnheard : Run → List Entry → Option ℕ → Type 0
 IsUnheard run history None = IsTrue (none_pending (after run history))
 IsUnheard run history (Some t) = EndsInside run history t
 
+-- the thread owes the answer to a registered event: its part was called for it, and found no memory
+pub record OwesStill (run : Run) (history : List Entry) (t : ℕ) : Type 0 where
+  pub seq : ℕ
+  pub call : Call
+  pub snapshot : Snapshot
+  pub owes : Owes run history t seq call snapshot
+
+-- how a thread is left at the end of a history: where its part found no memory in a call, the answer is owed still, and else the thread is inside no
+-- callback
+abbrev pub LeftAt : Run → List Entry → ℕ → Bool → Type 0
+LeftAt run history t true = OwesStill run history t
+LeftAt run history t false = pending_at (after run history) t ≡ None
+
+abbrev pub is_just : Option ℕ → ℕ → Bool
+is_just None k = false
+is_just (Some t) k = t == k
+
+-- after a serial run the one thread inside whose callback the history ends, if it ends so, missed an event
+pub record IsOneMissed (run : Run) (cause : Cause) (history : List Entry) (missed : ℕ → Bool) : Type 0 where
+  pub unheard : Option ℕ
+  pub is_unheard : IsUnheard run history unheard
+  pub all_heard : cause ≢ causes.Memory → unheard ≡ None
+  pub missed_is : (k : ℕ) → missed k ≡ is_just unheard k
+
+-- the threads that missed an event: after a run by threads those that owe an answer still
+abbrev pub AreMissed : Bool → Run → Cause → List Entry → (ℕ → Bool) → Type 0
+AreMissed true run cause history missed = IsOneMissed run cause history missed
+AreMissed false run cause history missed = (k : ℕ) → k < run.threads → LeftAt run history k (missed k)
+
+-- the record after one more call that found no memory, if there was one
+abbrev pub unheard_if : Bool → Record → Record
+unheard_if missed h = if missed then one_unheard h else h
+
 -- the record of part k where the part of this thread, if of any, found no memory in one call
 abbrev pub unheard_on : Option ℕ → ℕ → Record → Record
-unheard_on None k h = h
-unheard_on (Some t) k h = if t == k then one_unheard h else h
+unheard_on unheard k h = unheard_if (is_just unheard k) h

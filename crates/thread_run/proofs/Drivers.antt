@@ -2,7 +2,7 @@
 use Rattle.std.proofs.Common.{◌≡◌, ◌≢◌, ℕ, zero, suc, ◌+◌, ◌<◌, ◌≤◌, Bool, true, false, if◌then◌else◌, List, [], ◌∷◌, ◌++◌, length, length-append, replicate, get_or, slice_index_or, slice_set, drop, Option, Some, None, IfSome, refl, sym, ap, subst, ◌∙◌, append_assoc, inl, inr, ◌⊎◌, arith}
 use Rattle.std.proofs.lemmas.Bool.{true≢false, cases_eq, cases_lt, or_left, or_right}
 use Rattle.std.proofs.lemmas.List.{drop_more, get_or_append_left, get_or_at, get_or_default, get_or_past, get_or_push, get_or-replicate, get_or-set_same, get_or-set_other, length-drop, length-replicate}
-use Rattle.tool_api.specs.Record.{Record, initialized}
+use Rattle.tool_api.specs.Record.{Record}
 use Rattle.omp_model.specs.declared.cause.Cause.{Cause}
 use Rattle.omp_model.specs.declared.cause.Cause.TheVariants as causes
 use Rattle.omp_model.specs.declared.event.Callback.{Callback}
@@ -14,10 +14,10 @@ use Rattle.step_book.specs.Owing.{NotBy}
 use Rattle.step_book.specs.Rule.{NoneBy, entries_of}
 use Rattle.step_book.specs.Sharing.{AreOwn, IsClosed, Sight, any_ended, fresh_pass}
 use Rattle.step_book.proofs.Others.{entries-append, holds-others, own-back}
-use Rattle.thread_run.specs.Driving.{GoesOn, IsDriven, LeftAt, RunsThreads, called_for}
+use Rattle.thread_run.specs.Driving.{IsDriven}
 use Rattle.thread_run.specs.Drivers.{AreDrivers, AreFor, AreKept, HaveServed, IsDriver}
-use Rattle.team_run.specs.Serving.{finished_by}
-use Rattle.tool_api.specs.Registering.{mask_of}
+use Rattle.team_run.specs.Serving.{called_for}
+use Rattle.team_run.specs.Unheard.{LeftAt}
 use Rattle.team_run.specs.Standing.{HearsOwn}
 use Rattle.thread_run.proofs.Driving.{heard-others, left-others}
 use Rattle.team_run.proofs.Serving.{served-nil}
@@ -45,16 +45,6 @@ module _ {P : Type 0} (stands_for : P → Record → Type 0) (Same : P → P →
         same_is = itself first_part;
       } in
       rw (fresh, same) (record { thread = refl; driven = driven })
-
-  -- a driver that has gone on
-  pub driver-on : (t : ℕ) (whose : P) (pass later : Sight) (part next : P) → GoesOn stands_for Same run pass part later next → IsDriver stands_for Same run t whose pass part → IsDriver stands_for Same run t whose later next
-  driver-on t whose pass later part next goes driver = record { thread = goes.thread ∙ driver.thread; driven = goes.driven whose driver.driven }
-
-  pub goes-not : (pass : Sight) (part : P) → GoesOn stands_for Same run pass part pass part
-  goes-not pass part = record { thread = refl; driven = λ whose driven. driven }
-
-  pub goes-then : (pass between later : Sight) (part middle next : P) → GoesOn stands_for Same run pass part between middle → GoesOn stands_for Same run between middle later next → GoesOn stands_for Same run pass part later next
-  goes-then pass between later part middle next one two = record { thread = two.thread ∙ one.thread; driven = λ whose driven. two.driven whose (one.driven whose driven) }
 
 -- one more of a list
 pub for-more : {P L : Type 0} (is : ℕ → P → L → Type 0) (parts : List P) (slots : List L) (slot : L) → AreFor is parts slots → ((e : P) → is (length slots) (get_or parts (length slots) e) slot) → AreFor is parts (slots ++ slot ∷ [])
@@ -154,28 +144,6 @@ pub hears-own : (run : Run) (passes : List Sight) (history : List Entry) → IsC
 hears-own run passes history closed k past =
     let others : NoneBy k closed.all = λ i d less same. let below = closed.below i d less in omega (arith, below, same, past) in
     ap (λ history. heard_of run history k) closed.entries ∙ heard-others run [] (entries_of closed.all) k (holds-others k closed.all closed.own others)
-
--- a run whose first part was started before, and finished after
-pub runs-threads :
-    {P : Type 0} (stands_for : P → Record → Type 0) (Same : P → P → Type 0) (run : Run) (cause : Cause) (closed : Option Cause) (history : List Entry) (parts started between after : List P) (answer registered : ℕ) → run.mask ≡ mask_of answer registered
-    → 0 < length parts → length started ≡ length parts → ((d : P) (h : Record) → stands_for (get_or parts 0 d) h → stands_for (get_or started 0 d) (initialized h answer registered))
-    → ((k : ℕ) (d : P) → 0 < k → get_or started k d ≡ get_or parts k d) → HaveServed stands_for Same run closed history started between → (cause ≢ causes.Memory → closed ≢ Some causes.Memory)
-    → length after ≡ length between → ((d : P) (h : Record) → stands_for (get_or between 0 d) h → stands_for (get_or after 0 d) (finished_by answer h))
-    → ((k : ℕ) (d : P) → 0 < k → get_or after k d ≡ get_or between k d) → RunsThreads stands_for run cause history parts after
-runs-threads {P} stands_for Same run cause closed history parts started between after answer registered mask_is some as_many first others served causes_too as_many_too last others_too =
-    record {
-      as_many = as_many_too ∙ served.as_many ∙ as_many;
-      answer = answer;
-      registered = registered;
-      mask_is = mask_is;
-      unheard = served.unheard;
-      left = served.left;
-      all_heard = λ other. served.all_heard (causes_too other);
-      first = λ d h stands. last d _ (served.each 0 d (initialized h answer registered) (omega (arith, some, as_many)) (first d h stands));
-      each = λ k past below d h stands.
-          subst (λ (part : P). stands_for part (called_for (heard_of run history k) (served.unheard k) h)) (sym (others_too k d past))
-          (served.each k d h (omega (arith, below, as_many)) (subst (λ (part : P). stands_for part h) (sym (others k d past)) stands));
-    }
 
 -- A list that a loop has gone through up to one of its items.
 module _ {L : Type 0} (all yielded behind rest : List L) (one : L) (whole : yielded ++ behind ≡ all) (next : behind ≡ one ∷ rest) where

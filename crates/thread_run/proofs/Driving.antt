@@ -38,8 +38,9 @@ use Rattle.step_book.proofs.Histories.{after-append}
 use Rattle.step_book.proofs.Others.{entries-append, entries-others, not_by-append, owes-still}
 use Rattle.step_book.proofs.Telling.{ended-step, not_yet-step, quiet-step, told-step}
 use Rattle.step_book.proofs.Visiting.{visit-idle, visit-turn}
-use Rattle.thread_run.specs.Driving.{GoesOn, HasCome, HasStep, IsDriven, IsInside, LeftAt}
+use Rattle.thread_run.specs.Driving.{GoesOn, HasCome, HasStep, IsDriven, IsInside}
 use Rattle.team_run.specs.Serving.{served}
+use Rattle.team_run.specs.Unheard.{LeftAt}
 use Rattle.thread_run.proofs.Hearing.{answered, back-others, heard-split, heard_on, more-without}
 use Rattle.team_run.proofs.Visiting.{same-pending}
 

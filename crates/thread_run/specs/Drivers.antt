@@ -7,7 +7,9 @@ use Rattle.omp_model.specs.declared.history.Entry.{Entry}
 use Rattle.omp_model.specs.State.{Run}
 use Rattle.omp_model.specs.Heard.{heard_of}
 use Rattle.step_book.specs.Sharing.{Sight}
-use Rattle.thread_run.specs.Driving.{IsDriven, LeftAt, called_for}
+use Rattle.team_run.specs.Serving.{called_for}
+use Rattle.team_run.specs.Unheard.{LeftAt}
+use Rattle.thread_run.specs.Driving.{IsDriven}
 
 -- the driver of a thread, whose part was this one at first
 pub record IsDriver {P : Type 0} (stands_for : P → Record → Type 0) (Same : P → P → Type 0) (run : Run) (t : ℕ) (first : P) (pass : Sight) (part : P) : Type 0 where

@@ -12,8 +12,8 @@
 //! serial run.
 //!
 //! `driver` has a driver's whole way and a visit alone, `team` starts the drivers and takes them back, `threads` puts them together.
-//! In `specs/` `Driving` says what a driver's part was called for and what a whole run answers, and `Drivers` what is so of all
-//! drivers at once.
+//! In `specs/` `Driving` says what a driver's part was called for, and `Drivers` what is so of all drivers at once. What the parts of a whole run were called
+//! for is said as of a serial run (`RunsParts` of `team_run`).
 //!
 //! Proved by the contract of [`run_threads`], for every kind of part. It holds of each answer that has a run. "The run" is that
 //! of the program, the threads and the silent steps that were handed in, with the mask in the answer:

@@ -1,13 +1,12 @@
 //! The run by threads: each thread number has a thread of its own, where it can be started, and callbacks of different threads may overlap.
 
-ghost use Rattle.std.specs.Prelude.{◌≡◌, ◌≢◌, ◌<◌, ◌≤◌, ℕ, Some, IfOk, IfSome, List, get_or, length, vec_capacity, []};
+ghost use Rattle.std.specs.Prelude.{◌≡◌, ◌≢◌, ◌<◌, ◌≤◌, ℕ, Some, IfOk, IfSome, List, false, get_or, length, vec_capacity, []};
 ghost use Rattle.omp_model.specs.Cause.{cause_of};
 ghost use Rattle.omp_model.specs.Legal.{Legal, after};
 ghost use Rattle.step_book.specs.Sharing.{Sight, fresh_pass};
-ghost use Rattle.thread_run.specs.Driving.{RunsThreads};
 ghost use Rattle.thread_run.specs.Drivers.{AreDrivers, AreFor, HaveServed, IsDriver};
-ghost use Rattle.team_run.specs.Program.{run_of_program};
-ghost use Rattle.team_run.specs.Serving.{AreSame};
+ghost use Rattle.team_run.specs.Program.{run_of};
+ghost use Rattle.team_run.specs.Serving.{AreSame, RunsParts};
 ghost use Rattle.tool_api.specs.Registering.{AreAlways, mask_of};
 ghost use Rattle.team_run.specs.Standing.{HearsOwn};
 
@@ -46,16 +45,15 @@ pub fn run_threads<R: Threads + Wait + Sync, P: ToolPart>(
     requires steps { 1 ≤ steps }
     requires bounded { steps ≤ 30000000 }
     requires parts { length parts.items ≡ threads }
-    ensures legal { IfOk result (λ ran. Legal (run_of_program program ran.mask threads steps) ran.history) }
-    ensures parts { IfOk result (λ ran. RunsThreads P.stands_for (run_of_program program ran.mask threads steps)
-        ran.cause ran.history parts.items ran.parts.items) }
+    ensures legal { IfOk result (λ ran. Legal (run_of program threads steps ran) ran.history) }
+    ensures parts { IfOk result (λ ran.
+        RunsParts P.stands_for false (run_of program threads steps ran) ran.cause ran.history parts.items ran.parts.items) }
     ensures same { IfOk result (λ ran. AreSame P.same parts.items ran.parts.items) }
     ensures always { IfOk result (λ ran. AreAlways ran.mask) }
-    ensures own { IfOk result (λ ran. HearsOwn (run_of_program program ran.mask threads steps) ran.history) }
+    ensures own { IfOk result (λ ran. HearsOwn (run_of program threads steps ran) ran.history) }
     ensures cause { IfOk result (λ ran. ran.cause ≢ Cause.Memory →
-        cause_of (run_of_program program ran.mask threads steps) ran.history ≡ Some ran.cause) }
-    ensures text { IfOk result (λ ran. ran.text.items ≡
-        (after (run_of_program program ran.mask threads steps) ran.history).world.store.text) }
+        cause_of (run_of program threads steps ran) ran.history ≡ Some ran.cause) }
+    ensures text { IfOk result (λ ran. ran.text.items ≡ (after (run_of program threads steps ran) ran.history).world.store.text) }
 {
     let mut parts = parts;
     let start = initialize_first(&mut parts);

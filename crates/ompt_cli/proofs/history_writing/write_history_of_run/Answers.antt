@@ -6,35 +6,36 @@ use Rattle.history_file.specs.Fitting.{FitsFile}
 use Rattle.history_file.proofs.OfRuns.{threads_named}
 use Rattle.ompt_cli.specs.Commands.{HasWritten, run_of}
 use Rattle.ompt_cli.proofs.Filing.{ended-as, file-is, filed, filed-text, found-by}
+use Rattle.ompt_cli.proofs.Telling.{few-threads, some-threads}
 use Rattle.ompt_cli.proofs.history_writing.write_history_of_run.Goals as goal
 
 pub write_file-end-requires : goal.write_file-end-requires
 write_file-end-requires g c =
+    let report = c.args.report in
+    let (job, observes) = c.requires.observes in
     record {
-      threads = threads_named (run_of c.args.report) c.args.report.history c.requires.some c.requires.few c.requires.to.legal;
-      text = c.requires.short;
-      count = few-entries (run_of c.args.report) c.args.report.history c.requires.to.legal;
+      threads = threads_named (run_of report) report.history (some-threads job report observes) (few-threads job report observes) observes.to.legal;
+      text = subst (λ (text : List ℕ). length text ≤ 65536) (sym observes.text_is ∙ c.requires.text) job.short;
+      count = few-entries (run_of report) report.history observes.to.legal;
     }
 
 pub returns-clause-end : goal.returns-clause-end
 returns-clause-end g c =
     let found = found-by c.args.report.cause c.end_of.result c.in-Some.status c.in-Some.detail c.in-Some.is c.end_of.ensures.none in
-    rw c.having_run-2.ensures (ended-as c.args.report.cause c.write_file-end.result found c.write_file-end.ensures.end)
+    ended-as c.args.report.cause c.write_file-end.result found c.write_file-end.ensures.end
 
 pub returns-clause-written : goal.returns-clause-written
 returns-clause-written g c =
     let report = c.args.report in
     let found = found-by report.cause c.end_of.result c.in-Some.status c.in-Some.detail c.in-Some.is c.end_of.ensures.none in
     let same = file-is report c.args.text c.end_of.result c.in-Some.status c.in-Some.detail c.requires.text c.in-Some.is (c.end_of.ensures.is found) in
-    rw c.having_run-2.ensures
-    (subst (λ (bytes : List ℕ). HasWritten c.write_file-end.result bytes (g.O.Sink.held c.args.out.now) (g.O.Sink.held c.write_file-end.new.out))
+    subst (λ (bytes : List ℕ). HasWritten c.write_file-end.result bytes (g.O.Sink.held c.args.out.now) (g.O.Sink.held c.write_file-end.new.out))
     (ap (λ (file : HistoryFile). spelling (fields_of file)) same ∙ filed-text report c.requires.command found)
-    c.write_file-end.ensures.written)
+    c.write_file-end.ensures.written
 
 pub returns-clause-certified : goal.returns-clause-certified
 returns-clause-certified g c = λ whole memory.
     let report = c.args.report in
     let found = found-by report.cause c.end_of.result c.in-Some.status c.in-Some.detail c.in-Some.is c.end_of.ensures.none in
     let same = file-is report c.args.text c.end_of.result c.in-Some.status c.in-Some.detail c.requires.text c.in-Some.is (c.end_of.ensures.is found) in
-    filed report c.requires.some c.requires.few c.requires.steps c.requires.bounded (subst (λ (text : List ℕ). length text ≤ 65536) (sym c.requires.text) c.requires.short) c.requires.to found
-    (subst FitsFile same (c.write_file-end.ensures.fits (rw c.having_run-2.ensures at whole))) c.end_of.ensures.fits
+    filed report c.requires.observes.0 c.requires.observes.1 found (subst FitsFile same (c.write_file-end.ensures.fits whole)) c.end_of.ensures.fits

@@ -1,16 +1,24 @@
-use Rattle.std.proofs.Common.{refl}
+use Rattle.std.proofs.Common.{◌∙◌, subst, sym}
+use Rattle.ompt_cli.specs.Commands.{HasGuests}
+use Rattle.ompt_cli.proofs.Telling.{command-is}
 use Rattle.ompt_cli.proofs.run.run_history.Goals as goal
+
+pub write_history_of_run-requires-clause-observes : goal.write_history_of_run-requires-clause-observes
+write_history_of_run-requires-clause-observes g c = (c.args.job, c.in_ok-report.ensures.observes)
 
 pub returns-clause-ran : goal.returns-clause-ran
 returns-clause-ran g c =
-    rw c.write_history_of_run.ensures.ran
+    let observes = c.in_ok-report.ensures.observes in
+    let command = command-is c.args.job c.in_ok-report.field-0.report observes ∙ c.requires.command in
+    rw c.write_history_of_run.ensures.report
     (record {
-      nothing_shown = refl;
-      nothing_read = refl;
-      report = record { observes = c.in-Ok-serve.ensures.observes; stays = λ other. absurd (other tt) };
+      observes = observes;
+      stays = λ other. absurd (other (subst HasGuests (sym command) tt));
       ended = c.write_history_of_run.ensures.end;
-      missing = λ none. absurd cc;
       memory = λ guests other found. c.write_history_of_run.ensures.memory found;
       traced = λ whole memory is. absurd cc;
       certified = λ whole memory is. c.write_history_of_run.ensures.certified whole memory;
     })
+
+pub returns-clause-guests : goal.returns-clause-guests
+returns-clause-guests g c = rw c.write_history_of_run.ensures.report c.in_ok-report.ensures.guests

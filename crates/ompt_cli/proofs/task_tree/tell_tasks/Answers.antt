@@ -1,4 +1,4 @@
-use Rattle.ompt_cli.proofs.Tasked.{tasks-told}
+use Rattle.ompt_cli.proofs.Written.{tasks-told}
 use Rattle.ompt_cli.proofs.task_tree.tell_tasks.Goals as goal
 
 pub returns-in-Ok-clause-tasks : goal.returns-in-Ok-clause-tasks

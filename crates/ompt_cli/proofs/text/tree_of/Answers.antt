@@ -1,13 +1,14 @@
-use Rattle.ompt_cli.proofs.Reading.{end-is, syntax-accepted, syntax-runs, tokens-accepted, tokens-runs}
+use Rattle.ompt_cli.specs.declared.end.Refusal.TheVariants.{Syntax, Tokens}
+use Rattle.ompt_cli.proofs.Reading.{end-is, program-not_refused, refusal-one}
 use Rattle.ompt_cli.proofs.text.tree_of.Goals as goal
 
-pub returns-in-Err-clause-accepted : goal.returns-in-Err-clause-accepted
-returns-in-Err-clause-accepted c = λ why refused.
-    rw c.end_of_fault.ensures (tokens-accepted c.args.text.now c.requires c.in-Err.fault c.in-Err.ensures.ended why refused)
+pub returns-in_default-clause-accepted : goal.returns-in_default-clause-accepted
+returns-in_default-clause-accepted c = λ why refused.
+    refusal-one c.args.text.now (Tokens c.in-Err.fault) why (c.requires, c.in-Err.ensures.ended c.in_default.not-Memory) refused
 
-pub returns-in-Err-clause-runs : goal.returns-in-Err-clause-runs
-returns-in-Err-clause-runs c =
-    rw c.end_of_fault.ensures (tokens-runs c.args.text.now c.requires c.in-Err.fault c.in-Err.ensures.ended)
+pub returns-in_default-clause-runs : goal.returns-in_default-clause-runs
+returns-in_default-clause-runs c = λ runs.
+    absurd (program-not_refused c.args.text.now (Tokens c.in-Err.fault) runs (c.requires, c.in-Err.ensures.ended c.in_default.not-Memory))
 
 pub returns-in-Ok-read_program-clause-tree : goal.returns-in-Ok-read_program-clause-tree
 returns-in-Ok-read_program-clause-tree c =
@@ -20,9 +21,9 @@ returns-in-Ok-read_program-clause-tree c =
     }
 
 pub returns-clause-accepted : goal.returns-clause-accepted
-returns-clause-accepted c =
-    rw c.end_of_syntax_fault.ensures (syntax-accepted c.args.text.now c.requires c.in-Err-read_program.fault c.in-Err-read_program.ensures.fault)
+returns-clause-accepted c = λ why refused.
+    refusal-one c.args.text.now (Syntax c.in-Err-read_program.fault) why (c.requires, c.in-Err-read_program.ensures.fault c.in_default-fault.not-Memory) refused
 
 pub returns-clause-runs : goal.returns-clause-runs
-returns-clause-runs c =
-    rw c.end_of_syntax_fault.ensures (syntax-runs c.args.text.now c.requires c.in-Err-read_program.fault c.in-Err-read_program.ensures.fault)
+returns-clause-runs c = λ runs.
+    absurd (program-not_refused c.args.text.now (Syntax c.in-Err-read_program.fault) runs (c.requires, c.in-Err-read_program.ensures.fault c.in_default-fault.not-Memory))

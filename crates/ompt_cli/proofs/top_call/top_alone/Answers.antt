@@ -1,8 +1,46 @@
+use Rattle.std.proofs.Common.{Err, ap}
+use Rattle.ompt_words.specs.declared.fault.WordsFault.{WordsFault}
+use Rattle.ompt_words.specs.declared.settings.Request.TheVariants as request
+use Rattle.ompt_cli.specs.Words.{texts}
+use Rattle.ompt_cli.proofs.Carrying.{in-range, is-serial, not-serial, serial-reported, taken-as}
 use Rattle.ompt_cli.proofs.top_call.top_alone.Goals as goal
 
-pub returns-in-Ok-clause-carried : goal.returns-in-Ok-clause-carried
-returns-in-Ok-clause-carried g c =
-    rw (c.tell.ensures.end, c.tell.ensures.shown, c.tell.ensures.read, c.tell.ensures.ran) c.in-Ok.ensures.carried
+pub returns-then-not-settings-clause-asked : goal.returns-then-not-settings-clause-asked
+returns-then-not-settings-clause-asked g c =
+    let of = c.in-Ok-Run.ensures in
+    let taken = taken-as (texts c.args.words.now) c.in-Ok-Run.field-0 (request.Run c.in-Ok-Run.settings) c.in-Ok-Run.field-0-is of.read of.exact of.form of.read_form of.asked of.clash in
+    (taken, in-range (texts c.args.words.now) c.in-Ok-Run.settings taken, not-serial _ c.if-not-settings.true)
 
-pub returns-in-Ok-clause-serial : goal.returns-in-Ok-clause-serial
-returns-in-Ok-clause-serial g c = rw c.tell.ensures.ran c.in-Ok.ensures.serial
+pub returns-else-not-settings-clause-carried : goal.returns-else-not-settings-clause-carried
+returns-else-not-settings-clause-carried g c =
+    let of = c.in-Ok-Run.ensures in
+    let taken = taken-as (texts c.args.words.now) c.in-Ok-Run.field-0 (request.Run c.in-Ok-Run.settings) c.in-Ok-Run.field-0-is of.read of.exact of.form of.read_form of.asked of.clash in
+    rw (c.tell.ensures.end, c.tell.ensures.shown, c.tell.ensures.read, c.tell.ensures.ran) (c.run_settings-outcome.ensures.carried (texts c.args.words.now) taken)
+
+pub returns-else-not-settings-clause-serial : goal.returns-else-not-settings-clause-serial
+returns-else-not-settings-clause-serial g c =
+    let of = c.in-Ok-Run.ensures in
+    let taken = taken-as (texts c.args.words.now) c.in-Ok-Run.field-0 (request.Run c.in-Ok-Run.settings) c.in-Ok-Run.field-0-is of.read of.exact of.form of.read_form of.asked of.clash in
+    rw c.tell.ensures.ran
+    (serial-reported (texts c.args.words.now) c.in-Ok-Run.settings taken (is-serial _ c.if-not-settings.false) _ _ c.run_settings-outcome.result.ran (c.run_settings-outcome.ensures.carried (texts c.args.words.now) taken).ran)
+
+pub returns-in-Ok-Read-clause-carried : goal.returns-in-Ok-Read-clause-carried
+returns-in-Ok-Read-clause-carried g c =
+    let of = c.in-Ok-Read.ensures in
+    rw (c.tell-in-Ok-Read.ensures.end, c.tell-in-Ok-Read.ensures.shown, c.tell-in-Ok-Read.ensures.read, c.tell-in-Ok-Read.ensures.ran)
+    (c.read_as.ensures.carried (texts c.args.words.now) (taken-as (texts c.args.words.now) c.in-Ok-Read.field-0 (request.Read c.in-Ok-Read.command) c.in-Ok-Read.field-0-is of.read of.exact of.form of.read_form of.asked of.clash))
+
+pub returns-in-Err-clause-carried : goal.returns-in-Err-clause-carried
+returns-in-Err-clause-carried g c =
+    let of = c.in-Err.ensures in
+    rw (c.tell-in-Err.ensures.end, c.tell-in-Err.ensures.shown, c.tell-in-Err.ensures.read, c.tell-in-Err.ensures.ran)
+    (c.without_request.ensures.carried (texts c.args.words.now)
+    (record {
+      usage = λ is. of.usage (ap (λ (found : WordsFault). Err found) is);
+      shown = λ text is. of.shown text (ap (λ (found : WordsFault). Err found) is);
+      exact = of.exact;
+      form = of.form;
+      read_form = of.read_form;
+      help = of.asked;
+      clash = of.clash;
+    }))

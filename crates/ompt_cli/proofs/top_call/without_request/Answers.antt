@@ -11,6 +11,5 @@ returns-in-Memory-clause-carried g c = λ words faulty.
 
 pub returns-in-Shown-clause-carried : goal.returns-in-Shown-clause-carried
 returns-in-Shown-clause-carried g c = λ words faulty.
-    rw c.having_shown.ensures
-    (shown_carried g.S.Source.left g.S.Source.faults g.O.Sink.held g.O.Sink.faults words c.args.fault faulty c.in-Shown.text c.show-end.result c.args._source.now c.args.out.now c.show-end.new.out c.in-Shown.is c.show-end.ensures.end
-    (rw c.deref.ensures at c.show-end.ensures.written) c.show-end.ensures.faults)
+    shown_carried g.S.Source.left g.S.Source.faults g.O.Sink.held g.O.Sink.faults words c.args.fault faulty c.in-Shown.text c.show.result c.args._source.now c.args.out.now c.show.new.out c.in-Shown.is c.show.ensures.end
+    (rw c.deref.ensures at c.show.ensures.written) c.show.ensures.faults

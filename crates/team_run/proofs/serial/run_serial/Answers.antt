@@ -1,4 +1,4 @@
-use Rattle.std.proofs.Common.{◌≡◌, ◌≢◌, ◌∙◌, Some, sym, ap, subst, [], length, arith}
+use Rattle.std.proofs.Common.{ℕ, ◌≡◌, ◌≢◌, ◌∙◌, Option, Some, None, true, refl, sym, ap, subst, [], length, arith}
 use Rattle.omp_model.specs.declared.cause.Cause.TheVariants as causes
 use Rattle.omp_model.specs.State.{Run, State}
 use Rattle.omp_model.specs.Legal.{after}
@@ -9,8 +9,9 @@ use Rattle.team_run.specs.Program.{run_of_program}
 use Rattle.omp_model.proofs.Recording.{HasRun-after, HasRun-whole}
 use Rattle.omp_model.proofs.SerialLaws.{serial-whole}
 use Rattle.team_run.specs.Standing.{HearsOwn, HearsSilent, StandsAt}
-use Rattle.team_run.specs.Serving.{RunsFor, AreSame, ServesTo}
-use Rattle.team_run.proofs.Serving.{same-then, runs-whole, written-back}
+use Rattle.team_run.specs.Serving.{RunsParts, AreSame, ServesTo}
+use Rattle.team_run.specs.Unheard.{is_just}
+use Rattle.team_run.proofs.Serving.{runs-parts, same-then, served-all, written-back}
 use Rattle.team_run.proofs.Visiting.{unheard-none}
 use Rattle.team_run.proofs.serial.run_serial.Goals as goal
 
@@ -35,15 +36,18 @@ returns-clause-parts g c =
     subst (λ between. ServesTo stands_for begun.book.run started [] between ended.book.history) (sym c.deref_mut-2.ensures.value) from_start in
     let stands : cause ≢ causes.Memory → StandsAt begun.book.run (state_of ended.book) ended.next ended.book.history =
     λ found. subst (λ (run : Run). StandsAt run (state_of ended.book) ended.next ended.book.history) c.finish-cause.ensures.run (c.finish-cause.ensures.stands found) in
-    let whole : RunsFor stands_for begun.book.run cause ended.book.history parts after =
-    runs-whole stands_for begun.book.run cause ended.book.history parts started between after first.answer first.registered (ap (λ (run : Run). run.mask) c.in_ok-run.ensures.run ∙ c.mask_of-mask.ensures.mask) (omega (arith, c.requires.some, c.requires.parts, ap length c.deref_mut.ensures.value)) c.initialize_first-start.ensures.as_many c.initialize_first-start.ensures.first c.initialize_first-start.ensures.others serves (λ found. unheard-none begun.book.run _ _ _ serves.unheard (stands found) serves.is_unheard) c.finalize_first.ensures.as_many c.finalize_first.ensures.first c.finalize_first.ensures.others in
-    let of_items : RunsFor stands_for begun.book.run cause ended.book.history c.args.parts.items after =
-    subst (λ parts. RunsFor stands_for begun.book.run cause ended.book.history parts after) c.deref_mut.ensures.value whole in
-    let of_run : RunsFor stands_for (run_of_program c.args.program c.mask_of-mask.result c.args.threads c.args.steps) cause ended.book.history c.args.parts.items after =
-    subst (λ (run : Run). RunsFor stands_for run cause ended.book.history c.args.parts.items after) c.in_ok-run.ensures.run of_items in
-    let of_history : RunsFor stands_for (run_of_program c.args.program c.mask_of-mask.result c.args.threads c.args.steps) cause c.close-history.result.history c.args.parts.items after =
-    subst (λ history. RunsFor stands_for (run_of_program c.args.program c.mask_of-mask.result c.args.threads c.args.steps) cause history c.args.parts.items after) (sym c.close-history.ensures.history) of_run in
-    subst (λ after. RunsFor stands_for (run_of_program c.args.program c.mask_of-mask.result c.args.threads c.args.steps) cause c.close-history.result.history c.args.parts.items after) (sym (written-back after ended.parts.items ended.parts.len (c.finalize_first.ensures.as_many ∙ ap length c.deref_mut-2.ensures.value) (sym ended.parts.ok.0))) of_history
+    let heard : cause ≢ causes.Memory → serves.unheard ≡ None = λ found. unheard-none begun.book.run _ _ _ serves.unheard (stands found) serves.is_unheard in
+    let whole : RunsParts stands_for true begun.book.run cause ended.book.history parts after =
+    runs-parts stands_for true begun.book.run cause ended.book.history parts started between after first.answer first.registered (ap (λ (run : Run). run.mask) c.in_ok-run.ensures.run ∙ c.mask_of-mask.ensures.mask) (omega (arith, c.requires.some, c.requires.parts, ap length c.deref_mut.ensures.value)) c.initialize_first-start.ensures.as_many c.initialize_first-start.ensures.first c.initialize_first-start.ensures.others
+    (is_just serves.unheard) (record { unheard = serves.unheard; is_unheard = serves.is_unheard; all_heard = heard; missed_is = λ k. refl }) (λ found k below. ap (λ (unheard : Option ℕ). is_just unheard k) (heard found))
+    serves.serves.as_many (served-all stands_for begun.book.run started between ended.book.history serves.unheard serves.serves) c.finalize_first.ensures.as_many c.finalize_first.ensures.first c.finalize_first.ensures.others in
+    let of_items : RunsParts stands_for true begun.book.run cause ended.book.history c.args.parts.items after =
+    subst (λ parts. RunsParts stands_for true begun.book.run cause ended.book.history parts after) c.deref_mut.ensures.value whole in
+    let of_run : RunsParts stands_for true (run_of_program c.args.program c.mask_of-mask.result c.args.threads c.args.steps) cause ended.book.history c.args.parts.items after =
+    subst (λ (run : Run). RunsParts stands_for true run cause ended.book.history c.args.parts.items after) c.in_ok-run.ensures.run of_items in
+    let of_history : RunsParts stands_for true (run_of_program c.args.program c.mask_of-mask.result c.args.threads c.args.steps) cause c.close-history.result.history c.args.parts.items after =
+    subst (λ history. RunsParts stands_for true (run_of_program c.args.program c.mask_of-mask.result c.args.threads c.args.steps) cause history c.args.parts.items after) (sym c.close-history.ensures.history) of_run in
+    subst (λ after. RunsParts stands_for true (run_of_program c.args.program c.mask_of-mask.result c.args.threads c.args.steps) cause c.close-history.result.history c.args.parts.items after) (sym (written-back after ended.parts.items ended.parts.len (c.finalize_first.ensures.as_many ∙ ap length c.deref_mut-2.ensures.value) (sym ended.parts.ok.0))) of_history
 
 pub returns-clause-cause : goal.returns-clause-cause
 returns-clause-cause g c = λ found.

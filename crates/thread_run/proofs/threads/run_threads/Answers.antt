@@ -1,15 +1,13 @@
-use Rattle.std.proofs.Common.{◌≡◌, ◌≢◌, ◌++◌, ◌∙◌, List, length, take, drop, Option, Some, IfSome, sym, ap, subst, arith}
+use Rattle.std.proofs.Common.{◌≡◌, ◌≢◌, ◌++◌, ◌∙◌, false, List, length, take, drop, Option, Some, IfSome, sym, ap, subst, arith}
 use Rattle.omp_model.specs.declared.cause.Cause.{Cause}
 use Rattle.omp_model.specs.declared.cause.Cause.TheVariants as causes
 use Rattle.omp_model.specs.State.{Run}
 use Rattle.omp_model.specs.Cause.{cause_of}
 use Rattle.team_run.specs.Program.{run_of_program}
-use Rattle.team_run.specs.Serving.{AreSame}
+use Rattle.team_run.specs.Serving.{AreSame, RunsParts}
 use Rattle.team_run.specs.Standing.{HearsOwn}
-use Rattle.team_run.proofs.Serving.{same-then, written-back}
-use Rattle.thread_run.specs.Driving.{RunsThreads}
+use Rattle.team_run.proofs.Serving.{runs-parts, same-then, written-back}
 use Rattle.thread_run.specs.Drivers.{HaveServed}
-use Rattle.thread_run.proofs.Drivers.{runs-threads}
 use Rattle.thread_run.proofs.threads.run_threads.Goals as goal
 
 pub returns-clause-parts : goal.returns-clause-parts
@@ -30,13 +28,14 @@ returns-clause-parts g c =
     subst (λ started. HaveServed stands_for Same run team.closed.cause history started team.parts.items) started_is
     (subst (λ (run : Run). HaveServed stands_for Same run team.closed.cause history (take c.args.parts.len (started ++ drop (length started) c.args.parts.items)) team.parts.items) c.in_ok-blank.ensures c.in_ok-closed.ensures.served) in
     let served : HaveServed stands_for Same run team.closed.cause history started between = subst (λ between. HaveServed stands_for Same run team.closed.cause history started between) (sym c.deref_mut-2.ensures.value) of_run in
-    let whole : RunsThreads stands_for run cause history parts later =
-    runs-threads stands_for Same run cause team.closed.cause history parts started between later start.answer start.registered c.mask_of-mask.ensures.mask
-    (omega (arith, c.requires.some, c.requires.parts, ap (λ (parts : List g.row.P.Denot). length parts) c.deref_mut.ensures.value)) c.initialize_first-start.ensures.as_many c.initialize_first-start.ensures.first c.initialize_first-start.ensures.others served
-    (λ other same. let both : Some cause ≡ Some causes.Memory = sym (c.known_cause.ensures other) ∙ same in let memory : cause ≡ causes.Memory = cc in other memory)
-    c.finalize_first.ensures.as_many c.finalize_first.ensures.first c.finalize_first.ensures.others in
-    let of_items : RunsThreads stands_for run cause history c.args.parts.items later = subst (λ parts. RunsThreads stands_for run cause history parts later) c.deref_mut.ensures.value whole in
-    subst (λ later. RunsThreads stands_for run cause history c.args.parts.items later)
+    let whole : RunsParts stands_for false run cause history parts later =
+    runs-parts stands_for false run cause history parts started between later start.answer start.registered c.mask_of-mask.ensures.mask
+    (omega (arith, c.requires.some, c.requires.parts, ap (λ (parts : List g.row.P.Denot). length parts) c.deref_mut.ensures.value)) c.initialize_first-start.ensures.as_many c.initialize_first-start.ensures.first c.initialize_first-start.ensures.others
+    served.unheard served.left
+    (λ other. served.all_heard (λ same. let both : Some cause ≡ Some causes.Memory = sym (c.known_cause.ensures other) ∙ same in let memory : cause ≡ causes.Memory = cc in other memory))
+    served.as_many served.each c.finalize_first.ensures.as_many c.finalize_first.ensures.first c.finalize_first.ensures.others in
+    let of_items : RunsParts stands_for false run cause history c.args.parts.items later = subst (λ parts. RunsParts stands_for false run cause history parts later) c.deref_mut.ensures.value whole in
+    subst (λ later. RunsParts stands_for false run cause history c.args.parts.items later)
     (sym (written-back later team.parts.items team.parts.len (c.finalize_first.ensures.as_many ∙ ap (λ (parts : List g.row.P.Denot). length parts) c.deref_mut-2.ensures.value) (sym team.parts.ok.0))) of_items
 
 pub returns-clause-same : goal.returns-clause-same

@@ -5,7 +5,7 @@ use Rattle.step_book.specs.Pages.{Pages, state_of, with_entries}
 use Rattle.step_book.proofs.Telling.{told-step, quiet-step, ended-step, not_yet-step}
 use Rattle.team_run.specs.Serving.{Answers}
 use Rattle.team_run.proofs.Serving.{same-itself}
-use Rattle.team_run.proofs.Visiting.{QuietVisit, alone-visit, stops-here, stops-said, untold-visit, visited-said, serves-said, serves-to, from_either, from_ok}
+use Rattle.team_run.proofs.Visiting.{QuietVisit, Visited, alone-visit, stops-here, stops-said, untold-visit, visited-said, serves-said, serves-to, from_either, from_ok}
 use Rattle.team_run.proofs.serial_run.SerialRun.visit.Goals as goal
 
 pub go_ready-requires-clause-thread : goal.go_ready-requires-clause-thread
@@ -25,58 +25,31 @@ pub serve-requires-clause-part : goal.serve-requires-clause-part
 serve-requires-clause-part g c κs within =
     omega (arith, first_enabled-below c.args.self.now.book.run (state_of c.args.self.now.book) _ _ c.requires.stands.within c.requires.turn, c.requires.parts)
 
-pub returns-in-Told-clause-serves : goal.returns-in-Told-clause-serves
-returns-in-Told-clause-serves g c =
+pub returns-in-Told : goal.returns-in-Told
+returns-in-Told g c =
     let stands_for = g.P.ToolPart.stands_for in
     let book : Pages = c.args.self.now.book in
     let t = c.args.ready.thread in
     let parts = c.args.self.now.parts.items in
+    let later = c.serve.new.self in
     let told = told-step book t c.in-Told.seq c.in-Told.call c.in-Told.snapshot (sym c.in_ok-step.ensures.step ∙ c.in-Told.is) in
     let whole : c.go_ready.new.self ≡ with_entries book (go_at t ∷ []) = c.in_ok-step.ensures.added ∙ ap (with_entries book) told.added_is in
-    let visited = visited-said book.run _ book.history t c.requires.stands c.requires.turn _ _ told.is_told stands_for parts c.serve.new.self.parts.items c.in-Told.seq told.place c.serve.new.self.book.history in
-    from_either c.serve.result c.serve.ensures.answers c.serve.ensures.memory
-    (λ answered. let v = visited (subst (λ (next : Pages). Answers stands_for c.in-Told.seq t c.in-Told.call c.in-Told.snapshot parts next.history c.serve.new.self.parts.items c.serve.new.self.book.history) whole answered) in serves-to _ _ _ _ _ v.stands stands_for _ _ v.serves)
-    (λ kept. rw (kept.0, whole) (serves-said book.run _ book.history t c.requires.stands c.requires.turn _ _ told.is_told stands_for parts _ kept.1))
-
-pub returns-in-Told-clause-stops : goal.returns-in-Told-clause-stops
-returns-in-Told-clause-stops g c =
-    let stands_for = g.P.ToolPart.stands_for in
-    let book : Pages = c.args.self.now.book in
-    let t = c.args.ready.thread in
-    let parts = c.args.self.now.parts.items in
-    let told = told-step book t c.in-Told.seq c.in-Told.call c.in-Told.snapshot (sym c.in_ok-step.ensures.step ∙ c.in-Told.is) in
-    let whole : c.go_ready.new.self ≡ with_entries book (go_at t ∷ []) = c.in_ok-step.ensures.added ∙ ap (with_entries book) told.added_is in
-    let same : c.serve.new.self.book.run ≡ book.run = c.serve.ensures.run ∙ ap (λ (next : Pages). next.run) whole in
-    let visited = visited-said book.run _ book.history t c.requires.stands c.requires.turn _ _ told.is_told stands_for parts c.serve.new.self.parts.items c.in-Told.seq told.place c.serve.new.self.book.history in
-    from_either c.serve.result c.serve.ensures.answers c.serve.ensures.memory
-    (λ answered. let v = visited (subst (λ (next : Pages). Answers stands_for c.in-Told.seq t c.in-Told.call c.in-Told.snapshot parts next.history c.serve.new.self.parts.items c.serve.new.self.book.history) whole answered) in rw same (stops-here _ _ _ _ v.stands))
-    (λ kept. rw (kept.0, whole) (stops-said book.run _ book.history t c.requires.stands c.requires.turn _ _ told.is_told))
-
-pub returns-in-Told-clause-stands : goal.returns-in-Told-clause-stands
-returns-in-Told-clause-stands g c =
-    let stands_for = g.P.ToolPart.stands_for in
-    let book : Pages = c.args.self.now.book in
-    let t = c.args.ready.thread in
-    let parts = c.args.self.now.parts.items in
-    let told = told-step book t c.in-Told.seq c.in-Told.call c.in-Told.snapshot (sym c.in_ok-step.ensures.step ∙ c.in-Told.is) in
-    let whole : c.go_ready.new.self ≡ with_entries book (go_at t ∷ []) = c.in_ok-step.ensures.added ∙ ap (with_entries book) told.added_is in
-    let same : c.serve.new.self.book.run ≡ book.run = c.serve.ensures.run ∙ ap (λ (next : Pages). next.run) whole in
-    let visited = visited-said book.run _ book.history t c.requires.stands c.requires.turn _ _ told.is_told stands_for parts c.serve.new.self.parts.items c.in-Told.seq told.place c.serve.new.self.book.history in
-    from_ok c.serve.result c.serve.ensures.answers
-    (λ answered. let v = visited (subst (λ (next : Pages). Answers stands_for c.in-Told.seq t c.in-Told.call c.in-Told.snapshot parts next.history c.serve.new.self.parts.items c.serve.new.self.book.history) whole answered) in rw (same, c.serve.ensures.next) v.stands)
-
-pub returns-in-Told-clause-turns : goal.returns-in-Told-clause-turns
-returns-in-Told-clause-turns g c =
-    let stands_for = g.P.ToolPart.stands_for in
-    let book : Pages = c.args.self.now.book in
-    let t = c.args.ready.thread in
-    let parts = c.args.self.now.parts.items in
-    let told = told-step book t c.in-Told.seq c.in-Told.call c.in-Told.snapshot (sym c.in_ok-step.ensures.step ∙ c.in-Told.is) in
-    let whole : c.go_ready.new.self ≡ with_entries book (go_at t ∷ []) = c.in_ok-step.ensures.added ∙ ap (with_entries book) told.added_is in
-    let same : c.serve.new.self.book.run ≡ book.run = c.serve.ensures.run ∙ ap (λ (next : Pages). next.run) whole in
-    let visited = visited-said book.run _ book.history t c.requires.stands c.requires.turn _ _ told.is_told stands_for parts c.serve.new.self.parts.items c.in-Told.seq told.place c.serve.new.self.book.history in
-    from_ok c.serve.result c.serve.ensures.answers
-    (λ answered. let v = visited (subst (λ (next : Pages). Answers stands_for c.in-Told.seq t c.in-Told.call c.in-Told.snapshot parts next.history c.serve.new.self.parts.items c.serve.new.self.book.history) whole answered) in rw same v.turns)
+    let same : later.book.run ≡ book.run = c.serve.ensures.run ∙ ap (λ (next : Pages). next.run) whole in
+    let visited : Answers stands_for c.in-Told.seq t c.in-Told.call c.in-Told.snapshot parts c.go_ready.new.self.history later.parts.items later.book.history → Visited stands_for book.run book.history t parts later.parts.items later.book.history =
+    λ answered. visited-said book.run _ book.history t c.requires.stands c.requires.turn _ _ told.is_told stands_for parts later.parts.items c.in-Told.seq told.place later.book.history
+    (subst (λ (next : Pages). Answers stands_for c.in-Told.seq t c.in-Told.call c.in-Told.snapshot parts next.history later.parts.items later.book.history) whole answered) in
+    record {
+      run = same;
+      serves = from_either c.serve.result c.serve.ensures.answers c.serve.ensures.memory
+          (λ answered. serves-to _ _ _ _ _ (visited answered).stands stands_for _ _ (visited answered).serves)
+          (λ kept. rw (kept.0, whole) (serves-said book.run _ book.history t c.requires.stands c.requires.turn _ _ told.is_told stands_for parts _ kept.1));
+      same = c.serve.ensures.same;
+      stops = from_either c.serve.result c.serve.ensures.answers c.serve.ensures.memory
+          (λ answered. rw same (stops-here _ _ _ _ (visited answered).stands))
+          (λ kept. rw (kept.0, whole) (stops-said book.run _ book.history t c.requires.stands c.requires.turn _ _ told.is_told));
+      stands = from_ok c.serve.result c.serve.ensures.answers (λ answered. rw (same, c.serve.ensures.next) (visited answered).stands);
+      turns = from_ok c.serve.result c.serve.ensures.answers (λ answered. rw same (visited answered).turns);
+    }
 
 pub returns-in-Quiet : goal.returns-in-Quiet
 returns-in-Quiet g c =

@@ -1,6 +1,6 @@
 use Rattle.std.proofs.Common.{◌≡◌, [], replicate}
-use Rattle.ompt_cli.proofs.keepers.recorders.Given as goal
+use Rattle.ompt_cli.proofs.keepers.keepers.Given as goal
 
 -- as many as turns were made
 abbrev pub invariant-loop-thread : goal.invariant-loop-thread
-invariant-loop-thread l = l.parts.items ≡ replicate l._thread []
+invariant-loop-thread g l = l.parts.items ≡ replicate l._thread (g.P.Keeper.keep [])

@@ -1,6 +1,0 @@
-use Rattle.std.proofs.Common.{◌≡◌, [], replicate}
-use Rattle.ompt_cli.proofs.keepers.timelines.Given as goal
-
--- as many as turns were made
-abbrev pub invariant-loop-thread : goal.invariant-loop-thread
-invariant-loop-thread l = l.parts.items ≡ replicate l._thread []
