@@ -28,4 +28,7 @@
 
 mod laws;
 
-pub use laws::{chunks_have_a_size, each_iteration_once_in_a_run, sections_are_told_in_order};
+pub use laws::{
+    chunks_have_a_size, each_iteration_once_in_a_run, each_section_once_in_a_run,
+    sections_are_told_in_order,
+};
