@@ -20,6 +20,7 @@ use Rattle.c_model.specs.Upcoming.{is_in_exclusive}
 use Rattle.code_brackets.specs.Opened.{Open}
 use Rattle.code_brackets.specs.Opened.Open.{Works}
 use Rattle.team_parts.specs.declared.meeting.Meeting.{Meeting}
+use Rattle.team_parts.specs.declared.meeting.Meeting.TheVariants as meeting
 use Rattle.team_parts.specs.declared.meeting.Mismatch.{Mismatch}
 use Rattle.team_parts.specs.Meetings.{HasChunk, HasChunkOf}
 use Rattle.team_parts.specs.Team.{after_meeting, answer_to_meet}
@@ -73,12 +74,12 @@ MeetsFree W after t other = Unit {0}
 -- ---- an event of the code
 
 -- what members meet is no trap: none is within another construct
-record IsMet (exclusive : Bool) (given : Result Bool Mismatch) : Type 0 where
-  free : exclusive ≡ false
-  first : Bool
-  is : given ≡ Ok first
+pub record IsMet (exclusive : Bool) (given : Result Bool Mismatch) : Type 0 where
+  pub free : exclusive ≡ false
+  pub first : Bool
+  pub is : given ≡ Ok first
 
-met-free : (explicit exclusive : Bool) (given : Result Bool Mismatch) →
+pub met-free : (explicit exclusive : Bool) (given : Result Bool Mismatch) →
     (if explicit then Some (Trap NESTING) else fault_of_meeting exclusive given) ≡ None → IsMet exclusive given
 met-free true exclusive given fine = cc
 met-free false exclusive (Err mismatch) fine = cc
@@ -102,12 +103,12 @@ module _ (run : Run) (W : World) (t : ℕ) (made : IsMadeWorld W) (codes : AreCo
       ∙ task-free (told W t).task is
 
   -- the thread is a member of the team
-  met-answer : (what : Meeting) (first : Bool) → meeting_at W t what ≡ Ok first →
+  pub met-answer : (what : Meeting) (first : Bool) → meeting_at W t what ≡ Ok first →
       answer_to_meet (current_team W t) (current_index W t) what ≡ Ok first
   met-answer what first is =
       sym (ap (λ (b : Bool). if b then answer_to_meet (current_team W t) (current_index W t) what else Ok false) (member-made W t made some)) ∙ is
 
-  met-team : (what : Meeting) →
+  pub met-team : (what : Meeting) →
       (region_at (after_meeting_at W t what) (current_region W t)).team ≡ after_meeting (current_team W t) (current_index W t) what
   met-team what =
       let r = current_region W t in

@@ -5,15 +5,18 @@ use Rattle.std.proofs.lemmas.Bool.{cond-false, cond-true}
 use Rattle.std.proofs.lemmas.List.{append-nil}
 use Rattle.std.proofs.lemmas.Nat.{cases_eq, eq-eqb, ne_eqb}
 use Rattle.c_model.specs.declared.point.SyncStage.TheVariants as stage
+use Rattle.task_pool.specs.Tasks.{task_at as pool_task_at}
 use Rattle.task_pool.specs.View.{PoolView}
 use Rattle.team_parts.specs.Team.{TeamView}
 use Rattle.team_words.specs.Calls.{TeamCall, after_call, counters_after, ends_in_time, may_make}
 use Rattle.team_words.specs.Team.{Met, Team, met_by}
 use Rattle.omp_model.specs.declared.event.Event.{Event}
 use Rattle.omp_model.specs.declared.event.Event.TheVariants.{Sync}
+use Rattle.omp_model.specs.declared.limits.TheConstants.{IMPLICIT_REGION, INITIAL_TASK}
+use Rattle.omp_model.specs.Conditions.{has_started}
 use Rattle.omp_model.specs.Made.{IsTask}
 use Rattle.omp_model.specs.Members.{current, current_region, is_explicit_task, member_index, region_of}
-use Rattle.omp_model.specs.State.{Thread, World, region_at, task_at, thread_at}
+use Rattle.omp_model.specs.State.{Thread, World, pooled_at, region_at, task_at, thread_at}
 use Rattle.nested_runs.proofs.Recorded.{Inside}
 use Rattle.nested_runs.proofs.Standing.{Stand, stand_at}
 use Rattle.nested_runs.proofs.Touching.{Alike, ComesFree}
@@ -40,7 +43,10 @@ mets_of W calls k = met_by (words_of (region_at W (region_of W k)).team (calls (
 pub record Called (W : World) (I : Inside) (calls : AllCalls) : Type 0 where
   pub none : (r : ℕ) → length W.regions ≤ r → calls r ≡ []
   pub follows : (r : ℕ) → Follows (region_at W r).team (calls r)
-  pub places : (k : ℕ) → IsTask W k → is_explicit_task W k ≡ false → PlaceOf (stand_at W k) (arriving W I k) (mets_of W calls k)
+  pub places : (k : ℕ) → IsTask W k → has_started (pooled_at W k).condition ≡ true → is_explicit_task W k ≡ false →
+      PlaceOf (stand_at W k) (arriving W I k) (mets_of W calls k)
+  -- before the initial task has begun no calls are made in its region
+  pub early : has_started (pooled_at W INITIAL_TASK).condition ≡ false → calls IMPLICIT_REGION ≡ []
 
 -- the same calls
 pub called-same : (W : World) (I : Inside) (calls other : AllCalls) → ((r : ℕ) → other r ≡ calls r) → Called W I calls → Called W I other
@@ -141,34 +147,39 @@ module _ (W after : World) (I : Inside) (alike : Alike W after) where
   pub task-there : (k : ℕ) → IsTask after k → IsTask W k
   task-there k made = record { some = made.some; below = omega (arith, made.below, alike.world.tasks) }
 
+  alike-started : (k : ℕ) → has_started (pooled_at after k).condition ≡ has_started (pooled_at W k).condition
+  alike-started k = ap (λ (pool : PoolView). has_started (pool_task_at pool.tasks k).condition) alike.world.pool
+
   -- the teams are the same
   pub called-stays : (calls : AllCalls) → ((q : ℕ) → (region_at after q).team ≡ (region_at W q).team) → Called W I calls → Called after I calls
   called-stays calls teams called =
       record {
         none = λ r beyond. called.none r (omega (arith, beyond, alike.world.regions));
         follows = λ r. subst (λ (team : TeamView). Follows team (calls r)) (sym (teams r)) (called.follows r);
-        places = λ k made plain.
+        places = λ k made started plain.
             place-stays k (mets_of W calls k) (mets_of after calls k)
             (mets-placed W after k (place k) calls
             ∙ ap (λ (team : TeamView). met_by (words_of team (calls (region_of W k))) (index_of W k)) (teams (region_of W k)))
-            (called.places k (task-there k made) (sym (place k).explicit ∙ plain));
+            (called.places k (task-there k made) (sym (alike-started k) ∙ started) (sym (place k).explicit ∙ plain));
+        early = λ not. called.early (sym (alike-started INITIAL_TASK) ∙ not);
       }
 
   -- .. or one member takes a chunk or a section, by which no place changes
   pub called-asks : (calls : AllCalls) (r : ℕ) (call : TeamCall) → OneCall W after r call → Called W I calls →
       may_make (words_of (region_at W r).team (calls r)) call ≡ true → ends_in_time (words_of (region_at W r).team (calls r)) call ≡ true → r < length W.regions →
+      (has_started (pooled_at W INITIAL_TASK).condition ≡ false → r ≢ IMPLICIT_REGION) →
       ((j : ℕ) → SameLast (met_by (words_of (region_at W r).team (calls r)) j) (met_by (after_call (words_of (region_at W r).team (calls r)) call) j)) →
       Called after I (with_call calls r call)
-  called-asks calls r call one called may ends made same =
+  called-asks calls r call one called may ends made begun same =
       record {
         none = λ q beyond.
             with-there calls r q call (λ is. omega (arith, is, beyond, made, alike.world.regions))
             ∙ called.none q (omega (arith, beyond, alike.world.regions));
         follows = follows-one W after calls r call one called.follows may ends;
-        places = λ k there plain.
+        places = λ k there started plain.
             let q = region_of W k in
             let i = index_of W k in
-            let before = called.places k (task-there k there) (sym (place k).explicit ∙ plain) in
+            let before = called.places k (task-there k there) (sym (alike-started k) ∙ started) (sym (place k).explicit ∙ plain) in
             let next = met_by (words_of (region_at after q).team (with_call calls r call q)) i in
             let kept : PlaceOf (stand_at W k) (arriving W I k) next =
             elim (cases_eq q r) [
@@ -186,4 +197,7 @@ module _ (W after : World) (I : Inside) (alike : Alike W after) where
                   (sym (ap (λ (team : Team). met_by team i) (words-there W after calls r call one q other))) before
             ] in
             place-stays k next (mets_of after (with_call calls r call) k) (mets-placed W after k (place k) (with_call calls r call)) kept;
+        early = λ not.
+            let before = sym (alike-started INITIAL_TASK) ∙ not in
+            with-there calls r IMPLICIT_REGION call (λ is. begun before (sym is)) ∙ called.early before;
       }

@@ -1,10 +1,9 @@
 -- The calls of a team's members are made in their order, and the team is what they leave.
-use Rattle.std.proofs.Common.{ℕ, ◌≡◌, ◌<◌, ◌≤◌, ◌++◌, Bool, true, false, List, [], ◌∷◌, length, refl, sym, ap, ap₂, ◌∙◌, subst, arith}
+use Rattle.std.proofs.Common.{ℕ, ◌≡◌, ◌≤◌, ◌++◌, true, List, [], ◌∷◌, length, sym, ap, ◌∙◌, subst}
 use Rattle.team_parts.specs.declared.meeting.TheConstants.{TEAM_LIMIT}
 use Rattle.team_parts.specs.declared.member.Member.{Member}
 use Rattle.team_parts.specs.Team.{TeamView, member_at}
-use Rattle.team_words.specs.Calls.{AreMade, TeamCall, after_calls, all_end_in_time, counters_after, counters_after_calls, ends_in_time, fresh_counters, may_make, may_make_all}
-use Rattle.team_words.specs.Counted.{IsCounted}
+use Rattle.team_words.specs.Calls.{AreMade, TeamCall, after_call, after_calls, all_end_in_time, counters_after, counters_after_calls, ends_in_time, fresh_counters, may_make, may_make_all}
 use Rattle.team_words.specs.Team.{Team, fresh_team, met_by}
 use Rattle.team_words.proofs.Called.{keeps-made}
 use Rattle.team_words.proofs.Keeping.{Keeps, member-is, size-is}

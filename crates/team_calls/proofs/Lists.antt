@@ -1,17 +1,19 @@
 -- Calls with one more, and what that leaves of what a member has met last.
-use Rattle.std.proofs.Common.{ℕ, zero, suc, ◌≡◌, ◌≢◌, ◌<◌, ◌≤◌, ◌+◌, ◌-◌, ◌==◌, ◌&&◌, ◌||◌, ◌++◌, Bool, true, false, if◌then◌else◌, List, [], ◌∷◌, length, slice_index_or, slice_set, refl, sym, ap, ap₂, ◌∙◌, subst, inl, inr, arith}
-use Rattle.std.specs.Prelude.{Option, Some, None, Result, Ok, Err, is_some, nat_lt}
-use Rattle.std.proofs.lemmas.Bool.{and_from}
-use Rattle.std.proofs.lemmas.List.{get_or-set_other, get_or-set_same, length-append, length-set}
+use Rattle.std.proofs.Common.{Bool, List, [], ap, arith, false, if◌then◌else◌, length, refl, slice_get, slice_set, true, ℕ, ◌++◌, ◌+◌, ◌-◌, ◌<◌, ◌∙◌, ◌∷◌, ◌≡◌, ◌≢◌}
+use Rattle.std.specs.Prelude.{Option, Some, None, Result, Ok, Err, is_some}
+use Rattle.std.proofs.lemmas.Bool.{and_from, and_parts}
+use Rattle.std.proofs.lemmas.List.{get_or-set_other, get_or-set_same, get_or_push, length-append, length-set}
 use Rattle.team_parts.specs.declared.meeting.Meeting.{Meeting}
 use Rattle.team_parts.specs.declared.meeting.Mismatch.{Mismatch}
+use Rattle.team_parts.specs.declared.member.Member.{Member}
 use Rattle.team_parts.specs.Meetings.{TeamMeeting, is_barrier}
 use Rattle.team_parts.specs.Team as counters
-use Rattle.team_words.specs.Calls.{TeamCall, after_call, after_calls, all_end_in_time, counters_after, counters_after_answer, counters_after_calls, ends_in_time, may_make, may_make_all}
+use Rattle.team_words.specs.Calls.{TeamCall, after_answer, after_call, after_calls, all_end_in_time, counters_after, counters_after_answer, counters_after_calls, ends_in_time, may_make, may_make_all}
 use Rattle.team_words.specs.Calls.TeamCall.{Arrive, MayPass, Meet, Pass, TakeChunk, TakeSection, WouldMeet}
-use Rattle.team_words.specs.Shares.{after_chunk, after_section, with_taken}
-use Rattle.team_words.specs.Team.{Met, Team, is_at_barrier, last_met, last_number, may_go_on, met_at, met_by, not_met, with_arrived, with_last, with_meeting, with_mets, with_passed}
+use Rattle.team_words.specs.Shares.{after_chunk, after_section, next_chunk, next_section, with_taken}
+use Rattle.team_words.specs.Team.{Met, Team, answer_to_meet, is_at_barrier, last_met, last_number, met_at, met_by, not_met, with_arrived, with_mets, with_passed}
 use Rattle.team_words.proofs.ChangedLists.{read-alike}
+use Rattle.team_words.proofs.Keeping.{new_met}
 
 -- ---- one call more
 

@@ -1,4 +1,5 @@
 -- What is so of each item of each task's code, in each state that entries lead to.
+use Rattle.work_laws.proofs.Shares.{may-any-next}
 use Rattle.std.proofs.Common.{ℕ, ◌≡◌, ◌++◌, Bool, true, false, if◌then◌else◌, Some, None, List, [], ◌∷◌, slice_index_or, slice_set, refl}
 use Rattle.std.specs.Prelude.{Option}
 use Rattle.ompt_calls.specs.declared.snapshot.Target.{Target}
@@ -6,7 +7,6 @@ use Rattle.ompt_calls.specs.declared.snapshot.Target.TheVariants as target
 use Rattle.c_syntax.specs.language.Tree.{Tree}
 use Rattle.c_model.specs.declared.point.Point.{Point}
 use Rattle.c_model.specs.declared.point.Point.TheVariants as point
-use Rattle.c_model.specs.declared.point.Schedule.{Schedule}
 use Rattle.c_model.specs.declared.point.SyncKind.{SyncKind}
 use Rattle.c_model.specs.declared.point.SyncStage.{SyncStage}
 use Rattle.c_model.specs.declared.point.SyncStage.TheVariants as stage
@@ -15,7 +15,7 @@ use Rattle.c_model.specs.declared.question.Answer.{Answer}
 use Rattle.c_model.specs.declared.question.Answer.TheVariants as answer
 use Rattle.c_model.specs.Begin.{blank_task, explicit_task, member_task}
 use Rattle.c_model.specs.Program.{body_of, function_named}
-use Rattle.c_model.specs.Step.{silent}
+use Rattle.c_model.specs.Step.{silent, settled_task}
 use Rattle.c_model.specs.Task.{Outcome, Task as Code}
 use Rattle.c_model.specs.Task.Outcome.{Asks, Ends, Limits, Occurs, StepsTo, Traps}
 use Rattle.task_pool.specs.declared.task.TaskKind.TheVariants as kind
@@ -46,7 +46,7 @@ use Rattle.omp_model.proofs.Later.{at-set}
 use Rattle.omp_model.proofs.MadeWords.{at-push}
 use Rattle.omp_model.proofs.Turning.{AfterSilence, Beside, GoOf, OfCode, Turned, of-entries, of-turn, of-walk}
 use Rattle.nested_runs.proofs.FirstWorlds.{first-tasks}
-use Rattle.work_laws.proofs.Items.{AreRules, HoldsCode}
+use Rattle.work_laws.proofs.Items.{AreRules, HoldsCode, AnyTree}
 use Rattle.work_laws.proofs.ItemSteps.{MayAnswer, MayEndSingle, holds-answer, holds-blank, holds-event, holds-explicit, holds-main, holds-member, holds-settled, holds-step}
 
 -- any work may end

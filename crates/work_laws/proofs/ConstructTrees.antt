@@ -1,5 +1,5 @@
 -- Statements in which something is so of each construct, and what they lead to.
-use Rattle.std.proofs.Common.{ℕ, ℤ, zero, suc, ◌≡◌, ◌≤◌, ◌++◌, if◌then◌else◌, Bool, true, false, List, [], ◌∷◌, map, slice_index_or, unwrap_or}
+use Rattle.std.proofs.Common.{ℕ, ℤ, zero, suc, ◌≡◌, ◌++◌, if◌then◌else◌, Bool, true, false, List, [], ◌∷◌, map, slice_index_or, unwrap_or}
 use Rattle.std.specs.Prelude.{Option, Some, None}
 use Rattle.c_syntax.specs.declared.node.BinaryOp.{BinaryOp}
 use Rattle.c_syntax.specs.declared.node.Directive.{Directive}

@@ -1,5 +1,10 @@
 -- The Go of an event keeps what is so of teams and of their members' codes.
-use Rattle.std.proofs.Common.{ℕ, ◌≡◌, ◌≢◌, ◌<◌, ◌≤◌, ◌==◌, ◌++◌, Bool, true, false, if◌then◌else◌, List, [], ◌∷◌, drop, length, refl, sym, ap, ◌∙◌, subst, inl, inr, arith}
+use Rattle.c_model.specs.declared.point.Work.{Work as Working}
+use Rattle.c_model.specs.Going.{tree_at_event}
+use Rattle.std.specs.Prelude.{Option}
+use Rattle.c_model.specs.declared.point.WorkKind.TheVariants as work_kind
+use Rattle.team_parts.specs.declared.meeting.Meeting.TheVariants as meeting
+use Rattle.std.proofs.Common.{ℕ, ◌≡◌, ◌≢◌, ◌<◌, ◌≤◌, ◌==◌, ◌++◌, Bool, true, false, if◌then◌else◌, List, [], ◌∷◌, drop, length, refl, sym, ap, ◌∙◌, subst, inl, inr, arith, Some, ap₂}
 use Rattle.std.specs.List.{list_any}
 use Rattle.std.proofs.lemmas.Bool.{cases_Bool, cases_eq, cases_lt, cond-false, cond-true, eq-eqb, ne_eqb, or_from, or_left, or_parts, true≢false}
 use Rattle.std.proofs.lemmas.List.{get_or_past, length-set}
@@ -26,8 +31,8 @@ use Rattle.code_brackets.specs.Opened.Open.{Works}
 use Rattle.team_parts.specs.declared.meeting.Meeting.{Meeting}
 use Rattle.team_parts.specs.declared.meeting.TheConstants.{TEAM_LIMIT}
 use Rattle.team_parts.specs.declared.member.Member.{Member}
-use Rattle.team_parts.specs.Meetings.{HasChunk}
-use Rattle.team_parts.specs.Team.{TeamView, after_meeting, member_at, with_passed}
+use Rattle.team_parts.specs.Meetings.{HasChunk, TeamMeeting}
+use Rattle.team_parts.specs.Team.{TeamView, after_meeting, member_at, with_passed, last_number}
 use Rattle.omp_model.specs.declared.event.Endpoint.TheVariants.{Begin, End}
 use Rattle.omp_model.specs.declared.event.Event.{Event}
 use Rattle.omp_model.specs.declared.event.Event.TheVariants.{Masked, ParallelBegin, Sync, Work}
@@ -48,16 +53,17 @@ use Rattle.nested_runs.proofs.GoMembers.{regions-grow}
 use Rattle.nested_runs.proofs.KeptTasks.{none-opens}
 use Rattle.nested_runs.proofs.PooledTasks.{current-made, current-under-way, tasks-few}
 use Rattle.nested_runs.proofs.RegionHeads.{fresh-region, old-region, place-within, region-made}
-use Rattle.guard_laws.proofs.LastMeetings.{is_work, passed-met}
-use Rattle.guard_laws.proofs.WorkBegins.{MeetsFree}
+use Rattle.guard_laws.proofs.Dealing.{read-met}
+use Rattle.guard_laws.proofs.LastMeetings.{is_work, passed-met, FitsOpen, last_met, own-last}
+use Rattle.guard_laws.proofs.WorkBegins.{HasPlace, MeetsFree}
 use Rattle.guard_laws.proofs.WorkGos.{current-started, one-seat, other-opens, own-made as own-task, own-opens, place-go}
 use Rattle.guard_laws.proofs.WorksMet.{WorksMet, index_of}
 use Rattle.work_laws.specs.Told.{Telling, nothing_told}
 use Rattle.work_laws.proofs.CodesGone.{Occurred, codes-gone, work-occurred}
 use Rattle.work_laws.proofs.Items.{AnyTree, AreCalls, AreItems, IsItem}
-use Rattle.work_laws.proofs.ItemSteps.{from-next, holds-answer, holds-blank, holds-event}
+use Rattle.work_laws.proofs.ItemSteps.{from-next, holds-answer, holds-blank, holds-event, MayNext, MayWork, TellsNext, TellsSo, TellsWork, MayBegin}
 use Rattle.work_laws.proofs.Shares.{StandsIn, Tellings, Tells, TellsAt, any-construct, any-rules, single-ends, standing-placed}
-use Rattle.work_laws.proofs.Teams.{HasNoEnd, IsFreeCode, IsOverAt, NoEnd, Standing, TellsTeam, other-member, over-met, over-same, own-met, standing-kept, tells-met, tells-same}
+use Rattle.work_laws.proofs.Teams.{HasNoEnd, IsFreeCode, IsOverAt, NoEnd, Standing, TellsTeam, other-member, over-met, over-same, own-met, standing-kept, tells-met, tells-same, AsksAt, ends-what, last-met, last_what, what-same}
 use Rattle.work_laws.proofs.Teams.Standing.{Behind, Outside, Within}
 
 -- ---- codes in which no work is open
@@ -245,7 +251,7 @@ abbrev MayGo : Meeting → Event → Type 0
 MayGo met (Work Begin work_kind.Sections count codeptr) = met ≡ meeting.Sections codeptr count
 MayGo met other = Unit {0}
 
-may-work : (met : Meeting) (W : World) (t codeptr : ℕ) (what : Work) (construct : Tree) → MayGo met (event_of_point W t (point.WorkBegin codeptr what)) →
+may-work : (met : Meeting) (W : World) (t codeptr : ℕ) (what : Working) (construct : Tree) → MayGo met (event_of_point W t (point.WorkBegin codeptr what)) →
     TellsWork AnyTree codeptr what construct → MayWork (AsksAt met) what construct
 may-work met W t codeptr (work.Loop start count step how) construct is tells = tt
 may-work met W t codeptr (work.Sections count) construct is tells = subst (λ (met : Meeting). AsksAt met construct) (sym is) tells.1

@@ -1,5 +1,5 @@
 -- What is so of each item of a task's code stays so: in silent steps, behind answers and events, and where codes begin.
-use Rattle.std.proofs.Common.{ℕ, ℤ, ◌≡◌, ◌++◌, ◌+◌, nat_le, if◌then◌else◌, Bool, true, false, List, [], ◌∷◌, length, Result, Ok, Err, pos, refl, subst, sym, take}
+use Rattle.std.proofs.Common.{ℕ, ℤ, ◌≡◌, ◌++◌, ◌+◌, nat_le, if◌then◌else◌, Bool, true, false, List, [], ◌∷◌, length, Result, Ok, Err, pos, refl, subst, sym, take, ap}
 use Rattle.std.specs.Prelude.{Option, Some, None}
 use Rattle.c_syntax.specs.declared.node.Directive.{Directive}
 use Rattle.c_syntax.specs.declared.node.Directive.TheVariants as directive
@@ -18,7 +18,6 @@ use Rattle.c_check.specs.Seen.{slot_of_name}
 use Rattle.c_model.specs.declared.entry.Entry.{Entry}
 use Rattle.c_model.specs.declared.point.Point.{Point}
 use Rattle.c_model.specs.declared.point.Point.TheVariants as point
-use Rattle.c_model.specs.declared.point.Schedule.{Schedule}
 use Rattle.c_model.specs.declared.point.SyncKind.{SyncKind}
 use Rattle.c_model.specs.declared.point.SyncKind.TheVariants as sync
 use Rattle.c_model.specs.declared.point.SyncStage.{SyncStage}

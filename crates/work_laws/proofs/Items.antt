@@ -4,13 +4,12 @@ use Rattle.c_syntax.specs.declared.node.Directive.{Directive}
 use Rattle.c_syntax.specs.declared.node.NodeKind.TheVariants as node
 use Rattle.c_syntax.specs.language.Tree.{Tree, kind_of, nothing}
 use Rattle.c_check.specs.Loops.{child_at}
-use Rattle.c_model.specs.declared.point.Schedule.{Schedule}
 use Rattle.c_model.specs.declared.point.Target.{Target}
 use Rattle.c_model.specs.declared.point.Target.TheVariants as target
 use Rattle.c_model.specs.declared.point.WorkKind.{WorkKind}
 use Rattle.c_model.specs.Parts.{flat_declarations, parts}
 use Rattle.c_model.specs.Calls.{value_items}
-use Rattle.c_model.specs.Clauses.{Copying, Listed, construct_statement, schedule_of, sections_of}
+use Rattle.c_model.specs.Clauses.{Copying, Listed, construct_statement, sections_of}
 use Rattle.c_model.specs.Clauses.Copying.{Private, First, Reduced}
 use Rattle.c_model.specs.Constructs.{iterations_from}
 use Rattle.c_model.specs.Copies.{combines, combining_all, combining_of, has_own_cells, listed_variables, makes_cells}

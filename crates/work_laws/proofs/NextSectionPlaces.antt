@@ -1,11 +1,13 @@
 -- Where a turn comes to the dispatch of a section, that is the next one of a construct of the program, which the thread's member has met last.
-use Rattle.std.proofs.Common.{ℕ, zero, suc, ◌≡◌, ◌<◌, ◌≤◌, ◌+◌, ◌==◌, ◌&&◌, Bool, true, false, if◌then◌else◌, List, [], ◌∷◌, length, map, slice_index_or, refl, sym, ap, ap₂, ◌∙◌, subst, inl, inr, arith}
-use Rattle.std.specs.Prelude.{Option, Some, None, nat_lt, option_map}
-use Rattle.std.proofs.lemmas.Bool.{and_from, eq-eqb}
-use Rattle.std.proofs.lemmas.Nat.{ltb-true}
+use Rattle.omp_model.proofs.Rewrites.{thread-below}
+use Rattle.omp_model.specs.Words.{is_made_thread}
+use Rattle.std.proofs.lemmas.List.{get_or-set_same}
+use Rattle.omp_model.proofs.Arriving.{Arrives, arrives}
+use Rattle.std.proofs.Common.{ℕ, ◌≡◌, ◌<◌, ◌+◌, ◌==◌, true, List, length, slice_index_or, refl, sym, ap, ap₂, ◌∙◌, subst, inl, inr, arith}
+use Rattle.std.specs.Prelude.{Option, Some, None, nat_lt}
+use Rattle.std.proofs.lemmas.Bool.{and_from, eq-eqb, ltb-true}
 use Rattle.std.proofs.Math.ListN.{get_or-map as read-map}
 use Rattle.c_syntax.specs.language.Tree.{Tree, nothing}
-use Rattle.c_model.specs.declared.question.Answer.{Answer}
 use Rattle.c_model.specs.declared.question.Answer.TheVariants as answer
 use Rattle.c_model.specs.declared.question.Ask.{Ask}
 use Rattle.c_model.specs.declared.question.Ask.TheVariants as ask
@@ -21,13 +23,13 @@ use Rattle.team_parts.specs.Meetings.{TeamMeeting}
 use Rattle.team_parts.specs.Team.{TeamView, last_meeting, last_number, member_at, next_section, no_meeting}
 use Rattle.omp_model.specs.declared.event.Arrival.TheVariants.{Steps}
 use Rattle.omp_model.specs.declared.event.Share.{Share}
-use Rattle.omp_model.specs.declared.event.Share.TheVariants.{Chunk, Section}
-use Rattle.omp_model.specs.Alike.{AlikeTeam, what_met}
+use Rattle.omp_model.specs.declared.event.Share.TheVariants.{Section}
+use Rattle.omp_model.specs.Alike.{what_met}
 use Rattle.omp_model.specs.Arrivals.{IsInTask}
 use Rattle.omp_model.specs.Changes.{gone_past}
 use Rattle.omp_model.specs.Gates.{arrival}
 use Rattle.omp_model.specs.Members.{current, current_index, current_region, current_team, moment_of, view_of}
-use Rattle.omp_model.specs.Silent.{Goes, Silence, Stops, answer_to, answered, answered_by, share_of_chunk, share_of_section, share_taken, silence_of, silent_step}
+use Rattle.omp_model.specs.Silent.{Goes, Silence, Stops, answer_to, answered, share_taken, silence_of, silent_step}
 use Rattle.omp_model.specs.State.{Run, State, Thread, World, region_at, thread_at, unmade}
 use Rattle.omp_model.specs.Turn.{turn}
 use Rattle.omp_model.proofs.Turning.{AfterSilence, Turned, of-turn}
@@ -189,15 +191,15 @@ module _ (run : Run) (S : State) (met : IsMet run S) (t : ℕ) (told : Tellings)
     together (Goes after) on known next = record { on = on; known = known; next = next }
     together (Stops halt) on known next = tt
 
+    next-step : AfterSilence NextAt (silent_step run W t)
+    unfolding silent_step
+    next-step = next-by (silent run.program (view_of W t) (moment_of W t)) refl
+
     share-step : AfterSilence OnShare (silent_step run W t)
     share-step =
         together (silent_step run W t) (on-step run S met t told W so.on steps)
         (all-step run (KnownIn run.program) (IsKnown run.program) (known-rules run.program) (functions-known run.program) t W steps so.known)
         next-step
-      where
-        next-step : AfterSilence NextAt (silent_step run W t)
-        unfolding silent_step
-        next-step = next-by (silent run.program (view_of W t) (moment_of W t)) refl
 
   -- a turn
   pub turn-shares : OnShare S.world → Turned run OnShare t (turn run S t).state.world (turn run S t).outcome

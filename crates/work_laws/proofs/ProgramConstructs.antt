@@ -1,11 +1,9 @@
 -- Each construct that the code of a program comes to is one of the program, and its place tells it from all others.
-use Rattle.std.proofs.Common.{ℕ, zero, suc, ◌≡◌, ◌+◌, ◌*◌, ◌<◌, ◌≤◌, ◌++◌, if◌then◌else◌, Bool, true, false, List, [], ◌∷◌, length, map, slice_index_or, unwrap_or, refl, sym, ap, ap₂, ◌∙◌, subst, inl, inr, arith, filter}
-use Rattle.std.specs.Prelude.{◌⊎◌, Option, Some, None}
+use Rattle.std.proofs.Common.{ℕ, zero, suc, ◌≡◌, ◌+◌, ◌*◌, ◌<◌, ◌++◌, if◌then◌else◌, Bool, true, false, List, [], ◌∷◌, length, map, slice_index_or, unwrap_or, refl, sym, ap, ◌∙◌, subst, inl, inr, arith, filter, ◌≢◌}
+use Rattle.std.specs.Prelude.{◌⊎◌}
 use Rattle.std.specs.List.{AllPairs, Contains}
-use Rattle.std.proofs.lemmas.Bool.{true≢false}
-use Rattle.std.proofs.lemmas.List.{get_or-map, length-map}
-use Rattle.std.proofs.lemmas.Nat.{cases_eq, cases_lt}
-use Rattle.c_tokens.specs.declared.token.Spot.{Spot}
+use Rattle.std.proofs.lemmas.Bool.{true≢false, cases_eq, cases_lt}
+use Rattle.std.proofs.lemmas.List.{get_or-map, length-map, get_or_default}
 use Rattle.c_syntax.specs.declared.node.NodeKind.TheVariants as node
 use Rattle.c_syntax.specs.language.Numbered.{TreeView, root_tree}
 use Rattle.c_syntax.specs.language.Places.{is_construct, nodes_below, nodes_of}
@@ -62,15 +60,15 @@ module _ (P : Tree → Type 0) where
   unfolding nodes_of nodes_below
   none-below = ((λ is. absurd (true≢false (sym is))), tt)
 
+  each-child : (children : Children) → AtEach (nodes_below children) → EachTree Below (trees_in children)
+  unfolding nodes_below trees_in
+  each-child Over at = tt
+  each-child (Absent rest) at = tt
+  each-child (Child tree rest) at = let both = halves (nodes_of tree) (nodes_below rest) at in (both.0, each-child rest both.1)
+
   below : (tree : Tree) → Below tree → EachTree Below (parts tree)
   unfolding nodes_of
   below (Node kind spot name number text children) at = each-child children at.1
-    where
-      each-child : (children : Children) → AtEach (nodes_below children) → EachTree Below (trees_in children)
-      unfolding nodes_below trees_in
-      each-child Over at = tt
-      each-child (Absent rest) at = each-child rest at
-      each-child (Child tree rest) at = let both = halves (nodes_of tree) (nodes_below rest) at in (both.0, each-child rest both.1)
 
   at-child : (children : Children) (place : ℕ) → AtEach (nodes_below children) → Below (unwrap_or (at_place children place) nothing)
   unfolding nodes_below
@@ -115,8 +113,8 @@ known-rules program = each-rules (IsKnown program) (inl refl)
 each-there : (nodes all : List Tree) (P : Tree → Type 0) → ((one : Tree) → Contains nodes one → P one) → EachTree P nodes
 each-there [] all P there = tt
 each-there (one ∷ nodes) all P there = (
-  there one (0, (omega arith, refl)),
-  each-there nodes all P (λ other found. there other (suc found.0, (omega (arith, found.1.0), found.1.1))),
+  there one (0, omega arith, refl),
+  each-there nodes all P (λ other found. there other (suc found.0, omega (arith, found.1), found.2)),
 )
 
 pub functions-known : (program : TreeView) (name : ℕ) → KnownIn program (body_of (function_named program name))
@@ -126,19 +124,16 @@ functions-known program name =
 
 -- ---- places
 
+kept-either : {A : Type 0} (b : Bool) (one : A) (xs : List A) (x : A) → Contains xs x → Contains (if b then one ∷ xs else xs) x
+kept-either true one xs x found = (suc found.0, omega (arith, found.1), found.2)
+kept-either false one xs x found = found
+
 -- what passes a test is among those that do
 kept : {A : Type 0} (p : A → Bool) (xs : List A) (x : A) → Contains xs x → p x ≡ true → Contains (filter p xs) x
-kept p [] x found is = absurd (omega (arith, found.1.0))
-kept p (one ∷ xs) x (zero, found) is =
-    subst (λ (b : Bool). Contains (if b then one ∷ filter p xs else filter p xs) x) (sym (ap p found.1 ∙ is)) (0, (omega arith, found.1))
-kept p (one ∷ xs) x (suc k, found) is = either (p one)
-  where
-    rest : Contains (filter p xs) x
-    rest = kept p xs x (k, (omega (arith, found.0), found.1)) is
-
-    either : (b : Bool) → Contains (if b then one ∷ filter p xs else filter p xs) x
-    either true = (suc rest.0, (omega (arith, rest.1.0), rest.1.1))
-    either false = rest
+kept p [] x found is = absurd (omega (arith, found.1))
+kept p (one ∷ xs) x (zero, below, here) is =
+    subst (λ (b : Bool). Contains (if b then one ∷ filter p xs else filter p xs) x) (sym (ap p here ∙ is)) (0, omega arith, here)
+kept p (one ∷ xs) x (suc k, below, here) is = kept-either (p one) one (filter p xs) x (kept p xs x (k, omega (arith, below), here) is)
 
 -- two that have the same value in a list in which no value is there twice are one
 one-of : {A : Type 0} {B : Type 0} (f : A → B) (xs : List A) (x y : A) → AllPairs (λ (one other : B). one ≢ other) (map f xs) → Contains xs x →
@@ -149,14 +144,14 @@ one-of f xs x y apart first second same =
     let count = length-map xs f in
     elim (cases_eq first.0 second.0) [
       | inl is ↦
-          sym first.1.1 ∙ ap (λ (k : ℕ). slice_index_or xs k x) is ∙ same-read xs second.0 x y second.1.0 ∙ second.1.1
+          sym first.2 ∙ ap (λ (k : ℕ). slice_index_or xs k x) is ∙ get_or_default xs second.0 x y second.1 ∙ second.2
       | inr other ↦ elim (cases_lt first.0 second.0) [
         | inl before ↦
-            absurd (apart first.0 second.0 (f x) before (omega (arith, second.1.0, count))
-            (at first.0 x first.1.0 first.1.1 ∙ same ∙ sym (at second.0 y second.1.0 second.1.1)))
+            absurd (apart first.0 second.0 (f x) before (omega (arith, second.1, count))
+            (at first.0 x first.1 first.2 ∙ same ∙ sym (at second.0 y second.1 second.2)))
         | inr behind ↦
-            absurd (apart second.0 first.0 (f x) (omega (arith, behind, other)) (omega (arith, first.1.0, count))
-            (at second.0 y second.1.0 second.1.1 ∙ sym same ∙ sym (at first.0 x first.1.0 first.1.1)))
+            absurd (apart second.0 first.0 (f x) (omega (arith, behind, other)) (omega (arith, first.1, count))
+            (at second.0 y second.1 second.2 ∙ sym same ∙ sym (at first.0 x first.1 first.2)))
       ]
     ]
 

@@ -46,7 +46,7 @@ use Rattle.work_laws.specs.Told.{nothing_told, with_entries, with_entry, with_ou
 use Rattle.work_laws.proofs.Events.{happened, nothing-taken, outside-callbacks}
 use Rattle.work_laws.proofs.Gos.{SameMeetings, same-view}
 use Rattle.work_laws.proofs.Shares.{Tellings, Tells, TellsAt, standing-placed, tasks-alike, with_share}
-use Rattle.work_laws.proofs.Teams.{HasNoEnd, Standing, TellsTeam, over-same, standing-kept, tells-same}
+use Rattle.work_laws.proofs.Teams.{HasNoEnd, Standing, TellsTeam, over-same, standing-kept, tells-same, ends-what, last_what, what-same}
 use Rattle.work_laws.proofs.Teams.Standing.{Outside}
 use Rattle.work_laws.proofs.Turns.{Ended}
 use Rattle.work_laws.proofs.Walks.{IsOver, On, turn-tells}

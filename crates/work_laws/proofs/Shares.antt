@@ -1,4 +1,8 @@
 -- Silent steps of a thread: a chunk or a section that one takes is the thread's share, and a member that is told that none is left has nothing left.
+use Rattle.c_model.specs.declared.point.Work.{Work as Working}
+use Rattle.c_model.specs.declared.point.Point.{Point}
+use Rattle.c_model.specs.declared.point.Point.TheVariants as point
+use Rattle.c_model.specs.declared.point.Work.TheVariants as work
 use Rattle.std.proofs.Common.{ℕ, ◌≡◌, ◌≢◌, ◌+◌, ◌<◌, ◌≤◌, ◌==◌, ◌&&◌, ◌++◌, Bool, true, false, if◌then◌else◌, Option, Some, None, List, [], ◌∷◌, length, slice_index_or, slice_set, refl, sym, ap, ap₂, ◌∙◌, subst, subst₂, inl, inr, arith}
 use Rattle.std.specs.Prelude.{is_some, option_map}
 use Rattle.std.specs.List.{list_any}
@@ -12,11 +16,11 @@ use Rattle.c_model.specs.declared.question.Ask.TheVariants as ask
 use Rattle.c_model.specs.declared.view.View.{View}
 use Rattle.c_model.specs.Asked.{count_asked, sections_asked}
 use Rattle.c_model.specs.Clauses.{statements_among}
-use Rattle.c_model.specs.Going.{after_answer}
+use Rattle.c_model.specs.Going.{after_answer, tree_at_event}
 use Rattle.c_model.specs.Parts.{flat_declarations, parts}
 use Rattle.c_model.specs.Program.{place_of}
 use Rattle.c_model.specs.Step.{settled_task, silent}
-use Rattle.c_model.specs.Task.{Moment, Task as Code}
+use Rattle.c_model.specs.Task.{Moment, Task as Code, Item}
 use Rattle.c_model.specs.Task.Outcome.{Asks, StepsTo}
 use Rattle.code_brackets.specs.Opened.{Open, open_task}
 use Rattle.code_brackets.specs.Opened.Open.{Works}
@@ -54,9 +58,9 @@ use Rattle.guard_laws.proofs.LastMeetings.{FitsOpen, MetLoop, MetSections, is_wo
 use Rattle.guard_laws.proofs.WorksMet.{SamePlace, index_of, met_at, place-alike}
 use Rattle.work_laws.specs.Told.{Telling, is_newest, with_event_at}
 use Rattle.work_laws.proofs.Items.{AnyTree, AreRules, EachTree, IsConstruct}
-use Rattle.work_laws.proofs.ItemSteps.{MayAnswer, MayEndSingle, holds-answer, holds-settled, holds-step}
+use Rattle.work_laws.proofs.ItemSteps.{MayAnswer, MayEndSingle, holds-answer, holds-settled, holds-step, MayBegin, MayNext, MayWork, holds-asks}
 use Rattle.work_laws.proofs.Meetings.{TellsMeeting, tells-chunk, tells-section}
-use Rattle.work_laws.proofs.Teams.{IsFreeCode, IsOverAt, NoEnd, Standing, TellsTeam, over-taken-chunk, over-taken-section, standing-kept, tells-here, tells-there}
+use Rattle.work_laws.proofs.Teams.{IsFreeCode, IsOverAt, NoEnd, Standing, TellsTeam, over-taken-chunk, over-taken-section, standing-kept, tells-here, tells-there, AsksAt, ends-what, last_what, what-taken}
 use Rattle.work_laws.proofs.Teams.Standing.{Behind, Outside, Within}
 
 -- what was told of each meeting of each region's team
@@ -97,7 +101,7 @@ any-rules =
       construct = λ tree which is any. any-construct tree;
     }
 
-pub may-any-work : (what : Work) (construct : Tree) → MayWork AnyTree what construct
+pub may-any-work : (what : Working) (construct : Tree) → MayWork AnyTree what construct
 may-any-work (work.Loop start count step how) construct = tt
 may-any-work (work.Sections count) construct = tt
 may-any-work work.Single construct = tt

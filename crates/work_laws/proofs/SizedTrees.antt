@@ -1,5 +1,5 @@
 -- Statements in which each construct has a schedule with a size from 1 on, if it has one.
-use Rattle.std.proofs.Common.{ℕ, ◌≤◌}
+use Rattle.std.proofs.Common.{◌≤◌}
 use Rattle.c_syntax.specs.language.Tree.{Tree, Children, nothing}
 use Rattle.c_model.specs.declared.point.Schedule.{Schedule}
 use Rattle.c_model.specs.declared.point.Schedule.TheVariants.{Dynamic, Guided, Static}

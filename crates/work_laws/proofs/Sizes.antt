@@ -1,5 +1,6 @@
 -- A loop that begins deals its iterations by the schedule as it is written.
-use Rattle.std.proofs.Common.{ℕ, ℤ, ◌≡◌, ◌≤◌, false, max, List, [], ◌∷◌, refl, ap, arith}
+use Rattle.work_laws.proofs.Items.{AnyTree}
+use Rattle.std.proofs.Common.{ℕ, ℤ, ◌≡◌, ◌≤◌, false, max, List, [], ◌∷◌, refl, ap, arith, subst, sym}
 use Rattle.c_syntax.specs.language.Tree.{Tree}
 use Rattle.c_check.specs.Checked.{Checked}
 use Rattle.c_model.specs.declared.point.Point.{Point}
@@ -22,7 +23,7 @@ use Rattle.work_laws.specs.Sizes.{as_written}
 use Rattle.work_laws.proofs.CodeRuns.{AnyEnd, all-walk, any-single, holds-told}
 use Rattle.work_laws.proofs.ItemSteps.{TellsNext, holds-event}
 use Rattle.work_laws.proofs.SizedPrograms.{functions-sized}
-use Rattle.work_laws.proofs.SizedTrees.{HasSize, Sized, sized-rules}
+use Rattle.work_laws.proofs.SizedTrees.{HasSize, Sized, sized-rules, HasSized}
 
 -- nothing is raised
 not-raised : (size : ℕ) → 1 ≤ size → max 1 size ≡ size

@@ -1,10 +1,13 @@
 -- A team, with what was told of each of its meetings, and how far a member has come in the one that it has had last.
-use Rattle.std.proofs.Common.{ℕ, ◌≡◌, ◌≢◌, ◌-◌, ◌<◌, ◌≤◌, ◌++◌, false, Some, None, List, [], ◌∷◌, length, slice_index_or, slice_set, refl, sym, ap, ◌∙◌, subst, subst₂, inl, inr, arith}
+use Rattle.omp_model.proofs.Reading.{read-same}
+use Rattle.c_model.specs.Clauses.{sections_of}
+use Rattle.c_model.specs.Program.{place_of}
+use Rattle.team_parts.specs.declared.meeting.Meeting.TheVariants.{Sections}
+use Rattle.std.proofs.Common.{ℕ, ◌≡◌, ◌≢◌, ◌-◌, ◌<◌, ◌≤◌, ◌++◌, false, Some, None, List, [], ◌∷◌, length, slice_index_or, slice_set, refl, sym, ap, ◌∙◌, subst, subst₂, inl, inr, arith, ap₂}
 use Rattle.std.specs.List.{list_any}
 use Rattle.std.proofs.lemmas.Bool.{cases_eq}
 use Rattle.std.proofs.lemmas.List.{get_or-set_other, get_or-set_same, get_or_append_left, get_or_push, length-append, length-set}
 use Rattle.c_syntax.specs.language.Tree.{Tree}
-use Rattle.c_model.specs.declared.point.Schedule.{Schedule}
 use Rattle.c_model.specs.declared.point.WorkKind.{WorkKind}
 use Rattle.c_model.specs.declared.point.WorkKind.TheVariants as work_kind
 use Rattle.c_model.specs.Task.{Task as Code}

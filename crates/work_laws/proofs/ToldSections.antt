@@ -1,11 +1,14 @@
 -- What was told of the sections of a construct is the first of them, in the order of the text.
-use Rattle.std.proofs.Common.{ℕ, zero, suc, ◌≡◌, ◌≢◌, ◌<◌, ◌≤◌, ◌+◌, ◌==◌, ◌&&◌, ◌++◌, Bool, true, false, if◌then◌else◌, List, [], ◌∷◌, length, map, slice_index_or, refl, sym, ap, ap₂, ◌∙◌, subst, inl, inr, arith, take}
-use Rattle.std.specs.Prelude.{Option, Some, None, option_map}
-use Rattle.std.proofs.lemmas.Bool.{and_parts, cases_Bool}
-use Rattle.std.proofs.lemmas.List.{length-append, length-map, map-append}
-use Rattle.std.proofs.lemmas.Nat.{cases_lt, eqb-true}
-use Rattle.std.proofs.Math.Seq.{take-suc}
-use Rattle.c_syntax.specs.language.Tree.{Tree, nothing}
+use Rattle.work_laws.proofs.Walks.{starting}
+use Rattle.omp_model.specs.Words.{stored}
+use Rattle.work_laws.proofs.Once.{entries-told, sections-all}
+use Rattle.guard_laws.proofs.Masks.{all_told, legal-told, told-after, whole-told}
+use Rattle.std.proofs.Common.{ℕ, suc, ◌≡◌, ◌<◌, ◌≤◌, ◌+◌, ◌==◌, ◌++◌, Bool, true, false, if◌then◌else◌, List, [], ◌∷◌, length, map, slice_index_or, refl, sym, ap, ap₂, ◌∙◌, subst, inl, inr, arith, take, slice_set, subst₂}
+use Rattle.std.specs.Prelude.{Option, Some, None, option_map, slice_get}
+use Rattle.std.proofs.lemmas.Bool.{and_parts, cases_lt, eqb-true}
+use Rattle.std.proofs.lemmas.List.{length-append, length-map, map-append, get_or_past}
+use Rattle.std.proofs.Math.Seq.{take-suc, take-length}
+use Rattle.c_syntax.specs.language.Tree.{Tree, nothing, kind_of}
 use Rattle.c_check.specs.Checked.{Checked}
 use Rattle.c_model.specs.declared.point.WorkKind.TheVariants as work_kind
 use Rattle.c_model.specs.Clauses.{section_statement, sections_of, statements_among}
@@ -13,10 +16,8 @@ use Rattle.c_model.specs.Formed.{IsProgramFormed}
 use Rattle.c_model.specs.Parts.{parts}
 use Rattle.c_model.specs.Program.{place_of}
 use Rattle.team_parts.specs.declared.meeting.Meeting.{Meeting}
-use Rattle.team_parts.specs.declared.meeting.Meeting.TheVariants as meeting
 use Rattle.team_parts.specs.Meetings.{TeamMeeting}
 use Rattle.team_parts.specs.Team.{TeamView, member_at, no_meeting}
-use Rattle.ompt_calls.specs.declared.snapshot.Target.{Target}
 use Rattle.omp_model.specs.declared.event.Callback.{Callback}
 use Rattle.omp_model.specs.declared.event.Endpoint.TheVariants.{End}
 use Rattle.omp_model.specs.declared.event.Event.{Event}
@@ -29,27 +30,27 @@ use Rattle.omp_model.specs.declared.history.What.{What}
 use Rattle.omp_model.specs.declared.history.What.TheVariants.{Go, Put, Back}
 use Rattle.omp_model.specs.Conditions.{IsOrderly}
 use Rattle.omp_model.specs.Legal.{AllowsFrom, Legal, after, after_from, does, entered, may, put_from}
-use Rattle.omp_model.specs.Made.{IsMadeState}
+use Rattle.omp_model.specs.Made.{IsMadeState, IsThread}
 use Rattle.omp_model.specs.Members.{current_index, current_region, current_team}
-use Rattle.omp_model.specs.State.{Region, Run, State, World, first, no_region, pending_at, region_at, thread_at}
-use Rattle.omp_model.specs.Turn.{enabled, turn}
+use Rattle.omp_model.specs.State.{Region, Run, State, World, first, no_region, pending_at, region_at}
+use Rattle.omp_model.specs.Turn.{enabled, turn, called}
 use Rattle.omp_model.proofs.MadeRuns.{made-after}
 use Rattle.omp_model.proofs.OrderlyRuns.{orderly-after}
 use Rattle.omp_model.proofs.Turning.{GoFrom, Turned}
 use Rattle.omp_model.proofs.Turns.{Leaves, leaves-turn, turn-goes}
-use Rattle.nested_runs.proofs.Knows.{IsWholeRun}
+use Rattle.nested_runs.proofs.Knows.{IsWholeRun, Goes}
 use Rattle.nested_runs.proofs.Recorded.{event_in, inside}
 use Rattle.nested_runs.proofs.Turned.{back-leads}
 use Rattle.guard_laws.proofs.KnownStates.{after-one, some-within}
 use Rattle.work_laws.specs.Sections.{HaveOwnPlaces, IsConstructOf, section_places, sections_met}
-use Rattle.work_laws.specs.Told.{Telling, is_newest, meeting_of, nothing_told, told_of, with_entries, with_event, with_event_at, with_outcome}
-use Rattle.work_laws.proofs.CodeRuns.{all-walk}
+use Rattle.work_laws.specs.Told.{Telling, is_newest, meeting_of, nothing_told, told_of, with_entries, with_event, with_event_at, with_outcome, HaveEnded}
+use Rattle.work_laws.proofs.CodeRuns.{AllHold, all-does, all-first}
 use Rattle.work_laws.proofs.Events.{dispatch-still, goes, free, outside-callbacks, still-newest}
 use Rattle.work_laws.proofs.Gos.{TeamIs, team-is}
 use Rattle.work_laws.proofs.Gos.TeamIs.{Met, Same}
-use Rattle.work_laws.proofs.NextSectionPlaces.{IsNextSection, OnShare, same-what, turn-shares}
-use Rattle.work_laws.proofs.ProgramConstructs.{own-place}
-use Rattle.work_laws.proofs.Runs.{IsTold, same-back, stored-team, told-entry, told-first}
+use Rattle.work_laws.proofs.NextSectionPlaces.{HasNext, IsNextSection, OnShare, same-what, turn-shares}
+use Rattle.work_laws.proofs.ProgramConstructs.{own-place, IsKnown, KnownIn, functions-known, known-rules}
+use Rattle.work_laws.proofs.Runs.{IsTold, same-back, stored-team, told-entry, first-told, more}
 use Rattle.work_laws.proofs.Shares.{Tellings, TellsAt, newest-alike}
 use Rattle.work_laws.proofs.Teams.{placed-last}
 
@@ -92,6 +93,16 @@ more-front construct sections codeptr front within place =
     ∙ sym (map-append place_of (take count all) (slice_index_or all count nothing ∷ []))
     ∙ sym (ap (map place_of) (take-suc all count nothing below))
     ∙ sym (ap (λ (n : ℕ). map place_of (take n all)) longer)
+
+-- a meeting of sections is there
+met-there : (team : TeamView) (n : ℕ) (construct : Tree) → meeting_of team n ≡ sections_met construct → n < length team.meetings
+met-there team n construct is =
+    elim (cases_lt n (length team.meetings)) [
+      | inl below ↦ below
+      | inr beyond ↦
+          let wrong : no_meeting.what ≡ sections_met construct =
+          sym (ap (λ (met : TeamMeeting). met.what) (get_or_past team.meetings n no_meeting beyond)) ∙ is in cc
+    ]
 
 -- the same construct
 same-construct : (run : Run) → HaveOwnPlaces run.program → (one other : Tree) → IsConstructOf run.program one → IsConstructOf run.program other →
@@ -195,7 +206,7 @@ module _ (run : Run) (S : State) (told : Tellings) (so : IsTold run S told) (own
         either : (newest : Bool) → is_newest next.world t q n ≡ newest →
             NamedAt run (meeting_of (region_at next.world q).team n) (if newest then record (told q n) { sections = (told q n).sections ++ codeptr ∷ [] } else told q n).sections
         either false is = keeps next.world q n (told q n).sections (go-stay (Dispatch (Section codeptr)) from pending q n) refl
-        either true is construct one what =
+        either true is = λ construct one what.
             let r = current_region S.world t in
             let own_met = (member_at (current_team S.world t) (current_index S.world t)).met in
             let here = and_parts (r == q) (own_met == n + 1) (sym newest-at ∙ is) in
@@ -245,15 +256,15 @@ module _ (run : Run) (S : State) (told : Tellings) (so : IsTold run S told) (own
 
   named-entry : (t : ℕ) (what : What) → IsMadeState run (does run S t what) → IsOrderly (does run S t what) → may run S t what ≡ true →
       OnShare run S so.met t told S.world → Named run (does run S t what).world (more run S t what told)
-  named-entry t Go made orderly goes start = named-turn t goes made orderly start
-  named-entry t (Put place word) made orderly goes start = put-here (pending_at S t)
+  named-entry t Go made orderly enters start = named-turn t enters made orderly start
+  named-entry t (Put place word) made orderly enters start = put-here (pending_at S t)
     where
       put-here : (callback : Option Callback) → Named run (put_from S t place word callback).world told
       put-here None = named
       put-here (Some callback) =
           team-stay (stored S.world place word) (λ q. ap (λ (x : TeamView). x.meetings) (stored-team S.world place word q))
-  named-entry t Back made orderly goes start =
-      let within = some-within run S so.met.known (pending_at S t) goes in
+  named-entry t Back made orderly enters start =
+      let within = some-within run S so.met.known (pending_at S t) enters in
       let returns = (back-leads run S so.met.known.past so.met.known.stands.knows so.met.known.stands.unbroken t within.one made orderly within.is).returns in
       team-stay (does run S t Back).world (λ q.
       ap (λ (x : TeamView). x.meetings) (returns.team q) ∙ (same-back S.world t within.one.event q).meetings)
