@@ -1,9 +1,10 @@
 -- What is so of each state: the calls that were made on each region's team are in order, and how far each member has come at its barrier.
+use Rattle.omp_model.specs.Gates.{is_barrier}
+use Rattle.team_calls.proofs.Lists.{SameLast}
 use Rattle.std.proofs.Common.{ℕ, zero, suc, ◌≡◌, ◌≢◌, ◌<◌, ◌≤◌, ◌==◌, ◌&&◌, ◌++◌, Bool, true, false, if◌then◌else◌, List, [], ◌∷◌, length, slice_index_or, refl, sym, ap, ap₂, ◌∙◌, subst, subst₂, inl, inr, arith}
 use Rattle.std.specs.Prelude.{◌⊎◌, Option, Some, None}
-use Rattle.std.proofs.lemmas.Bool.{cond-false, cond-true}
+use Rattle.std.proofs.lemmas.Bool.{cond-false, cond-true, cases_eq, eq-eqb, ne_eqb}
 use Rattle.std.proofs.lemmas.List.{append-nil}
-use Rattle.std.proofs.lemmas.Nat.{cases_eq, eq-eqb, ne_eqb}
 use Rattle.c_model.specs.declared.point.SyncStage.TheVariants as stage
 use Rattle.task_pool.specs.Tasks.{task_at as pool_task_at}
 use Rattle.task_pool.specs.View.{PoolView}
@@ -22,15 +23,15 @@ use Rattle.nested_runs.proofs.Standing.{Stand, stand_at}
 use Rattle.nested_runs.proofs.Touching.{Alike, ComesFree}
 use Rattle.guard_laws.proofs.WorksMet.{SamePlace, index_of, place-alike}
 use Rattle.team_calls.proofs.Follows.{Follows, follows-more, words-more, words_of}
-use Rattle.team_calls.proofs.Places.{PlaceOf, place-freed, place-known}
+use Rattle.team_calls.proofs.Places.{PlaceOf, place-freed, place-known, place-same}
 
 -- the calls that were made on the team of each region
 abbrev pub AllCalls : Type 0
 AllCalls = ℕ → List TeamCall
 
--- a thread is inside the begin of a wait, in this task
+-- a thread is inside the begin of a wait at a barrier, in this task
 abbrev pub is_arrival : Option Event → Bool
-is_arrival (Some (Sync which stage.WaitBegin codeptr)) = true
+is_arrival (Some (Sync which stage.WaitBegin codeptr)) = is_barrier which
 is_arrival other = false
 
 abbrev pub arriving : World → Inside → ℕ → Bool
