@@ -1,9 +1,9 @@
 -- What is so of each state: the calls that were made on each region's team are in order, and how far each member has come at its barrier.
 use Rattle.omp_model.specs.Gates.{is_barrier}
 use Rattle.team_calls.proofs.Lists.{SameLast}
-use Rattle.std.proofs.Common.{ℕ, zero, suc, ◌≡◌, ◌≢◌, ◌<◌, ◌≤◌, ◌==◌, ◌&&◌, ◌++◌, Bool, true, false, if◌then◌else◌, List, [], ◌∷◌, length, slice_index_or, refl, sym, ap, ap₂, ◌∙◌, subst, subst₂, inl, inr, arith}
-use Rattle.std.specs.Prelude.{◌⊎◌, Option, Some, None}
-use Rattle.std.proofs.lemmas.Bool.{cond-false, cond-true, cases_eq, eq-eqb, ne_eqb}
+use Rattle.std.proofs.Common.{ℕ, ◌≡◌, ◌≢◌, ◌<◌, ◌≤◌, ◌==◌, ◌&&◌, ◌++◌, Bool, true, false, if◌then◌else◌, List, [], ◌∷◌, length, slice_index_or, refl, sym, ap, ap₂, ◌∙◌, subst, subst₂, inl, inr, arith}
+use Rattle.std.specs.Prelude.{Option, Some}
+use Rattle.std.proofs.lemmas.Bool.{cases_eq, eq-eqb, ne_eqb}
 use Rattle.std.proofs.lemmas.List.{append-nil}
 use Rattle.c_model.specs.declared.point.SyncStage.TheVariants as stage
 use Rattle.task_pool.specs.Tasks.{task_at as pool_task_at}
@@ -16,14 +16,14 @@ use Rattle.omp_model.specs.declared.event.Event.TheVariants.{Sync}
 use Rattle.omp_model.specs.declared.limits.TheConstants.{IMPLICIT_REGION, INITIAL_TASK}
 use Rattle.omp_model.specs.Conditions.{has_started}
 use Rattle.omp_model.specs.Made.{IsTask}
-use Rattle.omp_model.specs.Members.{current, current_region, is_explicit_task, member_index, region_of}
-use Rattle.omp_model.specs.State.{Thread, World, pooled_at, region_at, task_at, thread_at}
+use Rattle.omp_model.specs.Members.{current, is_explicit_task, member_index, region_of}
+use Rattle.omp_model.specs.State.{World, pooled_at, region_at, task_at}
 use Rattle.nested_runs.proofs.Recorded.{Inside}
 use Rattle.nested_runs.proofs.Standing.{Stand, stand_at}
-use Rattle.nested_runs.proofs.Touching.{Alike, ComesFree}
+use Rattle.nested_runs.proofs.Touching.{Alike}
 use Rattle.guard_laws.proofs.WorksMet.{SamePlace, index_of, place-alike}
 use Rattle.team_calls.proofs.Follows.{Follows, follows-more, words-more, words_of}
-use Rattle.team_calls.proofs.Places.{PlaceOf, place-freed, place-known, place-same}
+use Rattle.team_calls.proofs.Places.{PlaceOf, place-freed, place-same}
 
 -- the calls that were made on the team of each region
 abbrev pub AllCalls : Type 0

@@ -28,13 +28,12 @@ use Rattle.c_model.specs.Task.{Task as Code}
 use Rattle.nested_runs.proofs.Known.{AtBarrier, task_of_member, IsWaiting as IsWaitingAt}
 use Rattle.team_words.specs.Calls.TeamCall.{Arrive}
 use Rattle.team_calls.proofs.Called.{AllCalls, Called, OneCall, arriving-same, called-same, follows-one, is_arrival, mets-placed, mets_of, with-there, with_call, words-here, words-there, arriving}
-use Rattle.std.proofs.Common.{ℕ, zero, suc, ◌≡◌, ◌≢◌, ◌<◌, ◌≤◌, ◌+◌, ◌==◌, ◌&&◌, ◌++◌, Bool, true, false, if◌then◌else◌, List, [], ◌∷◌, length, refl, sym, ap, ap₂, ◌∙◌, subst, subst₂, inl, inr, arith, append-nil}
-use Rattle.std.specs.Prelude.{Option, Some, None}
+use Rattle.std.proofs.Common.{ℕ, ◌≡◌, ◌≢◌, ◌<◌, ◌≤◌, ◌==◌, ◌&&◌, ◌++◌, Bool, true, false, if◌then◌else◌, List, [], ◌∷◌, length, refl, sym, ap, ap₂, ◌∙◌, subst, subst₂, inl, inr, arith, append-nil}
+use Rattle.std.specs.Prelude.{Option, Some}
 use Rattle.c_model.specs.declared.point.SyncStage.TheVariants as stage
-use Rattle.omp_model.specs.declared.event.Event.TheVariants.{ParallelBegin, Sync, TaskCreate, TaskEnd}
+use Rattle.omp_model.specs.declared.event.Event.TheVariants.{Sync, TaskCreate, TaskEnd}
 use Rattle.team_words.specs.Calls.{is_member as is_member_of, TeamCall, after_call}
 use Rattle.nested_runs.proofs.PooledTasks.{back-stack, current-made, current-same, current-under-way}
-use Rattle.nested_runs.proofs.Standing.Stand.{AtSync}
 use Rattle.team_calls.specs.Called.{calls_of_back, if_in}
 
 -- what has started then had started
@@ -52,6 +51,10 @@ started-either W t (TaskEnd task) k orderly started =
       | inr other ↦ sym (rw (ne_eqb k task other) refl) ∙ started
     ]
 started-either W t e k orderly started = started
+
+and-none : (one other : Bool) → other ≡ false → (one && other) ≡ false
+and-none true other is = is
+and-none false other is = refl
 
 -- two members of a team have two numbers
 seat-of : (run : Run) (W : World) (I : Inside) (past : List EventRecord) (t : ℕ) → Knows run W I past → (k : ℕ) → IsTask W k → is_explicit_task W k ≡ false →
@@ -243,10 +246,6 @@ module _ (run : Run) (W after : World) (I J : Inside) (past : List EventRecord) 
             arrived = λ none. ap (λ (met : Met). met.arrived) last;
           })
           (λ none. absurd (true≢false (sym barrier ∙ none))))
-
-      and-none : (one other : Bool) → other ≡ false → (one && other) ≡ false
-      and-none true other is = is
-      and-none false other is = refl
 
 -- ---- all events
 

@@ -11,9 +11,9 @@ use Rattle.omp_model.proofs.Arriving.{Arrives, arrives}
 use Rattle.task_pool.specs.declared.task.Condition.TheVariants as condition
 use Rattle.nested_runs.proofs.FirstWorlds.{replicated}
 use Rattle.nested_runs.proofs.Known.{AtBarrier, HasNotMet}
-use Rattle.std.proofs.Common.{ℕ, zero, suc, ◌≡◌, ◌≢◌, ◌<◌, ◌≤◌, ◌+◌, ◌==◌, ◌&&◌, ◌||◌, ◌++◌, Bool, true, false, if◌then◌else◌, List, [], ◌∷◌, length, replicate, slice_index_or, refl, sym, ap, ap₂, ◌∙◌, subst, subst₂, inl, inr, arith, not}
-use Rattle.std.specs.Prelude.{◌⊎◌, Option, Some, None, Result, Ok, Err, nat_lt}
-use Rattle.std.proofs.lemmas.Bool.{and_from, and_parts, cases_Bool, cond-false, cond-true, true≢false, cases_eq, cases_lt, eq-eqb, eqb-true, lt-ltb, ne_eqb}
+use Rattle.std.proofs.Common.{ℕ, ◌≡◌, ◌≢◌, ◌<◌, ◌≤◌, ◌+◌, ◌==◌, ◌&&◌, ◌||◌, ◌++◌, Bool, true, false, if◌then◌else◌, List, [], ◌∷◌, length, refl, sym, ap, ap₂, ◌∙◌, subst, subst₂, inl, inr, arith, not}
+use Rattle.std.specs.Prelude.{Option, Some, None, Result, Ok}
+use Rattle.std.proofs.lemmas.Bool.{and_from, cases_Bool, cond-false, cond-true, true≢false, cases_eq, cases_lt, eq-eqb, lt-ltb, ne_eqb}
 use Rattle.std.proofs.lemmas.List.{append-nil, get_or_past, length-replicate}
 use Rattle.c_model.specs.declared.point.Point.{Point}
 use Rattle.c_model.specs.declared.point.Point.TheVariants as point
@@ -27,13 +27,11 @@ use Rattle.c_model.specs.Task.{Outcome}
 use Rattle.c_model.specs.Task.Outcome.{Asks, Ends, Limits, Occurs, StepsTo, Traps}
 use Rattle.c_syntax.specs.language.Tree.{Tree}
 use Rattle.task_pool.specs.Tasks.{is_explicit, unfinished}
-use Rattle.task_pool.specs.declared.task.TaskKind.TheVariants as kind
 use Rattle.team_parts.specs.declared.meeting.Meeting.{Meeting}
 use Rattle.team_parts.specs.Meetings.{is_barrier as meets_at_barrier}
-use Rattle.team_parts.specs.Team.{TeamView, after_meeting, answer_to_meet, member_at, with_passed, new_member}
-use Rattle.team_parts.specs.Team as counters
-use Rattle.team_words.specs.Calls.{TeamCall, after_call, counters_after, counters_after_answer, ends_in_time, may_make, is_member as is_member_of}
-use Rattle.team_words.specs.Calls.TeamCall.{Arrive, Meet, Pass}
+use Rattle.team_parts.specs.Team.{TeamView, after_meeting, answer_to_meet, new_member}
+use Rattle.team_words.specs.Calls.{TeamCall, after_call, counters_after_answer, ends_in_time, may_make, is_member as is_member_of}
+use Rattle.team_words.specs.Calls.TeamCall.{Meet, Pass}
 use Rattle.team_words.specs.Team.{Met, Team, is_at_barrier, last_met, may_go_on, may_pass, met_by, answer_to_meet as words_answer, fresh_team as fresh_words, has_arrived, has_passed, last_number}
 use Rattle.team_words.proofs.Meets.{meet-answer}
 use Rattle.team_words.proofs.Waits.{barrier-some, wait-answer}
@@ -47,8 +45,8 @@ use Rattle.omp_model.specs.Gates.{is_barrier}
 use Rattle.omp_model.specs.Going.{Happens, after_meeting_at, barrier_met, effect_of_point, event_of_point, fault_of_point, going_by, going_in_code, meeting_at, past_point, told, work_met}
 use Rattle.omp_model.specs.Made.{IsTask}
 use Rattle.omp_model.specs.Members.{current, current_index, current_region, current_team, is_explicit_task, is_member, member_index, region_of, view_of}
-use Rattle.omp_model.specs.State.{Region, Run, World, fresh_team, no_region, pooled_at, region_at, task_at, thread_at, Thread}
-use Rattle.omp_model.specs.Touching.{AtBarrierElse, Meets, SameTeam, is_of_code, MeetsWork, regions_after}
+use Rattle.omp_model.specs.State.{Region, Run, World, fresh_team, no_region, pooled_at, region_at, task_at, Thread}
+use Rattle.omp_model.specs.Touching.{Meets, SameTeam, is_of_code, MeetsWork, regions_after}
 use Rattle.omp_model.proofs.Gos.{unless-goes, current-kept}
 use Rattle.omp_model.proofs.Guards.{member-made}
 use Rattle.omp_model.proofs.Turning.{GoOf}
@@ -57,7 +55,7 @@ use Rattle.nested_runs.proofs.Effects.{stand_after, stand_before}
 use Rattle.nested_runs.proofs.Knows.{Goes, Knows}
 use Rattle.nested_runs.proofs.Recorded.{Inside}
 use Rattle.nested_runs.proofs.Standing.{Stand, stand_at}
-use Rattle.nested_runs.proofs.Standing.Stand.{AtFork, AtMutex, AtSync, Free}
+use Rattle.nested_runs.proofs.Standing.Stand.{Free}
 use Rattle.nested_runs.proofs.CarriedMembers.{seated-started}
 use Rattle.nested_runs.proofs.RegionHeads.{fresh-region, place-within, IsNewMember, index-stays, kind-stays, new-member, plain-kinds, region-made, region-stays}
 use Rattle.nested_runs.proofs.TeamMembers.{comes-some, comes-stand}
@@ -66,8 +64,8 @@ use Rattle.guard_laws.proofs.WorkBegins.{met-answer, met-free, met-team}
 use Rattle.guard_laws.proofs.WorkGos.{current-started, one-seat, own-made, place-go}
 use Rattle.guard_laws.proofs.WorksMet.{index_of}
 use Rattle.team_calls.specs.Called.{calls_at, calls_of_next, if_in}
-use Rattle.team_calls.proofs.Called.{AllCalls, Called, OneCall, arriving, follows-one, is_arrival, mets-placed, mets_of, with-here, with-none, with-there, with_call, words-here, words-there, arriving-same, called-same}
-use Rattle.team_calls.proofs.Follows.{Follows, FollowsOf, keeps, words-met, words-size, words_of}
+use Rattle.team_calls.proofs.Called.{AllCalls, Called, OneCall, arriving, follows-one, is_arrival, mets-placed, mets_of, with-there, with_call, words-here, words-there, arriving-same, called-same}
+use Rattle.team_calls.proofs.Follows.{Follows, keeps, words-met, words-size, words_of}
 use Rattle.team_calls.proofs.Lists.{met-other, met-own, passed-other, passed-own}
 use Rattle.team_calls.proofs.Places.{IsAtBarrier, IsWaiting, MayMeet, PlaceOf, at-barrier, at-none, goes-none, goes-past, goes-work, of-barrier, place-known}
 

@@ -46,7 +46,7 @@ use Rattle.omp_model.specs.declared.event.Arrival.{Arrival}
 use Rattle.team_words.specs.Calls.{AreMade, TeamCall}
 use Rattle.omp_model.specs.Legal.{AllowsFrom, Legal, after, after_from, does, entered, may, put_from}
 use Rattle.team_calls.proofs.Called.{AllCalls, called-same, called-stays, Called}
-use Rattle.std.proofs.Common.{ℕ, zero, suc, ◌≡◌, ◌≤◌, ◌<◌, ◌++◌, Bool, true, false, List, [], ◌∷◌, length, if◌then◌else◌, ◌+◌, refl, sym, ap, ap₂, ◌∙◌, subst, subst₂, arith, append-nil, append_assoc}
+use Rattle.std.proofs.Common.{ℕ, zero, suc, ◌≡◌, ◌≤◌, ◌<◌, ◌++◌, true, false, List, [], ◌∷◌, if◌then◌else◌, ◌+◌, refl, sym, ap, ap₂, ◌∙◌, subst, subst₂, arith, append-nil, append_assoc}
 use Rattle.std.specs.Prelude.{Option, Some, None, option_map, nat_le, slice_index_or}
 use Rattle.omp_model.specs.declared.event.Outcome.TheVariants as outcome
 use Rattle.team_calls.specs.Called.{calls_of, calls_of_callback, calls_of_entries, calls_of_entry, calls_of_turn, size_of, team_of, calls_by, calls_of_outcome, calls_of_step, calls_of_steps, if_in, calls_on, calls_at}
@@ -68,8 +68,7 @@ module _ (run : Run) (S : State) (told : Tellings) (so : IsTold run S told) (cal
     -- the same threads are inside callbacks
     same-inside : (now : AllCalls) → next.pending ≡ S.pending → Called next.world (inside S) now → Called next.world (inside next) now
     same-inside now pending held =
-        subst (λ (I : Inside). Called next.world I now)
-        (ap (λ (places : List (Option Callback)) (u : ℕ). option_map event_in (slice_index_or places u None)) (sym pending)) held
+        subst (λ (I : Inside). Called next.world I now) (λ i u. option_map event_in (slice_index_or (sym pending i) u None)) held
 
     came-by : (now : AllCalls) (came : TurnOutcome) → Leaves S t next came → Came run S so.met t told outside calls start next.world now came →
         Called next.world (inside next) now

@@ -54,9 +54,9 @@ use Rattle.team_calls.proofs.Called.{AllCalls, called-asks, called-same, called-
 use Rattle.nested_runs.proofs.Touching.{Alike}
 use Rattle.c_model.specs.declared.point.WorkKind.TheVariants as work_kind
 use Rattle.c_model.specs.declared.question.Ask.TheVariants as ask
-use Rattle.std.proofs.Common.{ℕ, zero, suc, ◌≡◌, ◌≢◌, ◌<◌, ◌≤◌, ◌+◌, ◌==◌, ◌&&◌, ◌++◌, Bool, true, false, if◌then◌else◌, List, [], ◌∷◌, length, refl, sym, ap, ap₂, ◌∙◌, subst, subst₂, inl, inr, arith, append-nil}
+use Rattle.std.proofs.Common.{ℕ, zero, suc, ◌≡◌, ◌≢◌, ◌<◌, ◌≤◌, ◌+◌, ◌==◌, ◌&&◌, ◌++◌, Bool, true, false, if◌then◌else◌, List, [], ◌∷◌, length, refl, sym, ap, ◌∙◌, subst, inl, inr, arith, append-nil}
 use Rattle.std.specs.Prelude.{Option, Some, None, nat_le, nat_lt}
-use Rattle.team_calls.specs.Called.{calls_by, calls_of_ask, calls_of_step, calls_of_steps, calls_on, if_in}
+use Rattle.team_calls.specs.Called.{calls_by, calls_of_step, calls_of_steps, calls_on, if_in}
 
 none-some : (e : Event) → None ≡ Some e → ⊥
 none-some e is = cc
