@@ -33,10 +33,10 @@ use Rattle.omp_model.proofs.Guards.{member-made}
 use Rattle.omp_model.proofs.MadeRuns.{made-after}
 use Rattle.omp_model.proofs.OrderlyRuns.{orderly-after}
 use Rattle.omp_model.proofs.Turning.{of-walk}
-use Rattle.nested_runs.specs.Knows.{IsWholeRun}
-use Rattle.nested_runs.specs.Recorded.{inside}
-use Rattle.nested_runs.specs.Shown.{opens_at}
-use Rattle.nested_runs.specs.Touching.{AreCodes}
+use Rattle.nested_runs.proofs.Knows.{IsWholeRun}
+use Rattle.nested_runs.proofs.Recorded.{inside}
+use Rattle.nested_runs.proofs.Shown.{opens_at}
+use Rattle.nested_runs.proofs.Touching.{AreCodes}
 use Rattle.nested_runs.proofs.AlikeSteps.{alike-same}
 use Rattle.nested_runs.proofs.Keeping.{knows-stays}
 use Rattle.nested_runs.proofs.PooledTasks.{current-made, current-under-way}

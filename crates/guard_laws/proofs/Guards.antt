@@ -19,10 +19,10 @@ use Rattle.omp_model.specs.Members.{current, member_index}
 use Rattle.omp_model.specs.State.{Run, State, Thread, region_at, task_at, thread_at}
 use Rattle.omp_model.specs.Touching.{joined_by}
 use Rattle.omp_model.specs.Turn.{Turn, enabled, turn}
-use Rattle.nested_runs.specs.Known.{HasForked, HoldsRegion}
-use Rattle.nested_runs.specs.Knows.{IsWholeRun}
-use Rattle.nested_runs.specs.Standing.{stand_among, stand_at}
-use Rattle.nested_runs.specs.Standing.Stand.{AtFork}
+use Rattle.nested_runs.proofs.Known.{HasForked, HoldsRegion}
+use Rattle.nested_runs.proofs.Knows.{IsWholeRun}
+use Rattle.nested_runs.proofs.Standing.{stand_among, stand_at}
+use Rattle.nested_runs.proofs.Standing.Stand.{AtFork}
 use Rattle.guard_laws.proofs.Masks.{all_told, legal-told, told-after, told-next, whole-told}
 use Rattle.guard_laws.proofs.KnownStates.{KnownGo, known-event}
 

@@ -17,8 +17,8 @@ use Rattle.omp_model.specs.State.{Run, State, World, first, pending_at}
 use Rattle.omp_model.specs.Turn.{enabled, turn}
 use Rattle.omp_model.proofs.MadeRuns.{made-after}
 use Rattle.omp_model.proofs.OrderlyRuns.{orderly-after}
-use Rattle.nested_runs.specs.Knows.{Goes, IsWholeRun, Stays}
-use Rattle.nested_runs.specs.Recorded.{inside, recorded}
+use Rattle.nested_runs.proofs.Knows.{Goes, IsWholeRun, Stays}
+use Rattle.nested_runs.proofs.Recorded.{inside, recorded}
 use Rattle.nested_runs.proofs.Histories.{Stands}
 use Rattle.nested_runs.proofs.Keeping.{keeps-go, knows-back, knows-first, knows-go, knows-stays}
 use Rattle.nested_runs.proofs.Turned.{Happened, Led, back-leads, put-leads, turn-leads}

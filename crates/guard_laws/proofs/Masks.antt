@@ -29,7 +29,7 @@ use Rattle.omp_model.specs.Silent.{Goes, Silence, Stops, silent_step}
 use Rattle.omp_model.specs.State.{Run, State, World, first, pending_at}
 use Rattle.omp_model.specs.Turn.{Turn, Walk, after_steps, after_walk, going_past, halted, stepped, turn, unlimited, walk, walk_by, walk_on, walked, with_going}
 use Rattle.omp_model.specs.Words.{is_made}
-use Rattle.nested_runs.specs.Knows.{IsWholeRun}
+use Rattle.nested_runs.proofs.Knows.{IsWholeRun}
 use Rattle.nested_runs.proofs.Histories.{registered}
 
 -- the same run with all callbacks of the profile registered

@@ -20,6 +20,7 @@ use Rattle.c_model.specs.Upcoming.{is_in_exclusive}
 use Rattle.code_brackets.specs.Opened.{Open}
 use Rattle.code_brackets.specs.Opened.Open.{Works}
 use Rattle.team_parts.specs.declared.meeting.Meeting.{Meeting}
+use Rattle.team_parts.specs.declared.meeting.Meeting.TheVariants as meeting
 use Rattle.team_parts.specs.declared.meeting.Mismatch.{Mismatch}
 use Rattle.team_parts.specs.Meetings.{HasChunk, HasChunkOf}
 use Rattle.team_parts.specs.Team.{after_meeting, answer_to_meet}
@@ -39,8 +40,8 @@ use Rattle.omp_model.proofs.Gos.{unless-goes}
 use Rattle.omp_model.proofs.Guards.{member-made}
 use Rattle.omp_model.proofs.Rewrites.{region-below}
 use Rattle.omp_model.proofs.Turning.{Beside, GoOf, OfCode}
-use Rattle.nested_runs.specs.Shown.{opens_at}
-use Rattle.nested_runs.specs.Touching.{AreCodes}
+use Rattle.nested_runs.proofs.Shown.{opens_at}
+use Rattle.nested_runs.proofs.Touching.{AreCodes}
 use Rattle.nested_runs.proofs.Codes.{answer-open}
 use Rattle.guard_laws.proofs.FreeCodes.{task-free}
 use Rattle.guard_laws.proofs.LastMeetings.{FitsOpen, is_work}
@@ -50,29 +51,35 @@ abbrev pub IsFree : World → ℕ → Type 0
 IsFree W t = list_any is_work (opens_at W (current W t)) ≡ false
 
 -- the team has met what is open now
-pub record BeginsWork (W after : World) (t : ℕ) (which : WorkKind) (count : ℕ) : Type 0 where
+-- sections at this place
+abbrev pub HasPlace : ℕ → Meeting → Type 0
+HasPlace codeptr (meeting.Sections at count) = at ≡ codeptr
+HasPlace codeptr other = Unit {0}
+
+pub record BeginsWork (W after : World) (t : ℕ) (which : WorkKind) (count codeptr : ℕ) : Type 0 where
   pub free : IsFree W t
   pub what : Meeting
   pub chunk : HasChunk what
   pub fits : FitsOpen (Some what) (Works which count)
+  pub place : HasPlace codeptr what
   pub first : Bool
   pub answer : answer_to_meet (current_team W t) (current_index W t) what ≡ Ok first
   pub team : (region_at after (current_region W t)).team ≡ after_meeting (current_team W t) (current_index W t) what
 
 abbrev pub MeetsFree : World → World → ℕ → Event → Type 0
-MeetsFree W after t (event.Work Begin which count codeptr) = BeginsWork W after t which count
+MeetsFree W after t (event.Work Begin which count codeptr) = BeginsWork W after t which count codeptr
 MeetsFree W after t (event.Sync which stage.RegionBegin codeptr) = is_barrier which ≡ true → IsFree W t
 MeetsFree W after t other = Unit {0}
 
 -- ---- an event of the code
 
 -- what members meet is no trap: none is within another construct
-record IsMet (exclusive : Bool) (given : Result Bool Mismatch) : Type 0 where
-  free : exclusive ≡ false
-  first : Bool
-  is : given ≡ Ok first
+pub record IsMet (exclusive : Bool) (given : Result Bool Mismatch) : Type 0 where
+  pub free : exclusive ≡ false
+  pub first : Bool
+  pub is : given ≡ Ok first
 
-met-free : (explicit exclusive : Bool) (given : Result Bool Mismatch) →
+pub met-free : (explicit exclusive : Bool) (given : Result Bool Mismatch) →
     (if explicit then Some (Trap NESTING) else fault_of_meeting exclusive given) ≡ None → IsMet exclusive given
 met-free true exclusive given fine = cc
 met-free false exclusive (Err mismatch) fine = cc
@@ -96,12 +103,12 @@ module _ (run : Run) (W : World) (t : ℕ) (made : IsMadeWorld W) (codes : AreCo
       ∙ task-free (told W t).task is
 
   -- the thread is a member of the team
-  met-answer : (what : Meeting) (first : Bool) → meeting_at W t what ≡ Ok first →
+  pub met-answer : (what : Meeting) (first : Bool) → meeting_at W t what ≡ Ok first →
       answer_to_meet (current_team W t) (current_index W t) what ≡ Ok first
   met-answer what first is =
       sym (ap (λ (b : Bool). if b then answer_to_meet (current_team W t) (current_index W t) what else Ok false) (member-made W t made some)) ∙ is
 
-  met-team : (what : Meeting) →
+  pub met-team : (what : Meeting) →
       (region_at (after_meeting_at W t what) (current_region W t)).team ≡ after_meeting (current_team W t) (current_index W t) what
   met-team what =
       let r = current_region W t in
@@ -110,15 +117,16 @@ module _ (run : Run) (W : World) (t : ℕ) (made : IsMadeWorld W) (codes : AreCo
       ∙ ap (λ (x : Region). x.team) (get_or-set_same W.regions r region no_region (region-below W t made))
 
   begins : (codeptr : ℕ) (what : Work) (which : WorkKind) (count : ℕ) → HasChunk (work_met codeptr what) →
-      FitsOpen (Some (work_met codeptr what)) (Works which count) → meeting_fault W t (told W t).task (work_met codeptr what) ≡ None →
-      BeginsWork W (past_point W (after_meeting_at W t (work_met codeptr what)) t (told W t) (point.WorkBegin codeptr what)) t which count
-  begins codeptr what which count chunk fits fine =
+      FitsOpen (Some (work_met codeptr what)) (Works which count) → HasPlace codeptr (work_met codeptr what) → meeting_fault W t (told W t).task (work_met codeptr what) ≡ None →
+      BeginsWork W (past_point W (after_meeting_at W t (work_met codeptr what)) t (told W t) (point.WorkBegin codeptr what)) t which count codeptr
+  begins codeptr what which count chunk fits place fine =
       let now = met-free (is_explicit_task W (current W t)) (is_in_exclusive (told W t).task) (meeting_at W t (work_met codeptr what)) fine in
       record {
         free = free now.free;
         what = work_met codeptr what;
         chunk = chunk;
         fits = fits;
+        place = place;
         first = now.first;
         answer = met-answer (work_met codeptr what) now.first now.is;
         team = met-team (work_met codeptr what);
@@ -128,10 +136,10 @@ module _ (run : Run) (W : World) (t : ℕ) (made : IsMadeWorld W) (codes : AreCo
       MeetsFree W (past_point W (effect_of_point run W t (told W t) what) t (told W t) what) t (event_of_point W t what)
   unfolding effect_of_point fault_of_point
   free-point (point.WorkBegin codeptr (work.Loop start count step how)) fine =
-      begins codeptr (work.Loop start count step how) _ count (has-chunk how) (refl, has-chunk how) fine
-  free-point (point.WorkBegin codeptr (work.Sections count)) fine = begins codeptr (work.Sections count) _ count tt refl fine
+      begins codeptr (work.Loop start count step how) _ count (has-chunk how) (refl, has-chunk how) tt fine
+  free-point (point.WorkBegin codeptr (work.Sections count)) fine = begins codeptr (work.Sections count) _ count tt refl refl fine
   free-point (point.WorkBegin codeptr work.Single) fine =
-      begins codeptr work.Single _ 1 tt (single-fits (work_met codeptr work.Single) (executes_work W t codeptr work.Single)) fine
+      begins codeptr work.Single _ 1 tt (single-fits (work_met codeptr work.Single) (executes_work W t codeptr work.Single)) tt fine
   free-point (point.Sync codeptr which stage.RegionBegin) fine = λ barrier.
       free (met-free (is_explicit_task W (current W t)) (is_in_exclusive (told W t).task) (meeting_at W t (barrier_met codeptr which))
       (sym (cond-true (is_barrier which) (meeting_fault W t (told W t).task (barrier_met codeptr which)) None barrier) ∙ fine)).free

@@ -24,11 +24,11 @@ use Rattle.omp_model.specs.Going.{barrier_met}
 use Rattle.omp_model.specs.Made.{IsTask}
 use Rattle.omp_model.specs.Touching.{AtBarrierElse, Meets, SameTeam, is_of_code}
 use Rattle.omp_model.proofs.MadeEvents.{current-below}
-use Rattle.nested_runs.specs.Effects.{effect_of_event, opens_after}
-use Rattle.nested_runs.specs.Known.{task_of_member}
-use Rattle.nested_runs.specs.Knows.{Goes}
-use Rattle.nested_runs.specs.Recorded.{Inside}
-use Rattle.nested_runs.specs.Shown.{opens_at}
+use Rattle.nested_runs.proofs.Effects.{effect_of_event, opens_after}
+use Rattle.nested_runs.proofs.Known.{task_of_member}
+use Rattle.nested_runs.proofs.Knows.{Goes}
+use Rattle.nested_runs.proofs.Recorded.{Inside}
+use Rattle.nested_runs.proofs.Shown.{opens_at}
 use Rattle.nested_runs.proofs.GoMembers.{started-go}
 use Rattle.nested_runs.proofs.KeptTasks.{none-opens}
 use Rattle.nested_runs.proofs.LastTeams.{Left, Met, Passed, TeamGoes, team-goes}

@@ -18,8 +18,8 @@ use Rattle.omp_model.specs.Made.{IsTask}
 use Rattle.omp_model.specs.Members.{current_index, current_region, is_explicit_task, member_index, region_of}
 use Rattle.omp_model.specs.State.{Run, World, first_world, fresh_team, pooled_at, region_at, task_at}
 use Rattle.omp_model.specs.Touching.{Returns, team_back}
-use Rattle.nested_runs.specs.Shown.{opens_at}
-use Rattle.nested_runs.specs.Touching.{Alike}
+use Rattle.nested_runs.proofs.Shown.{opens_at}
+use Rattle.nested_runs.proofs.Touching.{Alike}
 use Rattle.nested_runs.proofs.Codes.{main-open}
 use Rattle.nested_runs.proofs.FirstWorlds.{first-tasks, replicated}
 use Rattle.nested_runs.proofs.GoCodes.{none-open}

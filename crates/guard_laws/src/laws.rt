@@ -30,8 +30,8 @@ pub fn region_ends_name_regions()
         let W = (turn run (after run history) t).state.world in IsForkedRegion W r × ((region_at W r).head.task ≡ current W t) }
 {}
 
-/// Where a member of a team has just begun after a legal history, the end of its region stands next in the code of the task that has forked the region, and
-/// its own code is what this code has for a member. So no member begins without its region's code. The run has 1 to 16 threads, and its program breaks no
+/// This is of a member of a team that has just begun after a legal history. The end of its region stands next in the code of the task that has forked the
+/// region, and its own code is what this code has for a member. So no member begins without its region's code. The run has 1 to 16 threads, and its program breaks no
 /// rule.
 pub fn members_have_code()
     ensures stands { (run : Run) (history : List Entry) (t r k : ℕ) → 1 ≤ run.threads → run.threads ≤ 16 → Checked run.program →

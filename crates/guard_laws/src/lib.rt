@@ -1,7 +1,7 @@
 //! What the guards in the definitions of a run leave out never comes up.
 //!
-//! The definitions of a run answer in each state, also in states that no run comes to: a region may end where none was forked, a member may begin
-//! where there is no code for it, and a team may deal what doesn't fit the loop or sections that ask. Here these cases are shown to be none of a run of
+//! The definitions of a run answer in each state, also in states that no run comes to. A region may end there where none was forked, and a member
+//! may begin where there is no code for it. A team may deal what doesn't fit the loop or sections that ask. Here these cases are shown to be none of a run of
 //! a program that breaks no rule, whichever callbacks are registered.
 //!
 //! Proved, as laws of the definitions:
@@ -11,8 +11,8 @@
 //!   member has the code that this one has for it;
 //! - [`deals_fit_the_asker`]: where a silent step asks for a chunk or a section, it is answered what the team deals, of which nothing is left out.
 //!
-//! The last one stands on what is so of each state of such a run (`proofs/WorksMet.antt`): the worksharing construct that a task has open is what its
-//! member has met last in its team, with as many iterations or sections.
+//! The last one stands on what is so of each state of such a run (`proofs/WorksMet.antt`). The worksharing construct that a task has open is what
+//! its member has met last in its team, with as many iterations or sections.
 //!
 //! The crate has no code that runs.
 #![tactic(auto)]

@@ -41,10 +41,10 @@ use Rattle.omp_model.proofs.Later.{at-set}
 use Rattle.omp_model.proofs.Reading.{read-same}
 use Rattle.omp_model.proofs.Turning.{AfterSilence}
 use Rattle.omp_model.proofs.Arriving.{Arrives, arrives}
-use Rattle.nested_runs.specs.Shown.{opens_at}
-use Rattle.nested_runs.specs.Standing.{HasCourse, Stand, is_behind, stand_among, stand_at}
-use Rattle.nested_runs.specs.Standing.Stand.{Free}
-use Rattle.nested_runs.specs.Touching.{Alike, AreCodes, ComesFree, Fits, MayTake, TakesShare}
+use Rattle.nested_runs.proofs.Shown.{opens_at}
+use Rattle.nested_runs.proofs.Standing.{HasCourse, Stand, is_behind, stand_among, stand_at}
+use Rattle.nested_runs.proofs.Standing.Stand.{Free}
+use Rattle.nested_runs.proofs.Touching.{Alike, AreCodes, ComesFree, Fits, MayTake, TakesShare}
 use Rattle.nested_runs.proofs.Codes.{answer-open, answer-orderly, settled-open, settled-orderly, step-open, step-orderly}
 use Rattle.nested_runs.proofs.Courses.{KeepsCourse, course-answer, course-settled, course-step}
 use Rattle.nested_runs.proofs.Stands.{asks-chunk, asks-section, stand-answer, stand-settled, stand-step}

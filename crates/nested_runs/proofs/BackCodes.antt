@@ -16,10 +16,10 @@ use Rattle.omp_model.specs.Made.{IsMadeState, MadePending}
 use Rattle.omp_model.specs.Touching.{Returns, come_to, pooled_back}
 use Rattle.omp_model.proofs.MadeRuns.{first-made}
 use Rattle.omp_model.proofs.OrderlyRuns.{orderly-after}
-use Rattle.nested_runs.specs.Recorded.{event_in, inside}
-use Rattle.nested_runs.specs.Knows.{IsSound, IsSoundEvent, IsWholeRun}
-use Rattle.nested_runs.specs.Standing.{HasCourse}
-use Rattle.nested_runs.specs.Touching.{AreCodes}
+use Rattle.nested_runs.proofs.Recorded.{event_in, inside}
+use Rattle.nested_runs.proofs.Knows.{IsSound, IsSoundEvent, IsWholeRun}
+use Rattle.nested_runs.proofs.Standing.{HasCourse}
+use Rattle.nested_runs.proofs.Touching.{AreCodes}
 use Rattle.nested_runs.proofs.Codes.{main-orderly}
 
 -- where there is no code it stands in order, and is behind all that it has

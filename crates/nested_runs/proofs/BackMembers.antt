@@ -20,9 +20,9 @@ use Rattle.omp_model.specs.Gates.{all_left}
 use Rattle.omp_model.specs.Made.{IsTask}
 use Rattle.omp_model.specs.Members.{member_index, region_of}
 use Rattle.omp_model.specs.Touching.{head_back, is_summoned, pooled_back, thread_back}
-use Rattle.nested_runs.specs.Known.{HasGone, IsLeaving, IsSeated, TellsMembers, TellsRegion, has_left_region, task_of_member}
-use Rattle.nested_runs.specs.Knows.{ComesBack, IsWholeRun, Knows, Stays}
-use Rattle.nested_runs.specs.Recorded.{Inside, inside}
+use Rattle.nested_runs.proofs.Known.{HasGone, IsLeaving, IsSeated, TellsMembers, TellsRegion, has_left_region, task_of_member}
+use Rattle.nested_runs.proofs.Knows.{ComesBack, IsWholeRun, Knows, Stays}
+use Rattle.nested_runs.proofs.Recorded.{Inside, inside}
 use Rattle.nested_runs.proofs.CarriedMembers.{Carries, gone-carried, region-carried, seated-carried, seated-started}
 use Rattle.nested_runs.proofs.FirstWorlds.{first-inside, first-threads}
 use Rattle.nested_runs.proofs.ListCounts.{all-with-set}

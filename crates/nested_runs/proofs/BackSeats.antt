@@ -23,12 +23,12 @@ use Rattle.omp_model.specs.Conditions.{IsUnderWay}
 use Rattle.omp_model.specs.Made.{IsRegion, IsTaskOf}
 use Rattle.omp_model.specs.Touching.{Returns, forked_back, head_back, is_summoned, pooled_back, thread_back}
 use Rattle.omp_model.proofs.MadeEvents.{current-below}
-use Rattle.nested_runs.specs.Recorded.{Inside}
-use Rattle.nested_runs.specs.Standing.{stand_among, stand_at}
-use Rattle.nested_runs.specs.Standing.Stand.{AtFork}
-use Rattle.nested_runs.specs.Touching.{MayTake}
-use Rattle.nested_runs.specs.Known.{HasGone, IsBusy, IsChain, IsDetained, IsCreating, IsForker, IsForking, IsIdle, IsInvited, IsLeaving, IsSeated, TellsRegion, is_running, stands_on, task_of_member}
-use Rattle.nested_runs.specs.Knows.{ComesBack, Knows}
+use Rattle.nested_runs.proofs.Recorded.{Inside}
+use Rattle.nested_runs.proofs.Standing.{stand_among, stand_at}
+use Rattle.nested_runs.proofs.Standing.Stand.{AtFork}
+use Rattle.nested_runs.proofs.Touching.{MayTake}
+use Rattle.nested_runs.proofs.Known.{HasGone, IsBusy, IsChain, IsDetained, IsCreating, IsForker, IsForking, IsIdle, IsInvited, IsLeaving, IsSeated, TellsRegion, is_running, stands_on, task_of_member}
+use Rattle.nested_runs.proofs.Knows.{ComesBack, Knows}
 use Rattle.nested_runs.proofs.Chains.{Grown, HasMember, KeepsPlace, all-on, apart-currents, chain-grown, first-member, lacks-current, outermost-grown, top-implicit}
 use Rattle.nested_runs.proofs.Errands.{LikeThread, StaysForking, below-event, busy-like, detained-like, invited-like, shares-like}
 use Rattle.nested_runs.proofs.GoFrames.{SameKind, come-kind}

@@ -13,10 +13,10 @@ use Rattle.omp_model.specs.declared.event.Event.TheVariants.{Sync}
 use Rattle.omp_model.specs.State.{Run, Thread, World, region_at}
 use Rattle.omp_model.specs.Gates.{is_barrier}
 use Rattle.omp_model.specs.Members.{current, current_index, current_region}
-use Rattle.nested_runs.specs.Known.{AtBarrier, HasNotMet, IsWaiting, TellsMember, owed, task_of_member}
-use Rattle.nested_runs.specs.Knows.{ComesBack}
-use Rattle.nested_runs.specs.Recorded.{Inside}
-use Rattle.nested_runs.specs.Standing.{stand_at, stand_among}
+use Rattle.nested_runs.proofs.Known.{AtBarrier, HasNotMet, IsWaiting, TellsMember, owed, task_of_member}
+use Rattle.nested_runs.proofs.Knows.{ComesBack}
+use Rattle.nested_runs.proofs.Recorded.{Inside}
+use Rattle.nested_runs.proofs.Standing.{stand_at, stand_among}
 use Rattle.nested_runs.proofs.PooledTasks.{back-stack, current-same}
 use Rattle.nested_runs.proofs.RegionHeads.{place-within, plain-seated}
 use Rattle.nested_runs.proofs.TeamMembers.{SameMember}

@@ -15,12 +15,12 @@ use Rattle.omp_model.specs.Gates.{is_barrier}
 use Rattle.omp_model.specs.Members.{current, current_index, current_region, is_explicit_task}
 use Rattle.omp_model.specs.Touching.{is_of_code}
 use Rattle.trace_check.specs.Before.{joins, waits_of}
-use Rattle.nested_runs.specs.Effects.{stand_after}
-use Rattle.nested_runs.specs.Known.{AtBarrier, HasNotMet, HaveBegun, IsWaiting, TellsMember, owed, task_of_member}
-use Rattle.nested_runs.specs.Knows.{Goes}
-use Rattle.nested_runs.specs.Recorded.{Inside, recorded}
-use Rattle.nested_runs.specs.Standing.{stand_at}
-use Rattle.nested_runs.specs.Standing.Stand.{AtSync}
+use Rattle.nested_runs.proofs.Effects.{stand_after}
+use Rattle.nested_runs.proofs.Known.{AtBarrier, HasNotMet, HaveBegun, IsWaiting, TellsMember, owed, task_of_member}
+use Rattle.nested_runs.proofs.Knows.{Goes}
+use Rattle.nested_runs.proofs.Recorded.{Inside, recorded}
+use Rattle.nested_runs.proofs.Standing.{stand_at}
+use Rattle.nested_runs.proofs.Standing.Stand.{AtSync}
 use Rattle.nested_runs.proofs.PooledTasks.{tasks-grow, apart, current-made, current-same}
 use Rattle.nested_runs.proofs.RegionHeads.{IsNewMember, JoinsAt, fresh-region, head-same, kind-stays, member-cases, old-region, one-place, place-within, plain-seated}
 use Rattle.nested_runs.proofs.TeamMembers.{OwnMember, SameMember, comes-some, comes-stand, moves, moves-code, own-member, passed_by, same-member, waits-more, waits-own, waits-same, waits_by}

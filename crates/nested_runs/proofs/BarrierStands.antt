@@ -12,10 +12,10 @@ use Rattle.omp_model.specs.declared.event.Event.TheVariants.{MemberBegin, MutexA
 use Rattle.omp_model.specs.State.{Task, World, pooled_at}
 use Rattle.omp_model.specs.Members.{current}
 use Rattle.trace_check.specs.Before.{joins, waits_of}
-use Rattle.nested_runs.specs.Effects.{stand_after, stand_before}
-use Rattle.nested_runs.specs.Known.{AtBarrier, HasNotMet, IsWaiting, owed}
-use Rattle.nested_runs.specs.Standing.{Stand, stand_at, stand_among}
-use Rattle.nested_runs.specs.Standing.Stand.{Free, AtSync}
+use Rattle.nested_runs.proofs.Effects.{stand_after, stand_before}
+use Rattle.nested_runs.proofs.Known.{AtBarrier, HasNotMet, IsWaiting, owed}
+use Rattle.nested_runs.proofs.Standing.{Stand, stand_at, stand_among}
+use Rattle.nested_runs.proofs.Standing.Stand.{Free, AtSync}
 use Rattle.nested_runs.proofs.PooledTasks.{unmade-task}
 use Rattle.nested_runs.proofs.RegionHeads.{Joins}
 use Rattle.nested_runs.proofs.TeamMembers.{SameMember, met_by, moves, waits_by}

@@ -14,8 +14,8 @@ use Rattle.omp_model.specs.State.{World}
 use Rattle.omp_model.specs.Calls.{call_of}
 use Rattle.trace_check.specs.Brackets.{change_of, changed}
 use Rattle.trace_check.specs.Before.{creation_of, events_of, has_ended, held_after, is_end, is_of, join_of, latest, left_task, opened, region_begun, region_ended, region_made, task_completed, task_made, task_started, waiter}
-use Rattle.nested_runs.specs.Readings.{begun_by, change_by, completed_by, created_by, ended_by, held_by, joined_by, left_by, region_by, started_by, task_by, waiting_by}
-use Rattle.nested_runs.specs.Recorded.{recorded}
+use Rattle.nested_runs.proofs.Readings.{begun_by, change_by, completed_by, created_by, ended_by, held_by, joined_by, left_by, region_by, started_by, task_by, waiting_by}
+use Rattle.nested_runs.proofs.Recorded.{recorded}
 
 -- ---- one call
 

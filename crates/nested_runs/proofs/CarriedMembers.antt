@@ -11,9 +11,9 @@ use Rattle.omp_model.specs.Gates.{all_left}
 use Rattle.omp_model.specs.Made.{IsTask}
 use Rattle.omp_model.specs.Members.{member_index, region_of}
 use Rattle.trace_check.specs.Before.{Join, has_left, joins_of}
-use Rattle.nested_runs.specs.Known.{HasGone, IsJoin, IsMemberTask, IsSeated, TellsRegion, has_left_region, is_some_task, task_of_member}
-use Rattle.nested_runs.specs.Knows.{Knows}
-use Rattle.nested_runs.specs.Recorded.{Inside}
+use Rattle.nested_runs.proofs.Known.{HasGone, IsJoin, IsMemberTask, IsSeated, TellsRegion, has_left_region, is_some_task, task_of_member}
+use Rattle.nested_runs.proofs.Knows.{Knows}
+use Rattle.nested_runs.proofs.Recorded.{Inside}
 
 -- ---- what stays
 

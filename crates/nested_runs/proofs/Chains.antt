@@ -9,9 +9,9 @@ use Rattle.omp_model.specs.Members.{current, is_outermost, region_of}
 use Rattle.omp_model.specs.Conditions.{AreOrderly, Distinct, IsUnderWay, Lacks}
 use Rattle.omp_model.specs.Made.{IsMadeWorld, IsRegion, IsTask, IsTaskOf}
 use Rattle.omp_model.proofs.MadeEvents.{first-of}
-use Rattle.nested_runs.specs.Standing.{stand_at}
-use Rattle.nested_runs.specs.Standing.Stand.{AtFork}
-use Rattle.nested_runs.specs.Known.{HasForked, IsChain, IsInitialOn, IsMemberOf, IsMemberOn, IsTaskOn, stands_on}
+use Rattle.nested_runs.proofs.Standing.{stand_at}
+use Rattle.nested_runs.proofs.Standing.Stand.{AtFork}
+use Rattle.nested_runs.proofs.Known.{HasForked, IsChain, IsInitialOn, IsMemberOf, IsMemberOn, IsTaskOn, stands_on}
 
 -- ---- stacks
 

@@ -25,10 +25,10 @@ use Rattle.code_brackets.proofs.Forking.{forks_next}
 use Rattle.code_brackets.proofs.ReturnPrograms.{returns_outside}
 use Rattle.code_brackets.proofs.TurningTasks.{answer_is_orderly, answer_same, ended_none, event_is_orderly, event_leads, explicit_is_orderly, explicit_none, main_is_orderly, main_none, member_is_orderly, member_none, settled_is_orderly, settled_same, step_is_orderly, step_same}
 use Rattle.omp_model.specs.State.{World, task_at}
-use Rattle.nested_runs.specs.Shown.{opens_at}
-use Rattle.nested_runs.specs.Standing.{stand_among, stand_at, stand_within}
-use Rattle.nested_runs.specs.Standing.Stand.{AtFork}
-use Rattle.nested_runs.specs.Touching.{AreCodes}
+use Rattle.nested_runs.proofs.Shown.{opens_at}
+use Rattle.nested_runs.proofs.Standing.{stand_among, stand_at, stand_within}
+use Rattle.nested_runs.proofs.Standing.Stand.{AtFork}
+use Rattle.nested_runs.proofs.Touching.{AreCodes}
 
 pub returns-outside : (program : TreeView) → Checked program → IsProgramFormed program → HasReturnsOutside program
 returns-outside program checked formed = returns_outside program checked formed

@@ -28,11 +28,11 @@ use Rattle.omp_model.specs.Gates.{held_tasks, next_task}
 use Rattle.omp_model.specs.Made.{IsMadeWorld, IsTask}
 use Rattle.omp_model.proofs.Arriving.{Begins, IsOver, IsWaiting, Ready, Reached, Undeferred, ready-within}
 use Rattle.omp_model.proofs.MadeEvents.{Found, current-below, found-last}
-use Rattle.nested_runs.specs.Coming.{Comes, ComesToTask}
-use Rattle.nested_runs.specs.Shown.{opens_at}
-use Rattle.nested_runs.specs.Standing.{is_behind, stand_among, stand_at, stand_within}
-use Rattle.nested_runs.specs.Standing.Stand.{Free, AtFork, AtMutex, AtSync}
-use Rattle.nested_runs.specs.Touching.{AreCodes}
+use Rattle.nested_runs.proofs.Coming.{Comes, ComesToTask}
+use Rattle.nested_runs.proofs.Shown.{opens_at}
+use Rattle.nested_runs.proofs.Standing.{is_behind, stand_among, stand_at, stand_within}
+use Rattle.nested_runs.proofs.Standing.Stand.{Free, AtFork, AtMutex, AtSync}
+use Rattle.nested_runs.proofs.Touching.{AreCodes}
 use Rattle.nested_runs.proofs.Codes.{ended-open}
 use Rattle.nested_runs.proofs.Courses.{course-ended}
 use Rattle.nested_runs.proofs.Stands.{stand-settled}

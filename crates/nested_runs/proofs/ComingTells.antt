@@ -41,7 +41,7 @@ use Rattle.omp_model.specs.Members.{code_of, current, is_explicit_task, moment_o
 use Rattle.omp_model.specs.Gates.{all_left, arrival_at_sync, arrival_in, comes_if, is_barrier, is_owned, is_owned_by, is_owned_lock, may_end, next_task, starts_if}
 use Rattle.omp_model.specs.Going.{barrier_met, event_of_point, fault_of_meeting, fault_of_point, lock_fault, meeting_at, meeting_fault, sync_fault, told, trap_if, work_met}
 use Rattle.c_model.specs.Upcoming.{is_in_exclusive}
-use Rattle.nested_runs.specs.Coming.{HasLock, IsPlain, SyncsAt, Tells}
+use Rattle.nested_runs.proofs.Coming.{HasLock, IsPlain, SyncsAt, Tells}
 
 -- The gate of an event.
 abbrev SyncGate : World → ℕ → SyncKind → SyncStage → Type 0

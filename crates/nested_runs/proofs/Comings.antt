@@ -26,9 +26,9 @@ use Rattle.omp_model.specs.Made.{IsMadeWorld}
 use Rattle.omp_model.proofs.Arriving.{Arrives, IsAtCode, arrives}
 use Rattle.omp_model.proofs.MadeEvents.{current-below}
 use Rattle.omp_model.proofs.Turning.{Beside, GoOf, OfCode}
-use Rattle.nested_runs.specs.Coming.{Comes, ComesInCode, Tells}
-use Rattle.nested_runs.specs.Effects.{EndsNewest, effect_of_event}
-use Rattle.nested_runs.specs.Touching.{AreCodes}
+use Rattle.nested_runs.proofs.Coming.{Comes, ComesInCode, Tells}
+use Rattle.nested_runs.proofs.Effects.{EndsNewest, effect_of_event}
+use Rattle.nested_runs.proofs.Touching.{AreCodes}
 use Rattle.nested_runs.proofs.Codes.{answer-open, answer-orderly, event-open}
 use Rattle.nested_runs.proofs.ComingArrivals.{comes-beside}
 use Rattle.nested_runs.proofs.ComingTells.{gate, tells}

@@ -23,7 +23,7 @@ use Rattle.c_model.specs.Task.Item.{Start, Declare, Iterations, MakeCells, NextC
 use Rattle.code_brackets.specs.Orderly.{has_calls, is_return, may_return}
 use Rattle.code_brackets.specs.Returns.{has_return, has_return_among}
 use Rattle.code_brackets.proofs.OpenLists.{left_true, never, right_true}
-use Rattle.nested_runs.specs.Standing.{ends_behind, ends_in_barrier, has_no_barrier, is_ahead, is_region_barrier, is_returned_first}
+use Rattle.nested_runs.proofs.Standing.{ends_behind, ends_in_barrier, has_no_barrier, is_ahead, is_region_barrier, is_returned_first}
 
 abbrev pub IsAllowed : Bool → Item → Type 0
 IsAllowed may item = (is_region_barrier item ≡ false) × (IsTrue (may_return item) → IsTrue may)

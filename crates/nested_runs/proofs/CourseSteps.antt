@@ -49,7 +49,7 @@ use Rattle.code_brackets.specs.Returns.{ReturnsOutside, has_return, has_return_a
 use Rattle.code_brackets.proofs.OpenLists.{never}
 use Rattle.code_brackets.proofs.ReturnTrees.{IsFree, body_free, return_at, statement_free}
 use Rattle.code_brackets.proofs.TurningTasks.{here_at}
-use Rattle.nested_runs.specs.Standing.{has_no_barrier, is_ahead, is_region_barrier, is_returned_first}
+use Rattle.nested_runs.proofs.Standing.{has_no_barrier, is_ahead, is_region_barrier, is_returned_first}
 use Rattle.nested_runs.proofs.CourseItems.{AreAllowed, ahead-behind, ahead-more, ahead-returned, allowed-both, block-allowed, both-true, first-true, iterations-allowed, makes-allowed, not-returned, rest-true, stands-before, value-allowed}
 
 -- a silent step of the item

@@ -35,8 +35,8 @@ use Rattle.code_brackets.proofs.ReturnTrees.{section_free, statement_free}
 use Rattle.code_brackets.proofs.TurningTasks.{here_at, settled_is_orderly}
 use Rattle.omp_model.specs.State.{World}
 use Rattle.omp_model.specs.Going.{event_of_point, has_forked}
-use Rattle.nested_runs.specs.Effects.{is_at_region_barrier, is_in_region_barrier}
-use Rattle.nested_runs.specs.Standing.{HasCourse, ends_behind, has_begun, is_ahead, is_behind, is_region_barrier}
+use Rattle.nested_runs.proofs.Effects.{is_at_region_barrier, is_in_region_barrier}
+use Rattle.nested_runs.proofs.Standing.{HasCourse, ends_behind, has_begun, is_ahead, is_behind, is_region_barrier}
 use Rattle.nested_runs.proofs.CourseItems.{AreAllowed, ahead-behind, ahead-more, ahead-not-behind, allowed-both, combines-allowed, ends-more, first-true, iterations-allowed, makes-allowed, value-allowed}
 use Rattle.nested_runs.proofs.CourseSteps.{GoesAhead, LeadsAlong, Walks, is_barrier_point, walked}
 

@@ -15,10 +15,10 @@ use Rattle.omp_model.proofs.MadeEvents.{current-below}
 use Rattle.trace_check.specs.declared.bracket.Bracket.{Bracket}
 use Rattle.trace_check.specs.declared.bracket.Bracket.TheVariants.{Worksharing}
 use Rattle.trace_check.specs.Rules.{is_work_of, keeps_dispatches}
-use Rattle.nested_runs.specs.Recorded.{Inside}
-use Rattle.nested_runs.specs.Shown.{begun_as, bracket_of, opens_at, shown}
-use Rattle.nested_runs.specs.Touching.{MayTake, TakesShare}
-use Rattle.nested_runs.specs.Knows.{Goes}
+use Rattle.nested_runs.proofs.Recorded.{Inside}
+use Rattle.nested_runs.proofs.Shown.{begun_as, bracket_of, opens_at, shown}
+use Rattle.nested_runs.proofs.Touching.{MayTake, TakesShare}
+use Rattle.nested_runs.proofs.Knows.{Goes}
 use Rattle.nested_runs.proofs.GoFrames.{grown-go}
 
 -- the newest of what a stack shows is the newest of what its newest task has open

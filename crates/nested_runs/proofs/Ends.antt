@@ -24,9 +24,9 @@ use Rattle.trace_check.specs.Before.{Creation, creations, events_of, has_begun_r
 use Rattle.trace_check.specs.Checking.{Unbroken}
 use Rattle.trace_check.specs.Nested.{are_regions_over, are_tasks_complete, has_begun, have_ended, is_closed, is_region_over}
 use Rattle.trace_check.specs.Rules.{first_broken, keeps_threads}
-use Rattle.nested_runs.specs.Recorded.{inside}
-use Rattle.nested_runs.specs.Known.{HasNoTasks, has_left_region, is_begun, is_ending, is_over, is_running, stands_on}
-use Rattle.nested_runs.specs.Knows.{Knows}
+use Rattle.nested_runs.proofs.Recorded.{inside}
+use Rattle.nested_runs.proofs.Known.{HasNoTasks, has_left_region, is_begun, is_ending, is_over, is_running, stands_on}
+use Rattle.nested_runs.proofs.Knows.{Knows}
 
 -- ---- what is told of a thread
 

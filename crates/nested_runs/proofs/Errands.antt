@@ -9,13 +9,13 @@ use Rattle.omp_model.specs.State.{Run, World, thread_at}
 use Rattle.omp_model.specs.Members.{current, current_region, region_of}
 use Rattle.omp_model.specs.Made.{IsMadeWorld}
 use Rattle.omp_model.proofs.MadeEvents.{current-below}
-use Rattle.nested_runs.specs.Recorded.{Inside}
-use Rattle.nested_runs.specs.Shown.{opens_at}
-use Rattle.nested_runs.specs.Standing.{stand_at}
-use Rattle.nested_runs.specs.Standing.Stand.{Free, AtFork}
-use Rattle.nested_runs.specs.Known.{HasNoErrand, IsBusy, IsDetained, IsInvited, IsOpenRegion}
-use Rattle.nested_runs.specs.Touching.{Fits, MayTake}
-use Rattle.nested_runs.specs.Knows.{IsSound}
+use Rattle.nested_runs.proofs.Recorded.{Inside}
+use Rattle.nested_runs.proofs.Shown.{opens_at}
+use Rattle.nested_runs.proofs.Standing.{stand_at}
+use Rattle.nested_runs.proofs.Standing.Stand.{Free, AtFork}
+use Rattle.nested_runs.proofs.Known.{HasNoErrand, IsBusy, IsDetained, IsInvited, IsOpenRegion}
+use Rattle.nested_runs.proofs.Touching.{Fits, MayTake}
+use Rattle.nested_runs.proofs.Knows.{IsSound}
 use Rattle.nested_runs.proofs.Chains.{Grown, outermost-grown}
 
 -- a thread has the same tasks and is to do the same, and the current one stands where it stood

@@ -3,11 +3,11 @@ use Rattle.std.proofs.Common.{ℕ, zero, suc, ◌≡◌, ◌-◌, [], replicate,
 use Rattle.std.specs.Prelude.{Option, None, option_map}
 use Rattle.omp_model.specs.declared.event.Callback.{Callback}
 use Rattle.omp_model.specs.State.{Run, Thread, first, first_world, thread_at, unmade}
-use Rattle.nested_runs.specs.Recorded.{event_in, inside}
-use Rattle.nested_runs.specs.Standing.{Stand, stand_at}
-use Rattle.nested_runs.specs.Standing.Stand.{AtFork}
-use Rattle.nested_runs.specs.Touching.{MayTake}
-use Rattle.nested_runs.specs.Known.{AreSeated, IsBusy, IsChain, IsOpenRegion}
+use Rattle.nested_runs.proofs.Recorded.{event_in, inside}
+use Rattle.nested_runs.proofs.Standing.{Stand, stand_at}
+use Rattle.nested_runs.proofs.Standing.Stand.{AtFork}
+use Rattle.nested_runs.proofs.Touching.{MayTake}
+use Rattle.nested_runs.proofs.Known.{AreSeated, IsBusy, IsChain, IsOpenRegion}
 use Rattle.nested_runs.proofs.Stands.{stand-main}
 
 at-replicate : {A : Type 0} (count i : ℕ) (x : A) → slice_index_or (replicate count x) i x ≡ x

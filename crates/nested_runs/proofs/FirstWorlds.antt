@@ -9,7 +9,7 @@ use Rattle.task_pool.specs.declared.task.TaskKind.TheVariants as kind
 use Rattle.task_pool.specs.Tasks.{no_task as no_pooled}
 use Rattle.task_pool.specs.View.{fresh_task}
 use Rattle.omp_model.specs.State.{Run, Task, Thread, first, first_world, initial_thread, no_task, pooled_at, task_at, task_with, thread_at, unmade}
-use Rattle.nested_runs.specs.Recorded.{event_in, inside}
+use Rattle.nested_runs.proofs.Recorded.{event_in, inside}
 
 -- a list of one value gives it at each place, where it stands for what is past the end too
 pub replicated : {X : Type 0} (value : X) (count i : ℕ) → slice_index_or (replicate count value) i value ≡ value

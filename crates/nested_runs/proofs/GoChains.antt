@@ -18,11 +18,11 @@ use Rattle.omp_model.specs.Conditions.{IsToStart}
 use Rattle.omp_model.specs.Made.{IsRegion, IsTaskOf}
 use Rattle.omp_model.specs.Touching.{come_to, forked_after, is_of_code, thread_after}
 use Rattle.omp_model.proofs.MadeEvents.{current-below}
-use Rattle.nested_runs.specs.Recorded.{Inside}
-use Rattle.nested_runs.specs.Standing.{Stand, stand_at}
-use Rattle.nested_runs.specs.Standing.Stand.{AtFork}
-use Rattle.nested_runs.specs.Known.{IsChain, IsDetained, IsInitialOn, IsInvited, IsMemberOf, IsMemberOn, IsTaskOn}
-use Rattle.nested_runs.specs.Knows.{Goes}
+use Rattle.nested_runs.proofs.Recorded.{Inside}
+use Rattle.nested_runs.proofs.Standing.{Stand, stand_at}
+use Rattle.nested_runs.proofs.Standing.Stand.{AtFork}
+use Rattle.nested_runs.proofs.Known.{IsChain, IsDetained, IsInitialOn, IsInvited, IsMemberOf, IsMemberOn, IsTaskOn}
+use Rattle.nested_runs.proofs.Knows.{Goes}
 use Rattle.nested_runs.proofs.Chains.{KeepsPlace, chain-grown, chain-popped, chain-pushed, lacks-current, outermost-grown}
 use Rattle.nested_runs.proofs.GoFrames.{grown-go, in-code-some}
 

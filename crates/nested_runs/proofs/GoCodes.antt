@@ -23,10 +23,10 @@ use Rattle.omp_model.specs.State.{Run, Task, World, no_task, pooled_at, task_at}
 use Rattle.omp_model.specs.Members.{code_of, current, moment_of, view_of}
 use Rattle.omp_model.specs.Changes.{with_code}
 use Rattle.omp_model.specs.Going.{event_of_point, executes_point, told}
-use Rattle.nested_runs.specs.Effects.{behind_after, effect_of_event, is_at_region_barrier, opens_after, stand_after}
-use Rattle.nested_runs.specs.Shown.{opens_at}
-use Rattle.nested_runs.specs.Standing.{HasCourse, is_behind, stand_among, stand_at}
-use Rattle.nested_runs.specs.Touching.{AreCodes}
+use Rattle.nested_runs.proofs.Effects.{behind_after, effect_of_event, is_at_region_barrier, opens_after, stand_after}
+use Rattle.nested_runs.proofs.Shown.{opens_at}
+use Rattle.nested_runs.proofs.Standing.{HasCourse, is_behind, stand_among, stand_at}
+use Rattle.nested_runs.proofs.Touching.{AreCodes}
 use Rattle.nested_runs.proofs.Codes.{answer-open, answer-orderly, event-open, event-orderly}
 use Rattle.nested_runs.proofs.Courses.{KeepsCourse, behind-event, course-event, course-told}
 use Rattle.nested_runs.proofs.Stands.{effect-is, stand-event}

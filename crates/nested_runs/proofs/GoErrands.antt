@@ -17,12 +17,12 @@ use Rattle.omp_model.specs.Made.{IsMadeWorld}
 use Rattle.omp_model.specs.Arrivals.{IsQuiet}
 use Rattle.omp_model.specs.Touching.{thread_after}
 use Rattle.omp_model.proofs.MadeEvents.{current-below}
-use Rattle.nested_runs.specs.Recorded.{Inside}
-use Rattle.nested_runs.specs.Standing.{Stand, stand_at}
-use Rattle.nested_runs.specs.Standing.Stand.{AtFork}
-use Rattle.nested_runs.specs.Touching.{MayTake}
-use Rattle.nested_runs.specs.Known.{HasNoErrand, IsBusy, IsDetained, IsInvited, IsOpenRegion, TellsRegion, is_running}
-use Rattle.nested_runs.specs.Knows.{Goes}
+use Rattle.nested_runs.proofs.Recorded.{Inside}
+use Rattle.nested_runs.proofs.Standing.{Stand, stand_at}
+use Rattle.nested_runs.proofs.Standing.Stand.{AtFork}
+use Rattle.nested_runs.proofs.Touching.{MayTake}
+use Rattle.nested_runs.proofs.Known.{HasNoErrand, IsBusy, IsDetained, IsInvited, IsOpenRegion, TellsRegion, is_running}
+use Rattle.nested_runs.proofs.Knows.{Goes}
 use Rattle.nested_runs.proofs.Chains.{Grown, apart-currents, no-stack}
 use Rattle.nested_runs.proofs.Errands.{IsCalm, LikeThread, StaysForking, below-event, busy-like, calm-detained, calm-invited, calm-shares, detained-like, invited-like, shares-like}
 use Rattle.nested_runs.proofs.GoChains.{pool-new}

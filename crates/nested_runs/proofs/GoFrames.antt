@@ -14,12 +14,12 @@ use Rattle.omp_model.specs.Members.{current}
 use Rattle.omp_model.specs.Conditions.{AreOrderly, IsUnderWay}
 use Rattle.omp_model.specs.Made.{IsMadeWorld, IsTaskOf}
 use Rattle.omp_model.specs.Touching.{come_to, head_after, is_of_code, owner_after, pooled_after, regions_after, tasks_after, thread_after}
-use Rattle.nested_runs.specs.Coming.{Comes, ComesToTask}
-use Rattle.nested_runs.specs.Shown.{opens_at}
-use Rattle.nested_runs.specs.Standing.{stand_at}
-use Rattle.nested_runs.specs.Standing.Stand.{AtFork}
-use Rattle.nested_runs.specs.Touching.{AreCodes, Touches}
-use Rattle.nested_runs.specs.Known.{stands_on}
+use Rattle.nested_runs.proofs.Coming.{Comes, ComesToTask}
+use Rattle.nested_runs.proofs.Shown.{opens_at}
+use Rattle.nested_runs.proofs.Standing.{stand_at}
+use Rattle.nested_runs.proofs.Standing.Stand.{AtFork}
+use Rattle.nested_runs.proofs.Touching.{AreCodes, Touches}
+use Rattle.nested_runs.proofs.Known.{stands_on}
 use Rattle.nested_runs.proofs.Codes.{newest-fork}
 use Rattle.nested_runs.proofs.Chains.{Grown, all-on, apart-currents, on-popped, on-pushed}
 use Rattle.nested_runs.proofs.Errands.{LikeThread}

@@ -22,10 +22,10 @@ use Rattle.omp_model.specs.Made.{IsTask}
 use Rattle.omp_model.specs.Members.{member_index}
 use Rattle.omp_model.specs.Touching.{come_to, head_after, owner_after, regions_after, tasks_after}
 use Rattle.trace_check.specs.Before.{Join, has_begun_region, has_ended_region, is_just, joins_of}
-use Rattle.nested_runs.specs.Known.{HasGone, IsJoin, IsMemberTask, TellsRegion, has_left_region, is_some_task, task_of_member}
-use Rattle.nested_runs.specs.Knows.{Goes}
-use Rattle.nested_runs.specs.Readings.{begun_by, ended_by}
-use Rattle.nested_runs.specs.Recorded.{Inside, recorded}
+use Rattle.nested_runs.proofs.Known.{HasGone, IsJoin, IsMemberTask, TellsRegion, has_left_region, is_some_task, task_of_member}
+use Rattle.nested_runs.proofs.Knows.{Goes}
+use Rattle.nested_runs.proofs.Readings.{begun_by, ended_by}
+use Rattle.nested_runs.proofs.Recorded.{Inside, recorded}
 use Rattle.nested_runs.proofs.CarriedMembers.{Carries, IsCarried, gone-carried, join-carried, member-carried, region-carried}
 use Rattle.nested_runs.proofs.FirstWorlds.{replicated}
 use Rattle.nested_runs.proofs.JoinReadings.{begun-more, ended-more, joins-either, joins-own, joins-same, left-still, new_join}

@@ -13,9 +13,9 @@ use Rattle.omp_model.specs.Going.{kind_of_task}
 use Rattle.omp_model.specs.Made.{IsTask}
 use Rattle.omp_model.specs.Members.{current, current_region, is_outermost, member_index, region_of}
 use Rattle.omp_model.specs.Touching.{tasks_after, thread_after}
-use Rattle.nested_runs.specs.Known.{HasGone, IsBusy, IsInvited, IsLeaving, IsSeated, task_of_member}
-use Rattle.nested_runs.specs.Knows.{Goes, Knows}
-use Rattle.nested_runs.specs.Recorded.{Inside, recorded}
+use Rattle.nested_runs.proofs.Known.{HasGone, IsBusy, IsInvited, IsLeaving, IsSeated, task_of_member}
+use Rattle.nested_runs.proofs.Knows.{Goes, Knows}
+use Rattle.nested_runs.proofs.Recorded.{Inside, recorded}
 use Rattle.nested_runs.proofs.CarriedMembers.{gone-carried, seated-carried, seated-started}
 use Rattle.nested_runs.proofs.JoinReadings.{left-more, left-still}
 use Rattle.nested_runs.proofs.PooledTasks.{apart}

@@ -15,12 +15,12 @@ use Rattle.omp_model.specs.Going.{team_size}
 use Rattle.omp_model.specs.Made.{IsMadeWorld}
 use Rattle.omp_model.specs.Touching.{forked_after, head_after, is_of_code, regions_after}
 use Rattle.omp_model.proofs.MadeEvents.{current-below, first-of}
-use Rattle.nested_runs.specs.Coming.{Comes}
-use Rattle.nested_runs.specs.Effects.{stand_after, stand_before, stand_behind}
-use Rattle.nested_runs.specs.Standing.{Stand, stand_at, stand_within}
-use Rattle.nested_runs.specs.Standing.Stand.{AtFork}
-use Rattle.nested_runs.specs.Touching.{AreCodes, Touches}
-use Rattle.nested_runs.specs.Known.{HasForked, HoldsRegion, IsChain, IsOpenRegion, stands_on}
+use Rattle.nested_runs.proofs.Coming.{Comes}
+use Rattle.nested_runs.proofs.Effects.{stand_after, stand_before, stand_behind}
+use Rattle.nested_runs.proofs.Standing.{Stand, stand_at, stand_within}
+use Rattle.nested_runs.proofs.Standing.Stand.{AtFork}
+use Rattle.nested_runs.proofs.Touching.{AreCodes, Touches}
+use Rattle.nested_runs.proofs.Known.{HasForked, HoldsRegion, IsChain, IsOpenRegion, stands_on}
 use Rattle.nested_runs.proofs.Chains.{Grown, all-on, on-current, on-popped, outermost-grown, thread-of-implicit, top-implicit}
 use Rattle.nested_runs.proofs.GoFrames.{grown-go, stacked-go, stands-apart}
 use Rattle.nested_runs.proofs.OpenRegions.{ForkAll, HoldAll, OuterAlone, SameForks, forks-same, holds-of, holds-same, open-after, outer-same}

@@ -15,8 +15,8 @@ use Rattle.omp_model.proofs.Arriving.{Arrives, arrives}
 use Rattle.omp_model.proofs.MadeEvents.{current-below}
 use Rattle.omp_model.proofs.Turning.{Beside, GoOf, OfCode}
 use Rattle.omp_model.proofs.Gos.{touches-world, unless-goes}
-use Rattle.nested_runs.specs.Coming.{Comes}
-use Rattle.nested_runs.specs.Touching.{AreCodes, Touches}
+use Rattle.nested_runs.proofs.Coming.{Comes}
+use Rattle.nested_runs.proofs.Touching.{AreCodes, Touches}
 use Rattle.nested_runs.proofs.GosBeside.{codes-effect, touches-beside}
 use Rattle.nested_runs.proofs.GosInCode.{touches-point}
 

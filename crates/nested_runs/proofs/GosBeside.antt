@@ -32,12 +32,12 @@ use Rattle.omp_model.proofs.MadeWords.{at-push}
 use Rattle.omp_model.proofs.Moves.{finished-is, started-is}
 use Rattle.omp_model.proofs.Reading.{read-more, read-same}
 use Rattle.omp_model.proofs.Rewrites.{read-pool}
-use Rattle.nested_runs.specs.Coming.{Comes, ComesToInitial, ComesToInitialEnd, ComesToMember, ComesToMemberEnd, ComesToTaskEnd}
-use Rattle.nested_runs.specs.Effects.{is_at_region_barrier}
-use Rattle.nested_runs.specs.Shown.{opens_at}
-use Rattle.nested_runs.specs.Standing.{HasCourse, is_behind, stand_among, stand_at}
-use Rattle.nested_runs.specs.Standing.Stand.{Free, AtFork}
-use Rattle.nested_runs.specs.Touching.{AreCodes, BeginsAhead, Touches}
+use Rattle.nested_runs.proofs.Coming.{Comes, ComesToInitial, ComesToInitialEnd, ComesToMember, ComesToMemberEnd, ComesToTaskEnd}
+use Rattle.nested_runs.proofs.Effects.{is_at_region_barrier}
+use Rattle.nested_runs.proofs.Shown.{opens_at}
+use Rattle.nested_runs.proofs.Standing.{HasCourse, is_behind, stand_among, stand_at}
+use Rattle.nested_runs.proofs.Standing.Stand.{Free, AtFork}
+use Rattle.nested_runs.proofs.Touching.{AreCodes, BeginsAhead, Touches}
 use Rattle.nested_runs.proofs.BackCodes.{blank-course, blank-orderly, kind-if}
 use Rattle.nested_runs.proofs.Codes.{member-open, member-orderly}
 use Rattle.nested_runs.proofs.Courses.{course-begins, course-member}

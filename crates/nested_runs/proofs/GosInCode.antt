@@ -35,8 +35,8 @@ use Rattle.omp_model.proofs.Gos.{current-kept}
 use Rattle.omp_model.proofs.Conditions.{pooled-added}
 use Rattle.omp_model.proofs.MadeWords.{added-last, at-push}
 use Rattle.omp_model.proofs.Reading.{read-more, read-same}
-use Rattle.nested_runs.specs.Standing.{HasCourse, is_behind, stand_among}
-use Rattle.nested_runs.specs.Touching.{AreCodes, BeginsAhead, Touches}
+use Rattle.nested_runs.proofs.Standing.{HasCourse, is_behind, stand_among}
+use Rattle.nested_runs.proofs.Touching.{AreCodes, BeginsAhead, Touches}
 use Rattle.nested_runs.proofs.Codes.{explicit-open, explicit-orderly}
 use Rattle.nested_runs.proofs.GoCodes.{CodesAfter, SameCodes, SameTasks, code-past, codes-past, none-open, orderly-told, same-codes}
 use Rattle.nested_runs.proofs.Stands.{stand-explicit}

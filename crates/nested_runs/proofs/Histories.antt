@@ -33,8 +33,8 @@ use Rattle.omp_model.proofs.OrderlyRuns.{orderly-after}
 use Rattle.omp_model.proofs.Turns.{Leaves, leaves-turn, turn-goes}
 use Rattle.ompt_calls.specs.Number.{is_registered}
 use Rattle.trace_check.specs.Checking.{Unbroken}
-use Rattle.nested_runs.specs.Recorded.{event_in, inside}
-use Rattle.nested_runs.specs.Knows.{Goes, IsWholeRun, Knows, Stays}
+use Rattle.nested_runs.proofs.Recorded.{event_in, inside}
+use Rattle.nested_runs.proofs.Knows.{Goes, IsWholeRun, Knows, Stays}
 use Rattle.nested_runs.proofs.Keeping.{keeps-go, knows-back, knows-first, knows-go, knows-stays}
 use Rattle.nested_runs.proofs.Turned.{Happened, Led, back-leads, put-leads, turn-leads}
 

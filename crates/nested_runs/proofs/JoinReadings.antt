@@ -8,8 +8,8 @@ use Rattle.omp_model.specs.declared.event.Event.TheVariants.{MemberBegin}
 use Rattle.omp_model.specs.State.{World, region_at}
 use Rattle.omp_model.specs.Members.{member_index}
 use Rattle.trace_check.specs.Before.{Join, and_more, has_begun_region, has_ended_region, has_left, is_just, joins, joins_of}
-use Rattle.nested_runs.specs.Readings.{begun_by, ended_by, joined_by, left_by}
-use Rattle.nested_runs.specs.Recorded.{recorded}
+use Rattle.nested_runs.proofs.Readings.{begun_by, ended_by, joined_by, left_by}
+use Rattle.nested_runs.proofs.Recorded.{recorded}
 use Rattle.nested_runs.proofs.CallReadings.{begun-is, ended-is, join-is, left-is}
 use Rattle.nested_runs.proofs.RegionHeads.{Joins}
 

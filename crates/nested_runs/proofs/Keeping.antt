@@ -5,8 +5,8 @@ use Rattle.ompt_calls.specs.declared.event.EventRecord.{EventRecord}
 use Rattle.omp_model.specs.declared.event.Event.{Event}
 use Rattle.omp_model.specs.State.{Run, World, first, first_world}
 use Rattle.trace_check.specs.Rules.{first_broken}
-use Rattle.nested_runs.specs.Recorded.{Inside, inside, recorded}
-use Rattle.nested_runs.specs.Knows.{ComesBack, Goes, IsWholeRun, Knows, Stays}
+use Rattle.nested_runs.proofs.Recorded.{Inside, inside, recorded}
+use Rattle.nested_runs.proofs.Knows.{ComesBack, Goes, IsWholeRun, Knows, Stays}
 use Rattle.nested_runs.proofs.Accepting.{KeepsEach, accepted}
 use Rattle.nested_runs.proofs.BackCodes.{codes-back, codes-first, sound-first}
 use Rattle.nested_runs.proofs.TellBarriers.{barriers-back, barriers-first, barriers-go, barriers-stays, keeps-waits}

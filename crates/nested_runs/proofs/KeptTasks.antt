@@ -17,13 +17,13 @@ use Rattle.omp_model.specs.Conditions.{AreOrderly, IsUnderWay, has_started}
 use Rattle.omp_model.specs.Made.{IsMadeWorld}
 use Rattle.omp_model.specs.Touching.{come_to, is_of_code, pooled_after}
 use Rattle.omp_model.proofs.MadeEvents.{current-made, first-of}
-use Rattle.nested_runs.specs.Coming.{Comes}
-use Rattle.nested_runs.specs.Knows.{Knows}
-use Rattle.nested_runs.specs.Recorded.{Inside}
-use Rattle.nested_runs.specs.Shown.{opens_at}
-use Rattle.nested_runs.specs.Standing.{Stand, stand_at}
-use Rattle.nested_runs.specs.Standing.Stand.{Free, AtFork}
-use Rattle.nested_runs.specs.Touching.{AreCodes, Touches}
+use Rattle.nested_runs.proofs.Coming.{Comes}
+use Rattle.nested_runs.proofs.Knows.{Knows}
+use Rattle.nested_runs.proofs.Recorded.{Inside}
+use Rattle.nested_runs.proofs.Shown.{opens_at}
+use Rattle.nested_runs.proofs.Standing.{Stand, stand_at}
+use Rattle.nested_runs.proofs.Standing.Stand.{Free, AtFork}
+use Rattle.nested_runs.proofs.Touching.{AreCodes, Touches}
 use Rattle.nested_runs.proofs.Codes.{no-fork}
 use Rattle.nested_runs.proofs.Showing.{NumberedAlike, brackets-alike}
 

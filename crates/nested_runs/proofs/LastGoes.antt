@@ -16,13 +16,13 @@ use Rattle.omp_model.specs.State.{Run, World, pooled_at, region_at, task_at, thr
 use Rattle.omp_model.specs.Members.{current, current_index, current_region, current_team, is_explicit_task, member_index}
 use Rattle.omp_model.specs.Touching.{head_after, is_of_code, joined_by}
 use Rattle.omp_model.specs.Alike.{what_met}
-use Rattle.nested_runs.specs.Coming.{Comes}
-use Rattle.nested_runs.specs.Effects.{behind_after, is_at_region_barrier, is_in_region_barrier, stand_after, stand_before}
-use Rattle.nested_runs.specs.Recorded.{Inside}
-use Rattle.nested_runs.specs.Standing.{is_behind, stand_at}
-use Rattle.nested_runs.specs.Touching.{Touches}
-use Rattle.nested_runs.specs.Known.{HasPassed, IsMemberTask, IsOpenRegion, TellsLast, has_met_last, is_last, is_past_wait, task_of_member}
-use Rattle.nested_runs.specs.Knows.{Goes}
+use Rattle.nested_runs.proofs.Coming.{Comes}
+use Rattle.nested_runs.proofs.Effects.{behind_after, is_at_region_barrier, is_in_region_barrier, stand_after, stand_before}
+use Rattle.nested_runs.proofs.Recorded.{Inside}
+use Rattle.nested_runs.proofs.Standing.{is_behind, stand_at}
+use Rattle.nested_runs.proofs.Touching.{Touches}
+use Rattle.nested_runs.proofs.Known.{HasPassed, IsMemberTask, IsOpenRegion, TellsLast, has_met_last, is_last, is_past_wait, task_of_member}
+use Rattle.nested_runs.proofs.Knows.{Goes}
 use Rattle.nested_runs.proofs.LastSteps.{KeepsMembers, ThroughLast, has-passed, kept-last}
 use Rattle.nested_runs.proofs.LastTeams.{GoesTeam, barrier-code, goes-team, in-code, own-behind-is, own-is}
 use Rattle.nested_runs.proofs.OpenTasks.{CreatesNone, no-tasks-go}

@@ -25,12 +25,12 @@ use Rattle.omp_model.specs.Members.{current_index, current_region, member_index}
 use Rattle.omp_model.specs.Gates.{is_barrier}
 use Rattle.omp_model.specs.Touching.{head_back}
 use Rattle.omp_model.specs.Alike.{what_met}
-use Rattle.nested_runs.specs.Recorded.{Inside}
-use Rattle.nested_runs.specs.Standing.{Stand, ends_behind, is_behind, stand_among, stand_at, stand_within}
-use Rattle.nested_runs.specs.Standing.Stand.{Free, AtSync}
-use Rattle.nested_runs.specs.Touching.{ComesFree}
-use Rattle.nested_runs.specs.Known.{HasNoTasks, HasPassed, IsGoing, IsWaiting, TellsLast, has_left_region, has_met_last, is_last, is_past_wait, task_of_member}
-use Rattle.nested_runs.specs.Knows.{ComesBack, Stays}
+use Rattle.nested_runs.proofs.Recorded.{Inside}
+use Rattle.nested_runs.proofs.Standing.{Stand, ends_behind, is_behind, stand_among, stand_at, stand_within}
+use Rattle.nested_runs.proofs.Standing.Stand.{Free, AtSync}
+use Rattle.nested_runs.proofs.Touching.{ComesFree}
+use Rattle.nested_runs.proofs.Known.{HasNoTasks, HasPassed, IsGoing, IsWaiting, TellsLast, has_left_region, has_met_last, is_last, is_past_wait, task_of_member}
+use Rattle.nested_runs.proofs.Knows.{ComesBack, Stays}
 use Rattle.nested_runs.proofs.LastSteps.{KeepsMembers, KeepsTeam, counted-of, has-passed, kept-last, passed-in}
 use Rattle.nested_runs.proofs.OpenTasks.{no-tasks-back}
 use Rattle.nested_runs.proofs.SeatedMembers.{current-of}

@@ -1,8 +1,8 @@
 -- What a step does to the last barrier of a region, and that all that is told of it is kept by that.
 use Rattle.std.proofs.Common.{ℕ, ◌≡◌, ◌<◌, ◌≤◌, ◌⊎◌, true, subst, inl, inr}
 use Rattle.omp_model.specs.State.{World, region_at, task_at}
-use Rattle.nested_runs.specs.Standing.{is_behind, stand_at}
-use Rattle.nested_runs.specs.Known.{HasNoTasks, HasPassed, TellsLast, has_left_region, has_met_last, is_past_wait, task_of_member}
+use Rattle.nested_runs.proofs.Standing.{is_behind, stand_at}
+use Rattle.nested_runs.proofs.Known.{HasNoTasks, HasPassed, TellsLast, has_left_region, has_met_last, is_past_wait, task_of_member}
 use Rattle.nested_runs.proofs.TeamsMet.{IsCounted, PassedIn}
 
 -- ---- of the team alone

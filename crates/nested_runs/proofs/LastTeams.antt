@@ -27,12 +27,12 @@ use Rattle.omp_model.specs.Members.{current, current_index, current_region, curr
 use Rattle.omp_model.specs.Gates.{is_barrier, may_end}
 use Rattle.omp_model.specs.Going.{barrier_met, meeting_at}
 use Rattle.omp_model.specs.Touching.{AtBarrierElse, Meets, MeetsWork, SameTeam, is_of_code}
-use Rattle.nested_runs.specs.Coming.{Comes, ComesInCode}
-use Rattle.nested_runs.specs.Effects.{behind_after, is_at_region_barrier, is_in_region_barrier}
-use Rattle.nested_runs.specs.Recorded.{Inside}
-use Rattle.nested_runs.specs.Standing.{has_begun, is_behind}
-use Rattle.nested_runs.specs.Known.{AtBarrier, HasNoTasks, HasPassed, IsMemberTask, has_met_last, is_last, task_of_member}
-use Rattle.nested_runs.specs.Knows.{Goes}
+use Rattle.nested_runs.proofs.Coming.{Comes, ComesInCode}
+use Rattle.nested_runs.proofs.Effects.{behind_after, is_at_region_barrier, is_in_region_barrier}
+use Rattle.nested_runs.proofs.Recorded.{Inside}
+use Rattle.nested_runs.proofs.Standing.{has_begun, is_behind}
+use Rattle.nested_runs.proofs.Known.{AtBarrier, HasNoTasks, HasPassed, IsMemberTask, has_met_last, is_last, task_of_member}
+use Rattle.nested_runs.proofs.Knows.{Goes}
 use Rattle.nested_runs.proofs.LastSteps.{KeepsTeam, ThroughLast, counted-of, has-passed, passed-in}
 use Rattle.nested_runs.proofs.SeatedMembers.{IsOwn, here-plain, own-member}
 use Rattle.nested_runs.proofs.TeamsMet.{IsCounted, PassedIn, counted-met, counted-passed, has-met, has_last_in, last-met, may-pass-last, met-alike, passed-alike, passed-moved, passed-other, passed-own, unpassed-met}

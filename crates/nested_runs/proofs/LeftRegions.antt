@@ -6,7 +6,7 @@ use Rattle.team_parts.specs.declared.meeting.TheConstants.{TEAM_LIMIT}
 use Rattle.ompt_calls.specs.declared.event.EventRecord.{EventRecord}
 use Rattle.omp_model.specs.State.{World, region_at}
 use Rattle.omp_model.specs.Gates.{all_left}
-use Rattle.nested_runs.specs.Known.{HasGone, TellsRegion, task_of_member}
+use Rattle.nested_runs.proofs.Known.{HasGone, TellsRegion, task_of_member}
 
 -- where each of the first flags is set, so is this one
 flag-set : (flags : List Bool) (size i : ℕ) → list_all (λ (flag : Bool). flag) (take size flags) ≡ true → i < size → i < length flags →

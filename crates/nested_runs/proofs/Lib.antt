@@ -1,3 +1,12 @@
+pub mod Shown
+pub mod Standing
+pub mod Recorded
+pub mod Effects
+pub mod Coming
+pub mod Touching
+pub mod Known
+pub mod Knows
+pub mod Readings
 pub mod TellThreads
 pub mod TellBrackets
 pub mod TellNumbers

@@ -4,7 +4,7 @@ use Rattle.std.specs.Prelude.{count_by, take}
 use Rattle.std.specs.List.{list_all}
 use Rattle.std.proofs.lemmas.Bool.{and_from, and_parts, eq-eqb, ne_eqb}
 use Rattle.std.proofs.lemmas.List.Sums.{sum_by-cons, sum_by-set}
-use Rattle.nested_runs.specs.Known.{is_some_task}
+use Rattle.nested_runs.proofs.Known.{is_some_task}
 
 -- a test that passes counts 1
 abbrev one_if : Bool → ℕ

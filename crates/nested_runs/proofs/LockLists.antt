@@ -5,7 +5,7 @@ use Rattle.std.proofs.lemmas.Bool.{cases_eq, cases_lt, eq-eqb, le-ltb, ne_eqb}
 use Rattle.sync_objects.specs.declared.lock.Lock.{Lock}
 use Rattle.sync_objects.specs.Owners.{critical_locks, free_lock, in_order, look_up, with_owner, without}
 use Rattle.omp_model.specs.State.{World}
-use Rattle.nested_runs.specs.Known.{AreAbove, AreOwners, AreRising, IsOwner, holder_of}
+use Rattle.nested_runs.proofs.Known.{AreAbove, AreOwners, AreRising, IsOwner, holder_of}
 
 abbrev pub owned_by : Option ℕ → Lock → Lock
 owned_by owner lock = record lock { owner = owner }

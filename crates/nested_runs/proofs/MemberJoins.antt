@@ -12,9 +12,9 @@ use Rattle.omp_model.specs.State.{Run, World, pooled_at, region_at}
 use Rattle.omp_model.specs.Gates.{all_left}
 use Rattle.trace_check.specs.Before.{Join, is_open_region, joins, joins_of, waits_of}
 use Rattle.trace_check.specs.Rules.{have_waited}
-use Rattle.nested_runs.specs.Known.{has_left_region, task_of_member}
-use Rattle.nested_runs.specs.Knows.{Knows}
-use Rattle.nested_runs.specs.Recorded.{Inside}
+use Rattle.nested_runs.proofs.Known.{has_left_region, task_of_member}
+use Rattle.nested_runs.proofs.Knows.{Knows}
+use Rattle.nested_runs.proofs.Recorded.{Inside}
 use Rattle.nested_runs.proofs.ListTests.{all-in-range, any-at, flag-at}
 
 -- what is read where there is no join

@@ -3,9 +3,9 @@ use Rattle.std.proofs.Common.{ℕ, ◌≡◌, true, length, sym, ap, ◌∙◌, 
 use Rattle.omp_model.specs.State.{World, region_at, task_at, thread_at}
 use Rattle.omp_model.specs.Members.{is_outermost}
 use Rattle.omp_model.specs.Made.{IsMadeWorld, IsRegion}
-use Rattle.nested_runs.specs.Standing.{stand_at}
-use Rattle.nested_runs.specs.Standing.Stand.{AtFork}
-use Rattle.nested_runs.specs.Known.{HasForked, HoldsRegion, IsOpenRegion, stands_on}
+use Rattle.nested_runs.proofs.Standing.{stand_at}
+use Rattle.nested_runs.proofs.Standing.Stand.{AtFork}
+use Rattle.nested_runs.proofs.Known.{HasForked, HoldsRegion, IsOpenRegion, stands_on}
 use Rattle.nested_runs.proofs.Chains.{Grown, outermost-grown}
 
 abbrev pub HoldAll : World → Type 0

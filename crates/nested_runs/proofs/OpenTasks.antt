@@ -11,9 +11,9 @@ use Rattle.omp_model.specs.State.{World, pooled_at}
 use Rattle.omp_model.specs.Members.{current_region}
 use Rattle.omp_model.specs.Conditions.{AreOrderly, EventOrderly}
 use Rattle.omp_model.specs.Touching.{Returns, come_to, pooled_after, pooled_back}
-use Rattle.nested_runs.specs.Coming.{Comes, ComesToTask}
-use Rattle.nested_runs.specs.Touching.{Touches}
-use Rattle.nested_runs.specs.Known.{HasNoTasks}
+use Rattle.nested_runs.proofs.Coming.{Comes, ComesToTask}
+use Rattle.nested_runs.proofs.Touching.{Touches}
+use Rattle.nested_runs.proofs.Known.{HasNoTasks}
 
 -- a task that starts, or becomes ready, is as unfinished as it was
 started-open : (task : PoolTask) → is_finished task.condition ≡ false → is_open (come_to task condition.Started) ≡ is_open task

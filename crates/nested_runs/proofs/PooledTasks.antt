@@ -16,7 +16,7 @@ use Rattle.omp_model.specs.Made.{IsMadeWorld, IsTaskOf}
 use Rattle.omp_model.specs.Members.{current}
 use Rattle.omp_model.specs.Touching.{come_to, is_summoned, pooled_after, pooled_back, tasks_after, thread_back}
 use Rattle.omp_model.proofs.MadeWords.{pool-at}
-use Rattle.nested_runs.specs.Coming.{Comes}
+use Rattle.nested_runs.proofs.Coming.{Comes}
 
 -- ---- where no task was made
 

@@ -18,10 +18,10 @@ use Rattle.omp_model.specs.Made.{IsRegion}
 use Rattle.omp_model.specs.Members.{current, current_index, current_region, is_explicit_task, is_outermost, member_index, region_of}
 use Rattle.omp_model.specs.Going.{team_size}
 use Rattle.omp_model.specs.Touching.{head_after, head_back, regions_after}
-use Rattle.nested_runs.specs.Coming.{Comes}
-use Rattle.nested_runs.specs.Known.{task_of_member}
-use Rattle.nested_runs.specs.Knows.{Goes, Knows}
-use Rattle.nested_runs.specs.Recorded.{Inside}
+use Rattle.nested_runs.proofs.Coming.{Comes}
+use Rattle.nested_runs.proofs.Known.{task_of_member}
+use Rattle.nested_runs.proofs.Knows.{Goes, Knows}
+use Rattle.nested_runs.proofs.Recorded.{Inside}
 use Rattle.nested_runs.proofs.FirstWorlds.{replicated}
 use Rattle.nested_runs.proofs.PooledTasks.{by-case, current-made, current-under-way, same-pooled}
 

@@ -11,9 +11,9 @@ use Rattle.omp_model.specs.Made.{IsTaskOf}
 use Rattle.omp_model.proofs.MadeEvents.{first-of}
 use Rattle.ompt_calls.specs.declared.event.EventRecord.{EventRecord}
 use Rattle.std.specs.Prelude.{List}
-use Rattle.nested_runs.specs.Known.{IsMemberTask, task_of_member}
-use Rattle.nested_runs.specs.Knows.{Knows}
-use Rattle.nested_runs.specs.Recorded.{Inside}
+use Rattle.nested_runs.proofs.Known.{IsMemberTask, task_of_member}
+use Rattle.nested_runs.proofs.Knows.{Knows}
+use Rattle.nested_runs.proofs.Recorded.{Inside}
 
 -- the current task of a thread is a member of its region with the thread's number
 pub record IsHere (W : World) (t : ℕ) : Type 0 where

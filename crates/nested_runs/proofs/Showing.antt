@@ -16,8 +16,8 @@ use Rattle.trace_check.specs.declared.change.Change.{Change}
 use Rattle.trace_check.specs.declared.change.Change.TheVariants as change
 use Rattle.trace_check.specs.Before.{current as current_task, opened}
 use Rattle.trace_check.specs.Brackets.{changed, current_in, is_innermost, is_match}
-use Rattle.nested_runs.specs.Effects.{EndsNewest, opens_after}
-use Rattle.nested_runs.specs.Shown.{begun_as, bracket_of, opens_at, shown}
+use Rattle.nested_runs.proofs.Effects.{EndsNewest, opens_after}
+use Rattle.nested_runs.proofs.Shown.{begun_as, bracket_of, opens_at, shown}
 
 -- ---- the current task
 

@@ -38,10 +38,10 @@ use Rattle.omp_model.specs.State.{World}
 use Rattle.omp_model.specs.declared.event.Endpoint.TheVariants.{Begin}
 use Rattle.omp_model.specs.declared.event.Event.TheVariants as event
 use Rattle.omp_model.specs.Going.{event_of_point, executes_point, single_kind}
-use Rattle.nested_runs.specs.Effects.{effect_of_event, stand_after, stand_before, stand_behind}
-use Rattle.nested_runs.specs.Standing.{Stand, stand_among, stand_within}
-use Rattle.nested_runs.specs.Standing.Stand.{Free, AtFork, AtMutex, AtSync}
-use Rattle.nested_runs.specs.Touching.{ComesFree}
+use Rattle.nested_runs.proofs.Effects.{effect_of_event, stand_after, stand_before, stand_behind}
+use Rattle.nested_runs.proofs.Standing.{Stand, stand_among, stand_within}
+use Rattle.nested_runs.proofs.Standing.Stand.{Free, AtFork, AtMutex, AtSync}
+use Rattle.nested_runs.proofs.Touching.{ComesFree}
 
 -- Where code stands is told by the event behind which it does.
 at-syncing : SyncKind → SyncStage → Stand

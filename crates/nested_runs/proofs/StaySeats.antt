@@ -8,12 +8,12 @@ use Rattle.omp_model.specs.declared.event.Event.{Event}
 use Rattle.omp_model.specs.declared.event.Event.TheVariants.{ParallelBegin}
 use Rattle.omp_model.specs.declared.event.Share.{Share}
 use Rattle.omp_model.specs.State.{Run, World, task_at, thread_at}
-use Rattle.nested_runs.specs.Recorded.{Inside}
-use Rattle.nested_runs.specs.Standing.{Stand, stand_at}
-use Rattle.nested_runs.specs.Standing.Stand.{Free, AtFork}
-use Rattle.nested_runs.specs.Touching.{MayTake}
-use Rattle.nested_runs.specs.Known.{IsBusy, IsChain, IsDetained, IsInvited, is_running, stands_on}
-use Rattle.nested_runs.specs.Knows.{Stays}
+use Rattle.nested_runs.proofs.Recorded.{Inside}
+use Rattle.nested_runs.proofs.Standing.{Stand, stand_at}
+use Rattle.nested_runs.proofs.Standing.Stand.{Free, AtFork}
+use Rattle.nested_runs.proofs.Touching.{MayTake}
+use Rattle.nested_runs.proofs.Known.{IsBusy, IsChain, IsDetained, IsInvited, is_running, stands_on}
+use Rattle.nested_runs.proofs.Knows.{Stays}
 use Rattle.nested_runs.proofs.Chains.{Grown, chain-grown}
 use Rattle.nested_runs.proofs.Errands.{LikeThread, StaysForking, below-event, busy-like, detained-like, invited-like, shares-like}
 use Rattle.nested_runs.proofs.OpenRegions.{SameForks, open-after}

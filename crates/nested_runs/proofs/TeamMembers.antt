@@ -19,12 +19,12 @@ use Rattle.omp_model.specs.Gates.{is_barrier}
 use Rattle.omp_model.specs.Going.{barrier_met}
 use Rattle.omp_model.specs.Touching.{AtBarrierElse, Meets, SameTeam, is_of_code}
 use Rattle.trace_check.specs.Before.{is_just, waiter, waits_of}
-use Rattle.nested_runs.specs.Coming.{Comes}
-use Rattle.nested_runs.specs.Effects.{stand_before}
-use Rattle.nested_runs.specs.Knows.{Goes}
-use Rattle.nested_runs.specs.Readings.{waiting_by}
-use Rattle.nested_runs.specs.Recorded.{Inside, recorded}
-use Rattle.nested_runs.specs.Standing.{stand_at}
+use Rattle.nested_runs.proofs.Coming.{Comes}
+use Rattle.nested_runs.proofs.Effects.{stand_before}
+use Rattle.nested_runs.proofs.Knows.{Goes}
+use Rattle.nested_runs.proofs.Readings.{waiting_by}
+use Rattle.nested_runs.proofs.Recorded.{Inside, recorded}
+use Rattle.nested_runs.proofs.Standing.{stand_at}
 use Rattle.nested_runs.proofs.CallReadings.{waiter-is}
 use Rattle.nested_runs.proofs.PooledTasks.{by-case, current-same}
 

@@ -17,7 +17,7 @@ use Rattle.team_parts.proofs.Same.{equal-meeting}
 use Rattle.c_model.specs.declared.point.SyncKind.TheVariants as sync
 use Rattle.omp_model.specs.Going.{sync_number}
 use Rattle.omp_model.specs.Alike.{what_met}
-use Rattle.nested_runs.specs.Known.{is_last}
+use Rattle.nested_runs.proofs.Known.{is_last}
 
 -- what a member has met
 abbrev pub met_in : TeamView → ℕ → List Meeting

@@ -19,12 +19,12 @@ use Rattle.omp_model.specs.State.{Run, Thread, World, first, first_world, pooled
 use Rattle.omp_model.specs.Gates.{is_barrier}
 use Rattle.omp_model.specs.Members.{current}
 use Rattle.trace_check.specs.Rules.{has_no_child, keeps_waits, may_pass as passes_wait}
-use Rattle.nested_runs.specs.Known.{AtBarrier, IsWaiting, TellsBarriers, TellsMember, owed, task_of_member}
-use Rattle.nested_runs.specs.Knows.{ComesBack, Goes, IsWholeRun, Stays}
-use Rattle.nested_runs.specs.Recorded.{Inside, inside, recorded}
-use Rattle.nested_runs.specs.Standing.{Stand, stand_at}
-use Rattle.nested_runs.specs.Touching.{ComesFree}
-use Rattle.nested_runs.specs.Standing.Stand.{Free, AtFork, AtMutex, AtSync}
+use Rattle.nested_runs.proofs.Known.{AtBarrier, IsWaiting, TellsBarriers, TellsMember, owed, task_of_member}
+use Rattle.nested_runs.proofs.Knows.{ComesBack, Goes, IsWholeRun, Stays}
+use Rattle.nested_runs.proofs.Recorded.{Inside, inside, recorded}
+use Rattle.nested_runs.proofs.Standing.{Stand, stand_at}
+use Rattle.nested_runs.proofs.Touching.{ComesFree}
+use Rattle.nested_runs.proofs.Standing.Stand.{Free, AtFork, AtMutex, AtSync}
 use Rattle.nested_runs.proofs.FirstWorlds.{first-inside}
 use Rattle.nested_runs.proofs.PooledTasks.{apart, current-same, same-back}
 use Rattle.nested_runs.proofs.RegionHeads.{back-head}

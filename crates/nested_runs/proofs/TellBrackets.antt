@@ -28,22 +28,22 @@ use Rattle.omp_model.specs.Made.{IsTaskOf}
 use Rattle.omp_model.specs.Touching.{come_to, forked_back, is_of_code, is_summoned, pooled_back, thread_after, thread_back}
 use Rattle.omp_model.proofs.MadeEvents.{current-made}
 use Rattle.omp_model.proofs.Gos.{current-kept}
-use Rattle.nested_runs.specs.Coming.{Comes, PicksTask, PicksUndeferred}
-use Rattle.nested_runs.specs.Effects.{EndsNewest, effect_of_event, opens_after}
-use Rattle.nested_runs.specs.Readings.{change_by}
-use Rattle.nested_runs.specs.Recorded.{Inside, inside, recorded}
-use Rattle.nested_runs.specs.Knows.{ComesBack, Goes, IsWholeRun, Knows, Stays}
+use Rattle.nested_runs.proofs.Coming.{Comes, PicksTask, PicksUndeferred}
+use Rattle.nested_runs.proofs.Effects.{EndsNewest, effect_of_event, opens_after}
+use Rattle.nested_runs.proofs.Readings.{change_by}
+use Rattle.nested_runs.proofs.Recorded.{Inside, inside, recorded}
+use Rattle.nested_runs.proofs.Knows.{ComesBack, Goes, IsWholeRun, Knows, Stays}
 use Rattle.trace_check.specs.declared.bracket.Bracket.{Bracket}
 use Rattle.trace_check.specs.declared.bracket.Bracket.TheVariants.{Parallel, Implicit, Explicit, Masking, Syncing, Waiting}
 use Rattle.trace_check.specs.declared.change.Change.TheVariants as change
 use Rattle.trace_check.specs.Rules.{keeps_brackets, may_change}
 use Rattle.trace_check.specs.Before.{current as current_task, is_just, opened}
 use Rattle.trace_check.specs.Brackets.{changed, current_in, is_innermost, is_match}
-use Rattle.nested_runs.specs.Shown.{begun_as, bracket_of, opens_at, shown}
-use Rattle.nested_runs.specs.Standing.{Stand, stand_among}
-use Rattle.nested_runs.specs.Standing.Stand.{Free}
-use Rattle.nested_runs.specs.Touching.{Alike, AreCodes, ComesFree, Touches}
-use Rattle.nested_runs.specs.Known.{IsBusy, TellsBrackets, is_ending}
+use Rattle.nested_runs.proofs.Shown.{begun_as, bracket_of, opens_at, shown}
+use Rattle.nested_runs.proofs.Standing.{Stand, stand_among}
+use Rattle.nested_runs.proofs.Standing.Stand.{Free}
+use Rattle.nested_runs.proofs.Touching.{Alike, AreCodes, ComesFree, Touches}
+use Rattle.nested_runs.proofs.Known.{IsBusy, TellsBrackets, is_ending}
 use Rattle.nested_runs.proofs.CallReadings.{change-is, opened-other, opened-own}
 use Rattle.nested_runs.proofs.Codes.{main-open, no-fork}
 use Rattle.nested_runs.proofs.FirstWorlds.{first-tasks, first-threads}

@@ -21,13 +21,13 @@ use Rattle.omp_model.specs.Changes.{made, summoned}
 use Rattle.omp_model.specs.Calls.{call_of}
 use Rattle.omp_model.specs.Conditions.{EventOrderly, has_started}
 use Rattle.omp_model.specs.Touching.{come_to, is_summoned, pooled_after, pooled_back, thread_back}
-use Rattle.nested_runs.specs.Coming.{Comes}
-use Rattle.nested_runs.specs.Recorded.{Enters, Inside, inside, recorded}
-use Rattle.nested_runs.specs.Knows.{ComesBack, Goes, IsWholeRun, Knows, Stays}
-use Rattle.nested_runs.specs.Touching.{MayTake, Touches}
+use Rattle.nested_runs.proofs.Coming.{Comes}
+use Rattle.nested_runs.proofs.Recorded.{Enters, Inside, inside, recorded}
+use Rattle.nested_runs.proofs.Knows.{ComesBack, Goes, IsWholeRun, Knows, Stays}
+use Rattle.nested_runs.proofs.Touching.{MayTake, Touches}
 use Rattle.trace_check.specs.Rules.{begins_initial, is_initial}
 use Rattle.trace_check.specs.Before.{events_of}
-use Rattle.nested_runs.specs.Known.{IsEarly, IsFirstEvent, TellsFirst, TellsThread, is_begun, is_ending, is_over}
+use Rattle.nested_runs.proofs.Known.{IsEarly, IsFirstEvent, TellsFirst, TellsThread, is_begun, is_ending, is_over}
 use Rattle.nested_runs.proofs.CallReadings.{events-other, events-own}
 use Rattle.nested_runs.proofs.FirstWorlds.{first-inside, first-threads, replicated}
 use Rattle.nested_runs.proofs.KeptTasks.{unstarted}

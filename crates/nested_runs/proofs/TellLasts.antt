@@ -24,12 +24,12 @@ use Rattle.omp_model.specs.Members.{current, current_index, current_region, is_e
 use Rattle.omp_model.specs.Conditions.{AreOrderly}
 use Rattle.omp_model.specs.Touching.{come_to, pooled_after, pooled_back, regions_after}
 use Rattle.omp_model.specs.Alike.{what_met}
-use Rattle.nested_runs.specs.Coming.{Comes}
-use Rattle.nested_runs.specs.Recorded.{Inside, inside}
-use Rattle.nested_runs.specs.Standing.{is_behind, stand_at}
-use Rattle.nested_runs.specs.Knows.{ComesBack, Goes, IsWholeRun, Knows, Stays}
-use Rattle.nested_runs.specs.Touching.{Touches}
-use Rattle.nested_runs.specs.Known.{HasNoTasks, HasPassed, IsGoing, IsLeaving, TellsLast, TellsLasts, has_left_region, has_met_last, is_last, is_past_wait, task_of_member}
+use Rattle.nested_runs.proofs.Coming.{Comes}
+use Rattle.nested_runs.proofs.Recorded.{Inside, inside}
+use Rattle.nested_runs.proofs.Standing.{is_behind, stand_at}
+use Rattle.nested_runs.proofs.Knows.{ComesBack, Goes, IsWholeRun, Knows, Stays}
+use Rattle.nested_runs.proofs.Touching.{Touches}
+use Rattle.nested_runs.proofs.Known.{HasNoTasks, HasPassed, IsGoing, IsLeaving, TellsLast, TellsLasts, has_left_region, has_met_last, is_last, is_past_wait, task_of_member}
 use Rattle.nested_runs.proofs.Chains.{Grown, outermost-grown}
 use Rattle.nested_runs.proofs.FirstWorlds.{first-inside, replicated}
 use Rattle.nested_runs.proofs.GoFrames.{grown-go}

@@ -24,17 +24,17 @@ use Rattle.omp_model.specs.Conditions.{Distinct, EventOrderly, has_started}
 use Rattle.omp_model.specs.Touching.{come_to, is_of_code, locks_after, owner_after, pooled_after, pooled_back, tasks_after, thread_after}
 use Rattle.omp_model.proofs.MadeEvents.{current-made}
 use Rattle.omp_model.proofs.Gos.{current-kept}
-use Rattle.nested_runs.specs.Coming.{Comes, PicksTask, PicksUndeferred}
-use Rattle.nested_runs.specs.Effects.{stand_after}
-use Rattle.nested_runs.specs.Readings.{held_by}
-use Rattle.nested_runs.specs.Recorded.{Inside, recorded}
-use Rattle.nested_runs.specs.Knows.{ComesBack, Goes, IsWholeRun, Knows, Stays}
-use Rattle.nested_runs.specs.Standing.{Stand, stand_among, stand_at}
-use Rattle.nested_runs.specs.Standing.Stand.{Free, AtMutex}
-use Rattle.nested_runs.specs.Touching.{AreCodes, ComesFree, MayTake, Touches}
+use Rattle.nested_runs.proofs.Coming.{Comes, PicksTask, PicksUndeferred}
+use Rattle.nested_runs.proofs.Effects.{stand_after}
+use Rattle.nested_runs.proofs.Readings.{held_by}
+use Rattle.nested_runs.proofs.Recorded.{Inside, recorded}
+use Rattle.nested_runs.proofs.Knows.{ComesBack, Goes, IsWholeRun, Knows, Stays}
+use Rattle.nested_runs.proofs.Standing.{Stand, stand_among, stand_at}
+use Rattle.nested_runs.proofs.Standing.Stand.{Free, AtMutex}
+use Rattle.nested_runs.proofs.Touching.{AreCodes, ComesFree, MayTake, Touches}
 use Rattle.trace_check.specs.Before.{holder, is_just, latest}
 use Rattle.trace_check.specs.Rules.{is_free, keeps_asking, keeps_holders}
-use Rattle.nested_runs.specs.Known.{AreOwners, AreRising, HasAsked, HasNotAsked, IsInvited, IsOwner, IsStarted, TellsLocks, holder_of, is_running, thread_of_owner}
+use Rattle.nested_runs.proofs.Known.{AreOwners, AreRising, HasAsked, HasNotAsked, IsInvited, IsOwner, IsStarted, TellsLocks, holder_of, is_running, thread_of_owner}
 use Rattle.nested_runs.proofs.CallReadings.{held-is, latest-other, latest-own}
 use Rattle.nested_runs.proofs.FirstWorlds.{first-threads}
 use Rattle.nested_runs.proofs.KeptTasks.{code-some, current-under_way, none-stand}

@@ -12,12 +12,12 @@ use Rattle.omp_model.specs.Calls.{call_of}
 use Rattle.omp_model.specs.Gates.{all_left}
 use Rattle.omp_model.specs.Members.{member_index}
 use Rattle.omp_model.specs.State.{Run, World, first, first_world, region_at}
-use Rattle.nested_runs.specs.Recorded.{Inside, inside, recorded}
-use Rattle.nested_runs.specs.Readings.{joined_by}
-use Rattle.nested_runs.specs.Knows.{ComesBack, Goes, IsWholeRun, Knows, Stays}
+use Rattle.nested_runs.proofs.Recorded.{Inside, inside, recorded}
+use Rattle.nested_runs.proofs.Readings.{joined_by}
+use Rattle.nested_runs.proofs.Knows.{ComesBack, Goes, IsWholeRun, Knows, Stays}
 use Rattle.trace_check.specs.Rules.{keeps_teams, may_join}
 use Rattle.trace_check.specs.Before.{Join, has_left, join_of, joins_of}
-use Rattle.nested_runs.specs.Known.{HasGone, IsJoin, TellsMembers, task_of_member}
+use Rattle.nested_runs.proofs.Known.{HasGone, IsJoin, TellsMembers, task_of_member}
 use Rattle.nested_runs.proofs.BackMembers.{back-members, first-members, stay-members}
 use Rattle.nested_runs.proofs.CallReadings.{join-is}
 use Rattle.nested_runs.proofs.ListCounts.{count-first}

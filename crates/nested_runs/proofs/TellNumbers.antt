@@ -11,13 +11,13 @@ use Rattle.omp_model.specs.State.{Run, Thread, World, first_world, thread_at}
 use Rattle.omp_model.specs.Members.{current}
 use Rattle.omp_model.specs.Calls.{call_of}
 use Rattle.omp_model.specs.Touching.{regions_after, tasks_after, thread_after}
-use Rattle.nested_runs.specs.Coming.{Comes}
-use Rattle.nested_runs.specs.Readings.{region_by, task_by}
-use Rattle.nested_runs.specs.Recorded.{Inside, recorded}
-use Rattle.nested_runs.specs.Knows.{ComesBack, Goes, IsWholeRun, Stays}
+use Rattle.nested_runs.proofs.Coming.{Comes}
+use Rattle.nested_runs.proofs.Readings.{region_by, task_by}
+use Rattle.nested_runs.proofs.Recorded.{Inside, recorded}
+use Rattle.nested_runs.proofs.Knows.{ComesBack, Goes, IsWholeRun, Stays}
 use Rattle.trace_check.specs.Before.{current as current_task, greatest_region, greatest_task, is_just}
 use Rattle.trace_check.specs.Rules.{keeps_creations, keeps_regions}
-use Rattle.nested_runs.specs.Known.{TellsNumbers}
+use Rattle.nested_runs.proofs.Known.{TellsNumbers}
 use Rattle.nested_runs.proofs.CallReadings.{region-is, task-is}
 use Rattle.nested_runs.proofs.TellBrackets.{current-known}
 

@@ -4,10 +4,10 @@ use Rattle.ompt_calls.specs.declared.event.EventRecord.{EventRecord}
 use Rattle.omp_model.specs.declared.event.Event.{Event}
 use Rattle.omp_model.specs.State.{Run, World, first, first_world}
 use Rattle.omp_model.specs.declared.limits.TheConstants.{INITIAL_TASK}
-use Rattle.nested_runs.specs.Recorded.{Inside, inside, recorded}
-use Rattle.nested_runs.specs.Knows.{ComesBack, Goes, IsWholeRun, Stays}
+use Rattle.nested_runs.proofs.Recorded.{Inside, inside, recorded}
+use Rattle.nested_runs.proofs.Knows.{ComesBack, Goes, IsWholeRun, Stays}
 use Rattle.trace_check.specs.Rules.{keeps_dispatches}
-use Rattle.nested_runs.specs.Known.{AreSeated}
+use Rattle.nested_runs.proofs.Known.{AreSeated}
 use Rattle.nested_runs.proofs.BackSeats.{busy-back, chain-back, detained-back, grown-back, idle-back, invited-back, same-forks-back, shares-back}
 use Rattle.nested_runs.proofs.Dispatches.{dispatched}
 use Rattle.nested_runs.proofs.FirstSeats.{first-seats}

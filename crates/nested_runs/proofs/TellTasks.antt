@@ -25,11 +25,11 @@ use Rattle.omp_model.specs.Made.{IsMadeWorld}
 use Rattle.omp_model.specs.Members.{current, is_explicit_task}
 use Rattle.omp_model.specs.Touching.{come_to, pooled_after, pooled_back}
 use Rattle.omp_model.proofs.MadeWords.{pool-at}
-use Rattle.nested_runs.specs.Coming.{ComesToTask, PicksTask, PicksUndeferred}
-use Rattle.nested_runs.specs.Recorded.{Inside, inside, recorded}
-use Rattle.nested_runs.specs.Readings.{completed_by, created_by, started_by}
-use Rattle.nested_runs.specs.Knows.{ComesBack, Goes, IsWholeRun, Knows, Stays}
-use Rattle.nested_runs.specs.Known.{IsOver, TellsTasks}
+use Rattle.nested_runs.proofs.Coming.{ComesToTask, PicksTask, PicksUndeferred}
+use Rattle.nested_runs.proofs.Recorded.{Inside, inside, recorded}
+use Rattle.nested_runs.proofs.Readings.{completed_by, created_by, started_by}
+use Rattle.nested_runs.proofs.Knows.{ComesBack, Goes, IsWholeRun, Knows, Stays}
+use Rattle.nested_runs.proofs.Known.{IsOver, TellsTasks}
 use Rattle.trace_check.specs.Before.{Creation, and_one, creations, has_started as was_started, is_complete, is_created, is_just}
 use Rattle.trace_check.specs.Rules.{has_no_child, keeps_starts}
 use Rattle.nested_runs.proofs.CallReadings.{creation-is}

@@ -15,12 +15,12 @@ use Rattle.omp_model.specs.State.{Run, Thread, World, first, first_world, thread
 use Rattle.omp_model.specs.Changes.{made, summoned}
 use Rattle.omp_model.specs.Calls.{call_of, thread_kind}
 use Rattle.omp_model.specs.Touching.{is_summoned, thread_after, thread_back}
-use Rattle.nested_runs.specs.Coming.{Comes}
-use Rattle.nested_runs.specs.Recorded.{Inside, inside, recorded}
-use Rattle.nested_runs.specs.Knows.{ComesBack, Goes, IsWholeRun, Stays}
+use Rattle.nested_runs.proofs.Coming.{Comes}
+use Rattle.nested_runs.proofs.Recorded.{Inside, inside, recorded}
+use Rattle.nested_runs.proofs.Knows.{ComesBack, Goes, IsWholeRun, Stays}
 use Rattle.trace_check.specs.Before.{events_of, has_ended, is_end, is_of}
 use Rattle.trace_check.specs.Rules.{keeps_kind, keeps_threads}
-use Rattle.nested_runs.specs.Known.{TellsThread, TellsThreads, is_begun, is_ending, is_over}
+use Rattle.nested_runs.proofs.Known.{TellsThread, TellsThreads, is_begun, is_ending, is_over}
 use Rattle.nested_runs.proofs.CallReadings.{ended-other, ended-own, events-other, events-own}
 use Rattle.nested_runs.proofs.FirstWorlds.{first-inside, first-threads}
 

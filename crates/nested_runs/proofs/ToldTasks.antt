@@ -14,9 +14,9 @@ use Rattle.omp_model.specs.State.{World, pooled_at}
 use Rattle.omp_model.specs.Conditions.{has_started}
 use Rattle.omp_model.specs.Going.{kind_of_task}
 use Rattle.omp_model.specs.Touching.{come_to}
-use Rattle.nested_runs.specs.Recorded.{Inside, recorded}
-use Rattle.nested_runs.specs.Readings.{completed_by, created_by, started_by}
-use Rattle.nested_runs.specs.Known.{IsOver, TellsTasks}
+use Rattle.nested_runs.proofs.Recorded.{Inside, recorded}
+use Rattle.nested_runs.proofs.Readings.{completed_by, created_by, started_by}
+use Rattle.nested_runs.proofs.Known.{IsOver, TellsTasks}
 use Rattle.trace_check.specs.Before.{Creation, and_one, creations, has_started as was_started, is_complete, is_created, is_just}
 use Rattle.nested_runs.proofs.CallReadings.{completed-is, creation-is, started-is}
 

@@ -29,9 +29,9 @@ use Rattle.omp_model.proofs.Turns.{Leaves, leaves-turn, turn-goes}
 use Rattle.omp_model.proofs.Backs.{returns}
 use Rattle.omp_model.proofs.Rewrites.{thread-below}
 use Rattle.trace_check.specs.Checking.{Unbroken}
-use Rattle.nested_runs.specs.Recorded.{Enters, Inside, event_in, inside}
-use Rattle.nested_runs.specs.Knows.{ComesBack, Goes, IsSound, Knows, Stays}
-use Rattle.nested_runs.specs.Touching.{Alike}
+use Rattle.nested_runs.proofs.Recorded.{Enters, Inside, event_in, inside}
+use Rattle.nested_runs.proofs.Knows.{ComesBack, Goes, IsSound, Knows, Stays}
+use Rattle.nested_runs.proofs.Touching.{Alike}
 use Rattle.nested_runs.proofs.AlikeSteps.{alike-past, alike-same, alike-step, alike-stored, alike-then}
 use Rattle.nested_runs.proofs.BackCodes.{sound-state}
 use Rattle.nested_runs.proofs.Comings.{comes}

@@ -18,11 +18,11 @@ use Rattle.omp_model.specs.Gates.{is_barrier, may_end}
 use Rattle.omp_model.specs.Members.{current, current_index, current_region, current_team, is_member}
 use Rattle.trace_check.specs.Before.{Join, is_open_region, joins, joins_of, waits_of}
 use Rattle.trace_check.specs.Rules.{have_waited, may_pass as passes_wait}
-use Rattle.nested_runs.specs.Known.{AtBarrier, TellsMember, owed, task_of_member}
-use Rattle.nested_runs.specs.Knows.{Knows}
-use Rattle.nested_runs.specs.Recorded.{Inside}
-use Rattle.nested_runs.specs.Standing.{stand_at}
-use Rattle.nested_runs.specs.Standing.Stand.{AtSync}
+use Rattle.nested_runs.proofs.Known.{AtBarrier, TellsMember, owed, task_of_member}
+use Rattle.nested_runs.proofs.Knows.{Knows}
+use Rattle.nested_runs.proofs.Recorded.{Inside}
+use Rattle.nested_runs.proofs.Standing.{stand_at}
+use Rattle.nested_runs.proofs.Standing.Stand.{AtSync}
 use Rattle.nested_runs.proofs.ListTests.{any-at, any-filter}
 use Rattle.nested_runs.proofs.MemberJoins.{has-join, no_join, not-over, open-told, waited-told}
 use Rattle.nested_runs.proofs.PooledTasks.{current-under-way}

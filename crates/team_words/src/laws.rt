@@ -22,9 +22,9 @@ pub fn counters_tell_the_team()
         IsCounted (after_calls (fresh_team size) calls) (counters_after_calls (fresh_counters size room) calls) }
 {}
 
-/// By the counters the wait of a member at the barrier that it met last, its n-th meeting, may end just where each
-/// member has an n-th meeting at which it has arrived and no explicit task is unfinished, or where some member has
-/// passed its n-th.
+/// This is of the wait of a member at the barrier that it met last, its n-th meeting. By the counters it may end in just
+/// two cases. Each member has arrived at its n-th meeting and no explicit task is unfinished, or some member has passed
+/// its n-th.
 pub fn waits_end_once_all_have_arrived()
     ensures { (size room : ℕ) (calls : List TeamCall) (member unfinished : ℕ) → AreMade size calls →
         let team = after_calls (fresh_team size) calls in IsTrue (is_at_barrier (met_by team member)) →

@@ -1,4 +1,5 @@
 -- What is so of each item of each task's code, in each state that entries lead to.
+use Rattle.work_laws.proofs.Shares.{may-any-next}
 use Rattle.std.proofs.Common.{ℕ, ◌≡◌, ◌++◌, Bool, true, false, if◌then◌else◌, Some, None, List, [], ◌∷◌, slice_index_or, slice_set, refl}
 use Rattle.std.specs.Prelude.{Option}
 use Rattle.ompt_calls.specs.declared.snapshot.Target.{Target}
@@ -6,7 +7,6 @@ use Rattle.ompt_calls.specs.declared.snapshot.Target.TheVariants as target
 use Rattle.c_syntax.specs.language.Tree.{Tree}
 use Rattle.c_model.specs.declared.point.Point.{Point}
 use Rattle.c_model.specs.declared.point.Point.TheVariants as point
-use Rattle.c_model.specs.declared.point.Schedule.{Schedule}
 use Rattle.c_model.specs.declared.point.SyncKind.{SyncKind}
 use Rattle.c_model.specs.declared.point.SyncStage.{SyncStage}
 use Rattle.c_model.specs.declared.point.SyncStage.TheVariants as stage
@@ -15,7 +15,7 @@ use Rattle.c_model.specs.declared.question.Answer.{Answer}
 use Rattle.c_model.specs.declared.question.Answer.TheVariants as answer
 use Rattle.c_model.specs.Begin.{blank_task, explicit_task, member_task}
 use Rattle.c_model.specs.Program.{body_of, function_named}
-use Rattle.c_model.specs.Step.{silent}
+use Rattle.c_model.specs.Step.{silent, settled_task}
 use Rattle.c_model.specs.Task.{Outcome, Task as Code}
 use Rattle.c_model.specs.Task.Outcome.{Asks, Ends, Limits, Occurs, StepsTo, Traps}
 use Rattle.task_pool.specs.declared.task.TaskKind.TheVariants as kind
@@ -46,7 +46,7 @@ use Rattle.omp_model.proofs.Later.{at-set}
 use Rattle.omp_model.proofs.MadeWords.{at-push}
 use Rattle.omp_model.proofs.Turning.{AfterSilence, Beside, GoOf, OfCode, Turned, of-entries, of-turn, of-walk}
 use Rattle.nested_runs.proofs.FirstWorlds.{first-tasks}
-use Rattle.work_laws.proofs.Items.{AreRules, HoldsCode}
+use Rattle.work_laws.proofs.Items.{AreRules, HoldsCode, AnyTree}
 use Rattle.work_laws.proofs.ItemSteps.{MayAnswer, MayEndSingle, holds-answer, holds-blank, holds-event, holds-explicit, holds-main, holds-member, holds-settled, holds-step}
 
 -- any work may end
@@ -63,10 +63,10 @@ may-any (answer.Section None) = tt
 may-any (answer.Section (Some section)) = tt
 may-any (answer.Free free) = tt
 
-module _ (run : Run) (T : Tree → Type 0) (S : Schedule → Type 0) (rules : AreRules T S)
+module _ (run : Run) (T S : Tree → Type 0) (rules : AreRules T S)
     (functions : (name : ℕ) → T (body_of (function_named run.program name))) where
   abbrev Holds : Code → Type 0
-  Holds code = HoldsCode T S AnyEnd code
+  Holds code = HoldsCode T S AnyTree AnyEnd code
 
   abbrev HoldsTask : Task → Type 0
   HoldsTask task = Holds task.code
@@ -84,30 +84,30 @@ module _ (run : Run) (T : Tree → Type 0) (S : Schedule → Type 0) (rules : Ar
 
   -- ---- silent steps
 
-  all-past : (W : World) (t : ℕ) → AllHold W → AllHold (gone_past W t)
-  all-past W t all = changed W (current W t) _ all (holds-settled T S AnyEnd rules any-single (view_of W t) (code_of W t) (all (current W t)))
+  pub all-past : (W : World) (t : ℕ) → AllHold W → AllHold (gone_past W t)
+  all-past W t all = changed W (current W t) _ all (holds-settled T S AnyTree AnyEnd rules any-single (view_of W t) (code_of W t) (all (current W t)))
 
   all-by : (W : World) (t : ℕ) → AllHold W → (outcome : Outcome) → silent run.program (view_of W t) (moment_of W t) ≡ outcome →
       AfterSilence AllHold (silence_of W t outcome)
   all-by W t all (StepsTo next) is =
       changed W (current W t) _ all
-      (holds-step T S AnyEnd rules any-single run.program (view_of W t) (moment_of W t) next functions (all (current W t)) is)
+      (holds-step T S AnyTree AnyEnd rules any-single run.program (view_of W t) (moment_of W t) next functions (all (current W t)) is)
   all-by W t all (Asks what tree) is =
       changed W (current W t) _ all
-      (holds-answer T S AnyEnd rules any-single (view_of W t) (answer_to W t what) (moment_of W t) (may-any (answer_to W t what)) (all (current W t)))
+      (holds-answer T S AnyTree AnyEnd rules any-single (view_of W t) (answer_to W t what) (moment_of W t) (may-any (answer_to W t what)) (all (current W t)))
   all-by W t all (Occurs what tree) is = all
   all-by W t all (Ends number) is = all
   all-by W t all (Traps trap) is = tt
   all-by W t all (Limits limit) is = tt
 
-  all-step : (t : ℕ) (W : World) → arrival W t ≡ Steps → AllHold W → AfterSilence AllHold (silent_step run W t)
+  pub all-step : (t : ℕ) (W : World) → arrival W t ≡ Steps → AllHold W → AfterSilence AllHold (silent_step run W t)
   unfolding silent_step
   all-step t W steps all = all-by W t all (silent run.program (view_of W t) (moment_of W t)) refl
 
   -- ---- an event of the code
 
   pub holds-told : (W : World) (t : ℕ) → AllHold W → Holds (told W t).task
-  holds-told W t all = holds-answer T S AnyEnd rules any-single (view_of W t) (answer.Free true) (moment_of W t) tt (all (current W t))
+  holds-told W t all = holds-answer T S AnyTree AnyEnd rules any-single (view_of W t) (answer.Free true) (moment_of W t) tt (all (current W t))
 
   all-either : (W one other : World) (b : Bool) → AllHold one → AllHold other → AllHold (if b then one else other)
   all-either W one other true first second = first
@@ -130,7 +130,7 @@ module _ (run : Run) (T : Tree → Type 0) (S : Schedule → Type 0) (rules : Ar
     between (point.ParallelBegin codeptr requested) tree is = changed W (current W t) _ all (all (current W t))
     between (point.TaskCreate codeptr undeferred) tree is =
         added W (task_with (explicit_task run.program (view_of W t) (told W t)).task) all
-        (holds-explicit T S AnyEnd rules any-single run.program (view_of W t) (told W t) codeptr undeferred tree functions (holds-told W t all) is)
+        (holds-explicit T S AnyTree AnyEnd rules any-single run.program (view_of W t) (told W t) codeptr undeferred tree functions (holds-told W t all) is)
     between (point.ParallelEnd codeptr) tree is = all
     between (point.WorkBegin codeptr what) tree is = all-met W t (work_met codeptr what) all
     between (point.Sync codeptr which at) tree is = all-synced W t codeptr which at all
@@ -144,8 +144,8 @@ module _ (run : Run) (T : Tree → Type 0) (S : Schedule → Type 0) (rules : Ar
         AllHold (past_point W (effect_of_point run W t (told W t) what) t (told W t) what)
     all-point what tree is =
         changed (effect_of_point run W t (told W t) what) _ _ (between what tree is)
-        (holds-event T S AnyEnd rules any-single run.program (view_of W t) (told W t) what (executes_point W t what) tree functions
-        (holds-told W t all) is).0
+        ((holds-event T S AnyTree AnyEnd rules any-single run.program (view_of W t) (told W t) what (executes_point W t what) tree functions
+        (holds-told W t all) is).0 (may-any-next what (settled_task (view_of W t) (told W t).task).todo))
 
     code-by : (next : World) (e : Event) (outcome : Outcome) → silent run.program (view_of W t) (told W t) ≡ outcome →
         going_by run W t (told W t) outcome ≡ Happens e next → AllHold next
@@ -174,14 +174,14 @@ module _ (run : Run) (T : Tree → Type 0) (S : Schedule → Type 0) (rules : Ar
   all-taken W t k all = changed W k (record (task_at W k) { thread = t }) all (all k)
 
   all-emptied : (W : World) (k : ℕ) → AllHold W → AllHold (emptied W k)
-  all-emptied W k all = changed W k _ all (holds-blank T S AnyEnd rules any-single)
+  all-emptied W k all = changed W k _ all (holds-blank T S AnyTree AnyEnd rules any-single)
 
   member-holds : (code : Code) → Holds code → Holds (member_code code)
   member-holds code holds = at-fork (has_forked code.todo)
     where
       at-fork : (b : Bool) → Holds (if b then member_task code else blank_task)
-      at-fork true = holds-member T S AnyEnd rules any-single code holds
-      at-fork false = holds-blank T S AnyEnd rules any-single
+      at-fork true = holds-member T S AnyTree AnyEnd rules any-single code holds
+      at-fork false = holds-blank T S AnyTree AnyEnd rules any-single
 
   all-beside : (W : World) (t : ℕ) (e : Event) → AllHold W → AllHold (effect_of W t e)
   unfolding effect_of
@@ -242,14 +242,14 @@ module _ (run : Run) (T : Tree → Type 0) (S : Schedule → Type 0) (rules : Ar
   all-put_from X t place word None all = all
   all-put_from X t place word (Some callback) all = all-stored X.world place word all
 
-  all-does : (X : State) (t : ℕ) (what : What) → AllHold X.world → AllHold (does run X t what).world
+  pub all-does : (X : State) (t : ℕ) (what : What) → AllHold X.world → AllHold (does run X t what).world
   all-does X t Go all =
       all-turn t (turn run X t).state.world (turn run X t).outcome (of-turn run t AllHold (λ W all. all-past W t all) (all-step t) X all)
   all-does X t (Put place word) all = all-put_from X t place word (pending_at X t) all
   all-does X t Back all = all-back_from X t (pending_at X t) all
 
-  all-first : AllHold (first_world run)
-  all-first = first-tasks run HoldsTask (holds-blank T S AnyEnd rules any-single) (holds-main T S AnyEnd rules any-single run.program functions)
+  pub all-first : AllHold (first_world run)
+  all-first = first-tasks run HoldsTask (holds-blank T S AnyTree AnyEnd rules any-single) (holds-main T S AnyTree AnyEnd rules any-single run.program functions)
 
   -- after these entries, and silent steps of a thread
   pub all-walk : (history : List Entry) (t steps : ℕ) → AllHold (walk run steps 0 (after run history) t).state.world

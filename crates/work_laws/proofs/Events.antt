@@ -29,9 +29,9 @@ use Rattle.omp_model.proofs.Arriving.{thread-goes}
 use Rattle.omp_model.proofs.Gos.{current-kept}
 use Rattle.omp_model.proofs.Rewrites.{thread-below}
 use Rattle.omp_model.proofs.Turning.{Beside, GoOf, OfCode}
-use Rattle.nested_runs.specs.Knows.{Goes, Knows, Stays}
-use Rattle.nested_runs.specs.Recorded.{Enters, event_in, inside}
-use Rattle.nested_runs.specs.Shown.{opens_at}
+use Rattle.nested_runs.proofs.Knows.{Goes, Knows, Stays}
+use Rattle.nested_runs.proofs.Recorded.{Enters, event_in, inside}
+use Rattle.nested_runs.proofs.Shown.{opens_at}
 use Rattle.nested_runs.proofs.BackCodes.{sound-state}
 use Rattle.nested_runs.proofs.Comings.{comes}
 use Rattle.nested_runs.proofs.Gos.{touches}
@@ -117,11 +117,11 @@ module _ (run : Run) (S next : State) (met : IsMet run S) (t : ℕ) (e : Event) 
 -- ---- events that leave all but threads, codes and stacks
 
 -- where the member has met what it had met
-record IsStill (W after : World) (t : ℕ) : Type 0 where
-  task : current after t ≡ current W t
-  pooled : (j : ℕ) → pooled_at after j ≡ pooled_at W j
-  head : (q : ℕ) → (region_at after q).head ≡ (region_at W q).head
-  team : (q : ℕ) → (region_at after q).team ≡ (region_at W q).team
+pub record IsStill (W after : World) (t : ℕ) : Type 0 where
+  pub task : current after t ≡ current W t
+  pub pooled : (j : ℕ) → pooled_at after j ≡ pooled_at W j
+  pub head : (q : ℕ) → (region_at after q).head ≡ (region_at W q).head
+  pub team : (q : ℕ) → (region_at after q).team ≡ (region_at W q).team
 
 still-region : (W after : World) (t : ℕ) → IsStill W after t → current_region after t ≡ current_region W t
 still-region W after t still = ap (λ (x : PoolTask). x.region) (still.pooled (current after t)) ∙ ap (region_of W) still.task
@@ -133,7 +133,7 @@ still-index W after t still =
     (ap (λ (head : RegionHead). region_of after head.task) (still.head (current_region W t))
     ∙ ap (λ (x : PoolTask). x.region) (still.pooled (region_at W (current_region W t)).head.task))
 
-still-newest : (W after : World) (t : ℕ) → IsStill W after t → (q n : ℕ) → is_newest after t q n ≡ is_newest W t q n
+pub still-newest : (W after : World) (t : ℕ) → IsStill W after t → (q n : ℕ) → is_newest after t q n ≡ is_newest W t q n
 still-newest W after t still q n =
     newest-same W after t q n still.task (still-region W after t still) (still-index W after t still)
     (ap (λ (team : TeamView). (member_at team (current_index W t)).met) (still.team (current_region W t)))
@@ -245,17 +245,21 @@ module _ (run : Run) (S next : State) (met : IsMet run S) (t : ℕ) (told : Tell
   work-apart : (which : WorkKind) (count codeptr : ℕ) (share : Share) → Work End which count codeptr ≡ Dispatch share → ⊥
   work-apart which count codeptr share is = cc
 
+  pub dispatch-still : (share : Share) → GoesTo (Dispatch share) → IsStill W after t
+  dispatch-still share goes-to =
+      record {
+        task = current-same W after t (ap (λ (x : Thread). x.stack) goes-to.touches.world.own);
+        pooled = goes-to.touches.world.pooled;
+        head = goes-to.touches.world.head;
+        team = goes-to.touches.world.team;
+      }
+
   dispatched : (share : Share) → GoOf run W t (Dispatch share) after → Pending (Dispatch share) → Told (Dispatch share)
   dispatched share go pending =
       let e : Event = Dispatch share in
       let goes-to = goes run S next met t e W on.reached go made orderly there outside pending in
       let taken : (thread_at W t).taken ≡ Some share = goes-to.comes.taken in
-      let still : IsStill W after t = record {
-        task = current-same W after t (ap (λ (x : Thread). x.stack) goes-to.touches.world.own);
-        pooled = goes-to.touches.world.pooled;
-        head = goes-to.touches.world.head;
-        team = goes-to.touches.world.team;
-      } in
+      let still = dispatch-still share goes-to in
       share-same W after t (still-newest W after t still) told (Some share)
       (gone e go pending (with_share W t (Some share) told) (subst (λ (share : Option Share). Tells W (with_share W t share told)) taken on.tells))
 

@@ -4,13 +4,12 @@ use Rattle.c_syntax.specs.declared.node.Directive.{Directive}
 use Rattle.c_syntax.specs.declared.node.NodeKind.TheVariants as node
 use Rattle.c_syntax.specs.language.Tree.{Tree, kind_of, nothing}
 use Rattle.c_check.specs.Loops.{child_at}
-use Rattle.c_model.specs.declared.point.Schedule.{Schedule}
 use Rattle.c_model.specs.declared.point.Target.{Target}
 use Rattle.c_model.specs.declared.point.Target.TheVariants as target
 use Rattle.c_model.specs.declared.point.WorkKind.{WorkKind}
 use Rattle.c_model.specs.Parts.{flat_declarations, parts}
 use Rattle.c_model.specs.Calls.{value_items}
-use Rattle.c_model.specs.Clauses.{Copying, Listed, construct_statement, schedule_of, sections_of}
+use Rattle.c_model.specs.Clauses.{Copying, Listed, construct_statement, sections_of}
 use Rattle.c_model.specs.Clauses.Copying.{Private, First, Reduced}
 use Rattle.c_model.specs.Constructs.{iterations_from}
 use Rattle.c_model.specs.Copies.{combines, combining_all, combining_of, has_own_cells, listed_variables, makes_cells}
@@ -18,19 +17,23 @@ use Rattle.c_model.specs.Loops.{loop_of}
 use Rattle.c_model.specs.Task.{Item, OpenCall, SharedLoop, Task as Code, is_declarator, items_of_parts}
 use Rattle.c_model.specs.Task.Item.{Start, Declare, Leave, Test, Third, Initialise, Return, FallOff, Forked, Inside, MakeCells, NextChunk, Iterations, NextSection, Combine, EndWork, EndMasked, Sync, Acquire, Release, TestLock, Tested}
 
--- what a construct executes is so, and how it deals its iterations
-pub record IsConstruct (T : Tree → Type 0) (S : Schedule → Type 0) (construct : Tree) : Type 0 where
+-- nothing is asked of a tree
+abbrev pub AnyTree : Tree → Type 0
+AnyTree tree = Unit {0}
+
+-- what a construct executes is so, and the construct itself
+pub record IsConstruct (T S : Tree → Type 0) (construct : Tree) : Type 0 where
   pub statement : T (construct_statement construct)
   pub section : (place : ℕ) → T (slice_index_or (sections_of construct) place nothing)
   pub body : T (loop_of construct).body
-  pub size : S (schedule_of construct)
+  pub self : S construct
 
 -- what is so of a statement is so of those that it leads to
 abbrev pub EachTree : (Tree → Type 0) → List Tree → Type 0
 EachTree T [] = Unit {0}
 EachTree T (tree ∷ trees) = T tree × EachTree T trees
 
-pub record AreRules (T : Tree → Type 0) (S : Schedule → Type 0) : Type 0 where
+pub record AreRules (T S : Tree → Type 0) : Type 0 where
   pub none : T nothing
   pub no_construct : IsConstruct T S nothing
   pub block : (tree : Tree) → kind_of tree ≡ node.Block → T tree → EachTree T (flat_declarations (parts tree))
@@ -39,8 +42,8 @@ pub record AreRules (T : Tree → Type 0) (S : Schedule → Type 0) : Type 0 whe
   pub looped : (tree : Tree) → kind_of tree ≡ node.For → T tree → T (child_at tree 3)
   pub construct : (tree : Tree) (which : Directive) → kind_of tree ≡ node.Construct which → T tree → IsConstruct T S tree
 
-module _ (T : Tree → Type 0) (S : Schedule → Type 0) (E : WorkKind → Type 0) where
-  -- the trees that are executed are so, and the kinds of work that end
+module _ (T S A : Tree → Type 0) (E : WorkKind → Type 0) where
+  -- the trees that are executed are so, the constructs that ask for sections, and the kinds of work that end
   abbrev pub IsItem : Item → Type 0
   IsItem (Start tree) = T tree
   IsItem (Declare tree) = Unit {0}
@@ -55,7 +58,7 @@ module _ (T : Tree → Type 0) (S : Schedule → Type 0) (E : WorkKind → Type 
   IsItem (MakeCells construct) = Unit {0}
   IsItem (NextChunk loop) = IsConstruct T S loop.construct
   IsItem (Iterations loop at upto) = IsConstruct T S loop.construct
-  IsItem (NextSection construct names) = IsConstruct T S construct
+  IsItem (NextSection construct names) = IsConstruct T S construct × A construct
   IsItem (Combine operator name names) = Unit {0}
   IsItem (EndWork construct kind count names) = E kind
   IsItem (EndMasked construct) = Unit {0}

@@ -16,3 +16,7 @@ pub mod Sizes
 pub mod Teams
 pub mod Turns
 pub mod Walks
+mod ConstructTrees
+mod ProgramConstructs
+mod NextSectionPlaces
+mod ToldSections

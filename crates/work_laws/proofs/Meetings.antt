@@ -140,7 +140,7 @@ tells-chunk size met told member chunk of_team next tells =
 
 -- ---- a member takes a section
 
-some-section : (b : Bool) (section other : ℕ) → (if b then Some section else None) ≡ Some other → (b ≡ true) × (section ≡ other)
+pub some-section : (b : Bool) (section other : ℕ) → (if b then Some section else None) ≡ Some other → (b ≡ true) × (section ≡ other)
 some-section true section other is = (refl, cc)
 some-section false section other is = cc
 

@@ -23,7 +23,7 @@ use Rattle.omp_model.specs.Silent.{answer_to, items_asking}
 use Rattle.omp_model.specs.State.{Run, State, World, first}
 use Rattle.omp_model.specs.Turn.{Walk, walk}
 use Rattle.omp_model.proofs.Arriving.{Arrives, arrives}
-use Rattle.nested_runs.specs.Knows.{IsWholeRun}
+use Rattle.nested_runs.proofs.Knows.{IsWholeRun}
 use Rattle.guard_laws.proofs.DealtRuns.{IsAsked, asked-reached, section-given}
 use Rattle.guard_laws.proofs.LastMeetings.{MetSections}
 use Rattle.guard_laws.proofs.Masks.{all_told, legal-told, told-after as after-told, told-walk, whole-told}
@@ -35,7 +35,7 @@ use Rattle.work_laws.proofs.Shares.{Tells, section-here, with_share}
 use Rattle.work_laws.proofs.Walks.{On, walk-on}
 
 -- of what was met last
-section-count : (what : Meeting) (count size : ℕ) (taken : List ℕ) (told : Telling) → MetSections count (Some what) → Deals size what taken told →
+pub section-count : (what : Meeting) (count size : ℕ) (taken : List ℕ) (told : Telling) → MetSections count (Some what) → Deals size what taken told →
     section_in what taken ≡ (if nat_lt (length told.sections) count then Some (length told.sections) else None)
 section-count (meeting.Sections at whole) count size taken told met deals =
     let same : whole ≡ count = met in

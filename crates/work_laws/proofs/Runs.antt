@@ -32,8 +32,8 @@ use Rattle.omp_model.proofs.MadeRuns.{made-after}
 use Rattle.omp_model.proofs.OrderlyRuns.{orderly-after}
 use Rattle.omp_model.proofs.Reading.{read-same}
 use Rattle.omp_model.proofs.Turns.{Leaves, leaves-turn, turn-goes}
-use Rattle.nested_runs.specs.Knows.{IsWholeRun}
-use Rattle.nested_runs.specs.Recorded.{event_in, inside}
+use Rattle.nested_runs.proofs.Knows.{IsWholeRun}
+use Rattle.nested_runs.proofs.Recorded.{event_in, inside}
 use Rattle.nested_runs.proofs.Codes.{main-open}
 use Rattle.nested_runs.proofs.FirstWorlds.{first-tasks, first-threads}
 use Rattle.nested_runs.proofs.GoCodes.{none-open}
@@ -46,7 +46,7 @@ use Rattle.work_laws.specs.Told.{nothing_told, with_entries, with_entry, with_ou
 use Rattle.work_laws.proofs.Events.{happened, nothing-taken, outside-callbacks}
 use Rattle.work_laws.proofs.Gos.{SameMeetings, same-view}
 use Rattle.work_laws.proofs.Shares.{Tellings, Tells, TellsAt, standing-placed, tasks-alike, with_share}
-use Rattle.work_laws.proofs.Teams.{HasNoEnd, Standing, TellsTeam, over-same, standing-kept, tells-same}
+use Rattle.work_laws.proofs.Teams.{HasNoEnd, Standing, TellsTeam, over-same, standing-kept, tells-same, ends-what, last_what, what-same}
 use Rattle.work_laws.proofs.Teams.Standing.{Outside}
 use Rattle.work_laws.proofs.Turns.{Ended}
 use Rattle.work_laws.proofs.Walks.{IsOver, On, turn-tells}
@@ -57,7 +57,7 @@ pub record IsTold (run : Run) (S : State) (told : Tellings) : Type 0 where
   pub tells : Tells S.world told
 
 -- what an entry tells besides
-abbrev more : Run → State → ℕ → What → Tellings → Tellings
+abbrev pub more : Run → State → ℕ → What → Tellings → Tellings
 more run S t what told = λ r n. with_entry run S t r n what (told r n)
 
 -- ---- a turn
@@ -105,7 +105,7 @@ stored-code W (target.Thread t) word k = refl
 stored-code W (target.Parallel r) word k = refl
 stored-code W (target.Task j) word k = read-same (λ (x : Task). x.code) no_task W.tasks j k _ refl
 
-stored-team : (W : World) (place : Target) (word q : ℕ) → (region_at (stored W place word) q).team ≡ (region_at W q).team
+pub stored-team : (W : World) (place : Target) (word q : ℕ) → (region_at (stored W place word) q).team ≡ (region_at W q).team
 stored-team W (target.Thread t) word q = refl
 stored-team W (target.Parallel r) word q = read-same (λ (x : Region). x.team) no_region W.regions r q _ refl
 stored-team W (target.Task j) word q = refl
@@ -130,7 +130,7 @@ same-either false team one same = same-view team team refl
 same-begun : (team : TeamView) (i : ℕ) → SameMeetings team (with_begun team i)
 same-begun team i = record { count = length-set team.members i _; meetings = refl; met = (begun-met team i).met }
 
-same-back : (W : World) (t : ℕ) (e : Event) (q : ℕ) → SameMeetings (region_at W q).team (team_back W t e q)
+pub same-back : (W : World) (t : ℕ) (e : Event) (q : ℕ) → SameMeetings (region_at W q).team (team_back W t e q)
 same-back W t (Sync which stage.WaitBegin codeptr) q =
     let team = (region_at W q).team in
     same-either (is_barrier which && q == current_region W t) team (with_begun team (current_index W t)) (same-begun team (current_index W t))
@@ -164,7 +164,10 @@ tells-back W next t e told returns tells =
           let before : IsTask W k = record { some = task.some; below = omega (arith, task.below, returns.tasks) } in
           standing-placed W next k (task_at next k).code place
           (standing-kept (task_at W k).code (task_at next k).code team now (index_of W k)
-          (λ free. ap (λ (code : Code). list_any is_work (open_task code)) code ∙ free) (λ ends. subst HasNoEnd (sym code) ends)
+          (λ free. ap (λ (code : Code). list_any is_work (open_task code)) code ∙ free)
+          (λ some ends. subst (HasNoEnd (last_what now (index_of W k))) (sym code)
+          (ends-what (last_what team (index_of W k)) (last_what now (index_of W k)) (task_at W k).code
+          (what-same team now (index_of W k) same.meetings (same.met (index_of W k))) ends))
           (λ some. omega (arith, some, same.met (index_of W k)))
           (λ some over. over-same team now (index_of W k) same.count same.meetings (same.met (index_of W k)) over)
           (tells.tasks k before (sym place.explicit ∙ plain)));
@@ -189,7 +192,7 @@ module _ (run : Run) (S : State) (told : Tellings) (so : IsTold run S told) wher
         tells-back S.world (does run S t Back).world t within.one.event told returns so.tells,
       )
 
-  told-entry : (t : ℕ) (what : What) → IsMadeState run (does run S t what) → IsOrderly (does run S t what) → may run S t what ≡ true →
+  pub told-entry : (t : ℕ) (what : What) → IsMadeState run (does run S t what) → IsOrderly (does run S t what) → may run S t what ≡ true →
       IsTold run (does run S t what) (more run S t what told)
   told-entry t what made orderly goes =
       let now = entry-world t what made orderly goes in
@@ -225,7 +228,7 @@ first-team run zero n = no-team 0 n
 first-team run (suc zero) n = no-team 1 n
 first-team run (suc (suc q)) n = no-team 0 n
 
-first-told : (run : Run) → IsWholeRun run → IsTold run (first run) (λ r n. nothing_told)
+pub first-told : (run : Run) → IsWholeRun run → IsTold run (first run) (λ r n. nothing_told)
 first-told run whole =
     record {
       met = record { known = known-first run whole; works = works-first run };

@@ -1,4 +1,8 @@
 -- Silent steps of a thread: a chunk or a section that one takes is the thread's share, and a member that is told that none is left has nothing left.
+use Rattle.c_model.specs.declared.point.Work.{Work as Working}
+use Rattle.c_model.specs.declared.point.Point.{Point}
+use Rattle.c_model.specs.declared.point.Point.TheVariants as point
+use Rattle.c_model.specs.declared.point.Work.TheVariants as work
 use Rattle.std.proofs.Common.{ℕ, ◌≡◌, ◌≢◌, ◌+◌, ◌<◌, ◌≤◌, ◌==◌, ◌&&◌, ◌++◌, Bool, true, false, if◌then◌else◌, Option, Some, None, List, [], ◌∷◌, length, slice_index_or, slice_set, refl, sym, ap, ap₂, ◌∙◌, subst, subst₂, inl, inr, arith}
 use Rattle.std.specs.Prelude.{is_some, option_map}
 use Rattle.std.specs.List.{list_any}
@@ -12,11 +16,11 @@ use Rattle.c_model.specs.declared.question.Ask.TheVariants as ask
 use Rattle.c_model.specs.declared.view.View.{View}
 use Rattle.c_model.specs.Asked.{count_asked, sections_asked}
 use Rattle.c_model.specs.Clauses.{statements_among}
-use Rattle.c_model.specs.Going.{after_answer}
+use Rattle.c_model.specs.Going.{after_answer, tree_at_event}
 use Rattle.c_model.specs.Parts.{flat_declarations, parts}
 use Rattle.c_model.specs.Program.{place_of}
 use Rattle.c_model.specs.Step.{settled_task, silent}
-use Rattle.c_model.specs.Task.{Moment, Task as Code}
+use Rattle.c_model.specs.Task.{Moment, Task as Code, Item}
 use Rattle.c_model.specs.Task.Outcome.{Asks, StepsTo}
 use Rattle.code_brackets.specs.Opened.{Open, open_task}
 use Rattle.code_brackets.specs.Opened.Open.{Works}
@@ -44,7 +48,7 @@ use Rattle.omp_model.proofs.Guards.{member-made}
 use Rattle.omp_model.proofs.Later.{at-set}
 use Rattle.omp_model.proofs.Reading.{read-same}
 use Rattle.omp_model.proofs.Rewrites.{region-below}
-use Rattle.nested_runs.specs.Shown.{opens_at}
+use Rattle.nested_runs.proofs.Shown.{opens_at}
 use Rattle.nested_runs.proofs.Codes.{answer-open, settled-open, step-open}
 use Rattle.nested_runs.proofs.PooledTasks.{current-made}
 use Rattle.nested_runs.proofs.Stands.{asks-chunk, asks-section}
@@ -53,10 +57,10 @@ use Rattle.guard_laws.proofs.DealtRuns.{IsAsked, chunk-asked, newest-fits, own-m
 use Rattle.guard_laws.proofs.LastMeetings.{FitsOpen, MetLoop, MetSections, is_work, last_met}
 use Rattle.guard_laws.proofs.WorksMet.{SamePlace, index_of, met_at, place-alike}
 use Rattle.work_laws.specs.Told.{Telling, is_newest, with_event_at}
-use Rattle.work_laws.proofs.Items.{AreRules, EachTree, IsConstruct}
-use Rattle.work_laws.proofs.ItemSteps.{MayAnswer, MayEndSingle, holds-answer, holds-settled, holds-step}
+use Rattle.work_laws.proofs.Items.{AnyTree, AreRules, EachTree, IsConstruct}
+use Rattle.work_laws.proofs.ItemSteps.{MayAnswer, MayEndSingle, holds-answer, holds-settled, holds-step, MayBegin, MayNext, MayWork, holds-asks}
 use Rattle.work_laws.proofs.Meetings.{TellsMeeting, tells-chunk, tells-section}
-use Rattle.work_laws.proofs.Teams.{AnySchedule, AnyTree, IsFreeCode, IsOverAt, NoEnd, Standing, TellsTeam, over-taken-chunk, over-taken-section, standing-kept, tells-here, tells-there}
+use Rattle.work_laws.proofs.Teams.{IsFreeCode, IsOverAt, NoEnd, Standing, TellsTeam, over-taken-chunk, over-taken-section, standing-kept, tells-here, tells-there, AsksAt, ends-what, last_what, what-taken}
 use Rattle.work_laws.proofs.Teams.Standing.{Behind, Outside, Within}
 
 -- what was told of each meeting of each region's team
@@ -82,10 +86,10 @@ any-trees : (trees : List Tree) → EachTree AnyTree trees
 any-trees [] = tt
 any-trees (tree ∷ trees) = (tt, any-trees trees)
 
-pub any-construct : (construct : Tree) → IsConstruct AnyTree AnySchedule construct
-any-construct construct = record { statement = tt; section = λ place. tt; body = tt; size = tt }
+pub any-construct : (construct : Tree) → IsConstruct AnyTree AnyTree construct
+any-construct construct = record { statement = tt; section = λ place. tt; body = tt; self = tt }
 
-pub any-rules : AreRules AnyTree AnySchedule
+pub any-rules : AreRules AnyTree AnyTree
 any-rules =
     record {
       none = tt;
@@ -96,6 +100,20 @@ any-rules =
       looped = λ tree is any. tt;
       construct = λ tree which is any. any-construct tree;
     }
+
+pub may-any-work : (what : Working) (construct : Tree) → MayWork AnyTree what construct
+may-any-work (work.Loop start count step how) construct = tt
+may-any-work (work.Sections count) construct = tt
+may-any-work work.Single construct = tt
+
+may-any-point : (what : Point) (item : Item) → MayBegin AnyTree what item
+may-any-point (point.WorkBegin codeptr what) item = may-any-work what (tree_at_event item)
+may-any-point other item = tt
+
+-- whatever stands next
+pub may-any-next : (what : Point) (items : List Item) → MayNext AnyTree what items
+may-any-next what [] = tt
+may-any-next what (item ∷ items) = may-any-point what item
 
 pub single-ends : MayEndSingle NoEnd
 single-ends = record { executor = tt; other = tt }
@@ -168,7 +186,7 @@ module _ (W : World) (t : ℕ) (told : Tellings) (tells : Tells W told) where
             code-changed W k now (region_at W (region_of W j)).team (index_of W j) j
             (λ is. standing-kept (code_of W t) now.task _ _ _ (same-open (code_of W t) now.task (settled-open view (code_of W t)
             (asked.codes.orderly k)))
-            (λ ends. holds-settled AnyTree AnySchedule NoEnd any-rules single-ends view (code_of W t) ends) (λ some. some) (λ some over. over))
+            (λ some ends. holds-settled AnyTree AnyTree _ NoEnd any-rules single-ends view (code_of W t) ends) (λ some. some) (λ some over. over))
             (tells.tasks j made plain));
       }
 
@@ -201,7 +219,7 @@ module _ (W : World) (t : ℕ) (told : Tellings) (tells : Tells W told) where
               code-changed W k next (region_at W (region_of W j)).team (index_of W j) j
               (λ here. standing-kept (code_of W t) next.task _ _ _
               (same-open (code_of W t) next.task (step-open run.program returns view moment next (asked.codes.orderly k) is))
-              (λ ends. holds-step AnyTree AnySchedule NoEnd any-rules single-ends run.program view moment next (λ name. tt) ends is) (λ some. some)
+              (λ some ends. holds-step AnyTree AnyTree _ NoEnd any-rules single-ends run.program view moment next (λ name. tt) ends is) (λ some. some)
               (λ some over. over))
               (tells.tasks j made plain));
         }
@@ -347,7 +365,7 @@ module _ (W : World) (t : ℕ) (told : Tellings) (tells : Tells W told) where
       own-goes may stands =
           standing-kept (code_of W t) now.task next next i
           (same-open (code_of W t) now.task (answer-open view given moment (asked.codes.orderly k)))
-          (λ ends. holds-answer AnyTree AnySchedule NoEnd any-rules single-ends view given moment may ends) (λ some. some) (λ some over. over) stands
+          (λ some ends. holds-answer AnyTree AnyTree (AsksAt (last_what next i)) NoEnd any-rules single-ends view given moment may ends) (λ some. some) (λ some over. over) stands
 
     -- ---- a chunk
 
@@ -415,7 +433,8 @@ module _ (W : World) (t : ℕ) (told : Tellings) (tells : Tells W told) where
                 (λ x tells. tells-chunk (length team.members) (last_meeting team i) x i chunk own-within found tells);
             tasks = tasks-answered given share next alike
                 (λ code j stands. subst (λ (x : TeamView). Standing code x j) (sym taken)
-                (standing-kept code code team (after_taking team i) j (λ free. free) (λ ends. ends) (λ some. some)
+                (standing-kept code code team (after_taking team i) j (λ free. free)
+                (λ some ends. ends-what (last_what team j) (last_what (after_taking team i) j) code (what-taken team i j) ends) (λ some. some)
                 (λ some over. over-taken-chunk team i j chunk found over) stands))
                 (own-goes given share next tt);
           }
@@ -455,6 +474,20 @@ module _ (W : World) (t : ℕ) (told : Tellings) (tells : Tells W told) where
         section-some,
       )
 
+      -- it is at the construct that asks, where a section is left
+      pub section-asks : (section : ℕ) → next_section team i ≡ Some section → AsksAt (last_what team i) tree
+      section-asks section next =
+          let one = Works work_kind.Sections (sections_asked (items_asking W t)) in
+          asks-standing (own-stands (plain-of one section-opens.0 section-opens.1 (λ fits. fits)))
+        where
+          asks-standing : Standing (code_of W t) team i → AsksAt (last_what team i) tree
+          asks-standing (Outside free) =
+              absurd (busy (Works work_kind.Sections (sections_asked (items_asking W t))) section-opens.0 section-opens.1 refl free)
+          asks-standing (Within some ends) =
+              (holds-asks AnyTree AnyTree (AsksAt (last_what team i)) NoEnd any-rules single-ends run.program view moment ask.Section tree (λ name. tt)
+              ends is).1
+          asks-standing (Behind some over) = let wrong : Some section ≡ None = sym next ∙ over.1 in cc
+
       section-chunks : next_chunk team i ≡ None
       section-chunks =
           let count = sections_asked (items_asking W t) in
@@ -481,7 +514,8 @@ module _ (W : World) (t : ℕ) (told : Tellings) (tells : Tells W told) where
                 (λ x tells. tells-section (length team.members) (last_meeting team i) x i section place (omega (arith, own-within, few)) found tells);
             tasks = tasks-answered given share next alike
                 (λ code j stands. subst (λ (x : TeamView). Standing code x j) (sym taken)
-                (standing-kept code code team (after_taking team i) j (λ free. free) (λ ends. ends) (λ some. some)
+                (standing-kept code code team (after_taking team i) j (λ free. free)
+                (λ some ends. ends-what (last_what team j) (last_what (after_taking team i) j) code (what-taken team i j) ends) (λ some. some)
                 (λ some over. over-taken-section team i j section found over) stands))
                 (own-goes given share next tt);
           }

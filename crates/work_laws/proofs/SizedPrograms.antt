@@ -31,6 +31,7 @@ use Rattle.c_model.specs.Parts.{parts, trees_in}
 use Rattle.c_model.specs.Program.{body_of, function_among, function_named, is_function, is_function_named}
 use Rattle.work_laws.proofs.Items.{EachTree}
 use Rattle.work_laws.proofs.SizeActs.{AreSized, checked_is_sized, newest_all, sized_both}
+use Rattle.work_laws.proofs.ConstructTrees.{EachConstruct, EachConstructIn}
 use Rattle.work_laws.proofs.SizedTrees.{HasSize, Sized, SizedEach}
 
 never : {A : Type 0} → IsTrue false → A
@@ -138,24 +139,24 @@ if-row children form =
     (HasPart is_quiet IsOver) last-row rest form) children form
 
 over-sized : (children : Children) → IsOver children → SizedEach children
-unfolding SizedEach
+unfolding EachConstructIn
 over-sized Over is = tt
 over-sized (Absent rest) is = absurd is
 over-sized (Child tree rest) is = absurd is
 
 declared-sized : (tree : Tree) → IsTrue (is_declared (kind_of tree)) → Sized tree
-unfolding Sized
+unfolding EachConstruct
 declared-sized (Node node.Name spot name number text children) is = tt
 declared-sized (Node other spot name number text children) is = never is
 
 names-sized : (children : Children) → AreInRow is_declared children → SizedEach children
-unfolding AreInRow SizedEach
+unfolding AreInRow EachConstructIn
 names-sized Over row = tt
 names-sized (Absent rest) row = over-sized rest row
 names-sized (Child tree rest) row = (declared-sized tree row.0, names-sized rest row.1)
 
 head-sized : (tree : Tree) → is_head (kind_of tree) ≡ true → Sized tree
-unfolding Sized
+unfolding EachConstruct
 head-sized (Node (node.Clause lead) spot name number text children) is = tt
 head-sized (Node node.Name spot name number text children) is = tt
 head-sized (Node other spot name number text children) is = cc
@@ -169,7 +170,7 @@ part-sized tree newest some false is each sized = each sized
 -- ---- statements
 
 mutual
-  unfolding acts each first_part second_part third_part statements IsFormed AreFormed AreInRow Sized SizedEach AreSized
+  unfolding acts each first_part second_part third_part statements IsFormed AreFormed AreInRow EachConstruct EachConstructIn AreSized
 
   tree-sized : (tree : Tree) → IsFormed tree → (manner : Role) (newest : Bool) → AreSized newest (acts manner tree) → Sized tree
   tree-sized (Node node.Globals spot name number text children) formed manner newest sized =
@@ -260,7 +261,7 @@ module _ (gives : Returns) (spot : Spot) (other number : ℕ) (text : List ℕ) 
   third-child : (named : Tree) (params : NodeKind) (s1 : Spot) (n1 u1 : ℕ) (t1 : List ℕ) (parameters children : Children) →
       HasChild is_block IsOver children
       → AreFormed children → Named (Child named (Child (Node params s1 n1 u1 t1 parameters) children))
-  unfolding function AreFormed IsFormed Sized AreSized
+  unfolding function AreFormed IsFormed EachConstruct AreSized
   third-child named params s1 n1 u1 t1 parameters (Child (Node node.Block s2 n2 u2 t2 items) rest) form formed sized =
       let before = (sized_both _ (names naming.Parameters parameters ++ each role.Plain items) (End ∷ []) sized.1).0 in
       each-sized items (in-row is_part items formed.0.0) formed.0.1 role.Plain _
@@ -313,7 +314,7 @@ chosen-sized name tree other false is sized also = also
 chosen-sized name tree other true is sized also = sized (is-named (is_function (kind_of tree)) _ is)
 
 named-sized : (name : ℕ) (trees : List Tree) → EachTree IfFunction trees → Sized (body_of (function_among name trees))
-unfolding function_among Sized
+unfolding function_among EachConstruct
 named-sized name [] are = tt
 named-sized name (tree ∷ trees) are =
     chosen-sized name tree (function_among name trees) (is_function_named name tree) refl are.0 (named-sized name trees are.1)

@@ -1,5 +1,6 @@
 -- A loop that begins deals its iterations by the schedule as it is written.
-use Rattle.std.proofs.Common.{ℕ, ℤ, ◌≡◌, ◌≤◌, false, max, List, [], ◌∷◌, refl, ap, arith}
+use Rattle.work_laws.proofs.Items.{AnyTree}
+use Rattle.std.proofs.Common.{ℕ, ℤ, ◌≡◌, ◌≤◌, false, max, List, [], ◌∷◌, refl, ap, arith, subst, sym}
 use Rattle.c_syntax.specs.language.Tree.{Tree}
 use Rattle.c_check.specs.Checked.{Checked}
 use Rattle.c_model.specs.declared.point.Point.{Point}
@@ -22,7 +23,7 @@ use Rattle.work_laws.specs.Sizes.{as_written}
 use Rattle.work_laws.proofs.CodeRuns.{AnyEnd, all-walk, any-single, holds-told}
 use Rattle.work_laws.proofs.ItemSteps.{TellsNext, holds-event}
 use Rattle.work_laws.proofs.SizedPrograms.{functions-sized}
-use Rattle.work_laws.proofs.SizedTrees.{HasSize, Sized, sized-rules}
+use Rattle.work_laws.proofs.SizedTrees.{HasSize, Sized, sized-rules, HasSized}
 
 -- nothing is raised
 not-raised : (size : ℕ) → 1 ≤ size → max 1 size ≡ size
@@ -35,9 +36,9 @@ written (Guided size) some = ap (λ (size : ℕ). dealt.Guided size) (not-raised
 
 -- what stands next is a loop with such a schedule
 sized-next : (codeptr count : ℕ) (start step : ℤ) (how : Schedule) (items : List Item) →
-    TellsNext Sized HasSize AnyEnd sized-rules any-single (point.WorkBegin codeptr (work.Loop start count step how)) items → HasSize how
+    TellsNext Sized HasSized AnyTree AnyEnd sized-rules any-single (point.WorkBegin codeptr (work.Loop start count step how)) items → HasSize how
 sized-next codeptr count start step how [] tells = absurd tells
-sized-next codeptr count start step how (item ∷ items) tells = tells
+sized-next codeptr count start step how (item ∷ items) tells = subst HasSize (sym tells.1) tells.0
 
 pub dealt-as-written : (run : Run) (history : List Entry) (t steps codeptr count : ℕ) (start step : ℤ) (how : Schedule) (construct : Tree) →
     Checked run.program → IsProgramFormed run.program → let W = (walk run steps 0 (after run history) t).state.world in
@@ -47,6 +48,6 @@ dealt-as-written run history t steps codeptr count start step how construct chec
     let W = (walk run steps 0 (after run history) t).state.world in
     let what : Point = point.WorkBegin codeptr (work.Loop start count step how) in
     let functions = functions-sized run.program checked formed in
-    let holds = holds-told run Sized HasSize sized-rules functions W t (all-walk run Sized HasSize sized-rules functions history t steps) in
-    let event = holds-event Sized HasSize AnyEnd sized-rules any-single run.program (view_of W t) (told W t) what false construct functions holds is in
+    let holds = holds-told run Sized HasSized sized-rules functions W t (all-walk run Sized HasSized sized-rules functions history t steps) in
+    let event = holds-event Sized HasSized AnyTree AnyEnd sized-rules any-single run.program (view_of W t) (told W t) what false construct functions holds is in
     written how (sized-next codeptr count start step how (settled_task (view_of W t) (told W t).task).todo event.1)

@@ -1,10 +1,13 @@
 -- A team, with what was told of each of its meetings, and how far a member has come in the one that it has had last.
-use Rattle.std.proofs.Common.{ℕ, ◌≡◌, ◌≢◌, ◌-◌, ◌<◌, ◌≤◌, ◌++◌, false, Some, None, List, [], ◌∷◌, length, slice_index_or, slice_set, refl, sym, ap, ◌∙◌, subst, subst₂, inl, inr, arith}
+use Rattle.omp_model.proofs.Reading.{read-same}
+use Rattle.c_model.specs.Clauses.{sections_of}
+use Rattle.c_model.specs.Program.{place_of}
+use Rattle.team_parts.specs.declared.meeting.Meeting.TheVariants.{Sections}
+use Rattle.std.proofs.Common.{ℕ, ◌≡◌, ◌≢◌, ◌-◌, ◌<◌, ◌≤◌, ◌++◌, false, Some, None, List, [], ◌∷◌, length, slice_index_or, slice_set, refl, sym, ap, ◌∙◌, subst, subst₂, inl, inr, arith, ap₂}
 use Rattle.std.specs.List.{list_any}
 use Rattle.std.proofs.lemmas.Bool.{cases_eq}
 use Rattle.std.proofs.lemmas.List.{get_or-set_other, get_or-set_same, get_or_append_left, get_or_push, length-append, length-set}
 use Rattle.c_syntax.specs.language.Tree.{Tree}
-use Rattle.c_model.specs.declared.point.Schedule.{Schedule}
 use Rattle.c_model.specs.declared.point.WorkKind.{WorkKind}
 use Rattle.c_model.specs.declared.point.WorkKind.TheVariants as work_kind
 use Rattle.c_model.specs.Task.{Task as Code}
@@ -18,7 +21,7 @@ use Rattle.std.specs.Prelude.{Option, slice_get}
 use Rattle.omp_model.proofs.Later.{at-set}
 use Rattle.guard_laws.proofs.LastMeetings.{is_work}
 use Rattle.work_laws.specs.Told.{Telling, nothing_told}
-use Rattle.work_laws.proofs.Items.{HoldsCode}
+use Rattle.work_laws.proofs.Items.{AnyTree, HoldsCode}
 use Rattle.work_laws.proofs.Meetings.{IsOverFor, TellsMeeting, over-chunk, over-section, tells-fresh}
 
 -- ---- what was told of the meetings of a team
@@ -112,19 +115,21 @@ tells-met team i what n told within few chunk tells =
 -- ---- how far a member has come
 
 -- no loop and no sections end in the code
-abbrev pub AnyTree : Tree → Type 0
-AnyTree tree = Unit {0}
-
 abbrev pub NoEnd : WorkKind → Type 0
 NoEnd work_kind.Loop = ⊥
 NoEnd work_kind.Sections = ⊥
 NoEnd other = Unit {0}
 
-abbrev pub AnySchedule : Schedule → Type 0
-AnySchedule how = Unit {0}
+-- sections that ask for one are what was met last
+abbrev pub AsksAt : Meeting → Tree → Type 0
+AsksAt (Sections at count) construct = (at ≡ place_of construct) × (count ≡ length (sections_of construct))
+AsksAt other construct = ⊥
 
-abbrev pub HasNoEnd : Code → Type 0
-HasNoEnd code = HoldsCode AnyTree AnySchedule NoEnd code
+abbrev pub HasNoEnd : Meeting → Code → Type 0
+HasNoEnd met code = HoldsCode AnyTree AnyTree (AsksAt met) NoEnd code
+
+abbrev pub last_what : TeamView → ℕ → Meeting
+last_what team i = (last_meeting team i).what
 
 abbrev pub IsFreeCode : Code → Type 0
 IsFreeCode code = list_any is_work (open_task code) ≡ false
@@ -135,15 +140,30 @@ IsOverAt team i = IsOverFor (length team.members) (last_meeting team i) i
 -- a member is in no work; or it hasn't ended that of the meeting that it has had last; or nothing of that is left for it
 pub data Standing (code : Code) (team : TeamView) (i : ℕ) : Type 0 where
   Outside : IsFreeCode code → Standing code team i
-  Within : 1 ≤ (member_at team i).met → HasNoEnd code → Standing code team i
+  Within : 1 ≤ (member_at team i).met → HasNoEnd (last_what team i) code → Standing code team i
   Behind : 1 ≤ (member_at team i).met → IsOverAt team i → Standing code team i
 
-pub standing-kept : (code next : Code) (team after : TeamView) (i : ℕ) → (IsFreeCode code → IsFreeCode next) → (HasNoEnd code → HasNoEnd next) →
+pub standing-kept : (code next : Code) (team after : TeamView) (i : ℕ) → (IsFreeCode code → IsFreeCode next) →
+    (1 ≤ (member_at team i).met → HasNoEnd (last_what team i) code → HasNoEnd (last_what after i) next) →
     (1 ≤ (member_at team i).met → 1 ≤ (member_at after i).met) →
     (1 ≤ (member_at team i).met → IsOverAt team i → IsOverAt after i) → Standing code team i → Standing next after i
 standing-kept code next team after i free ends met over (Outside is) = Outside (free is)
-standing-kept code next team after i free ends met over (Within some is) = Within (met some) (ends is)
+standing-kept code next team after i free ends met over (Within some is) = Within (met some) (ends some is)
 standing-kept code next team after i free ends met over (Behind some is) = Behind (met some) (over some is)
+
+-- the meeting that a member has had last is the same
+pub what-same : (team after : TeamView) (i : ℕ) → after.meetings ≡ team.meetings → (member_at after i).met ≡ (member_at team i).met →
+    last_what after i ≡ last_what team i
+what-same team after i meetings met =
+    ap₂ (λ (all : List TeamMeeting) (m : ℕ). (slice_index_or all (m - 1) no_meeting).what) meetings met
+
+pub what-taken : (team : TeamView) (j i : ℕ) → last_what (after_taking team j) i ≡ last_what team i
+what-taken team j i =
+    read-same (λ (met : TeamMeeting). met.what) no_meeting team.meetings (last_number team j) (last_number team i)
+    (with_taken (last_meeting team j) j) refl
+
+pub ends-what : (met other : Meeting) (code : Code) → other ≡ met → HasNoEnd met code → HasNoEnd other code
+ends-what met other code same ends = subst (λ (met : Meeting). HasNoEnd met code) (sym same) ends
 
 -- another member's code, and a team that has met the same and taken the same
 pub over-same : (team after : TeamView) (i : ℕ) → length after.members ≡ length team.members → after.meetings ≡ team.meetings →
@@ -171,7 +191,7 @@ over-taken-section team j i section next over =
     over-taking team j i (over-section (length team.members) (last_meeting team j) j i section next) over
 
 -- where another member meets something
-placed-last : (team : TeamView) (found : Option TeamMeeting) (what : Meeting) (n : ℕ) → n < length team.meetings →
+pub placed-last : (team : TeamView) (found : Option TeamMeeting) (what : Meeting) (n : ℕ) → n < length team.meetings →
     slice_index_or (with_place team found what).meetings n no_meeting ≡ slice_index_or team.meetings n no_meeting
 placed-last team None what n below = get_or_append_left team.meetings (fresh_meeting what ∷ []) no_meeting n below
 placed-last team (Some met) what n below = refl
@@ -182,16 +202,19 @@ other-member team j i what other =
     get_or-set_other (with_place team found what).members j i (with_meeting (member_at team j) what) new_member other
     ∙ ap (λ (members : List Member). slice_index_or members i new_member) (placed-members team found what)
 
+pub last-met : (team : TeamView) (j i : ℕ) (what : Meeting) → i ≢ j → 1 ≤ (member_at team i).met → (member_at team i).met ≤ length team.meetings →
+    last_meeting (after_meeting team j what) i ≡ last_meeting team i
+last-met team j i what other some within =
+    let found = slice_get team.meetings (member_at team j).met in
+    let met : (member_at (after_meeting team j what) i).met ≡ (member_at team i).met = ap (λ (x : Member). x.met) (other-member team j i what other) in
+    ap (λ (m : ℕ). slice_index_or (with_place team found what).meetings (m - 1) no_meeting) met
+    ∙ placed-last team found what (last_number team i) (omega (arith, some, within))
+
 pub over-met : (team : TeamView) (j i : ℕ) (what : Meeting) → i ≢ j → 1 ≤ (member_at team i).met → (member_at team i).met ≤ length team.meetings →
     IsOverAt team i → IsOverAt (after_meeting team j what) i
 over-met team j i what other some within over =
-    let after = after_meeting team j what in
-    let found = slice_get team.meetings (member_at team j).met in
-    let met : (member_at after i).met ≡ (member_at team i).met = ap (λ (x : Member). x.met) (other-member team j i what other) in
-    let last : last_meeting after i ≡ last_meeting team i =
-    ap (λ (m : ℕ). slice_index_or (with_place team found what).meetings (m - 1) no_meeting) met
-    ∙ placed-last team found what (last_number team i) (omega (arith, some, within)) in
-    subst₂ (λ (size : ℕ) (met : TeamMeeting). IsOverFor size met i) (sym (met-count team j what)) (sym last) over
+    subst₂ (λ (size : ℕ) (met : TeamMeeting). IsOverFor size met i) (sym (met-count team j what))
+    (sym (last-met team j i what other some within)) over
 
 -- who meets something has met it
 pub own-met : (team : TeamView) (i : ℕ) (what : Meeting) → i < length team.members → 1 ≤ (member_at (after_meeting team i what) i).met

@@ -25,8 +25,8 @@ use Rattle.omp_model.specs.Words.{is_made_thread}
 use Rattle.omp_model.proofs.Arriving.{Arrives, arrives}
 use Rattle.omp_model.proofs.Rewrites.{thread-below}
 use Rattle.omp_model.proofs.Turning.{AfterSilence, of-walk}
-use Rattle.nested_runs.specs.Recorded.{inside}
-use Rattle.nested_runs.specs.Touching.{Alike}
+use Rattle.nested_runs.proofs.Recorded.{inside}
+use Rattle.nested_runs.proofs.Touching.{Alike}
 use Rattle.nested_runs.proofs.AlikeSteps.{alike-same, alike-step}
 use Rattle.nested_runs.proofs.PooledTasks.{current-made}
 use Rattle.nested_runs.proofs.Turned.{Reaches, reaches-past, reaches-step, sound-alike}
@@ -72,7 +72,7 @@ module _ (run : Run) (S : State) (met : IsMet run S) (t : ℕ) (told : Tellings)
   abbrev past-events : List EventRecord
   past-events = met.known.past
 
-  on-past : (W : World) → On W → On (gone_past W t)
+  pub on-past : (W : World) → On W → On (gone_past W t)
   on-past W on =
       let asked = asked-reached run S met t W on.reached in
       record {
@@ -92,7 +92,7 @@ module _ (run : Run) (S : State) (met : IsMet run S) (t : ℕ) (told : Tellings)
     asked : IsAsked W
     asked = asked-reached run S met t W on.reached
 
-    now-tells : Tells W told
+    pub now-tells : Tells W told
     now-tells = subst (λ (share : Option Share). Tells W (with_share W t share told)) at.quiet.taken on.tells
 
     few : length (current_team W t).members ≤ TEAM_LIMIT
@@ -150,7 +150,7 @@ module _ (run : Run) (S : State) (met : IsMet run S) (t : ℕ) (told : Tellings)
     on-by (Traps trap) is reached alike = tt
     on-by (Limits limit) is reached alike = tt
 
-    on-step : AfterSilence On (silent_step run W t)
+    pub on-step : AfterSilence On (silent_step run W t)
     unfolding silent_step
     on-step =
         let sound = sound-alike run S.world W (inside S) met.known.stands.knows.sound on.reached.alike in
@@ -174,7 +174,7 @@ module _ (run : Run) (S : State) (met : IsMet run S) (t : ℕ) (told : Tellings)
       none-of free None is = is
       none-of free (Some share) is = absurd (apart share (share-arrives W t share free is))
 
-  starting : (thread_at S.world t).taken ≡ None → Tells S.world told → On S.world
+  pub starting : (thread_at S.world t).taken ≡ None → Tells S.world told → On S.world
   starting none tells =
       record {
         reached = record { alike = alike-same S.world met.known.stands.knows.codes; taken = λ u other. refl };

@@ -25,6 +25,7 @@ ghost use Rattle.omp_model.specs.Members.{current_index, current_region, current
 ghost use Rattle.omp_model.specs.Silent.{answer_to, items_asking};
 ghost use Rattle.omp_model.specs.State.{Run, region_at};
 ghost use Rattle.omp_model.specs.Turn.{walk};
+ghost use Rattle.work_laws.specs.Sections.{HaveOwnPlaces, IsConstructOf, section_places, sections_met};
 ghost use Rattle.work_laws.specs.Sizes.{as_written};
 ghost use Rattle.work_laws.specs.Told.{HaveEnded, meeting_of, told_of};
 
@@ -43,6 +44,17 @@ pub fn each_iteration_once_in_a_run()
         let team = (region_at (after run history).world r).team in
         let told = told_of run history r n in
         meeting_of team n ≡ Sections at count → HaveEnded team told → length told.sections ≡ count }
+{}
+
+/// This is of a meeting of a region's team at a sections construct, after a legal history, at which each member has ended its work.
+/// The sections that were told are those of the construct, each once, in the order of the text. The run has 1 to 16 threads, and its
+/// program breaks no rule and has no two constructs at one place.
+pub fn each_section_once_in_a_run()
+    ensures { (run : Run) (history : List Entry) (r n : ℕ) (construct : Part) → 1 ≤ run.threads → run.threads ≤ 16 → Checked run.program →
+        IsProgramFormed run.program → Legal run history → HaveOwnPlaces run.program → IsConstructOf run.program construct →
+        let team = (region_at (after run history).world r).team in
+        let told = told_of run history r n in
+        meeting_of team n ≡ sections_met construct → HaveEnded team told → told.sections ≡ section_places construct }
 {}
 
 /// The next silent step of a thread asks for a section, after a legal history and any number of silent steps that the thread

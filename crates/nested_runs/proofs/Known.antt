@@ -30,11 +30,11 @@ use Rattle.omp_model.specs.Made.{IsTask}
 use Rattle.omp_model.specs.Alike.{what_met}
 use Rattle.trace_check.specs.Before.{Creation, Join, creations, events_of, greatest_region, greatest_task, has_begun_region, has_ended, has_ended_region, has_left, has_started as was_started, holder, is_complete, is_created, joins_of, latest, opened, waits_of}
 use Rattle.trace_check.specs.Rules.{asks_for}
-use Rattle.nested_runs.specs.Recorded.{Inside}
-use Rattle.nested_runs.specs.Shown.{opens_at, shown}
-use Rattle.nested_runs.specs.Standing.{Stand, is_behind, stand_at}
-use Rattle.nested_runs.specs.Standing.Stand.{Free, AtFork, AtMutex, AtSync}
-use Rattle.nested_runs.specs.Touching.{MayTake}
+use Rattle.nested_runs.proofs.Recorded.{Inside}
+use Rattle.nested_runs.proofs.Shown.{opens_at, shown}
+use Rattle.nested_runs.proofs.Standing.{Stand, is_behind, stand_at}
+use Rattle.nested_runs.proofs.Standing.Stand.{Free, AtFork, AtMutex, AtSync}
+use Rattle.nested_runs.proofs.Touching.{MayTake}
 
 -- ---- threads (rules 2 and 3)
 

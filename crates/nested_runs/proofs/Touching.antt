@@ -15,10 +15,10 @@ use Rattle.omp_model.specs.State.{World, pooled_at, region_at, task_at, thread_a
 use Rattle.omp_model.specs.Alike.{AlikeWorld}
 use Rattle.omp_model.specs.Touching.{TouchesWorld, is_of_code}
 use Rattle.omp_model.specs.Members.{current}
-use Rattle.nested_runs.specs.Effects.{behind_after, effect_of_event, opens_after, stand_after}
-use Rattle.nested_runs.specs.Shown.{opens_at}
-use Rattle.nested_runs.specs.Standing.{HasCourse, Stand, is_behind, stand_at}
-use Rattle.nested_runs.specs.Standing.Stand.{Free, AtFork, AtSync}
+use Rattle.nested_runs.proofs.Effects.{behind_after, effect_of_event, opens_after, stand_after}
+use Rattle.nested_runs.proofs.Shown.{opens_at}
+use Rattle.nested_runs.proofs.Standing.{HasCourse, Stand, is_behind, stand_at}
+use Rattle.nested_runs.proofs.Standing.Stand.{Free, AtFork, AtSync}
 
 -- ---- codes
 

@@ -9,10 +9,10 @@ use Rattle.omp_model.specs.Conditions.{AreOrderly, EventOrderly}
 use Rattle.omp_model.specs.Made.{HasOccurred, IsMadeWorld}
 use Rattle.omp_model.specs.Touching.{Returns}
 use Rattle.trace_check.specs.Checking.{Unbroken}
-use Rattle.nested_runs.specs.Recorded.{Enters, Inside, Same}
-use Rattle.nested_runs.specs.Coming.{Comes}
-use Rattle.nested_runs.specs.Touching.{Alike, AreCodes, Touches}
-use Rattle.nested_runs.specs.Known.{AreSeated, TellsBarriers, TellsBrackets, TellsFirst, TellsLasts, TellsLocks, TellsMembers, TellsNumbers, TellsTasks, TellsThreads}
+use Rattle.nested_runs.proofs.Recorded.{Enters, Inside, Same}
+use Rattle.nested_runs.proofs.Coming.{Comes}
+use Rattle.nested_runs.proofs.Touching.{Alike, AreCodes, Touches}
+use Rattle.nested_runs.proofs.Known.{AreSeated, TellsBarriers, TellsBrackets, TellsFirst, TellsLasts, TellsLocks, TellsMembers, TellsNumbers, TellsTasks, TellsThreads}
 
 -- a run of 1 to 16 threads with the callbacks of the profile registered, of a program in which no return stands in a construct
 pub record IsWholeRun (run : Run) : Type 0 where

@@ -13,8 +13,8 @@ use Rattle.omp_model.specs.declared.event.Event.{Event}
 use Rattle.omp_model.specs.declared.event.Event.TheVariants.{Masked, MutexAcquire, MutexAcquired, ParallelBegin, ParallelEnd, Sync, Work}
 use Rattle.omp_model.specs.State.{World}
 use Rattle.omp_model.specs.Members.{current}
-use Rattle.nested_runs.specs.Standing.{Stand, has_begun, stand_within}
-use Rattle.nested_runs.specs.Standing.Stand.{Free, AtFork, AtMutex, AtSync}
+use Rattle.nested_runs.proofs.Standing.{Stand, has_begun, stand_within}
+use Rattle.nested_runs.proofs.Standing.Stand.{Free, AtFork, AtMutex, AtSync}
 
 -- ---- the code: what it has open, and where it stands
 

@@ -1,0 +1,9 @@
+pub mod Called
+pub mod CalledBacks
+pub mod CalledGos
+pub mod CalledRuns
+pub mod CalledSteps
+pub mod CalledTurns
+pub mod Follows
+pub mod Lists
+pub mod Places

@@ -1,0 +1,37 @@
+//! What follows from the definitions alone: each law is the contract of a function with an empty body.
+
+ghost use Rattle.std.specs.Prelude.{◌≡◌, ◌≤◌, ℕ, ◌<◌, IsTrue, List};
+ghost use Rattle.c_check.specs.Checked.{Checked};
+ghost use Rattle.c_model.specs.Formed.{IsProgramFormed};
+ghost use Rattle.team_words.specs.Calls.{AreMade, all_end_in_time, counters_after_calls, fresh_counters};
+ghost use Rattle.team_words.specs.Counted.{IsCounted};
+ghost use Rattle.team_words.specs.Team.{fresh_team, has_arrived, has_passed, met_by};
+ghost use Rattle.omp_model.specs.declared.history.Entry.{Entry};
+ghost use Rattle.omp_model.specs.Legal.{Legal, after};
+ghost use Rattle.omp_model.specs.State.{Run, region_at};
+ghost use Rattle.team_calls.specs.Called.{calls_of, size_of, team_of};
+
+/// After a legal history the calls that the members of a region made on its team are calls in the members' order, and a member
+/// passed a barrier only where its wait there might end. The team's counters are what these calls leave, and so those of what each
+/// member has met, in the standard's words. The run has 1 to 16 threads, and its program breaks no rule.
+pub fn members_call_in_order()
+    ensures made { (run : Run) (history : List Entry) (r : ℕ) → 1 ≤ run.threads → run.threads ≤ 16 → Checked run.program →
+        IsProgramFormed run.program → Legal run history → AreMade (size_of run history r) (calls_of run history r) }
+    ensures in_time { (run : Run) (history : List Entry) (r : ℕ) → 1 ≤ run.threads → run.threads ≤ 16 → Checked run.program →
+        IsProgramFormed run.program → Legal run history →
+        IsTrue (all_end_in_time (fresh_team (size_of run history r)) (calls_of run history r)) }
+    ensures counters { (run : Run) (history : List Entry) (r : ℕ) → 1 ≤ run.threads → run.threads ≤ 16 → Checked run.program →
+        IsProgramFormed run.program → Legal run history →
+        (region_at (after run history).world r).team ≡ counters_after_calls (fresh_counters (size_of run history r) 0) (calls_of run history r) }
+    ensures counted { (run : Run) (history : List Entry) (r : ℕ) → 1 ≤ run.threads → run.threads ≤ 16 → Checked run.program →
+        IsProgramFormed run.program → Legal run history →
+        IsCounted (team_of run history r) (region_at (after run history).world r).team }
+{}
+
+/// Where a member of a region has passed a barrier after a legal history, each member of its team has arrived at it.
+pub fn all_arrive_in_a_run()
+    ensures { (run : Run) (history : List Entry) (r number member other : ℕ) → 1 ≤ run.threads → run.threads ≤ 16 →
+        Checked run.program → IsProgramFormed run.program → Legal run history → other < size_of run history r →
+        IsTrue (has_passed number (met_by (team_of run history r) member)) →
+        IsTrue (has_arrived number (met_by (team_of run history r) other)) }
+{}
