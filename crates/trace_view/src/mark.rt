@@ -1,6 +1,6 @@
 //! A mark of an event in the Trace Event Format, as an object of JSON.
 
-ghost use Rattle.std.specs.Prelude.{◌≡◌, Some};
+ghost use Rattle.std.specs.Prelude.{◌≡◌, ℕ, Some};
 ghost use Rattle.trace_view.specs.Chrome.{mark_text, slice_name};
 ghost use Rattle.trace_view.specs.Marking.{happening_text, mark_of, maybe_text, mutex_text};
 
@@ -149,16 +149,23 @@ impl Display for Phase {
     ghost output = { λ of. Some ((mark_of of.0.event.thread of.0.kind).phase) };
 
     fn fmt<W: fmt::Write>(&self, f: &mut Formatter<W>) -> fmt::Result {
-        match self.0.kind {
-            MarkKind::Begins(_) => write!(f, "B"),
-            MarkKind::Ends(_) => write!(f, "E"),
-            MarkKind::Happens(_) => write!(f, "i"),
-            MarkKind::FlowsFrom(_) => write!(f, "s"),
-            MarkKind::FlowsTo(_) => write!(f, "f"),
-            MarkKind::BeginsHold(_) | MarkKind::BeginsWait(_) => write!(f, "b"),
-            MarkKind::EndsHold(_) | MarkKind::EndsWait(_) => write!(f, "e"),
-            MarkKind::NamesThread => write!(f, "M"),
-        }
+        write!(f, "{}", phase_of(self.0.kind))
+    }
+}
+
+/// The letter of the phase of a mark of this kind.
+fn phase_of(kind: MarkKind) -> &'static str
+    ensures { (thread : ℕ) → result.now ≡ (mark_of thread kind).phase }
+{
+    match kind {
+        MarkKind::Begins(_) => "B",
+        MarkKind::Ends(_) => "E",
+        MarkKind::Happens(_) => "i",
+        MarkKind::FlowsFrom(_) => "s",
+        MarkKind::FlowsTo(_) => "f",
+        MarkKind::BeginsHold(_) | MarkKind::BeginsWait(_) => "b",
+        MarkKind::EndsHold(_) | MarkKind::EndsWait(_) => "e",
+        MarkKind::NamesThread => "M",
     }
 }
 

@@ -40,17 +40,24 @@ impl Display for Colour {
     ghost output = { λ colour. Some (colour_of colour.shade) };
 
     fn fmt<W: fmt::Write>(&self, f: &mut Formatter<W>) -> fmt::Result {
-        match self.shade {
-            1 => write!(f, "#009E73"),
-            2 => write!(f, "#0072B2"),
-            3 => write!(f, "#E69F00"),
-            4 => write!(f, "#F0E442"),
-            5 => write!(f, "#D55E00"),
-            6 => write!(f, "#CC79A7"),
-            7 => write!(f, "#DDDDDD"),
-            8 => write!(f, "#56B4E9"),
-            _ => write!(f, "#999999"),
-        }
+        write!(f, "{}", colour_of(self.shade))
+    }
+}
+
+/// The colour of a shade.
+fn colour_of(shade: u8) -> &'static str
+    ensures { result.now ≡ colour_of shade }
+{
+    match shade {
+        1 => "#009E73",
+        2 => "#0072B2",
+        3 => "#E69F00",
+        4 => "#F0E442",
+        5 => "#D55E00",
+        6 => "#CC79A7",
+        7 => "#DDDDDD",
+        8 => "#56B4E9",
+        _ => "#999999",
     }
 }
 
@@ -65,16 +72,23 @@ impl Display for ShadeName {
     ghost output = { λ name. Some (shade_text name.shade) };
 
     fn fmt<W: fmt::Write>(&self, f: &mut Formatter<W>) -> fmt::Result {
-        match self.shade {
-            1 => write!(f, "work, serial"),
-            2 => write!(f, "work, parallel"),
-            3 => write!(f, "wait at a barrier"),
-            4 => write!(f, "wait at a taskwait"),
-            5 => write!(f, "wait for a lock"),
-            6 => write!(f, "wait for a critical"),
-            7 => write!(f, "idle"),
-            8 => write!(f, "overhead"),
-            _ => write!(f, "other"),
-        }
+        write!(f, "{}", shade_text(self.shade))
+    }
+}
+
+/// What a shade stands for, in words.
+fn shade_text(shade: u8) -> &'static str
+    ensures { result.now ≡ shade_text shade }
+{
+    match shade {
+        1 => "work, serial",
+        2 => "work, parallel",
+        3 => "wait at a barrier",
+        4 => "wait at a taskwait",
+        5 => "wait for a lock",
+        6 => "wait for a critical",
+        7 => "idle",
+        8 => "overhead",
+        _ => "other",
     }
 }
