@@ -107,7 +107,7 @@ module _ {S O : Type 0} (left : S → Option (List ℕ)) (reads_failed : S → �
         → CarriesOut left reads_failed held writes_failed words told None None (Some report) source source_now out out_now
     run_carried told report job r source source_now out out_now asked sourced spelled unrefused unread steady written faults =
         let is : settings_in report ≡ settings = r.observes.asked ∙ asked in
-        let spells : Spells (text_in report) (program_in report) = rw (r.observes.text_is, r.observes.program_is) spelled in
+        let spells : Spells (text_in report) (program_in report) = subst (λ (text : List ℕ). Spells text (program_in report)) (sym r.observes.text_is) (subst (Spells job.loaded.text.items) (sym r.observes.program_is) spelled) in
         let ends : (other : End) → told ≡ other → EndsAs report.cause other = λ other same. subst (EndsAs report.cause) same r.ended in
         record {
           words = run-words told (Some report) (ends end.Usage) (ends end.Shown) (λ why same. sym (ends (end.Ended why) same).0) (ends end.WriteFault);
@@ -115,7 +115,9 @@ module _ {S O : Type 0} (left : S → Option (List ℕ)) (reads_failed : S → �
               record {
                 asked = subst (λ (one : Settings). AreReadAs words (request.Run one)) (sym is) taken.read;
                 own = λ form. is ∙ same-settings (request.Run settings) settings (own_settings form) refl (taken.form form);
-                text = rw (ap (λ (one : Settings). one.command) is, r.observes.text_is) sourced;
+                text =
+                    subst (λ (text : List ℕ). IfSome (text_for report.command (left source)) (λ one. one ≡ text)) (sym r.observes.text_is)
+                    (subst (λ (one : Settings). IfSome (text_for one.command (left source)) (λ text. text ≡ job.loaded.text.items)) (sym is) sourced);
                 spelled = spells;
                 mask = λ other. (r.stays other).mask_is;
                 always = r.observes.to.always;
