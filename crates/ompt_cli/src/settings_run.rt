@@ -9,7 +9,7 @@ ghost use Rattle.ompt_cli.specs.Words.{AreInRange, AreTakenAs};
 use crate::commands::run_command;
 use crate::end::End;
 use crate::job::Job;
-use crate::outcome::{Ended, Outcome, without_run};
+use crate::outcome::{Outcome, without_run};
 use crate::runner::Runner;
 use crate::text::program_for;
 use ompt_words::Settings;
@@ -37,9 +37,9 @@ pub(crate) fn run_settings<X: Runner, S: Source, O: Sink>(
         Err(end) => return without_run(end),
     };
     match run_command(runner, alloc, Job { loaded, settings }, guests, out) {
-        Ok(Ended { end, report }) => Outcome {
-            end,
-            ran: Some(report),
+        Ok(ended) => Outcome {
+            end: ended.end,
+            ran: Some(ended.report),
             shown: None,
             read: None,
         },

@@ -7,7 +7,7 @@ use Rattle.ompt_cli.proofs.settings_run.run_settings.Goals as goal
 
 pub returns-in-Ok-run_command-clause-carried : goal.returns-in-Ok-run_command-clause-carried
 returns-in-Ok-run_command-clause-carried g c = λ words taken.
-    run_carried g.S.Source.left g.S.Source.faults g.O.Sink.held g.O.Sink.faults words c.args.settings taken c.in-Ok-run_command.end c.in-Ok-run_command.report _ c.in-Ok-run_command.ensures.ran c.args.source.now c.program_for.new.source c.args.out.now c.run_command.new.out
+    run_carried g.S.Source.left g.S.Source.faults g.O.Sink.held g.O.Sink.faults words c.args.settings taken c.in-Ok-run_command.ended.end c.in-Ok-run_command.ended.report _ c.in-Ok-run_command.ensures.ran c.args.source.now c.program_for.new.source c.args.out.now c.run_command.new.out
     refl c.in-Ok.ensures.text c.in-Ok.ensures.program
     (λ why refused. ok-not-refused why c.in-Ok.loaded c.program_for.result c.in-Ok.is (c.program_for.ensures.accepted why refused))
     c.in-Ok.ensures.unread
