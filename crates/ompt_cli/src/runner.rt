@@ -46,32 +46,68 @@ pub(crate) trait JobPart: ToolPart {
         ensures guests { IfOk result (λ observed. observed.report.guests ≡ guests) };
 }
 
-macro_rules! job_parts {
-    ($($part:ty),*) => { $(
-        impl JobPart for $part {
-            fn run_alone(
-                alloc: Global,
-                job: Job,
-                parts: &mut Vec<$part>,
-                guests: Vec<Box<dyn GuestTool>>,
-            ) -> Result<Observed<$part>, AllocError> {
-                observe_alone(alloc, job, mem::replace(parts, Vec::new(alloc)), guests)
-            }
+impl JobPart for Recorder {
+    fn run_alone(
+        alloc: Global,
+        job: Job,
+        parts: &mut Vec<Recorder>,
+        guests: Vec<Box<dyn GuestTool>>,
+    ) -> Result<Observed<Recorder>, AllocError> {
+        observe_alone(alloc, job, mem::replace(parts, Vec::new(alloc)), guests)
+    }
 
-            fn run_by_threads<R: Threads + Wait + Sync>(
-                rt: &R,
-                alloc: Global,
-                job: Job,
-                parts: &mut Vec<$part>,
-                guests: Vec<Box<dyn GuestTool>>,
-            ) -> Result<Observed<$part>, AllocError> {
-                observe(rt, alloc, job, mem::replace(parts, Vec::new(alloc)), guests)
-            }
-        }
-    )* };
+    fn run_by_threads<R: Threads + Wait + Sync>(
+        rt: &R,
+        alloc: Global,
+        job: Job,
+        parts: &mut Vec<Recorder>,
+        guests: Vec<Box<dyn GuestTool>>,
+    ) -> Result<Observed<Recorder>, AllocError> {
+        observe(rt, alloc, job, mem::replace(parts, Vec::new(alloc)), guests)
+    }
 }
 
-job_parts!(Recorder, Profile, Timeline);
+impl JobPart for Profile {
+    fn run_alone(
+        alloc: Global,
+        job: Job,
+        parts: &mut Vec<Profile>,
+        guests: Vec<Box<dyn GuestTool>>,
+    ) -> Result<Observed<Profile>, AllocError> {
+        observe_alone(alloc, job, mem::replace(parts, Vec::new(alloc)), guests)
+    }
+
+    fn run_by_threads<R: Threads + Wait + Sync>(
+        rt: &R,
+        alloc: Global,
+        job: Job,
+        parts: &mut Vec<Profile>,
+        guests: Vec<Box<dyn GuestTool>>,
+    ) -> Result<Observed<Profile>, AllocError> {
+        observe(rt, alloc, job, mem::replace(parts, Vec::new(alloc)), guests)
+    }
+}
+
+impl JobPart for Timeline {
+    fn run_alone(
+        alloc: Global,
+        job: Job,
+        parts: &mut Vec<Timeline>,
+        guests: Vec<Box<dyn GuestTool>>,
+    ) -> Result<Observed<Timeline>, AllocError> {
+        observe_alone(alloc, job, mem::replace(parts, Vec::new(alloc)), guests)
+    }
+
+    fn run_by_threads<R: Threads + Wait + Sync>(
+        rt: &R,
+        alloc: Global,
+        job: Job,
+        parts: &mut Vec<Timeline>,
+        guests: Vec<Box<dyn GuestTool>>,
+    ) -> Result<Observed<Timeline>, AllocError> {
+        observe(rt, alloc, job, mem::replace(parts, Vec::new(alloc)), guests)
+    }
+}
 
 /// What makes runs of jobs: [`Alone`] of serial ones, and [`WithThreads`] of all. It has a method for guests, and one for guests beside profiles.
 pub(crate) trait Runner {
