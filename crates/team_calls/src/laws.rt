@@ -11,9 +11,10 @@ ghost use Rattle.omp_model.specs.Legal.{Legal, after};
 ghost use Rattle.omp_model.specs.State.{Run, region_at};
 ghost use Rattle.team_calls.specs.Called.{calls_of, size_of, team_of};
 
-/// After a legal history the calls that the members of a region made on its team are calls in the members' order, and a member
-/// passed a barrier only where its wait there might end. The team's counters are what these calls leave, and so those of what each
-/// member has met, in the standard's words. The run has 1 to 16 threads, and its program breaks no rule.
+/// In a legal history the calls that the members of a region make on its team are calls in the members' order. A member passes a
+/// barrier only where all have arrived or another has passed it; of tasks nothing is said here. After the history the team's counters
+/// are what these calls leave, and so those of what each member has met, in the standard's words. The run has 1 to 16 threads. Its
+/// program breaks no rule and has the form of a tree of a text.
 pub fn members_call_in_order()
     ensures made { (run : Run) (history : List Entry) (r : ℕ) → 1 ≤ run.threads → run.threads ≤ 16 → Checked run.program →
         IsProgramFormed run.program → Legal run history → AreMade (size_of run history r) (calls_of run history r) }
@@ -28,7 +29,8 @@ pub fn members_call_in_order()
         IsCounted (team_of run history r) (region_at (after run history).world r).team }
 {}
 
-/// Where a member of a region has passed a barrier after a legal history, each member of its team has arrived at it.
+/// Where a member of a region has passed a barrier after a legal history, each member of its team has arrived at it. The run has 1 to
+/// 16 threads. Its program breaks no rule and has the form of a tree of a text.
 pub fn all_arrive_in_a_run()
     ensures { (run : Run) (history : List Entry) (r number member other : ℕ) → 1 ≤ run.threads → run.threads ≤ 16 →
         Checked run.program → IsProgramFormed run.program → Legal run history → other < size_of run history r →

@@ -1,4 +1,4 @@
--- The sections of a construct, told apart by their places.
+-- The sections of a construct, by their places.
 use Rattle.std.specs.Prelude.{ℕ, ◌≡◌, ◌<◌, true, List, length, map}
 use Rattle.std.specs.List.{Contains}
 use Rattle.c_syntax.specs.language.Numbered.{TreeView, root_tree}
