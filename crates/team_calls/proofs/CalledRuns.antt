@@ -15,10 +15,11 @@ use Rattle.work_laws.proofs.Events.{goes, outside-callbacks}
 use Rattle.omp_model.specs.Members.{current_index, moment_of, view_of}
 use Rattle.team_calls.proofs.CalledGos.{called-go}
 use Rattle.team_calls.proofs.CalledBacks.{called-back}
+use Rattle.team_calls.proofs.CalledWaits.{WaitsAs, waits-as}
 use Rattle.nested_runs.proofs.Turned.{back-leads, put-leads}
 use Rattle.omp_model.specs.Gates.{arrival}
 use Rattle.guard_laws.proofs.Masks.{all_told, legal-told, told-after, told-does, told-turn, told-walk, whole-told}
-use Rattle.guard_laws.proofs.KnownStates.{after-one, some-within}
+use Rattle.guard_laws.proofs.KnownStates.{after-one, known-after, some-within}
 use Rattle.omp_model.specs.declared.history.What.{What}
 use Rattle.omp_model.specs.declared.event.Outcome.{Outcome as TurnOutcome}
 use Rattle.omp_model.specs.Turn.{Turn, Walk, enabled, turn, stepped}
@@ -209,6 +210,17 @@ module _ (run : Run) where
   entries-told S r (entry ∷ rest) =
       ap₂ (λ (some more : List TeamCall). some ++ more) (entry-told S entry.thread r entry.what)
       (ap (λ (S : State). calls_of_entries (all_told run) S r rest) (told-does run S entry.thread entry.what) ∙ entries-told (entered run S entry) r rest)
+
+pub waits-run : (run : Run) (history : List Entry) → 1 ≤ run.threads → run.threads ≤ 16 → Checked run.program → IsProgramFormed run.program →
+    Legal run history → WaitsAs (after run history).world (λ r. calls_of run history r)
+waits-run run history some few checked formed legal =
+    let whole = whole-told run some few checked formed in
+    let told = legal-told run whole history legal in
+    let S = after (all_told run) history in
+    let known = known-after (all_told run) history whole told in
+    subst₂ (λ (S : State) (calls : AllCalls). WaitsAs S.world calls) (told-after run history) (λ i r. entries-told run (first run) r history i)
+    (waits-as (all_told run) S.world (inside S) known.past (λ r. calls_of (all_told run) history r)
+    (called-after (all_told run) history whole told) known.stands.knows)
 
 module _ (run : Run) (history : List Entry) (r : ℕ) (some : 1 ≤ run.threads) (few : run.threads ≤ 16) (checked : Checked run.program)
     (formed : IsProgramFormed run.program) (legal : Legal run history) where

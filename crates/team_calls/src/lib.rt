@@ -15,6 +15,8 @@
 //!   arrived or another has passed it; of tasks nothing is said here. The team that the machine has is what these calls
 //!   leave. So its counters are those of what each member has met, with the chunks and sections that it took, where it has
 //!   arrived and where it has passed;
+//! - [`waits_end_in_a_run`]: where the end of a member's wait at a barrier stands next, the machine lets it end in just two
+//!   cases. All members have arrived and no explicit task of the region is unfinished, or some member has passed the barrier;
 //! - [`all_arrive_in_a_run`]: no member passes a barrier before all have arrived at it.
 //!
 //! What a member asks beside these calls, whether its wait may end and what it would meet, changes nothing.
@@ -27,4 +29,4 @@
 
 mod laws;
 
-pub use laws::{all_arrive_in_a_run, members_call_in_order};
+pub use laws::{all_arrive_in_a_run, members_call_in_order, waits_end_in_a_run};
