@@ -1,5 +1,5 @@
 -- After each legal history the calls that were made on each team are in order, and the team is what they leave.
-use Rattle.std.proofs.lemmas.Bool.{true≢false}
+use Rattle.std.proofs.lemmas.Bool.{ltb-true, true≢false}
 use Rattle.work_laws.proofs.Walks.{starting}
 use Rattle.std.proofs.lemmas.List.{append_assoc}
 use Rattle.team_calls.proofs.CalledTurns.{turn-came, Came}
@@ -9,7 +9,7 @@ use Rattle.work_laws.specs.Told.{nothing_told}
 use Rattle.omp_model.proofs.MadeRuns.{made-after}
 use Rattle.team_words.proofs.Barriers.{length-made, together-made}
 use Rattle.team_words.proofs.Longest.{is-counted}
-use Rattle.team_words.specs.Team.{has_arrived, has_passed, met_by}
+use Rattle.team_words.specs.Team.{has_arrived, has_met, has_passed, met_at, met_by}
 use Rattle.omp_model.specs.Changes.{gone_past}
 use Rattle.work_laws.proofs.Events.{goes, outside-callbacks}
 use Rattle.omp_model.specs.Members.{current_index, moment_of, view_of}
@@ -47,7 +47,7 @@ use Rattle.omp_model.specs.declared.event.Arrival.{Arrival}
 use Rattle.team_words.specs.Calls.{AreMade, TeamCall}
 use Rattle.omp_model.specs.Legal.{AllowsFrom, Legal, after, after_from, does, entered, may, put_from}
 use Rattle.team_calls.proofs.Called.{AllCalls, called-same, called-stays, Called}
-use Rattle.std.proofs.Common.{ℕ, zero, suc, ◌≡◌, ◌≤◌, ◌<◌, ◌++◌, true, false, List, [], ◌∷◌, if◌then◌else◌, ◌+◌, refl, sym, ap, ap₂, ◌∙◌, subst, subst₂, arith, append-nil, append_assoc}
+use Rattle.std.proofs.Common.{ℕ, zero, suc, ◌≡◌, ◌≤◌, ◌<◌, ◌++◌, true, false, length, List, [], ◌∷◌, if◌then◌else◌, ◌+◌, refl, sym, ap, ap₂, ◌∙◌, subst, subst₂, arith, append-nil, append_assoc}
 use Rattle.std.specs.Prelude.{Option, Some, None, option_map, nat_le, slice_index_or}
 use Rattle.omp_model.specs.declared.event.Outcome.TheVariants as outcome
 use Rattle.team_calls.specs.Called.{calls_of, calls_of_callback, calls_of_entries, calls_of_entry, calls_of_turn, size_of, team_of, calls_by, calls_of_outcome, calls_of_step, calls_of_steps, if_in, calls_on, calls_at}
@@ -141,9 +141,9 @@ called-from run before S (entry ∷ rest) told calls whole is allows so called =
 -- at the start
 
 first-follows : (run : Run) (r : ℕ) → Follows (region_at (first_world run) r).team []
-first-follows run zero = record { few = omega arith; made = refl; time = refl; view_is = refl }
-first-follows run (suc zero) = record { few = omega arith; made = refl; time = refl; view_is = refl }
-first-follows run (suc (suc r)) = record { few = omega arith; made = refl; time = refl; view_is = refl }
+first-follows run zero = record { few = omega arith; made = refl; time = refl; agree = refl; view_is = refl }
+first-follows run (suc zero) = record { few = omega arith; made = refl; time = refl; agree = refl; view_is = refl }
+first-follows run (suc (suc r)) = record { few = omega arith; made = refl; time = refl; agree = refl; view_is = refl }
 
 first-fresh : (run : Run) (k : ℕ) → IsTask (first_world run) k → has_started (pooled_at (first_world run) k).condition ≡ false
 first-fresh run zero made = absurd (omega (arith, made.some))
@@ -232,6 +232,14 @@ module _ (run : Run) (history : List Entry) (r : ℕ) (some : 1 ≤ run.threads)
 
   pub made-run : AreMade (size_of run history r) (calls_of run history r)
   made-run = are-made (region_at (after run history).world r).team (calls_of run history r) follows-run
+
+  -- two members have met the same with each number that both have
+  pub same-run : (number one other : ℕ) → has_met number (met_by (team_of run history r) one) ≡ true → has_met number (met_by (team_of run history r) other) ≡ true →
+      (met_at number (met_by (team_of run history r) one)).what ≡ (met_at number (met_by (team_of run history r) other)).what
+  same-run number one other first second =
+      let team = team_of run history r in
+      let each = (keeps (region_at (after run history).world r).team (calls_of run history r) follows-run).each in
+      sym (each one number (ltb-true number (length (met_by team one)) first)).same ∙ (each other number (ltb-true number (length (met_by team other)) second)).same
 
   pub counted-run : IsCounted (team_of run history r) (region_at (after run history).world r).team
   counted-run = is-counted (team_of run history r) (region_at (after run history).world r).team

@@ -11,12 +11,13 @@ ghost use Rattle.c_model.specs.Task.Item.{Sync};
 ghost use Rattle.task_pool.specs.Tasks.{unfinished};
 ghost use Rattle.team_words.specs.Calls.{AreMade, all_end_in_time, counters_after_calls, fresh_counters};
 ghost use Rattle.team_words.specs.Counted.{IsCounted};
-ghost use Rattle.team_words.specs.Team.{fresh_team, has_arrived, has_passed, may_pass, met_by};
+ghost use Rattle.team_words.specs.Team.{fresh_team, has_arrived, has_met, has_passed, may_pass, met_at, met_by};
 ghost use Rattle.omp_model.specs.declared.history.Entry.{Entry};
 ghost use Rattle.omp_model.specs.Gates.{is_barrier, may_end};
 ghost use Rattle.omp_model.specs.Legal.{Legal, after};
 ghost use Rattle.omp_model.specs.Members.{code_of, current, current_index, current_region};
 ghost use Rattle.omp_model.specs.State.{Run, region_at};
+ghost use Rattle.team_calls.specs.Agreed.{all_agree};
 ghost use Rattle.team_calls.specs.Called.{calls_of, size_of, team_of};
 
 /// In a legal history the calls that the members of a region make on its team are calls in the members' order. A member passes a
@@ -35,6 +36,20 @@ pub fn members_call_in_order()
     ensures counted { (run : Run) (history : List Entry) (r : ℕ) → 1 ≤ run.threads → run.threads ≤ 16 → Checked run.program →
         IsProgramFormed run.program → Legal run history →
         IsCounted (team_of run history r) (region_at (after run history).world r).team }
+{}
+
+/// In a legal history the members of a region meet the same in the same order. Where a member meets something as its n-th, no other has
+/// met something else as its n-th, so each such call is taken. The n-th that two members have met is the same. The run has 1 to 16
+/// threads. Its program breaks no rule and has the form of a tree of a text.
+pub fn members_meet_the_same()
+    ensures agree { (run : Run) (history : List Entry) (r : ℕ) → 1 ≤ run.threads → run.threads ≤ 16 → Checked run.program →
+        IsProgramFormed run.program → Legal run history →
+        IsTrue (all_agree (fresh_team (size_of run history r)) (calls_of run history r)) }
+    ensures same { (run : Run) (history : List Entry) (r number member other : ℕ) → 1 ≤ run.threads → run.threads ≤ 16 →
+        Checked run.program → IsProgramFormed run.program → Legal run history →
+        let team = team_of run history r in
+        IsTrue (has_met number (met_by team member)) → IsTrue (has_met number (met_by team other)) →
+        (met_at number (met_by team member)).what ≡ (met_at number (met_by team other)).what }
 {}
 
 /// This is of a thread, after a legal history, in whose current task the end of a wait at a barrier stands next. The machine lets the

@@ -6,7 +6,8 @@
 //!
 //! - `specs/Called.antt` goes over a history and has the calls that the members of one region make on its team. A silent
 //!   step asks for a chunk or a section, and where none is left this changes nothing. At the Go of an event a member meets
-//!   a construct or a barrier, or passes a barrier. At the Back of an event it has arrived at one.
+//!   a construct or a barrier, or passes a barrier. At the Back of an event it has arrived at one;
+//! - `specs/Agreed.antt` has when members meet the same in the same order.
 //!
 //! Proved, as laws of the definitions, for legal histories of a run with 1 to 16 threads. Its program breaks no rule and has
 //! the form of a tree of a text:
@@ -15,6 +16,8 @@
 //!   arrived or another has passed it; of tasks nothing is said here. The team that the machine has is what these calls
 //!   leave. So its counters are those of what each member has met, with the chunks and sections that it took, where it has
 //!   arrived and where it has passed;
+//! - [`members_meet_the_same`]: the n-th construct or barrier that a member meets is the n-th of each other one that has had
+//!   as many. A member that would meet something else makes no call, since its turn is a trap;
 //! - [`waits_end_in_a_run`]: where the end of a member's wait at a barrier stands next, the machine lets it end in just two
 //!   cases. All members have arrived and no explicit task of the region is unfinished, or some member has passed the barrier;
 //! - [`all_arrive_in_a_run`]: no member passes a barrier before all have arrived at it.
@@ -29,4 +32,6 @@
 
 mod laws;
 
-pub use laws::{all_arrive_in_a_run, members_call_in_order, waits_end_in_a_run};
+pub use laws::{
+    all_arrive_in_a_run, members_call_in_order, members_meet_the_same, waits_end_in_a_run,
+};
