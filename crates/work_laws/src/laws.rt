@@ -1,6 +1,8 @@
 //! What follows from the definitions alone: each law is the contract of a function with an empty body.
 
 ghost use Rattle.std.specs.Prelude.{ℕ, ℤ, ◌≡◌, ◌≤◌, nat_lt, if◌then◌else◌, List, length, Some, None};
+ghost use Rattle.c_syntax.specs.language.Numbered.{TreeView, root_tree};
+ghost use Rattle.c_syntax.specs.language.Texts.{Spells};
 ghost use Rattle.c_syntax.specs.language.Tree.{Tree as Part};
 ghost use Rattle.c_check.specs.Checked.{Checked};
 ghost use Rattle.c_model.specs.declared.point.Point.TheVariants.{WorkBegin};
@@ -56,6 +58,11 @@ pub fn each_section_once_in_a_run()
         let team = (region_at (after run history).world r).team in
         let told = told_of run history r n in
         meeting_of team n ≡ sections_met construct → HaveEnded team told → told.sections ≡ section_places construct }
+{}
+
+/// In a program whose text has at most 65,536 bytes no two constructs have one place.
+pub fn each_construct_has_its_own_place()
+    ensures { (text : List ℕ) (program : TreeView) → length text ≤ 65536 → Spells text (root_tree program) → HaveOwnPlaces program }
 {}
 
 /// The next silent step of a thread asks for a section, after a legal history and any number of silent steps that the thread

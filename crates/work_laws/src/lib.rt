@@ -10,14 +10,15 @@
 //! - `specs/Sections.antt` has a construct's sections by their places, and what it is that constructs have places of their
 //!   own.
 //!
-//! Proved, as laws of the definitions. The program breaks no rule and has the form of a tree of a text, and but for the last
-//! law the run has 1 to 16 threads:
+//! Proved, as laws of the definitions. The program breaks no rule and has the form of a tree of a text. In the laws that speak
+//! of a run it has 1 to 16 threads:
 //!
 //! - [`each_iteration_once_in_a_run`]: where each member of the team has ended a loop, each of its iterations is in exactly
 //!   one of the chunks that were told, and no chunk has anything else. Where each has ended a sections construct, as many
 //!   sections were told as it has;
 //! - [`each_section_once_in_a_run`]: where each member has ended a sections construct, and where no two constructs of the
 //!   program have one place, its sections were told, each once, in the order of the text;
+//! - [`each_construct_has_its_own_place`]: in a program whose text has at most 65,536 bytes no two constructs have one place;
 //! - [`sections_are_told_in_order`]: with n sections told of the construct, the next that is dealt is the one with number n,
 //!   counted from 0, as long as there is one;
 //! - [`chunks_have_a_size`]: a loop's iterations are dealt by its schedule as it is written. The definitions raise a size
@@ -37,6 +38,6 @@
 mod laws;
 
 pub use laws::{
-    chunks_have_a_size, each_iteration_once_in_a_run, each_section_once_in_a_run,
-    sections_are_told_in_order,
+    chunks_have_a_size, each_construct_has_its_own_place, each_iteration_once_in_a_run,
+    each_section_once_in_a_run, sections_are_told_in_order,
 };
