@@ -15,9 +15,12 @@ use Rattle.work_laws.proofs.Events.{goes, outside-callbacks}
 use Rattle.omp_model.specs.Members.{current_index, moment_of, view_of}
 use Rattle.team_calls.proofs.CalledGos.{called-go}
 use Rattle.team_calls.proofs.CalledBacks.{called-back}
-use Rattle.team_calls.proofs.CalledWaits.{WaitsAs, waits-as}
-use Rattle.nested_runs.proofs.Turned.{back-leads, put-leads}
-use Rattle.omp_model.specs.Gates.{arrival}
+use Rattle.team_calls.proofs.CalledWaits.{WaitsAs, ends-as, waits-as, words_end}
+use Rattle.nested_runs.proofs.Turned.{Led, back-leads, put-leads, turn-leads}
+use Rattle.c_model.specs.declared.point.SyncKind.{SyncKind}
+use Rattle.c_model.specs.declared.point.SyncStage.TheVariants as stage
+use Rattle.omp_model.specs.declared.event.Event.TheVariants as event
+use Rattle.omp_model.specs.Gates.{arrival, is_barrier}
 use Rattle.guard_laws.proofs.Masks.{all_told, legal-told, told-after, told-does, told-turn, told-walk, whole-told}
 use Rattle.guard_laws.proofs.KnownStates.{after-one, known-after, some-within}
 use Rattle.omp_model.specs.declared.history.What.{What}
@@ -221,6 +224,29 @@ waits-run run history some few checked formed legal =
     subst₂ (λ (S : State) (calls : AllCalls). WaitsAs S.world calls) (told-after run history) (λ i r. entries-told run (first run) r history i)
     (waits-as (all_told run) S.world (inside S) known.past (λ r. calls_of (all_told run) history r)
     (called-after (all_told run) history whole told) known.stands.knows)
+
+-- the turn of a thread whose wait ends
+pub ends-run : (run : Run) (history : List Entry) → 1 ≤ run.threads → run.threads ≤ 16 → Checked run.program → IsProgramFormed run.program →
+    Legal run history → (t codeptr : ℕ) (which : SyncKind) → enabled (after run history) t ≡ true →
+    (turn run (after run history) t).outcome ≡ outcome.Happens (event.Sync which stage.WaitEnd codeptr) → is_barrier which ≡ true →
+    words_end (after run history).world (λ r. calls_of run history r) t ≡ true
+ends-run run history some few checked formed legal t codeptr which enters happens barrier =
+    let all = all_told run in
+    let whole = whole-told run some few checked formed in
+    let told = legal-told run whole history legal in
+    let S = after all history in
+    let next = (turn all S t).state in
+    let known = known-after all history whole told in
+    let entry : Entry = record { thread = t; what = Go } in
+    let same : after all (history ++ entry ∷ []) ≡ next = after-one all (first all) history entry in
+    let enters-all : enabled S t ≡ true = ap (λ (S : State). enabled S t) (told-after run history) ∙ enters in
+    let happens-all : (turn all S t).outcome ≡ outcome.Happens (event.Sync which stage.WaitEnd codeptr) =
+    ap (λ (T : Turn). T.outcome) (told-turn run S t) ∙ ap (λ (S : State). (turn run S t).outcome) (told-after run history) ∙ happens in
+    let happened = subst (Led all S next known.past t) happens-all
+    (turn-leads all S known.past known.stands.knows known.stands.unbroken t (subst (IsMadeState all) same (made-after all (history ++ entry ∷ []) whole.some))
+    (subst IsOrderly same (orderly-after all (history ++ entry ∷ []) whole.some)) enters-all) in
+    subst₂ (λ (S : State) (calls : AllCalls). words_end S.world calls t ≡ true) (told-after run history) (λ i r. entries-told run (first run) r history i)
+    (ends-as all S next known.past (λ r. calls_of all history r) (called-after all history whole told) known.stands.knows t codeptr which barrier happened)
 
 module _ (run : Run) (history : List Entry) (r : ℕ) (some : 1 ≤ run.threads) (few : run.threads ≤ 16) (checked : Checked run.program)
     (formed : IsProgramFormed run.program) (legal : Legal run history) where

@@ -13,13 +13,14 @@
 //! the form of a tree of a text:
 //!
 //! - [`members_call_in_order`]: the calls are made in the members' order, and a member passes a barrier only where all have
-//!   arrived or another has passed it; of tasks nothing is said here. The team that the machine has is what these calls
+//!   arrived or another has passed it; of tasks `waits_end_in_a_run` tells. The team that the machine has is what these calls
 //!   leave. So its counters are those of what each member has met, with the chunks and sections that it took, where it has
 //!   arrived and where it has passed;
 //! - [`members_meet_the_same`]: the n-th construct or barrier that a member meets is the n-th of each other one that has had
 //!   as many. A member that would meet something else makes no call, since its turn is a trap;
 //! - [`waits_end_in_a_run`]: where the end of a member's wait at a barrier stands next, the machine lets it end in just two
-//!   cases. All members have arrived and no explicit task of the region is unfinished, or some member has passed the barrier;
+//!   cases. All members have arrived and no explicit task of the region is unfinished, or some member has passed the barrier.
+//!   So the event in which such a wait ends occurs in these cases alone;
 //! - [`all_arrive_in_a_run`]: no member passes a barrier before all have arrived at it.
 //!
 //! What a member asks beside these calls, whether its wait may end and what it would meet, changes nothing.
