@@ -22,6 +22,7 @@ use Rattle.nested_runs.proofs.Recorded.{Inside}
 use Rattle.nested_runs.proofs.Standing.{Stand, stand_at}
 use Rattle.nested_runs.proofs.Touching.{Alike}
 use Rattle.guard_laws.proofs.WorksMet.{SamePlace, index_of, place-alike}
+use Rattle.team_calls.specs.Agreed.{agrees}
 use Rattle.team_calls.proofs.Follows.{Follows, follows-more, words-more, words_of}
 use Rattle.team_calls.proofs.Places.{PlaceOf, place-freed, place-same}
 
@@ -83,13 +84,13 @@ module _ (W after : World) (calls : AllCalls) (r : ℕ) (call : TeamCall) (one :
 
   -- the calls of each region
   pub follows-one : (follows : (q : ℕ) → Follows (region_at W q).team (calls q)) → may_make (words_of (region_at W r).team (calls r)) call ≡ true →
-      ends_in_time (words_of (region_at W r).team (calls r)) call ≡ true → (q : ℕ) → Follows (region_at after q).team (now q)
-  follows-one follows may ends q =
+      ends_in_time (words_of (region_at W r).team (calls r)) call ≡ true → agrees (words_of (region_at W r).team (calls r)) call ≡ true → (q : ℕ) → Follows (region_at after q).team (now q)
+  follows-one follows may ends agree q =
       elim (cases_eq q r) [
         | inl is ↦
             subst (λ (q : ℕ). Follows (region_at after q).team (now q)) (sym is)
             (subst (Follows (region_at after r).team) (sym (with-here calls r call))
-            (follows-more (region_at W r).team (calls r) (follows r) call (region_at after r).team may ends one.here))
+            (follows-more (region_at W r).team (calls r) (follows r) call (region_at after r).team may ends agree one.here))
         | inr other ↦
             subst₂ Follows (sym (one.there q other)) (sym (with-there calls r q call other)) (follows q)
       ]
@@ -167,16 +168,17 @@ module _ (W after : World) (I : Inside) (alike : Alike W after) where
 
   -- .. or one member takes a chunk or a section, by which no place changes
   pub called-asks : (calls : AllCalls) (r : ℕ) (call : TeamCall) → OneCall W after r call → Called W I calls →
-      may_make (words_of (region_at W r).team (calls r)) call ≡ true → ends_in_time (words_of (region_at W r).team (calls r)) call ≡ true → r < length W.regions →
+      may_make (words_of (region_at W r).team (calls r)) call ≡ true → ends_in_time (words_of (region_at W r).team (calls r)) call ≡ true →
+      agrees (words_of (region_at W r).team (calls r)) call ≡ true → r < length W.regions →
       (has_started (pooled_at W INITIAL_TASK).condition ≡ false → r ≢ IMPLICIT_REGION) →
       ((j : ℕ) → SameLast (met_by (words_of (region_at W r).team (calls r)) j) (met_by (after_call (words_of (region_at W r).team (calls r)) call) j)) →
       Called after I (with_call calls r call)
-  called-asks calls r call one called may ends made begun same =
+  called-asks calls r call one called may ends agree made begun same =
       record {
         none = λ q beyond.
             with-there calls r q call (λ is. omega (arith, is, beyond, made, alike.world.regions))
             ∙ called.none q (omega (arith, beyond, alike.world.regions));
-        follows = follows-one W after calls r call one called.follows may ends;
+        follows = follows-one W after calls r call one called.follows may ends agree;
         places = λ k there started plain.
             let q = region_of W k in
             let i = index_of W k in

@@ -147,7 +147,7 @@ module _ (run : Run) (W after : World) (I J : Inside) (past : List EventRecord) 
         none = λ q beyond.
             with-there calls r q (Arrive i) (λ is. omega (arith, is, beyond, below, back.returns.regions))
             ∙ called.none q (omega (arith, beyond, back.returns.regions));
-        follows = follows-one W after calls r (Arrive i) one called.follows may refl;
+        follows = follows-one W after calls r (Arrive i) one called.follows may refl refl;
         places = λ k made started plain-k.
             elim (cases_eq k (current W t)) [
               | inl here ↦ subst (λ (k : ℕ). PlaceOf (stand_at after k) (arriving after J k) (mets_of after now k)) (sym here) own

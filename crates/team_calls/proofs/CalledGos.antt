@@ -63,6 +63,8 @@ use Rattle.nested_runs.proofs.WaitEnds.{may-end-passes}
 use Rattle.guard_laws.proofs.WorkBegins.{met-answer, met-free, met-team}
 use Rattle.guard_laws.proofs.WorkGos.{current-started, one-seat, own-made, place-go}
 use Rattle.guard_laws.proofs.WorksMet.{index_of}
+use Rattle.std.specs.Result.{is_ok}
+use Rattle.team_calls.specs.Agreed.{agrees}
 use Rattle.team_calls.specs.Called.{calls_at, calls_of_next, if_in}
 use Rattle.team_calls.proofs.Called.{AllCalls, Called, OneCall, arriving, follows-one, is_arrival, mets-placed, mets_of, with-there, with_call, words-here, words-there, arriving-same, called-same}
 use Rattle.team_calls.proofs.Follows.{Follows, keeps, words-met, words-size, words_of}
@@ -153,7 +155,7 @@ module _ (run : Run) (W after : World) (I J : Inside) (past : List EventRecord) 
         (is_of_code e ≡ true → is_explicit_task W k ≡ false → PlaceOf (stand_after e) (is_arrival (Some e)) (met_by words i)) → Makes e
     Makes-one : (call : TeamCall) → ((q : ℕ) → calls_at run W t q e ≡ (if current_region W t == q then call ∷ [] else [])) → is_of_code e ≡ true →
         is_explicit_task W k ≡ false → OneCall W after r call → length after.regions ≡ length W.regions → may_make words call ≡ true →
-        ends_in_time words call ≡ true → ((j : ℕ) → j ≢ i → met_by (after_call words call) j ≡ met_by words j) →
+        ends_in_time words call ≡ true → agrees words call ≡ true → ((j : ℕ) → j ≢ i → met_by (after_call words call) j ≡ met_by words j) →
         PlaceOf (stand_after e) (is_arrival (Some e)) (met_by (after_call words call) i) → Makes e
 
   neither : (here : Bool) → if◌then◌else◌ {A = List TeamCall} here [] [] ≡ []
@@ -297,6 +299,7 @@ module _ (run : Run) (W after : World) (I J : Inside) (past : List EventRecord) 
       })
       regions
       (and_from (is_member_of words i) (may_go_on (met_by words i)) (is-of run W after I J past t calls called some goes.knows) free) refl
+      (ap is_ok said)
       (λ j other. met-other words i j what other)
       (subst (λ (b : Bool). PlaceOf (stand_after e) b (met_by (after_call words (Meet i what)) i)) (sym calmly)
       (next (met_by (after_call words (Meet i what)) i) (met-own words i what first within said)))
@@ -370,7 +373,7 @@ module _ (run : Run) (W after : World) (I J : Inside) (past : List EventRecord) 
       })
       goes.touches.world.regions
       (and_from (is_member_of words i) (is_at_barrier (met_by words i)) (is-of run W after I J past t calls called some goes.knows) waits.at)
-      (may-later words i left may) (λ j other. passed-other words i j other)
+      (may-later words i left may) refl (λ j other. passed-other words i j other)
       (goes-past (met_by (after_call words (Pass i)) i) (ap (λ (met : Met). met.arrived) last ∙ waits.arrived refl) (ap (λ (met : Met). met.passed) last))
 
   at-event : (e : Event) → Goes run W after I J past t e → GoOf run W t e after → Made e
@@ -611,6 +614,7 @@ module _ (run : Run) (W after : World) (I J : Inside) (past : List EventRecord) 
         few = omega (arith, few, members);
         made = refl;
         time = refl;
+        agree = refl;
         view_is = ap fresh_team members;
       }
 
@@ -669,7 +673,7 @@ module _ (run : Run) (W after : World) (I J : Inside) (past : List EventRecord) 
               (λ beside q below. refl) called.early;
           early = λ not. called.early (still-early not);
         })
-    called-made (Makes-one call is code plain one regions may ends others own) =
+    called-made (Makes-one call is code plain one regions may ends agree others own) =
         let r = current_region W t in
         let some = comes-some W t e code goes.comes in
         let below : r < length W.regions = (region-made run W I past t goes.knows some).below in
@@ -678,7 +682,7 @@ module _ (run : Run) (W after : World) (I J : Inside) (past : List EventRecord) 
         called-same after J now (λ q. calls q ++ calls_at run W t q e) (λ q. ap (λ (more : List TeamCall). calls q ++ more) (is q))
         (record {
           none = λ q beyond. with-there calls r q call (λ is. omega (arith, is, beyond, below, regions)) ∙ called.none q (omega (arith, beyond, regions));
-          follows = follows-one W after calls r call one called.follows may ends;
+          follows = follows-one W after calls r call one called.follows may ends agree;
           places = places-go e goes now
               (λ k made started plain-k apart.
               let q = region_of W k in

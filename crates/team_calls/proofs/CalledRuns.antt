@@ -1,5 +1,5 @@
 -- After each legal history the calls that were made on each team are in order, and the team is what they leave.
-use Rattle.std.proofs.lemmas.Bool.{true≢false}
+use Rattle.std.proofs.lemmas.Bool.{ltb-true, true≢false}
 use Rattle.work_laws.proofs.Walks.{starting}
 use Rattle.std.proofs.lemmas.List.{append_assoc}
 use Rattle.team_calls.proofs.CalledTurns.{turn-came, Came}
@@ -9,16 +9,20 @@ use Rattle.work_laws.specs.Told.{nothing_told}
 use Rattle.omp_model.proofs.MadeRuns.{made-after}
 use Rattle.team_words.proofs.Barriers.{length-made, together-made}
 use Rattle.team_words.proofs.Longest.{is-counted}
-use Rattle.team_words.specs.Team.{has_arrived, has_passed, met_by}
+use Rattle.team_words.specs.Team.{has_arrived, has_met, has_passed, met_at, met_by}
 use Rattle.omp_model.specs.Changes.{gone_past}
 use Rattle.work_laws.proofs.Events.{goes, outside-callbacks}
 use Rattle.omp_model.specs.Members.{current_index, moment_of, view_of}
 use Rattle.team_calls.proofs.CalledGos.{called-go}
 use Rattle.team_calls.proofs.CalledBacks.{called-back}
-use Rattle.nested_runs.proofs.Turned.{back-leads, put-leads}
-use Rattle.omp_model.specs.Gates.{arrival}
+use Rattle.team_calls.proofs.CalledWaits.{WaitsAs, ends-as, waits-as, words_end}
+use Rattle.nested_runs.proofs.Turned.{Led, back-leads, put-leads, turn-leads}
+use Rattle.c_model.specs.declared.point.SyncKind.{SyncKind}
+use Rattle.c_model.specs.declared.point.SyncStage.TheVariants as stage
+use Rattle.omp_model.specs.declared.event.Event.TheVariants as event
+use Rattle.omp_model.specs.Gates.{arrival, is_barrier}
 use Rattle.guard_laws.proofs.Masks.{all_told, legal-told, told-after, told-does, told-turn, told-walk, whole-told}
-use Rattle.guard_laws.proofs.KnownStates.{after-one, some-within}
+use Rattle.guard_laws.proofs.KnownStates.{after-one, known-after, some-within}
 use Rattle.omp_model.specs.declared.history.What.{What}
 use Rattle.omp_model.specs.declared.event.Outcome.{Outcome as TurnOutcome}
 use Rattle.omp_model.specs.Turn.{Turn, Walk, enabled, turn, stepped}
@@ -46,7 +50,7 @@ use Rattle.omp_model.specs.declared.event.Arrival.{Arrival}
 use Rattle.team_words.specs.Calls.{AreMade, TeamCall}
 use Rattle.omp_model.specs.Legal.{AllowsFrom, Legal, after, after_from, does, entered, may, put_from}
 use Rattle.team_calls.proofs.Called.{AllCalls, called-same, called-stays, Called}
-use Rattle.std.proofs.Common.{ℕ, zero, suc, ◌≡◌, ◌≤◌, ◌<◌, ◌++◌, true, false, List, [], ◌∷◌, if◌then◌else◌, ◌+◌, refl, sym, ap, ap₂, ◌∙◌, subst, subst₂, arith, append-nil, append_assoc}
+use Rattle.std.proofs.Common.{ℕ, zero, suc, ◌≡◌, ◌≤◌, ◌<◌, ◌++◌, true, false, length, List, [], ◌∷◌, if◌then◌else◌, ◌+◌, refl, sym, ap, ap₂, ◌∙◌, subst, subst₂, arith, append-nil, append_assoc}
 use Rattle.std.specs.Prelude.{Option, Some, None, option_map, nat_le, slice_index_or}
 use Rattle.omp_model.specs.declared.event.Outcome.TheVariants as outcome
 use Rattle.team_calls.specs.Called.{calls_of, calls_of_callback, calls_of_entries, calls_of_entry, calls_of_turn, size_of, team_of, calls_by, calls_of_outcome, calls_of_step, calls_of_steps, if_in, calls_on, calls_at}
@@ -140,9 +144,9 @@ called-from run before S (entry ∷ rest) told calls whole is allows so called =
 -- at the start
 
 first-follows : (run : Run) (r : ℕ) → Follows (region_at (first_world run) r).team []
-first-follows run zero = record { few = omega arith; made = refl; time = refl; view_is = refl }
-first-follows run (suc zero) = record { few = omega arith; made = refl; time = refl; view_is = refl }
-first-follows run (suc (suc r)) = record { few = omega arith; made = refl; time = refl; view_is = refl }
+first-follows run zero = record { few = omega arith; made = refl; time = refl; agree = refl; view_is = refl }
+first-follows run (suc zero) = record { few = omega arith; made = refl; time = refl; agree = refl; view_is = refl }
+first-follows run (suc (suc r)) = record { few = omega arith; made = refl; time = refl; agree = refl; view_is = refl }
 
 first-fresh : (run : Run) (k : ℕ) → IsTask (first_world run) k → has_started (pooled_at (first_world run) k).condition ≡ false
 first-fresh run zero made = absurd (omega (arith, made.some))
@@ -210,6 +214,40 @@ module _ (run : Run) where
       ap₂ (λ (some more : List TeamCall). some ++ more) (entry-told S entry.thread r entry.what)
       (ap (λ (S : State). calls_of_entries (all_told run) S r rest) (told-does run S entry.thread entry.what) ∙ entries-told (entered run S entry) r rest)
 
+pub waits-run : (run : Run) (history : List Entry) → 1 ≤ run.threads → run.threads ≤ 16 → Checked run.program → IsProgramFormed run.program →
+    Legal run history → WaitsAs (after run history).world (λ r. calls_of run history r)
+waits-run run history some few checked formed legal =
+    let whole = whole-told run some few checked formed in
+    let told = legal-told run whole history legal in
+    let S = after (all_told run) history in
+    let known = known-after (all_told run) history whole told in
+    subst₂ (λ (S : State) (calls : AllCalls). WaitsAs S.world calls) (told-after run history) (λ i r. entries-told run (first run) r history i)
+    (waits-as (all_told run) S.world (inside S) known.past (λ r. calls_of (all_told run) history r)
+    (called-after (all_told run) history whole told) known.stands.knows)
+
+-- the turn of a thread whose wait ends
+pub ends-run : (run : Run) (history : List Entry) → 1 ≤ run.threads → run.threads ≤ 16 → Checked run.program → IsProgramFormed run.program →
+    Legal run history → (t codeptr : ℕ) (which : SyncKind) → enabled (after run history) t ≡ true →
+    (turn run (after run history) t).outcome ≡ outcome.Happens (event.Sync which stage.WaitEnd codeptr) → is_barrier which ≡ true →
+    words_end (after run history).world (λ r. calls_of run history r) t ≡ true
+ends-run run history some few checked formed legal t codeptr which enters happens barrier =
+    let all = all_told run in
+    let whole = whole-told run some few checked formed in
+    let told = legal-told run whole history legal in
+    let S = after all history in
+    let next = (turn all S t).state in
+    let known = known-after all history whole told in
+    let entry : Entry = record { thread = t; what = Go } in
+    let same : after all (history ++ entry ∷ []) ≡ next = after-one all (first all) history entry in
+    let enters-all : enabled S t ≡ true = ap (λ (S : State). enabled S t) (told-after run history) ∙ enters in
+    let happens-all : (turn all S t).outcome ≡ outcome.Happens (event.Sync which stage.WaitEnd codeptr) =
+    ap (λ (T : Turn). T.outcome) (told-turn run S t) ∙ ap (λ (S : State). (turn run S t).outcome) (told-after run history) ∙ happens in
+    let happened = subst (Led all S next known.past t) happens-all
+    (turn-leads all S known.past known.stands.knows known.stands.unbroken t (subst (IsMadeState all) same (made-after all (history ++ entry ∷ []) whole.some))
+    (subst IsOrderly same (orderly-after all (history ++ entry ∷ []) whole.some)) enters-all) in
+    subst₂ (λ (S : State) (calls : AllCalls). words_end S.world calls t ≡ true) (told-after run history) (λ i r. entries-told run (first run) r history i)
+    (ends-as all S next known.past (λ r. calls_of all history r) (called-after all history whole told) known.stands.knows t codeptr which barrier happened)
+
 module _ (run : Run) (history : List Entry) (r : ℕ) (some : 1 ≤ run.threads) (few : run.threads ≤ 16) (checked : Checked run.program)
     (formed : IsProgramFormed run.program) (legal : Legal run history) where
   pub follows-run : Follows (region_at (after run history).world r).team (calls_of run history r)
@@ -220,6 +258,14 @@ module _ (run : Run) (history : List Entry) (r : ℕ) (some : 1 ≤ run.threads)
 
   pub made-run : AreMade (size_of run history r) (calls_of run history r)
   made-run = are-made (region_at (after run history).world r).team (calls_of run history r) follows-run
+
+  -- two members have met the same with each number that both have
+  pub same-run : (number one other : ℕ) → has_met number (met_by (team_of run history r) one) ≡ true → has_met number (met_by (team_of run history r) other) ≡ true →
+      (met_at number (met_by (team_of run history r) one)).what ≡ (met_at number (met_by (team_of run history r) other)).what
+  same-run number one other first second =
+      let team = team_of run history r in
+      let each = (keeps (region_at (after run history).world r).team (calls_of run history r) follows-run).each in
+      sym (each one number (ltb-true number (length (met_by team one)) first)).same ∙ (each other number (ltb-true number (length (met_by team other)) second)).same
 
   pub counted-run : IsCounted (team_of run history r) (region_at (after run history).world r).team
   counted-run = is-counted (team_of run history r) (region_at (after run history).world r).team

@@ -181,7 +181,7 @@ module _ (run : Run) (S : State) (met : IsMet run S) (t : ℕ) (told : Tellings)
         let plain = plain-of (Works work_kind.Loop count) opens.0 opens.1 (λ fits. fits) in
         let some = met-some (Works work_kind.Loop count) opens.0 opens.1 refl plain in
         called-asks W (answered W t ask.Chunk tree) (inside S) alike calls r (TakeChunk i)
-        (record { here = team-there ask.Chunk tree; there = team-elsewhere ask.Chunk tree }) so.called (may-take some) refl below (not-early plain)
+        (record { here = team-there ask.Chunk tree; there = team-elsewhere ask.Chunk tree }) so.called (may-take some) refl refl below (not-early plain)
         (λ j. asked-chunk words i j)
 
     section-step : (tree : Tree) → silent run.program (view_of W t) (moment_of W t) ≡ Asks ask.Section tree → Alike W (answered W t ask.Section tree) →
@@ -192,7 +192,7 @@ module _ (run : Run) (S : State) (met : IsMet run S) (t : ℕ) (told : Tellings)
         let plain = plain-of (Works work_kind.Sections count) opens.0 opens.1 (λ fits. fits) in
         let some = met-some (Works work_kind.Sections count) opens.0 opens.1 refl plain in
         called-asks W (answered W t ask.Section tree) (inside S) alike calls r (TakeSection i)
-        (record { here = team-there ask.Section tree; there = team-elsewhere ask.Section tree }) so.called (may-take some) refl below (not-early plain)
+        (record { here = team-there ask.Section tree; there = team-elsewhere ask.Section tree }) so.called (may-take some) refl refl below (not-early plain)
         (λ j. asked-section words i j)
 
     -- nothing is asked of the team

@@ -7,12 +7,14 @@ use Rattle.team_words.specs.Calls.{AreMade, TeamCall, after_call, after_calls, a
 use Rattle.team_words.specs.Team.{Team, fresh_team, met_by}
 use Rattle.team_words.proofs.Called.{keeps-made}
 use Rattle.team_words.proofs.Keeping.{Keeps, member-is, size-is}
-use Rattle.team_calls.proofs.Lists.{after-more, call-size, counters-more, made-more, time-more}
+use Rattle.team_calls.specs.Agreed.{agrees, all_agree}
+use Rattle.team_calls.proofs.Lists.{after-more, agree-more, call-size, counters-more, made-more, time-more}
 
 pub record FollowsOf (size : ℕ) (view : TeamView) (calls : List TeamCall) : Type 0 where
   pub few : size ≤ TEAM_LIMIT
   pub made : may_make_all (fresh_team size) calls ≡ true
   pub time : all_end_in_time (fresh_team size) calls ≡ true
+  pub agree : all_agree (fresh_team size) calls ≡ true
   pub view_is : counters_after_calls (fresh_counters size 0) calls ≡ view
 
 -- of a team with as many members
@@ -41,13 +43,14 @@ module _ (view : TeamView) (calls : List TeamCall) (follows : Follows view calls
 
   -- one call more
   pub follows-more : (call : TeamCall) (next : TeamView) → may_make team call ≡ true → ends_in_time team call ≡ true →
-      next ≡ counters_after view call → Follows next (calls ++ call ∷ [])
-  follows-more call next may ends is =
+      agrees team call ≡ true → next ≡ counters_after view call → Follows next (calls ++ call ∷ [])
+  follows-more call next may ends agree is =
       let size = length view.members in
       let now : FollowsOf size next (calls ++ call ∷ []) = record {
         few = follows.few;
         made = made-more (fresh_team size) calls call follows.made may;
         time = time-more (fresh_team size) calls call follows.time ends;
+        agree = agree-more (fresh_team size) calls call follows.agree agree;
         view_is = counters-more (fresh_counters size 0) calls call ∙ ap (λ (view : TeamView). counters_after view call) follows.view_is ∙ sym is;
       } in
       subst (λ (size : ℕ). FollowsOf size next (calls ++ call ∷ [])) (sym (ap (λ (view : TeamView). length view.members) is ∙ call-size view call)) now

@@ -4,6 +4,7 @@ pub mod CalledGos
 pub mod CalledRuns
 pub mod CalledSteps
 pub mod CalledTurns
+pub mod CalledWaits
 pub mod Follows
 pub mod Lists
 pub mod Places

@@ -14,6 +14,7 @@ use Rattle.team_words.specs.Shares.{after_chunk, after_section, next_chunk, next
 use Rattle.team_words.specs.Team.{Met, Team, answer_to_meet, is_at_barrier, last_met, last_number, met_at, met_by, not_met, with_arrived, with_mets, with_passed}
 use Rattle.team_words.proofs.ChangedLists.{read-alike}
 use Rattle.team_words.proofs.Keeping.{new_met}
+use Rattle.team_calls.specs.Agreed.{agrees, all_agree}
 
 -- ---- one call more
 
@@ -41,6 +42,14 @@ time-more team (first ∷ calls) call time ends =
     let both = and_parts (ends_in_time team first) (all_end_in_time (after_call team first) calls) time in
     and_from (ends_in_time team first) (all_end_in_time (after_call team first) (calls ++ call ∷ [])) both.0
     (time-more (after_call team first) calls call both.1 ends)
+
+pub agree-more : (team : Team) (calls : List TeamCall) (call : TeamCall) → all_agree team calls ≡ true → agrees (after_calls team calls) call ≡ true →
+    all_agree team (calls ++ call ∷ []) ≡ true
+agree-more team [] call agreed agree = and_from (agrees team call) true agree refl
+agree-more team (first ∷ calls) call agreed agree =
+    let both = and_parts (agrees team first) (all_agree (after_call team first) calls) agreed in
+    and_from (agrees team first) (all_agree (after_call team first) (calls ++ call ∷ [])) both.0
+    (agree-more (after_call team first) calls call both.1 agree)
 
 -- ---- the counters have as many members
 

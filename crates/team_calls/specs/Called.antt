@@ -47,7 +47,7 @@ calls_of_step i (Asks what tree) = calls_of_ask i what
 calls_of_step i other = []
 
 -- At the Go of an event the member meets a construct where its work begins, as it stands next in the code. It meets a barrier at the first of the
--- barrier's events, and passes it where its wait ends
+-- barrier's events, and passes it where its wait ends.
 abbrev pub calls_of_point : ℕ → Point → List TeamCall
 calls_of_point i (WorkBegin codeptr what) = Meet i (work_met codeptr what) ∷ []
 calls_of_point i other = []
@@ -101,7 +101,7 @@ abbrev pub calls_of_outcome : Run → World → ℕ → ℕ → TurnOutcome → 
 calls_of_outcome run W t r (Happens which) = calls_at run W t r which
 calls_of_outcome run W t r other = []
 
--- a turn. The last one that a run may have makes no step
+-- a turn. The last one that a run may have makes no step and has no event
 abbrev pub calls_of_turn : Run → State → ℕ → ℕ → List TeamCall
 calls_of_turn run S t r =
     if nat_le TURN_LIMIT (S.turns + 1)
@@ -123,7 +123,7 @@ abbrev pub calls_of_entries : Run → State → ℕ → List Entry → List Team
 calls_of_entries run S r [] = []
 calls_of_entries run S r (entry ∷ rest) = calls_of_entry run S entry.thread r entry.what ++ calls_of_entries run (entered run S entry) r rest
 
--- all calls that a history has of the members of this region
+-- all calls that the members of this region make in a history
 abbrev pub calls_of : Run → List Entry → ℕ → List TeamCall
 calls_of run history r = calls_of_entries run (first run) r history
 

@@ -1,1 +1,2 @@
+pub mod Agreed
 pub mod Called

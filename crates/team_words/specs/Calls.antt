@@ -7,8 +7,9 @@ use Rattle.team_parts.specs.Team as counters
 use Rattle.team_words.specs.Team.{Team, answer_to_meet, fresh_team, is_at_barrier, may_go_on, may_pass, met_by, with_arrived, with_meeting, with_passed}
 use Rattle.team_words.specs.Shares.{after_chunk, after_section, next_chunk, next_section}
 
--- A call of a member: it meets something, or asks what it would be answered; it takes a chunk or a section; it arrives
--- at a barrier, asks whether its wait may end while so many explicit tasks are unfinished, and passes.
+-- A call of a member. It meets something, or asks what it would be answered if it met it. It asks for a chunk or a
+-- section, and takes it where one is left. It arrives at a barrier, asks whether its wait there may end while so many
+-- explicit tasks are unfinished, or passes it.
 pub data TeamCall : Type 0 where
   Meet : ℕ → Meeting → TeamCall
   WouldMeet : ℕ → Meeting → TeamCall
@@ -99,8 +100,8 @@ fresh_counters size room = record { members = replicate size counters.new_member
 abbrev pub is_member : Team → ℕ → Bool
 is_member team member = nat_lt member (length team.members)
 
--- a member meets the next thing once it has passed its barrier, asks for a chunk or a section only once it has met
--- something, and waits only at a barrier
+-- A member meets the next thing once it has passed its barrier. It asks for a chunk or a section only once it has met
+-- something, and it waits only at a barrier.
 abbrev pub may_make : Team → TeamCall → Bool
 may_make team (Meet member what) = is_member team member && may_go_on (met_by team member)
 may_make team (WouldMeet member what) = is_member team member
@@ -119,7 +120,7 @@ pub record AreMade (size : ℕ) (calls : List TeamCall) : Type 0 where
   pub few : size ≤ TEAM_LIMIT
   pub in_order : IsTrue (may_make_all (fresh_team size) calls)
 
--- a member passes a barrier only where its wait there may end, once no explicit task is unfinished
+-- a member passes a barrier only where its wait there may end as if no explicit task were unfinished
 abbrev pub ends_in_time : Team → TeamCall → Bool
 ends_in_time team (Meet member what) = true
 ends_in_time team (WouldMeet member what) = true

@@ -19,8 +19,8 @@ abbrev pub iterations_of : List (ℕ × ℕ) → ℕ
 iterations_of chunks = sum_by (λ (chunk : ℕ × ℕ). chunk.1) chunks
 
 -- The next chunk of a loop. Of a static one the member's own chunks come round and round. Else it begins behind all
--- that was taken, and has as many iterations as the schedule's number, or of a guided loop the rest divided by the team
--- size, rounded up, where that is more; and none behind the loop's end
+-- that was taken. It has as many iterations as the schedule's number, or of a guided loop the rest divided by the team
+-- size, rounded up, where that is more. It has none behind the loop's end.
 abbrev pub chunk_by : Schedule → ℕ → ℕ → ℕ → List (ℕ × ℕ) → List (ℕ × ℕ) → Option (ℕ × ℕ)
 chunk_by (Static chunk) size count member own all = own_chunk chunk size count member (length own)
 chunk_by (Dynamic chunk) size count member own all = chunk_at (iterations_of all) chunk count

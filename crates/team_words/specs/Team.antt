@@ -6,9 +6,9 @@ use Rattle.team_parts.specs.declared.meeting.Meeting.TheVariants.{Single}
 use Rattle.team_parts.specs.declared.meeting.Mismatch.{Mismatch}
 use Rattle.team_parts.specs.Meetings.{is_barrier, is_same}
 
--- a worksharing construct or a barrier that a member has met; the chunks of the loop that it took, or the sections,
--- each with 1 for its length; and of a barrier whether it has arrived there, so that its wait has begun, and whether it
--- has passed, so that its wait has ended
+-- A worksharing construct or a barrier that a member has met. Of a loop it has the chunks that the member took, and of
+-- sections these, each with 1 for its length. Of a barrier it has whether the member has arrived, so that its wait has
+-- begun, and whether it has passed, so that its wait has ended.
 pub record Met : Type 0 where
   pub what : Meeting
   pub taken : List (ℕ × ℕ)
@@ -87,8 +87,8 @@ may_pass team member unfinished =
     let number = last_number (met_by team member) in
     list_all (has_arrived number) team.members && unfinished == 0 || list_any (has_passed number) team.members
 
--- what a member has met last is a barrier; it may go on to the next thing: it has arrived at that barrier and passed
--- it, or what it has met last is none
+-- What a member has met last is a barrier. It may go on to the next thing where it has arrived at that barrier and has
+-- passed it, or where what it has met last is no barrier.
 abbrev pub is_at_barrier : List Met → Bool
 is_at_barrier mets = is_barrier (last_met mets).what
 

@@ -13,8 +13,8 @@ ghost use Rattle.team_words.specs.Example as example;
 ghost use Rattle.team_words.specs.Shares.{taken_by_all};
 ghost use Rattle.team_words.specs.Team.{fresh_team, has_arrived, has_passed, is_at_barrier, may_pass, met_by};
 
-/// Whichever calls members make, the counters answer each one as the standard's words do. And behind them the counters
-/// are those of what each member has met.
+/// Whichever calls members make in their order, the counters answer each one as the standard's words do. Behind them the
+/// counters are those of what each member has met.
 pub fn counters_tell_the_team()
     ensures answers { (size room : ℕ) (calls : List TeamCall) → AreMade size calls →
         counters_answers (fresh_counters size room) calls ≡ answers_of (fresh_team size) calls }
@@ -40,7 +40,8 @@ pub fn all_arrive_before_one_passes()
         IsTrue (has_arrived number (met_by team other)) }
 {}
 
-/// Where no chunk of a loop is left for any member, they took each iteration once, and no chunk has anything else.
+/// Where no chunk of a loop is left for any member, they took each iteration once, and no chunk has anything else. The size
+/// of a dynamic or guided schedule is at least 1.
 pub fn each_iteration_taken_once()
     ensures { (size : ℕ) (calls : List TeamCall) (number at : ℕ) (start : ℤ) (count : ℕ) (step : ℤ)
         (schedule : Schedule) → AreMade size calls → let team = after_calls (fresh_team size) calls in

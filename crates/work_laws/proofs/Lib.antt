@@ -16,7 +16,9 @@ pub mod Sizes
 pub mod Teams
 pub mod Turns
 pub mod Walks
+mod ConstructHeads
 mod ConstructTrees
+mod TextColumns
 mod ProgramConstructs
 mod NextSectionPlaces
 mod ToldSections

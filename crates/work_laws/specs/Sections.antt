@@ -1,4 +1,4 @@
--- The sections of a construct, told apart by their places.
+-- The sections of a construct, by their places.
 use Rattle.std.specs.Prelude.{ℕ, ◌≡◌, ◌<◌, true, List, length, map}
 use Rattle.std.specs.List.{Contains}
 use Rattle.c_syntax.specs.language.Numbered.{TreeView, root_tree}
@@ -14,8 +14,8 @@ use Rattle.team_parts.specs.declared.meeting.Meeting.TheVariants.{Sections}
 abbrev pub IsConstructOf : TreeView → Tree → Type 0
 IsConstructOf program construct = Contains (nodes_of (root_tree program)) construct × (is_construct (kind_of construct) ≡ true)
 
--- No two constructs have one place. In the tree of a text no two have one spot, and a line of a text of 65,536 bytes is too short for a column of 65,536
--- at which a construct stands
+-- No two constructs have one place. In the tree of a text no two have one spot. A line of a text of 65,536 bytes is too short for a column of 65,536
+-- at which a construct stands.
 pub record HaveOwnPlaces (program : TreeView) : Type 0 where
   pub spots : HasOneConstructAPlace (root_tree program)
   pub columns : (construct : Tree) → IsConstructOf program construct → (spot_of construct).column < LINE_UNIT

@@ -1,6 +1,8 @@
 //! What follows from the definitions alone: each law is the contract of a function with an empty body.
 
 ghost use Rattle.std.specs.Prelude.{ℕ, ℤ, ◌≡◌, ◌≤◌, nat_lt, if◌then◌else◌, List, length, Some, None};
+ghost use Rattle.c_syntax.specs.language.Numbered.{TreeView, root_tree};
+ghost use Rattle.c_syntax.specs.language.Texts.{Spells};
 ghost use Rattle.c_syntax.specs.language.Tree.{Tree as Part};
 ghost use Rattle.c_check.specs.Checked.{Checked};
 ghost use Rattle.c_model.specs.declared.point.Point.TheVariants.{WorkBegin};
@@ -31,7 +33,8 @@ ghost use Rattle.work_laws.specs.Told.{HaveEnded, meeting_of, told_of};
 
 /// This is of a meeting of a region's team, after a legal history, at which each member has ended its work. Where it is a loop,
 /// each iteration is in exactly one of the chunks that were told, and no chunk has anything else. Where it is sections, as many
-/// were told as the construct has. Meetings are counted from 0. The run has 1 to 16 threads, and its program breaks no rule.
+/// were told as the construct has. Meetings are counted from 0. The run has 1 to 16 threads. Its program breaks no rule and has the
+/// form of a tree of a text.
 pub fn each_iteration_once_in_a_run()
     ensures iterations { (run : Run) (history : List Entry) (r n at count iteration : ℕ) (start step : ℤ) (how : Schedule) →
         1 ≤ run.threads → run.threads ≤ 16 → Checked run.program → IsProgramFormed run.program → Legal run history →
@@ -47,8 +50,8 @@ pub fn each_iteration_once_in_a_run()
 {}
 
 /// This is of a meeting of a region's team at a sections construct, after a legal history, at which each member has ended its work.
-/// The sections that were told are those of the construct, each once, in the order of the text. The run has 1 to 16 threads, and its
-/// program breaks no rule and has no two constructs at one place.
+/// The sections that were told are those of the construct, each once, in the order of the text. The run has 1 to 16 threads. Its
+/// program breaks no rule, has the form of a tree of a text, and has no two constructs at one place.
 pub fn each_section_once_in_a_run()
     ensures { (run : Run) (history : List Entry) (r n : ℕ) (construct : Part) → 1 ≤ run.threads → run.threads ≤ 16 → Checked run.program →
         IsProgramFormed run.program → Legal run history → HaveOwnPlaces run.program → IsConstructOf run.program construct →
@@ -57,9 +60,15 @@ pub fn each_section_once_in_a_run()
         meeting_of team n ≡ sections_met construct → HaveEnded team told → told.sections ≡ section_places construct }
 {}
 
+/// In a program whose text has at most 65,536 bytes no two constructs have one place.
+pub fn each_construct_has_its_own_place()
+    ensures { (text : List ℕ) (program : TreeView) → length text ≤ 65536 → Spells text (root_tree program) → HaveOwnPlaces program }
+{}
+
 /// The next silent step of a thread asks for a section, after a legal history and any number of silent steps that the thread
 /// makes then. It is answered the section whose number is how many were told before of its member's last meeting. Where as many
-/// were told as the construct has, it is answered that none is left. The run has 1 to 16 threads, and its program breaks no rule.
+/// were told as the construct has, it is answered that none is left. The run has 1 to 16 threads. Its program breaks no rule and has
+/// the form of a tree of a text.
 pub fn sections_are_told_in_order()
     ensures { (run : Run) (history : List Entry) (t steps : ℕ) (construct : Part) → 1 ≤ run.threads → run.threads ≤ 16 →
         Checked run.program → IsProgramFormed run.program → Legal run history →
@@ -72,7 +81,8 @@ pub fn sections_are_told_in_order()
 {}
 
 /// Where a thread comes to the begin of a loop, after any entries and any number of its silent steps, the team deals iterations
-/// by the schedule as it is written. So a size of a dynamic or guided one is at least 1, and none is raised. The program breaks no rule.
+/// by the schedule as it is written. So a size of a dynamic or guided one is at least 1, and none is raised. The program breaks no rule
+/// and has the form of a tree of a text.
 pub fn chunks_have_a_size()
     ensures { (run : Run) (history : List Entry) (t steps codeptr count : ℕ) (start step : ℤ) (how : Written)
         (construct : Part) → Checked run.program → IsProgramFormed run.program →
