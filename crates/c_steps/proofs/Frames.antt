@@ -8,7 +8,7 @@ use Rattle.c_model.specs.declared.point.Target.{Target}
 use Rattle.c_model.specs.Task.{OpenCall}
 use Rattle.c_steps.specs.declared.frame.Frame.{Frame}
 use Rattle.c_steps.specs.declared.frame.Frame.TheVariants as frame
-use Rattle.c_steps.specs.Items.{calls_at, file_names, todo_at, with_file}
+use Rattle.c_steps.specs.Items.{begun, calls_at, file_names, todo_at, with_file}
 use Rattle.c_steps.specs.Moves.{below_call, last_call}
 use Rattle.c_syntax.specs.language.Numbered.{tree_at}
 use Rattle.c_check.specs.Tasks.{from_place}
@@ -126,3 +126,13 @@ all_names program own = length-append (file_names program) own
 -- each program may bring a name into scope in a step
 pub step_brings : (program : TreeView) (node : ℕ) → node < length program.trees → 0 < step_names program
 step_brings program node within = omega arith
+
+-- no call more or less is open where an item has begun
+pub begun_calls : (frames : List Frame) → open_calls (begun frames) ≡ open_calls frames
+unfolding open_calls
+begun_calls [] = refl
+begun_calls (frame.One it ∷ frames) = refl
+begun_calls (frame.Parts block place at names ∷ frames) = refl
+begun_calls (frame.Combining construct from names ∷ frames) = refl
+begun_calls (frame.Combines operator name construct from names ∷ frames) = refl
+begun_calls (frame.Caller base to ∷ frames) = refl

@@ -33,7 +33,6 @@ pub mod Rests
 mod Returning
 mod Sections
 mod Settling
-pub mod Showing
 pub mod SlotsOfNodes
 pub mod Standing
 mod StepNames
@@ -41,7 +40,6 @@ mod Stepping
 pub mod TaskNames
 pub mod Tops
 pub mod Tried
-pub mod Trying
 mod Values
 mod ValuesAll
 mod ValuesNamed

@@ -14,14 +14,14 @@ use Rattle.c_model.specs.Task.Outcome.{StepsTo}
 use Rattle.c_model.specs.Upcoming.{upcoming_among, upcoming_item}
 use Rattle.c_model.specs.Width.{IsWithin}
 use Rattle.c_model.proofs.Standing.{fits-item}
+use Rattle.c_steps.specs.declared.item.Item.{Item}
+use Rattle.c_steps.specs.declared.next.Next.{Next}
 use Rattle.c_steps.specs.declared.next.Next.TheVariants as next
-use Rattle.c_steps.specs.declared.plain.Plain.{Plain}
-use Rattle.c_steps.specs.declared.plain.Plain.TheVariants as plain
-use Rattle.c_steps.specs.Held.{Held, here_at, moment_at, task_at}
+use Rattle.c_steps.specs.Held.{Held, here_at, moment_at, outcome_at, task_at}
 use Rattle.c_steps.specs.Items.{item_at}
 use Rattle.c_steps.specs.Made.{IsMadeFor}
-use Rattle.c_steps.specs.Ready.{AreFrames, IsFront}
-use Rattle.c_steps.specs.Trying.{ComesTo, IsAttempt, IsTried, item_of}
+use Rattle.c_steps.specs.Ready.{AreFrames, IsFront, IsSettled}
+use Rattle.c_steps.specs.Trying.{IsTried, is_quiet}
 use Rattle.c_steps.proofs.Advancing.{made_after, silent_front}
 use Rattle.c_steps.proofs.Settling.{settled_at_front, settles_none}
 
@@ -43,16 +43,6 @@ stays : (it : SeenItem) (view : View) → is_event it ≡ false → is_passed_ov
 stays (Start tree) view none = ap (λ (masked : Bool). masked && not (view.index == 0)) (no_masked (kind_of tree) tree none)
 stays other view none = refl
 
--- .. and a step comes next
-next_is_step : (program : TreeView) (it : Plain) → is_event (item_at program (item_of it)) ≡ false → upcoming_item (item_at program (item_of it)) ≡ upcoming.Step
-next_is_step program (plain.Start node) none = rw none refl
-next_is_step program (plain.Declare node) none = refl
-next_is_step program (plain.Leave names) none = refl
-next_is_step program (plain.Test node names) none = refl
-next_is_step program (plain.Third node names) none = refl
-next_is_step program (plain.Return number) none = refl
-next_is_step program plain.FallOff none = refl
-
 -- the control where what stands next stands first
 module _ (program : TreeView) (old shown : Held) (rest : shown ≡ record old { frames = shown.frames }) (same : task_at program shown ≡ task_at program old) where
   pub untouched : (view : View) (before : Store) → IsTried program view false old before shown before
@@ -73,47 +63,55 @@ module _ (program : TreeView) (old shown : Held) (rest : shown ≡ record old { 
     is_within = subst (IsWithin program) (sym same) made.is_within;
   }
 
-  module _ (view : View) (it : Plain) (front : IsFront program shown.frames (item_of it)) (are : AreFrames program shown.frames) (before : Store) where
-    abbrev seen : SeenItem
-    seen = item_at program (item_of it)
-
-    abbrev outcome : Outcome
-    outcome = step_of seen (here_at program view shown before)
-
-    settled_shown : is_event seen ≡ false → task_at program shown ≡ settled_task view (task_at program old)
+  -- a step comes next, and was tried
+  module _ (view : View) (it : Item) (front : IsFront program shown.frames it) (are : AreFrames program shown.frames) (comes : upcoming_item (item_at program it) ≡ upcoming.Step) (before : Store) where
+    settled_shown : is_event (item_at program it) ≡ false → task_at program shown ≡ settled_task view (task_at program old)
     settled_shown none =
-        settled_at_front program view shown shown (item_of it) refl (settles_none program view shown.frames are) front (stays seen view none)
+        settled_at_front program view shown shown it refl (settles_none program view shown.frames are) front (stays (item_at program it) view none)
         ∙ ap (settled_task view) same
 
-    module _ (new : Held) (after : Store) (step : ComesTo program outcome shown new after) where
-      none : is_event seen ≡ false
-      none = no_event seen (here_at program view shown before) (moment_at program new after) step.step
+    module _ (new : Held) (after : Store) (step : StepsTo (moment_at program new after) ≡ step_of (item_at program it) (here_at program view shown before)) where
+      none : is_event (item_at program it) ≡ false
+      none = no_event (item_at program it) (here_at program view shown before) (moment_at program new after) (sym step)
 
       silent_step : silent program view (moment_at program old before) ≡ StepsTo (moment_at program new after)
-      silent_step = silent_front program view old shown before (settled_shown none) (item_of it) front ∙ step.step
+      silent_step = silent_front program view old shown before (settled_shown none) it front ∙ sym step
 
-      pub step_made : IsTried program view true old before new after
-      step_made = record {
+      step_made : IsSettled next.Quiet shown before new after → IsTried program view true old before new after
+      step_made kept = record {
         step = silent_step;
         kept = record {
-          spare = step.kept.spare ∙ ap Held.spare rest;
-          passes = step.kept.passes ∙ ap Held.passes rest;
-          step_names = step.kept.step_names ∙ ap Held.step_names rest;
-          room = step.kept.room ∙ ap Held.room rest;
+          spare = kept.spare ∙ ap Held.spare rest;
+          passes = kept.passes ∙ ap Held.passes rest;
+          step_names = kept.step_names ∙ ap Held.step_names rest;
+          room = kept.room ∙ ap Held.room rest;
         };
-        upcoming = ap upcoming_among (sym (ap Task.todo (settled_shown none)) ∙ front.todo) ∙ next_is_step program it none;
+        upcoming = ap upcoming_among (sym (ap Task.todo (settled_shown none)) ∙ front.todo) ∙ comes;
       }
 
-      pub made_new : IsMadeFor program old → IsMadeFor program new
-      made_new made =
-          made_after program view old shown before (settled_shown none) new after next.Quiet made rest are step.frames step.kept (sym silent_step)
+      made_new : IsMadeFor program old → AreFrames program new.frames → IsSettled next.Quiet shown before new after → IsMadeFor program new
+      made_new made frames kept =
+          made_after program view old shown before (settled_shown none) new after next.Quiet made rest are frames kept (sym silent_step)
 
-    -- it was made, or not
-    pub tried : (result : Bool) (new : Held) (after : Store) → IsAttempt program outcome result shown before new after → IsTried program view result old before new after
-    tried true new after step = step_made new after step
-    tried false new after same = subst (λ (new : Held). IsTried program view false old before new after) (sym same.0)
-        (subst (λ (after : Store). IsTried program view false old before shown after) (sym same.1) (untouched view before))
+    not_made : (new : Held) (after : Store) → (new ≡ shown) × (after ≡ before) → IsTried program view false old before new after
+    not_made new after left = subst (λ (new : Held). IsTried program view false old before new after) (sym left.0)
+        (subst (λ (after : Store). IsTried program view false old before shown after) (sym left.1) (untouched view before))
 
-    pub made_tried : (result : Bool) (new : Held) (after : Store) → IsMadeFor program old → IsAttempt program outcome result shown before new after → IsMadeFor program new
-    made_tried true new after made step = made_new new after step made
-    made_tried false new after made same = subst (IsMadeFor program) (sym same.0) (made_shown made are)
+    -- it was made, or nothing was done
+    pub tried : (result : Next) (new : Held) (after : Store) → outcome_at program result (moment_at program new after) ≡ step_of (item_at program it) (here_at program view shown before) → IsSettled result shown before new after →
+        IsTried program view (is_quiet result) old before new after
+    tried next.Quiet new after step settled = step_made new after step settled
+    tried (next.Ask ask node) new after step settled = not_made new after settled
+    tried (next.Event point node) new after step settled = not_made new after settled
+    tried (next.Ended number) new after step settled = not_made new after settled
+    tried (next.Trap trap) new after step settled = not_made new after settled
+    tried (next.Limit limit) new after step settled = not_made new after settled
+
+    pub made_tried : (result : Next) (new : Held) (after : Store) → IsMadeFor program old → outcome_at program result (moment_at program new after) ≡ step_of (item_at program it) (here_at program view shown before) → IsSettled result shown before new after → AreFrames program new.frames →
+        IsMadeFor program new
+    made_tried next.Quiet new after made step settled frames = made_new new after step made frames settled
+    made_tried (next.Ask ask node) new after made step settled frames = subst (IsMadeFor program) (sym settled.0) (made_shown made are)
+    made_tried (next.Event point node) new after made step settled frames = subst (IsMadeFor program) (sym settled.0) (made_shown made are)
+    made_tried (next.Ended number) new after made step settled frames = subst (IsMadeFor program) (sym settled.0) (made_shown made are)
+    made_tried (next.Trap trap) new after made step settled frames = subst (IsMadeFor program) (sym settled.0) (made_shown made are)
+    made_tried (next.Limit limit) new after made step settled frames = subst (IsMadeFor program) (sym settled.0) (made_shown made are)

@@ -1,5 +1,5 @@
 -- What a frame comes to, when what the task goes past is left out.
-use Rattle.std.specs.Prelude.{◌≡◌, false, List, [], ◌∷◌, slice_get, Option, Some, None}
+use Rattle.std.specs.Prelude.{◌≡◌, Bool, true, false, List, [], ◌∷◌, drop, slice_get, Option, Some, None}
 use Rattle.c_syntax.specs.language.Numbered.{TreeView}
 use Rattle.c_model.specs.declared.view.View.{View}
 use Rattle.c_model.specs.Step.{is_passed_over, items_from_next}
@@ -11,6 +11,7 @@ use Rattle.c_steps.specs.declared.control.standing.Front.{Front}
 use Rattle.c_steps.specs.declared.control.standing.Front.TheVariants as front
 use Rattle.c_steps.specs.Items.{begun, item_at, todo_at}
 use Rattle.c_steps.specs.Ready.{AreFrames, IsItem}
+use Rattle.c_steps.specs.Rooms.{Stacked}
 
 abbrev pub Fronts : TreeView → View → Frame → Front → Type 0
 Fronts program view it (front.Found found) =
@@ -29,6 +30,15 @@ above (Some it) frames = it ∷ frames
 -- a frame whose item has begun is this one
 abbrev pub BeginsAs : Frame → Option Frame → Type 0
 BeginsAs it other = (frames : List Frame) → begun (it ∷ frames) ≡ above other frames
+
+-- an item has begun by a frame: the frame stays, as it is then, or nothing is left of it
+abbrev pub IsBegunFrame : Frame → Bool → Frame → Type 0
+IsBegunFrame old true new = BeginsAs old (Some new)
+IsBegunFrame old false new = (new ≡ old) × BeginsAs old None
+
+abbrev pub IsBegun : Stacked Frame → Bool → Stacked Frame → Type 0
+IsBegun old true new = new ≡ record old { frames = begun old.frames }
+IsBegun old false new = (new ≡ old) × (begun old.frames ≡ drop 1 old.frames)
 
 -- an item tells by itself that this comes next where it stands next, and no task goes past it
 abbrev pub ItemTells : TreeView → Item → Upcoming → Type 0

@@ -1,35 +1,16 @@
--- A silent step that is tried: it was made, or nothing was done.
-use Rattle.std.specs.Prelude.{◌≡◌, ◌+◌, ◌<◌, Bool, true, false, List, [], ◌∷◌, ℕ, zero, suc, Some, None, drop, Ok, ℤ}
-use Rattle.c_syntax.specs.declared.node.Setting.{Setting}
+-- Silent steps one after another.
+use Rattle.std.specs.Prelude.{◌≡◌, Bool, true, false, ℕ, zero, suc}
 use Rattle.c_syntax.specs.language.Numbered.{TreeView}
-use Rattle.c_syntax.specs.language.Tree.{Tree}
 use Rattle.c_model.specs.declared.view.View.{View}
 use Rattle.c_model.specs.declared.upcoming.Upcoming.TheVariants as upcoming
-use Rattle.c_model.specs.Cells.{cell_at}
-use Rattle.c_model.specs.Coming.{sets}
-use Rattle.c_model.specs.Statements.{new_number}
 use Rattle.c_model.specs.Step.{silent}
-use Rattle.c_model.specs.Task.{Here, Item as SeenItem, Outcome, Store}
+use Rattle.c_model.specs.Task.{Store}
 use Rattle.c_model.specs.Task.Outcome.{StepsTo}
 use Rattle.c_model.specs.Upcoming.{upcoming_of}
-use Rattle.c_model.specs.Value.{Scope, cell_of}
-use Rattle.c_steps.specs.declared.control.quick.Change.{Change}
-use Rattle.c_steps.specs.declared.frame.Frame.{Frame}
-use Rattle.c_steps.specs.declared.frame.Frame.TheVariants as frame
-use Rattle.c_steps.specs.declared.item.Item.{Item}
-use Rattle.c_steps.specs.declared.item.Item.TheVariants as item
 use Rattle.c_steps.specs.declared.next.Next.{Next}
 use Rattle.c_steps.specs.declared.next.Next.TheVariants as next
-use Rattle.c_steps.specs.declared.plain.Part.{Part}
-use Rattle.c_steps.specs.declared.plain.Part.TheVariants as part
-use Rattle.c_steps.specs.declared.plain.Plain.{Plain}
-use Rattle.c_steps.specs.declared.plain.Plain.TheVariants as plain
 use Rattle.c_steps.specs.Held.{Held, moment_at, task_at}
-use Rattle.c_steps.specs.Items.{begun}
-use Rattle.c_steps.specs.Looking.{IsInPlaceOf, ShowsItem}
-use Rattle.c_steps.specs.Ready.{AreFrames, IsAfterStep}
-use Rattle.c_steps.specs.Rooms.{Stacked}
-use Rattle.c_steps.specs.Standing.{BeginsAs}
+use Rattle.c_steps.specs.Ready.{IsAfterStep}
 
 -- nothing was done, but that another frame may say what stands next
 pub record IsUntouched (program : TreeView) (old : Held) (before : Store) (new : Held) (after : Store) : Type 0 where
@@ -56,69 +37,6 @@ HaveStepsMade program view zero old before new after = IsUntouched program old b
 HaveStepsMade program view (suc count) old before new after =
     (between : Held) × (middle : Store) × HaveStepsMade program view count old before between middle × IsStepMade program view between middle new after
 
--- what stands next by a plain item
-abbrev pub item_of : Plain → Item
-item_of (plain.Start node) = item.Start (Some node)
-item_of (plain.Declare node) = item.Declare node
-item_of (plain.Leave names) = item.Leave names
-item_of (plain.Test node names) = item.Test node names
-item_of (plain.Third node names) = item.Third node names
-item_of (plain.Return number) = item.Return number
-item_of plain.FallOff = item.FallOff
-
--- an item has begun by a frame: the frame stays, as it is then, or nothing is left of it
-abbrev pub IsBegunFrame : Frame → Bool → Frame → Type 0
-IsBegunFrame old true new = BeginsAs old (Some new)
-IsBegunFrame old false new = (new ≡ old) × BeginsAs old None
-
-abbrev pub IsBegun : Stacked Frame → Bool → Stacked Frame → Type 0
-IsBegun old true new = new ≡ record old { frames = begun old.frames }
-IsBegun old false new = (new ≡ old) × (begun old.frames ≡ drop 1 old.frames)
-
--- a frame of parts with the part past that stands next
-abbrev pub next_part : Frame → Frame
-next_part (frame.Parts block place at names) = frame.Parts block (place + 1) 0 names
-next_part other = other
-
-abbrev pub HasPart : Frame → Type 0
-HasPart (frame.Parts block place at names) = place < 4294967295
-HasPart other = ⊥
-
--- .. on top of others
-abbrev pub next_on_top : List Frame → List Frame
-next_on_top [] = []
-next_on_top (it ∷ frames) = next_part it ∷ frames
-
-abbrev pub HasPartOnTop : List Frame → Type 0
-HasPartOnTop [] = ⊥
-HasPartOnTop (it ∷ frames) = HasPart it
-
--- what the parts of a block say that are left, behind which so many names stay
-abbrev pub Shows : TreeView → Frame → ℕ → Part → Type 0
-Shows program it names (part.Next found) = ShowsItem program it (item_of found)
-Shows program it names part.Past = HasPart it × IsInPlaceOf program it (next_part it)
-Shows program it names part.Over = IsInPlaceOf program it (frame.One (item.Leave names))
-
--- a step was made that comes to this
-pub record ComesTo (program : TreeView) (outcome : Outcome) (old : Held) (new : Held) (after : Store) : Type 0 where
-  pub step : outcome ≡ StepsTo (moment_at program new after)
-  pub kept : IsAfterStep old new
-  pub frames : AreFrames program new.frames
-
--- .. or nothing was done
-abbrev pub IsAttempt : TreeView → Outcome → Bool → Held → Store → Held → Store → Type 0
-IsAttempt program outcome true old before new after = ComesTo program outcome old new after
-IsAttempt program outcome false old before new after = (new ≡ old) × (after ≡ before)
-
 abbrev pub is_quiet : Next → Bool
 is_quiet next.Quiet = true
 is_quiet other = false
-
--- a statement that makes no step but this change of a cell comes to this, whatever stands next behind it
-abbrev pub IsChange : (List SeenItem → Outcome) → Here → Change → Type 0
-IsChange outcome here change = (items : List SeenItem) → outcome items ≡ sets here change.cell change.number items
-
--- an assignment of a number makes this change
-pub record IsAssignment (scope : Scope) (which : Setting) (place : Tree) (right : ℤ) (change : Change) : Type 0 where
-  pub cell : cell_of scope place ≡ Ok change.cell
-  pub number : new_number which (cell_at scope.cells change.cell) (Ok right) ≡ Ok change.number

@@ -24,7 +24,6 @@ mod member;
 mod own_cells;
 mod passing;
 mod prints;
-mod quick;
 mod settling;
 mod standing;
 mod statement;
@@ -107,7 +106,7 @@ impl Control {
     }
 
     /// The item that stands next begins.
-    #[tactic(auto, using(crate::proofs::Showing::begun_calls))]
+    #[tactic(auto, using(crate::proofs::Frames::begun_calls))]
     #[inline(always)]
     fn begin(&mut self)
         requires { CanBegin self.old.frames }

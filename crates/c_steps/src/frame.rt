@@ -2,8 +2,7 @@
 
 ghost use Rattle.std.specs.Prelude.{◌≡◌, ◌∷◌, []};
 ghost use Rattle.c_steps.specs.Ready.{CanBegin};
-ghost use Rattle.c_steps.specs.Standing.{BeginsAs};
-ghost use Rattle.c_steps.specs.Trying.{HasPart, IsBegunFrame, next_part};
+ghost use Rattle.c_steps.specs.Standing.{BeginsAs, IsBegunFrame};
 
 use crate::item::Item;
 use crate::listed::ListedPlace;
@@ -101,17 +100,5 @@ impl Frame {
             Frame::Combining { .. } | Frame::Caller { .. } => {}
         }
         true
-    }
-
-    /// The part of the block is past that stands next.
-    #[inline(always)]
-    pub(crate) fn next_part(&mut self)
-        requires { HasPart self.old }
-        ensures { self.new ≡ next_part self.old }
-    {
-        if let Frame::Parts { place, at, .. } = self {
-            *place += 1;
-            *at = 0;
-        }
     }
 }

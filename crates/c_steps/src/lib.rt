@@ -45,7 +45,6 @@ mod names;
 mod next;
 mod numbers;
 mod parts;
-mod plain;
 mod printing;
 mod scope;
 mod slots;

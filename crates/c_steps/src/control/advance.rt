@@ -58,7 +58,7 @@ impl Control {
 
     /// The step of what stands next: one line for each item.
     #[inline(always)]
-    fn advance_item(&mut self, code: &Code, cells: &mut Cells, view: View, item: Item) -> Next
+    pub(super) fn advance_item(&mut self, code: &Code, cells: &mut Cells, view: View, item: Item) -> Next
         requires ready { IsStepping code.now self.old }
         requires item { IsItem code.now item }
         requires view { HasNumbers view }

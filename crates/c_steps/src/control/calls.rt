@@ -16,7 +16,6 @@ ghost use Rattle.c_steps.specs.Nodes.{IsPart, part_at};
 ghost use Rattle.c_steps.specs.Ready.{AreFrames, FitsProgram, IsSettled, IsStepping};
 ghost use Rattle.c_steps.specs.Rooming.{IsEntry};
 ghost use Rattle.c_steps.specs.Scopes.{HasNumbers};
-ghost use Rattle.c_steps.specs.Trying.{IsAttempt};
 ghost use Rattle.c_steps.specs.Widths.{step_names};
 
 use crate::cells::Cells;
@@ -216,29 +215,6 @@ impl Control {
         ensures frames { AreFrames code.now self.new.frames }
     {
         begun_call(self.start_call(code, cells, view, call, declared, to))
-    }
-
-    /// A call whose value goes there is tried, if it isn't that of `omp_test_lock`.
-    #[tactic(auto, using(crate::proofs::Trying::call_attempt))]
-    #[inline(always)]
-    pub(super) fn try_call(
-        &mut self,
-        code: &Code,
-        cells: &mut Cells,
-        view: View,
-        call: Option<u32>,
-        to: Target,
-    ) -> bool
-        requires ready { IsStepping code.now self.old }
-        requires call { IsPart code.now.trees call }
-        requires view { HasNumbers view }
-        requires step_names { self.old.step_names ≡ step_names code.now }
-        ensures { IsAttempt code.now (calls.begin_right (kind_of (part_at code.now.trees call)) (here_at code.now view self.old cells.old) (part_at code.now.trees call) (env_at code.now self.old) to) result self.old cells.old self.new cells.new }
-    {
-        match code.kind(call) {
-            NodeKind::TestLock => false,
-            _ => self.start_call(code, cells, view, call, None, to).is_ok(),
-        }
     }
 
     /// A call starts, unless an argument traps or a limit would be passed.

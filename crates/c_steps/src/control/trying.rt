@@ -1,37 +1,21 @@
-//! A silent step of C's own statements, made without a look at what else may stand next.
+//! Silent steps one after another.
 
-ghost use Rattle.std.specs.Prelude.{◌≡◌, ◌<◌, ◌≤◌, length, slice_get, slice_set, true, IfSome, Some};
-ghost use Rattle.c_syntax.specs.language.Tree.{kind_of};
-ghost use Rattle.c_syntax.specs.language.Numbered.{tree_at};
-ghost use Rattle.c_model.specs.Calls as calls;
-ghost use Rattle.c_model.specs.Statements as statements;
-ghost use Rattle.c_model.specs.Step.{begin_statement, step_of};
-ghost use Rattle.c_model.specs.Task.{is_declarator};
-ghost use Rattle.c_steps.specs.Held.{here_at, task_at};
-ghost use Rattle.c_steps.specs.Items.{item_at, with_file};
+ghost use Rattle.std.specs.Prelude.{◌≡◌, ◌<◌, ◌≤◌};
 ghost use Rattle.c_steps.specs.Made.{IsMadeFor};
-ghost use Rattle.c_steps.specs.Ready.{AreFrames, IsFront, IsItem, IsStepping};
 ghost use Rattle.c_steps.specs.Scopes.{HasNumbers};
-ghost use Rattle.c_steps.specs.Rooming.{open_calls};
-ghost use Rattle.c_steps.specs.Trying.{HasPartOnTop, HaveStepsMade, IsAttempt, IsTried, item_of, next_on_top};
-ghost use Rattle.c_steps.specs.declared.frame.Frame.TheVariants.{One, Parts};
-ghost use Rattle.c_steps.specs.declared.item.Item.TheVariants.{Leave};
-ghost use Rattle.c_steps.specs.Widths.{step_names};
+ghost use Rattle.c_steps.specs.Trying.{HaveStepsMade, IsTried};
 
 use crate::cells::Cells;
 use crate::code::Code;
 use crate::control::Control;
-use crate::frame::Frame;
-use crate::item::Item;
+use crate::control::giving::MEMBER_0;
+use crate::control::upcoming::upcoming_item;
 use crate::next::is_quiet;
-use crate::plain::{Part, Plain, plain_item, shown_part};
-use c_model::{Target, View};
-use c_syntax::NodeKind;
+use c_model::{Upcoming, View};
 
-// What makes a large value, as an item or a `Next`, is never inlined here: a function pays at entry for all that it may make.
 impl Control {
-    /// Makes silent steps of C's own statements one after another, at most so many, and answers how many it made. `advance` tells what stands
-    /// next then. It takes no memory.
+    /// Makes silent steps one after another, at most so many, and answers how many it made. It stops where a trap, a limit, a question, an event
+    /// or the end stands next, which `advance` tells. It takes no memory.
     #[inline(never)]
     #[tactic(auto, using(crate::proofs::Repeated::none_made, crate::proofs::Repeated::made_then_not, crate::proofs::Repeated::made_one_more))]
     pub fn try_steps(&mut self, code: &Code, cells: &mut Cells, view: View, most: u32) -> u32
@@ -50,7 +34,7 @@ impl Control {
         most
     }
 
-    /// May make the silent step that stands next, where it is one of C's own statements. Otherwise nothing is done.
+    /// Makes the silent step that stands next, if one does and has no trap. Otherwise nothing is done.
     #[inline(always)]
     fn try_step(&mut self, code: &Code, cells: &mut Cells, view: View) -> bool
         requires made { IsMadeFor code.now self.old }
@@ -59,238 +43,15 @@ impl Control {
         ensures tried { IsTried code.now view result self.old cells.old self.new cells.new }
         ensures made { IsMadeFor code.now self.new }
     {
-        match self.plain_front(code) {
-            Some(plain) => self.try_plain(code, cells, view, plain),
-            None => false,
-        }
-    }
-
-    /// What stands next, where it is plain. Then it stands first. Where nothing is left of a part of a block, the next one stands there.
-    #[inline(always)]
-    fn plain_front(&mut self, code: &Code) -> Option<Plain>
-        requires { AreFrames code.now self.old.frames }
-        ensures frames { AreFrames code.now self.new.frames }
-        ensures rest { self.new ≡ record self.old { frames = self.new.frames } }
-        ensures task { task_at code.now self.new ≡ task_at code.now self.old }
-        ensures found { IfSome result (λ plain. IsFront code.now self.new.frames (item_of plain)) }
-    {
-        match self.stack.top() {
-            Some(Frame::One(item)) => plain_item(item),
-            Some(
-                Frame::Parts {
-                    block,
-                    place,
-                    at,
-                    names,
-                },
-            ) => {
-                let (block, place, names) = (*block, *place, *names);
-                match shown_part(code, block, place, *at) {
-                    Part::Next(plain) => Some(plain),
-                    Part::Past => {
-                        self.go_to_next_part();
-                        self.shown_first(code, block, place + 1, names)
-                    }
-                    Part::Over => {
-                        self.end_parts(names);
-                        Some(Plain::Leave(names))
-                    }
-                }
+        let Some(item) = self.settle(code, MEMBER_0) else {
+            return false;
+        };
+        match upcoming_item(code, item) {
+            Upcoming::Step => {
+                let next = self.advance_item(code, cells, view, item);
+                is_quiet(next)
             }
-            _ => None,
-        }
-    }
-
-    /// The same, where the parts of a block are on top from a place on.
-    #[inline(always)]
-    fn shown_first(&mut self, code: &Code, block: u32, place: u32, names: usize) -> Option<Plain>
-        requires frames { AreFrames code.now self.old.frames }
-        requires top { Some (Parts block place 0 names) ≡ slice_get self.old.frames 0 }
-        ensures frames { AreFrames code.now self.new.frames }
-        ensures rest { self.new ≡ record self.old { frames = self.new.frames } }
-        ensures task { task_at code.now self.new ≡ task_at code.now self.old }
-        ensures found { IfSome result (λ plain. IsFront code.now self.new.frames (item_of plain)) }
-    {
-        match shown_part(code, block, place, 0) {
-            Part::Next(plain) => Some(plain),
-            Part::Past => None,
-            Part::Over => {
-                self.end_parts(names);
-                Some(Plain::Leave(names))
-            }
-        }
-    }
-
-    /// The part of a block is past that stands next.
-    #[tactic(auto, using(crate::proofs::Showing::next_calls))]
-    #[inline(always)]
-    fn go_to_next_part(&mut self)
-        requires { HasPartOnTop self.old.frames }
-        ensures { self.new ≡ record self.old { frames = next_on_top self.old.frames } }
-    {
-        self.stack.next_part();
-    }
-
-    /// The end of a block stands next, in place of its parts.
-    #[inline(always)]
-    fn end_parts(&mut self, names: usize)
-        requires { open_calls (slice_set self.old.frames 0 (One (Leave names))) ≡ open_calls self.old.frames }
-        ensures { self.new ≡ record self.old { frames = slice_set self.old.frames 0 (One (Leave names)) } }
-    {
-        self.replace_top(Frame::One(Item::Leave(names)));
-    }
-
-    /// The step of what stands next.
-    #[inline(always)]
-    fn try_plain(&mut self, code: &Code, cells: &mut Cells, view: View, plain: Plain) -> bool
-        requires ready { IsStepping code.now self.old }
-        requires item { IsItem code.now (item_of plain) }
-        requires view { HasNumbers view }
-        requires step_names { self.old.step_names ≡ step_names code.now }
-        ensures { IsAttempt code.now (step_of (item_at code.now (item_of plain)) (here_at code.now view self.old cells.old)) result self.old cells.old self.new cells.new }
-    {
-        match plain {
-            Plain::Start(node) => self.try_statement(code, cells, view, node),
-            Plain::Declare(node) => self.try_declare(code, cells, view, node),
-            Plain::Leave(names) => self.try_leave(code, cells, view, names),
-            Plain::Test { node, names } => self.try_test(code, cells, view, node, names),
-            Plain::Third { node, names } => self.try_third(code, cells, view, node, names),
-            Plain::Return(number) => self.try_returns(code, cells, view, number),
-            Plain::FallOff => self.try_returns(code, cells, view, 0),
-        }
-    }
-
-    /// The step of a statement: one line for each form of C's own.
-    #[inline(always)]
-    fn try_statement(&mut self, code: &Code, cells: &mut Cells, view: View, node: u32) -> bool
-        requires ready { IsStepping code.now self.old }
-        requires node { node < length code.now.trees }
-        requires view { HasNumbers view }
-        requires step_names { self.old.step_names ≡ step_names code.now }
-        ensures { IsAttempt code.now (begin_statement (kind_of (tree_at code.now.trees node)) (here_at code.now view self.old cells.old) (tree_at code.now.trees node)) result self.old cells.old self.new cells.new }
-    {
-        match code.kind(Some(node)) {
-            NodeKind::Block => self.try_block(code, cells, view, node),
-            NodeKind::If => self.try_if(code, cells, view, node),
-            NodeKind::While => self.try_while(code, cells, view, node),
-            NodeKind::For => self.try_for(code, cells, view, node),
-            NodeKind::Return => self.try_return(code, cells, view, node),
-            NodeKind::SetCall => self.try_set_call(code, cells, view, node),
-            NodeKind::Step => self.try_change(code, cells, view, node),
-            NodeKind::Called => self.try_called(code, cells, view, node),
-            NodeKind::Empty => self.try_empty(code, cells, view),
             _ => false,
         }
-    }
-
-    /// A block is entered.
-    #[tactic(auto, using(crate::proofs::Trying::attempt_of))]
-    #[inline(always)]
-    fn try_block(&mut self, code: &Code, cells: &mut Cells, view: View, node: u32) -> bool
-        requires ready { IsStepping code.now self.old }
-        requires node { node < length code.now.trees }
-        ensures { IsAttempt code.now (statements.begin_block (here_at code.now view self.old cells.old) (tree_at code.now.trees node)) result self.old cells.old self.new cells.new }
-    {
-        let next = self.begin_block(code, cells, view, node);
-        is_quiet(next)
-    }
-
-    /// A plain `for` begins.
-    #[tactic(auto, using(crate::proofs::Trying::attempt_of))]
-    #[inline(never)]
-    fn try_for(&mut self, code: &Code, cells: &mut Cells, view: View, node: u32) -> bool
-        requires ready { IsStepping code.now self.old }
-        requires node { node < length code.now.trees }
-        requires view { HasNumbers view }
-        requires step_names { self.old.step_names ≡ step_names code.now }
-        ensures { IsAttempt code.now (statements.begin_for (here_at code.now view self.old cells.old) (tree_at code.now.trees node)) result self.old cells.old self.new cells.new }
-    {
-        let next = self.begin_for(code, cells, view, node);
-        is_quiet(next)
-    }
-
-    /// An assignment of a call: first the cell, and then the call.
-    #[inline(always)]
-    fn try_set_call(&mut self, code: &Code, cells: &mut Cells, view: View, node: u32) -> bool
-        requires ready { IsStepping code.now self.old }
-        requires node { node < length code.now.trees }
-        requires view { HasNumbers view }
-        requires step_names { self.old.step_names ≡ step_names code.now }
-        ensures { IsAttempt code.now (calls.begin_set_call (here_at code.now view self.old cells.old) (tree_at code.now.trees node)) result self.old cells.old self.new cells.new }
-    {
-        match self.place_cell(code, cells, view, code.child(Some(node), 0)) {
-            Ok(cell) => {
-                let call = code.child(Some(node), 1);
-                self.try_call(code, cells, view, call, Target::Cell(cell as u32))
-            }
-            Err(_) => false,
-        }
-    }
-
-    /// A call that is a statement.
-    #[inline(always)]
-    fn try_called(&mut self, code: &Code, cells: &mut Cells, view: View, node: u32) -> bool
-        requires ready { IsStepping code.now self.old }
-        requires node { node < length code.now.trees }
-        requires view { HasNumbers view }
-        requires step_names { self.old.step_names ≡ step_names code.now }
-        ensures { IsAttempt code.now (calls.begin_called (here_at code.now view self.old cells.old) (tree_at code.now.trees node)) result self.old cells.old self.new cells.new }
-    {
-        let call = code.child(Some(node), 0);
-        self.try_call(code, cells, view, call, Target::Nowhere)
-    }
-
-    /// A statement that does nothing.
-    #[tactic(auto, using(crate::proofs::Trying::attempt_of))]
-    #[inline(never)]
-    fn try_empty(&mut self, code: &Code, cells: &mut Cells, view: View) -> bool
-        requires ready { IsStepping code.now self.old }
-        ensures { IsAttempt code.now (statements.begin_empty (here_at code.now view self.old cells.old)) result self.old cells.old self.new cells.new }
-    {
-        let next = self.begin_empty(code, cells, view);
-        is_quiet(next)
-    }
-
-    /// A declarator of a block.
-    #[tactic(auto, using(crate::proofs::Trying::attempt_of))]
-    #[inline(always)]
-    fn try_declare(&mut self, code: &Code, cells: &mut Cells, view: View, node: u32) -> bool
-        requires ready { IsStepping code.now self.old }
-        requires node { node < length code.now.trees }
-        requires declarator { is_declarator (kind_of (tree_at code.now.trees node)) ≡ true }
-        requires view { HasNumbers view }
-        requires step_names { self.old.step_names ≡ step_names code.now }
-        ensures { IsAttempt code.now (statements.declares (kind_of (tree_at code.now.trees node)) (here_at code.now view self.old cells.old) (tree_at code.now.trees node)) result self.old cells.old self.new cells.new }
-    {
-        let next = self.declare(code, cells, view, node);
-        is_quiet(next)
-    }
-
-    /// A block ends, and so many names stay in scope.
-    #[tactic(auto, using(crate::proofs::Trying::attempt_of))]
-    #[inline(always)]
-    fn try_leave(&mut self, code: &Code, cells: &mut Cells, view: View, names: usize) -> bool
-        requires ready { IsStepping code.now self.old }
-        ensures { IsAttempt code.now (statements.leave_block (here_at code.now view self.old cells.old) (with_file code.now names)) result self.old cells.old self.new cells.new }
-    {
-        let next = self.leave_block(code, cells, view, names);
-        is_quiet(next)
-    }
-
-    /// A function returns this number.
-    #[tactic(auto, using(crate::proofs::Trying::attempt_of))]
-    #[inline(always)]
-    pub(super) fn try_returns(
-        &mut self,
-        code: &Code,
-        cells: &mut Cells,
-        view: View,
-        number: i32,
-    ) -> bool
-        requires ready { IsStepping code.now self.old }
-        ensures { IsAttempt code.now (calls.returns (here_at code.now view self.old cells.old) number) result self.old cells.old self.new cells.new }
-    {
-        let next = self.returns(code, cells, view, number);
-        is_quiet(next)
     }
 }

@@ -59,7 +59,7 @@ fn item_tells(item: &Item) -> Option<Upcoming>
 
 /// What comes next where this item stands next.
 #[inline(always)]
-fn upcoming_item(code: &Code, item: Item) -> Upcoming
+pub(super) fn upcoming_item(code: &Code, item: Item) -> Upcoming
     requires { IsItem code.now item }
     ensures { result ≡ upcoming_item (item_at code.now item) }
 {
