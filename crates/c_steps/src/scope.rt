@@ -207,11 +207,17 @@ impl<'a> Scope<'a> {
     {
         match self.tree.child(node, 0) {
             None => self.joined(operator, node, Ok(0)),
-            Some(left) => {
-                let chain = chain_from(self.tree, left);
-                let lowest = self.node_value(chain.lowest);
-                self.chain_value(node, chain.levels + 1, lowest)
-            }
+            Some(left) => match self.tree.kind(left) {
+                NodeKind::Binary(_) => {
+                    let chain = chain_from(self.tree, left);
+                    let lowest = self.node_value(chain.lowest);
+                    self.chain_value(node, chain.levels + 1, lowest)
+                }
+                _ => {
+                    let left = self.node_value(left);
+                    self.joined(operator, node, left)
+                }
+            },
         }
     }
 
