@@ -35,8 +35,8 @@ use Rattle.c_model.specs.Coming.{scope_of, value_here}
 use Rattle.c_model.specs.Statements.{begin_local_set, declares, makes_first_step, makes_step, new_number, test_value}
 use Rattle.c_model.specs.Constructs.{reduction_result, value_or}
 use Rattle.c_model.specs.Step.{begin_construct, begin_inside, begin_standalone, begin_statement, items_from_next, silent, step_at, step_of}
-use Rattle.c_model.specs.Known.{IsKnown, IsKnownResult, IsLimit}
-use Rattle.c_model.proofs.KnownValues.{known-all, known-both, known-cell-of, known-choice, known-err, known-ok, known-value, overflow}
+use Rattle.c_model.specs.Known.{IsKnown, IsLimit}
+use Rattle.c_model.proofs.KnownValues.{IsKnownResult, known-all, known-both, known-cell-of, known-choice, known-err, known-ok, known-value, overflow}
 
 known-step : (next : Moment) → IsKnown (StepsTo next)
 unfolding IsKnown

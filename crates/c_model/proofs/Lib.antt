@@ -1,3 +1,4 @@
+pub mod Fitting
 pub mod Watching
 pub mod Values
 pub mod Examples

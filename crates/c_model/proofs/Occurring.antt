@@ -33,7 +33,7 @@ use Rattle.c_model.specs.Task.{Here, Item, Moment, Outcome}
 use Rattle.c_model.specs.Task.Item.{Start, Initialise, Forked, Inside, EndWork, EndMasked, Sync, Acquire, Release}
 use Rattle.c_model.specs.Task.Outcome.{StepsTo, Asks, Occurs, Ends, Traps, Limits}
 use Rattle.c_model.specs.Step.{begin_construct, begin_inside, begin_standalone, begin_statement, items_from_next, settled_task, silent, step_at, step_of}
-use Rattle.c_model.specs.Standing.{Fits}
+use Rattle.c_model.proofs.Fitting.{Fits}
 use Rattle.c_model.specs.Occurring.{IsFirstStage, IsOfItem, IsOfNext, IsOfTest, IsTreeOf, IsTreeOfNext}
 use Rattle.c_model.proofs.Standing.{fits-call, fits-item, fits-return, fits-statement}
 

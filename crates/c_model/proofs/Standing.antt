@@ -26,7 +26,8 @@ use Rattle.c_model.specs.Task.{Here, Item, Moment, OpenCall, Outcome}
 use Rattle.c_model.specs.Task.Item.{Start, Declare, Leave, Test, Third, Initialise, Return, FallOff, Forked, Inside, MakeCells, NextChunk, Iterations, NextSection, Combine, EndWork, EndMasked, Sync, Acquire, Release, TestLock, Tested}
 use Rattle.c_model.specs.Task.Outcome.{StepsTo, Asks, Occurs, Ends, Traps, Limits}
 use Rattle.c_model.specs.Step.{begin_standalone, begin_statement, begin_construct, begin_inside, is_event, is_event_statement, is_inside_event, is_test, items_from_next, silent, stands, step_at, step_of, stands_at}
-use Rattle.c_model.specs.Standing.{FitsTask, Fits}
+use Rattle.c_model.specs.Standing.{FitsTask}
+use Rattle.c_model.proofs.Fitting.{Fits}
 
 -- outcomes by their kind
 fits-step : (next : Moment) → Fits (StepsTo next) false

@@ -7,7 +7,7 @@ use Rattle.c_model.specs.Cells.{Bound, with_cells}
 use Rattle.c_model.specs.Coming.{binds, bound_of, goes_on, goes_on_with, sets, with_result}
 use Rattle.c_model.specs.Task.{Here, Item, Moment, Outcome}
 use Rattle.c_model.specs.Task.Outcome.{StepsTo, Asks, Occurs, Ends, Traps, Limits}
-use Rattle.c_model.specs.Standing.{Fits}
+use Rattle.c_model.proofs.Fitting.{Fits}
 use Rattle.c_model.specs.Width.{IsCallWithin, IsWithin, most_behind, most_names, width}
 use Rattle.c_model.proofs.WidthCells.{one_more}
 

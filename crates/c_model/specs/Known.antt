@@ -1,5 +1,5 @@
 -- The traps and limits that a task's code can come to.
-use Rattle.std.specs.Prelude.{ℕ, ◌≤◌, ◌≡◌, ◌⊎◌, Result, Ok, Err}
+use Rattle.std.specs.Prelude.{ℕ, ◌≤◌, ◌≡◌, ◌⊎◌}
 use Rattle.c_model.specs.declared.limits.TheConstants.{CALLS, CELLS, TEXT}
 use Rattle.c_model.specs.declared.traps.TheConstants.{INDEX, OVERFLOW}
 use Rattle.c_model.specs.Task.{Outcome}
@@ -17,7 +17,3 @@ unfoldable pub IsKnown : Outcome → Type 0
 IsKnown (Traps trap) = IsTrap trap
 IsKnown (Limits limit) = IsLimit limit
 IsKnown other = Unit {0}
-
-unfoldable pub IsKnownResult : {A : Type 0} → Result A ℕ → Type 0
-IsKnownResult (Ok result) = Unit {0}
-IsKnownResult (Err trap) = IsTrap trap

@@ -26,7 +26,7 @@ use Rattle.c_model.specs.Constructs.{begin_loop, begin_parallel, begin_task, val
 use Rattle.c_model.specs.Copies.{with_task_cells}
 use Rattle.c_model.specs.Loops.{loop_of}
 use Rattle.c_model.specs.Program.{place_of}
-use Rattle.c_model.specs.Standing.{Fits}
+use Rattle.c_model.proofs.Fitting.{Fits}
 use Rattle.c_model.specs.Step.{begin_construct, begin_inside, begin_standalone, begin_statement, items_from_next, silent, step_at, step_of}
 use Rattle.c_model.specs.Task.{Here, Item, Moment, Outcome, Store, Task}
 use Rattle.c_model.specs.Task.Item.{Start, Initialise, Forked, Inside, EndWork, EndMasked, Sync, Acquire, Release}

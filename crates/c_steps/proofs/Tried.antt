@@ -6,7 +6,7 @@ use Rattle.c_syntax.specs.language.Tree.{Tree, kind_of}
 use Rattle.c_syntax.specs.language.Numbered.{TreeView}
 use Rattle.c_model.specs.declared.upcoming.Upcoming.TheVariants as upcoming
 use Rattle.c_model.specs.declared.view.View.{View}
-use Rattle.c_model.specs.Standing.{Fits}
+use Rattle.c_model.proofs.Fitting.{Fits}
 use Rattle.c_model.specs.Step.{is_event, is_event_statement, is_masked, is_passed_over, settled_task, silent, step_of}
 use Rattle.c_model.specs.Task.{Here, Item as SeenItem, Moment, Outcome, Store, Task}
 use Rattle.c_model.specs.Task.Item.{Start}

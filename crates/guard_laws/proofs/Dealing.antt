@@ -13,7 +13,7 @@ use Rattle.team_parts.specs.Chunks.{block_of, chunk_after, chunk_at, chunk_in, c
 use Rattle.team_parts.specs.Meetings.{HasChunkOf, TeamMeeting}
 use Rattle.team_parts.specs.Team.{TeamView, last_meeting, last_number, next_chunk, next_section, no_meeting}
 use Rattle.team_parts.proofs.Counted.{dynamic-least, guided-least}
-use Rattle.omp_model.specs.Alike.{what_met}
+use Rattle.omp_model.proofs.Alike.{what_met}
 use Rattle.omp_model.specs.Silent.{fits_loop, fitting_chunk, fitting_section}
 use Rattle.guard_laws.proofs.LastMeetings.{MetLoop, MetSections, last_met}
 

@@ -17,7 +17,7 @@ use Rattle.omp_model.specs.Legal.{Legal, after}
 use Rattle.omp_model.specs.Made.{IsForkedRegion}
 use Rattle.omp_model.specs.Members.{current, member_index}
 use Rattle.omp_model.specs.State.{Run, State, Thread, region_at, task_at, thread_at}
-use Rattle.omp_model.specs.Touching.{joined_by}
+use Rattle.omp_model.proofs.Touching.{joined_by}
 use Rattle.omp_model.specs.Turn.{Turn, enabled, turn}
 use Rattle.nested_runs.proofs.Known.{HasForked, HoldsRegion}
 use Rattle.nested_runs.proofs.Knows.{IsWholeRun}

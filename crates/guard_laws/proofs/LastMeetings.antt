@@ -15,7 +15,7 @@ use Rattle.team_parts.specs.declared.member.Member.{Member}
 use Rattle.team_parts.specs.Meetings.{HasChunkOf, TeamMeeting, is_same}
 use Rattle.team_parts.specs.Team.{TeamView, after_meeting, answer_to_meet, fresh_meeting, last_number, meeting_answer, member_at, new_member, with_begun, with_meeting, with_member, with_passed, with_place}
 use Rattle.team_parts.proofs.Same.{equal-meeting}
-use Rattle.omp_model.specs.Alike.{what_met}
+use Rattle.omp_model.proofs.Alike.{what_met}
 use Rattle.omp_model.proofs.Reading.{read-same}
 use Rattle.nested_runs.proofs.TeamsMet.{met-length}
 

@@ -18,7 +18,7 @@ use Rattle.omp_model.specs.declared.event.Event.TheVariants.{MemberBegin}
 use Rattle.omp_model.specs.declared.event.Halt.{Halt}
 use Rattle.omp_model.specs.declared.event.Outcome.TheVariants.{Happens}
 use Rattle.omp_model.specs.declared.history.Entry.{Entry}
-use Rattle.omp_model.specs.Alike.{QuietWorld}
+use Rattle.omp_model.proofs.Alike.{QuietWorld}
 use Rattle.omp_model.specs.Changes.{started, taken_up, task_made}
 use Rattle.omp_model.specs.Going.{Going, after_member, effect_of, event_of_point, fault_of, fault_of_point, going_by, going_in_code, has_forked, member_code, past_point, effect_of_point, told, unless}
 use Rattle.omp_model.specs.Going.{Halts, Nothing}

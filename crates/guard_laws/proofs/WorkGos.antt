@@ -22,7 +22,7 @@ use Rattle.omp_model.specs.Conditions.{has_started}
 use Rattle.omp_model.specs.Gates.{is_barrier}
 use Rattle.omp_model.specs.Going.{barrier_met}
 use Rattle.omp_model.specs.Made.{IsTask}
-use Rattle.omp_model.specs.Touching.{AtBarrierElse, Meets, SameTeam, is_of_code}
+use Rattle.omp_model.proofs.Touching.{AtBarrierElse, Meets, SameTeam, is_of_code}
 use Rattle.omp_model.proofs.MadeEvents.{current-below}
 use Rattle.nested_runs.proofs.Effects.{effect_of_event, opens_after}
 use Rattle.nested_runs.proofs.Known.{task_of_member}

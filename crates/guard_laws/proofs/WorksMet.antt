@@ -12,12 +12,12 @@ use Rattle.team_parts.specs.Team.{TeamView, member_at, new_member, with_begun}
 use Rattle.omp_model.specs.declared.limits.TheConstants.{IMPLICIT_REGION}
 use Rattle.omp_model.specs.declared.event.Event.{Event}
 use Rattle.omp_model.specs.declared.event.Event.TheVariants.{Sync}
-use Rattle.omp_model.specs.Alike.{AlikeWorld}
+use Rattle.omp_model.proofs.Alike.{AlikeWorld}
 use Rattle.omp_model.specs.Gates.{is_barrier}
 use Rattle.omp_model.specs.Made.{IsTask}
 use Rattle.omp_model.specs.Members.{current_index, current_region, is_explicit_task, member_index, region_of}
 use Rattle.omp_model.specs.State.{Run, World, first_world, fresh_team, pooled_at, region_at, task_at}
-use Rattle.omp_model.specs.Touching.{Returns, team_back}
+use Rattle.omp_model.proofs.Touching.{Returns, team_back}
 use Rattle.nested_runs.proofs.Shown.{opens_at}
 use Rattle.nested_runs.proofs.Touching.{Alike}
 use Rattle.nested_runs.proofs.Codes.{main-open}

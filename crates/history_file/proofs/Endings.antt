@@ -8,7 +8,7 @@ use Rattle.omp_model.specs.declared.event.Halt.TheVariants.{Limit, Trap}
 use Rattle.omp_model.specs.State.{Run, State}
 use Rattle.omp_model.specs.Cause.{cause_by_halt, cause_of_halt, cause_of_value, cause_of_whole, is_stuck, whole_value}
 use Rattle.trace_format.specs.Validity.{IsDetail}
-use Rattle.run_trace.specs.Sensible.{IsKnownHalt}
+use Rattle.run_trace.proofs.Sensible.{IsKnownHalt}
 use Rattle.run_trace.specs.TraceOf.{FitsCause, detail_of, status_of}
 
 -- what is told of the end in this cause

@@ -28,8 +28,8 @@ use Rattle.omp_model.specs.declared.event.Share.{Share}
 use Rattle.omp_model.specs.declared.event.Share.TheVariants.{Chunk, Section}
 use Rattle.omp_model.specs.State.{Run, Task, Thread, World, no_task, pooled_at, region_at, task_at, thread_at, unmade}
 use Rattle.omp_model.specs.Members.{code_of, current, current_region, moment_of, view_of}
-use Rattle.omp_model.specs.Arrivals.{IsInTask}
-use Rattle.omp_model.specs.Alike.{AlikeWorld}
+use Rattle.omp_model.proofs.Arrivals.{IsInTask}
+use Rattle.omp_model.proofs.Alike.{AlikeWorld}
 use Rattle.omp_model.specs.Changes.{gone_past, gone_to, sharing}
 use Rattle.omp_model.specs.Conditions.{AreOrderly}
 use Rattle.omp_model.specs.Gates.{arrival}

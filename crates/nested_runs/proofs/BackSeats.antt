@@ -21,7 +21,7 @@ use Rattle.omp_model.specs.Changes.{made, summoned}
 use Rattle.omp_model.specs.Members.{current, current_region, is_outermost, member_index, region_of}
 use Rattle.omp_model.specs.Conditions.{IsUnderWay}
 use Rattle.omp_model.specs.Made.{IsRegion, IsTaskOf}
-use Rattle.omp_model.specs.Touching.{Returns, forked_back, head_back, is_summoned, pooled_back, thread_back}
+use Rattle.omp_model.proofs.Touching.{Returns, forked_back, head_back, is_summoned, pooled_back, thread_back}
 use Rattle.omp_model.proofs.MadeEvents.{current-below}
 use Rattle.nested_runs.proofs.Recorded.{Inside}
 use Rattle.nested_runs.proofs.Standing.{stand_among, stand_at}

@@ -13,7 +13,7 @@ use Rattle.omp_model.specs.declared.event.Event.TheVariants.{MutexAcquire, Paral
 use Rattle.omp_model.specs.State.{Run, Thread, World, first, region_at}
 use Rattle.omp_model.specs.Gates.{is_barrier}
 use Rattle.omp_model.specs.Members.{current, current_index, current_region, is_explicit_task}
-use Rattle.omp_model.specs.Touching.{is_of_code}
+use Rattle.omp_model.proofs.Touching.{is_of_code}
 use Rattle.trace_check.specs.Before.{joins, waits_of}
 use Rattle.nested_runs.proofs.Effects.{stand_after}
 use Rattle.nested_runs.proofs.Known.{AtBarrier, HasNotMet, HaveBegun, IsWaiting, TellsMember, owed, task_of_member}

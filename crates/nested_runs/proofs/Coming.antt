@@ -16,7 +16,7 @@ use Rattle.omp_model.specs.declared.event.Event.TheVariants.{Dispatch, InitialTa
 use Rattle.omp_model.specs.State.{World, pooled_at, task_at, thread_at}
 use Rattle.omp_model.specs.Members.{current, current_region, is_explicit_task, region_of}
 use Rattle.omp_model.specs.Gates.{all_left, has_no_tasks, is_barrier, may_end, workers_over}
-use Rattle.omp_model.specs.Arrivals.{ComesToDispatch, ComesToThreadEnd, IsInTask, IsQuiet}
+use Rattle.omp_model.proofs.Arrivals.{ComesToDispatch, ComesToThreadEnd, IsInTask, IsQuiet}
 use Rattle.nested_runs.proofs.Shown.{opens_at}
 use Rattle.nested_runs.proofs.Standing.{is_behind, stand_at}
 use Rattle.nested_runs.proofs.Standing.Stand.{Free, AtFork, AtMutex}

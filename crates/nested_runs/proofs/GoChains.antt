@@ -16,7 +16,7 @@ use Rattle.omp_model.specs.State.{Run, Thread, World, pooled_at, region_at, task
 use Rattle.omp_model.specs.Members.{current, current_region, is_explicit_task, is_outermost, region_of}
 use Rattle.omp_model.specs.Conditions.{IsToStart}
 use Rattle.omp_model.specs.Made.{IsRegion, IsTaskOf}
-use Rattle.omp_model.specs.Touching.{come_to, forked_after, is_of_code, thread_after}
+use Rattle.omp_model.proofs.Touching.{come_to, forked_after, is_of_code, thread_after}
 use Rattle.omp_model.proofs.MadeEvents.{current-below}
 use Rattle.nested_runs.proofs.Recorded.{Inside}
 use Rattle.nested_runs.proofs.Standing.{Stand, stand_at}

@@ -14,8 +14,8 @@ use Rattle.omp_model.specs.Gates.{all_left}
 use Rattle.omp_model.specs.Members.{current, current_region, member_index, region_of}
 use Rattle.omp_model.specs.Going.{kind_of_task}
 use Rattle.omp_model.specs.Made.{IsMadeWorld}
-use Rattle.omp_model.specs.Arrivals.{IsQuiet}
-use Rattle.omp_model.specs.Touching.{thread_after}
+use Rattle.omp_model.proofs.Arrivals.{IsQuiet}
+use Rattle.omp_model.proofs.Touching.{thread_after}
 use Rattle.omp_model.proofs.MadeEvents.{current-below}
 use Rattle.nested_runs.proofs.Recorded.{Inside}
 use Rattle.nested_runs.proofs.Standing.{Stand, stand_at}

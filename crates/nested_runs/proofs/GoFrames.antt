@@ -13,7 +13,7 @@ use Rattle.omp_model.specs.State.{Thread, World, pooled_at, region_at, task_at, 
 use Rattle.omp_model.specs.Members.{current}
 use Rattle.omp_model.specs.Conditions.{AreOrderly, IsUnderWay}
 use Rattle.omp_model.specs.Made.{IsMadeWorld, IsTaskOf}
-use Rattle.omp_model.specs.Touching.{come_to, head_after, is_of_code, owner_after, pooled_after, regions_after, tasks_after, thread_after}
+use Rattle.omp_model.proofs.Touching.{come_to, head_after, is_of_code, owner_after, pooled_after, regions_after, tasks_after, thread_after}
 use Rattle.nested_runs.proofs.Coming.{Comes, ComesToTask}
 use Rattle.nested_runs.proofs.Shown.{opens_at}
 use Rattle.nested_runs.proofs.Standing.{stand_at}

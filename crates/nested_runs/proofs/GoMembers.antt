@@ -20,7 +20,7 @@ use Rattle.omp_model.specs.Conditions.{has_started}
 use Rattle.omp_model.specs.Gates.{all_left}
 use Rattle.omp_model.specs.Made.{IsTask}
 use Rattle.omp_model.specs.Members.{member_index}
-use Rattle.omp_model.specs.Touching.{come_to, head_after, owner_after, regions_after, tasks_after}
+use Rattle.omp_model.proofs.Touching.{come_to, head_after, owner_after, regions_after, tasks_after}
 use Rattle.trace_check.specs.Before.{Join, has_begun_region, has_ended_region, is_just, joins_of}
 use Rattle.nested_runs.proofs.Known.{HasGone, IsJoin, IsMemberTask, TellsRegion, has_left_region, is_some_task, task_of_member}
 use Rattle.nested_runs.proofs.Knows.{Goes}

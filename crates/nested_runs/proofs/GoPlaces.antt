@@ -12,7 +12,7 @@ use Rattle.omp_model.specs.State.{Run, Thread, World, pooled_at, task_at, thread
 use Rattle.omp_model.specs.Going.{kind_of_task}
 use Rattle.omp_model.specs.Made.{IsTask}
 use Rattle.omp_model.specs.Members.{current, current_region, is_outermost, member_index, region_of}
-use Rattle.omp_model.specs.Touching.{tasks_after, thread_after}
+use Rattle.omp_model.proofs.Touching.{tasks_after, thread_after}
 use Rattle.nested_runs.proofs.Known.{HasGone, IsBusy, IsInvited, IsLeaving, IsSeated, task_of_member}
 use Rattle.nested_runs.proofs.Knows.{Goes, Knows}
 use Rattle.nested_runs.proofs.Recorded.{Inside, recorded}

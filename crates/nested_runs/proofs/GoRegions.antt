@@ -13,7 +13,7 @@ use Rattle.omp_model.specs.Members.{current, current_region, is_outermost, regio
 use Rattle.omp_model.specs.Conditions.{AreOrderly, IsUnderWay}
 use Rattle.omp_model.specs.Going.{team_size}
 use Rattle.omp_model.specs.Made.{IsMadeWorld}
-use Rattle.omp_model.specs.Touching.{forked_after, head_after, is_of_code, regions_after}
+use Rattle.omp_model.proofs.Touching.{forked_after, head_after, is_of_code, regions_after}
 use Rattle.omp_model.proofs.MadeEvents.{current-below, first-of}
 use Rattle.nested_runs.proofs.Coming.{Comes}
 use Rattle.nested_runs.proofs.Effects.{stand_after, stand_before, stand_behind}

@@ -10,7 +10,7 @@ use Rattle.omp_model.specs.Conditions.{AreOrderly}
 use Rattle.omp_model.specs.Going.{Happens, effect_of, effect_of_point, event_of_point, fault_of, fault_of_point, going_by, going_in_code, past_point, told}
 use Rattle.omp_model.specs.Made.{IsMadeWorld}
 use Rattle.omp_model.specs.Members.{current, view_of}
-use Rattle.omp_model.specs.Touching.{TouchesWorld}
+use Rattle.omp_model.proofs.Touching.{TouchesWorld}
 use Rattle.omp_model.proofs.Arriving.{Arrives, arrives}
 use Rattle.omp_model.proofs.MadeEvents.{current-below}
 use Rattle.omp_model.proofs.Turning.{Beside, GoOf, OfCode}

@@ -22,7 +22,7 @@ use Rattle.omp_model.specs.Changes.{emptied, member_begun, popped, taken_up, tas
 use Rattle.omp_model.specs.Going.{effect_of, has_forked, member_code}
 use Rattle.omp_model.specs.Made.{IsMadeWorld, IsTask}
 use Rattle.omp_model.specs.Conditions.{AreOrderly}
-use Rattle.omp_model.specs.Touching.{TouchesWorld, is_of_code}
+use Rattle.omp_model.proofs.Touching.{TouchesWorld, is_of_code}
 use Rattle.omp_model.proofs.Arriving.{Reached}
 use Rattle.omp_model.proofs.Conditions.{pooled-added, pooled-other}
 use Rattle.omp_model.proofs.GosBeside.{current-started, current-task, member-starts, task-starts}

@@ -30,7 +30,7 @@ use Rattle.omp_model.specs.Gates.{is_barrier}
 use Rattle.omp_model.specs.Changes.{met, passed, with_code}
 use Rattle.omp_model.specs.Going.{after_creation, after_fork, after_meeting_at, after_sync, barrier_met, effect_of_point, event_of_point, executes_point, kind_of_task, past_point, told, work_met}
 use Rattle.omp_model.specs.Made.{IsMadeWorld}
-use Rattle.omp_model.specs.Touching.{TouchesWorld, is_of_code}
+use Rattle.omp_model.proofs.Touching.{TouchesWorld, is_of_code}
 use Rattle.omp_model.proofs.Gos.{current-kept}
 use Rattle.omp_model.proofs.Conditions.{pooled-added}
 use Rattle.omp_model.proofs.MadeWords.{added-last, at-push}

@@ -7,7 +7,7 @@ use Rattle.omp_model.specs.declared.event.Event.{Event}
 use Rattle.omp_model.specs.State.{Run, World, thread_at}
 use Rattle.omp_model.specs.Conditions.{AreOrderly, EventOrderly}
 use Rattle.omp_model.specs.Made.{HasOccurred, IsMadeWorld}
-use Rattle.omp_model.specs.Touching.{Returns}
+use Rattle.omp_model.proofs.Touching.{Returns}
 use Rattle.trace_check.specs.Checking.{Unbroken}
 use Rattle.nested_runs.proofs.Recorded.{Enters, Inside, Same}
 use Rattle.nested_runs.proofs.Coming.{Comes}

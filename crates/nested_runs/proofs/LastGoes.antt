@@ -14,8 +14,8 @@ use Rattle.omp_model.specs.declared.event.Event.{Event}
 use Rattle.omp_model.specs.declared.event.Event.TheVariants.{InitialTaskBegin, MemberBegin, ParallelBegin, ParallelEnd, Sync, TaskCreate}
 use Rattle.omp_model.specs.State.{Run, World, pooled_at, region_at, task_at, thread_at}
 use Rattle.omp_model.specs.Members.{current, current_index, current_region, current_team, is_explicit_task, member_index}
-use Rattle.omp_model.specs.Touching.{head_after, is_of_code, joined_by}
-use Rattle.omp_model.specs.Alike.{what_met}
+use Rattle.omp_model.proofs.Touching.{head_after, is_of_code, joined_by}
+use Rattle.omp_model.proofs.Alike.{what_met}
 use Rattle.nested_runs.proofs.Coming.{Comes}
 use Rattle.nested_runs.proofs.Effects.{behind_after, is_at_region_barrier, is_in_region_barrier, stand_after, stand_before}
 use Rattle.nested_runs.proofs.Recorded.{Inside}

@@ -23,8 +23,8 @@ use Rattle.omp_model.specs.declared.event.Event.TheVariants.{MemberEnd, Sync}
 use Rattle.omp_model.specs.State.{Run, World, pooled_at, region_at, task_at}
 use Rattle.omp_model.specs.Members.{current_index, current_region, member_index}
 use Rattle.omp_model.specs.Gates.{is_barrier}
-use Rattle.omp_model.specs.Touching.{head_back}
-use Rattle.omp_model.specs.Alike.{what_met}
+use Rattle.omp_model.proofs.Touching.{head_back}
+use Rattle.omp_model.proofs.Alike.{what_met}
 use Rattle.nested_runs.proofs.Recorded.{Inside}
 use Rattle.nested_runs.proofs.Standing.{Stand, ends_behind, is_behind, stand_among, stand_at, stand_within}
 use Rattle.nested_runs.proofs.Standing.Stand.{Free, AtSync}

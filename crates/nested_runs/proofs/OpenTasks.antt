@@ -10,7 +10,7 @@ use Rattle.omp_model.specs.declared.event.Event.TheVariants.{InitialTaskBegin, I
 use Rattle.omp_model.specs.State.{World, pooled_at}
 use Rattle.omp_model.specs.Members.{current_region}
 use Rattle.omp_model.specs.Conditions.{AreOrderly, EventOrderly}
-use Rattle.omp_model.specs.Touching.{Returns, come_to, pooled_after, pooled_back}
+use Rattle.omp_model.proofs.Touching.{Returns, come_to, pooled_after, pooled_back}
 use Rattle.nested_runs.proofs.Coming.{Comes, ComesToTask}
 use Rattle.nested_runs.proofs.Touching.{Touches}
 use Rattle.nested_runs.proofs.Known.{HasNoTasks}

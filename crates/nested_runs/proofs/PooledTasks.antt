@@ -14,7 +14,7 @@ use Rattle.omp_model.specs.State.{Thread, World, no_task, pooled_at, task_at, th
 use Rattle.omp_model.specs.Conditions.{AreOrderly, IsUnderWay, has_started}
 use Rattle.omp_model.specs.Made.{IsMadeWorld, IsTaskOf}
 use Rattle.omp_model.specs.Members.{current}
-use Rattle.omp_model.specs.Touching.{come_to, is_summoned, pooled_after, pooled_back, tasks_after, thread_back}
+use Rattle.omp_model.proofs.Touching.{come_to, is_summoned, pooled_after, pooled_back, tasks_after, thread_back}
 use Rattle.omp_model.proofs.MadeWords.{pool-at}
 use Rattle.nested_runs.proofs.Coming.{Comes}
 

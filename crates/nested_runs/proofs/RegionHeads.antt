@@ -17,7 +17,7 @@ use Rattle.omp_model.specs.State.{Run, World, fresh_head, fresh_team, pooled_at,
 use Rattle.omp_model.specs.Made.{IsRegion}
 use Rattle.omp_model.specs.Members.{current, current_index, current_region, is_explicit_task, is_outermost, member_index, region_of}
 use Rattle.omp_model.specs.Going.{team_size}
-use Rattle.omp_model.specs.Touching.{head_after, head_back, regions_after}
+use Rattle.omp_model.proofs.Touching.{head_after, head_back, regions_after}
 use Rattle.nested_runs.proofs.Coming.{Comes}
 use Rattle.nested_runs.proofs.Known.{task_of_member}
 use Rattle.nested_runs.proofs.Knows.{Goes, Knows}

@@ -16,7 +16,7 @@ use Rattle.team_parts.specs.Team.{TeamView, after_meeting, answer_to_meet, fresh
 use Rattle.team_parts.proofs.Same.{equal-meeting}
 use Rattle.c_model.specs.declared.point.SyncKind.TheVariants as sync
 use Rattle.omp_model.specs.Going.{sync_number}
-use Rattle.omp_model.specs.Alike.{what_met}
+use Rattle.omp_model.proofs.Alike.{what_met}
 use Rattle.nested_runs.proofs.Known.{is_last}
 
 -- what a member has met

@@ -25,7 +25,7 @@ use Rattle.omp_model.specs.Calls.{work_number}
 use Rattle.omp_model.specs.Changes.{summoned}
 use Rattle.omp_model.specs.Conditions.{Distinct, EventOrderly, has_started}
 use Rattle.omp_model.specs.Made.{IsTaskOf}
-use Rattle.omp_model.specs.Touching.{come_to, forked_back, is_of_code, is_summoned, pooled_back, thread_after, thread_back}
+use Rattle.omp_model.proofs.Touching.{come_to, forked_back, is_of_code, is_summoned, pooled_back, thread_after, thread_back}
 use Rattle.omp_model.proofs.MadeEvents.{current-made}
 use Rattle.omp_model.proofs.Gos.{current-kept}
 use Rattle.nested_runs.proofs.Coming.{Comes, PicksTask, PicksUndeferred}

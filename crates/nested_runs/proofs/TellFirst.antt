@@ -20,7 +20,7 @@ use Rattle.omp_model.specs.Members.{current}
 use Rattle.omp_model.specs.Changes.{made, summoned}
 use Rattle.omp_model.specs.Calls.{call_of}
 use Rattle.omp_model.specs.Conditions.{EventOrderly, has_started}
-use Rattle.omp_model.specs.Touching.{come_to, is_summoned, pooled_after, pooled_back, thread_back}
+use Rattle.omp_model.proofs.Touching.{come_to, is_summoned, pooled_after, pooled_back, thread_back}
 use Rattle.nested_runs.proofs.Coming.{Comes}
 use Rattle.nested_runs.proofs.Recorded.{Enters, Inside, inside, recorded}
 use Rattle.nested_runs.proofs.Knows.{ComesBack, Goes, IsWholeRun, Knows, Stays}

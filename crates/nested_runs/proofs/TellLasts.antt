@@ -22,8 +22,8 @@ use Rattle.omp_model.specs.declared.event.Event.TheVariants.{InitialTaskBegin, I
 use Rattle.omp_model.specs.State.{Run, World, first, first_world, fresh_head, fresh_team, pooled_at, region_at, task_at}
 use Rattle.omp_model.specs.Members.{current, current_index, current_region, is_explicit_task, member_index, region_of}
 use Rattle.omp_model.specs.Conditions.{AreOrderly}
-use Rattle.omp_model.specs.Touching.{come_to, pooled_after, pooled_back, regions_after}
-use Rattle.omp_model.specs.Alike.{what_met}
+use Rattle.omp_model.proofs.Touching.{come_to, pooled_after, pooled_back, regions_after}
+use Rattle.omp_model.proofs.Alike.{what_met}
 use Rattle.nested_runs.proofs.Coming.{Comes}
 use Rattle.nested_runs.proofs.Recorded.{Inside, inside}
 use Rattle.nested_runs.proofs.Standing.{is_behind, stand_at}

@@ -21,7 +21,7 @@ use Rattle.omp_model.specs.State.{Run, Thread, World, first, first_world, pooled
 use Rattle.omp_model.specs.Members.{current}
 use Rattle.omp_model.specs.Calls.{call_of, mutex_number}
 use Rattle.omp_model.specs.Conditions.{Distinct, EventOrderly, has_started}
-use Rattle.omp_model.specs.Touching.{come_to, is_of_code, locks_after, owner_after, pooled_after, pooled_back, tasks_after, thread_after}
+use Rattle.omp_model.proofs.Touching.{come_to, is_of_code, locks_after, owner_after, pooled_after, pooled_back, tasks_after, thread_after}
 use Rattle.omp_model.proofs.MadeEvents.{current-made}
 use Rattle.omp_model.proofs.Gos.{current-kept}
 use Rattle.nested_runs.proofs.Coming.{Comes, PicksTask, PicksUndeferred}

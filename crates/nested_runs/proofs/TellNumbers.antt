@@ -10,7 +10,7 @@ use Rattle.omp_model.specs.declared.event.Share.TheVariants.{Chunk, Section}
 use Rattle.omp_model.specs.State.{Run, Thread, World, first_world, thread_at}
 use Rattle.omp_model.specs.Members.{current}
 use Rattle.omp_model.specs.Calls.{call_of}
-use Rattle.omp_model.specs.Touching.{regions_after, tasks_after, thread_after}
+use Rattle.omp_model.proofs.Touching.{regions_after, tasks_after, thread_after}
 use Rattle.nested_runs.proofs.Coming.{Comes}
 use Rattle.nested_runs.proofs.Readings.{region_by, task_by}
 use Rattle.nested_runs.proofs.Recorded.{Inside, recorded}

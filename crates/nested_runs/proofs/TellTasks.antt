@@ -23,7 +23,7 @@ use Rattle.omp_model.specs.Conditions.{has_started}
 use Rattle.omp_model.specs.Going.{kind_of_task}
 use Rattle.omp_model.specs.Made.{IsMadeWorld}
 use Rattle.omp_model.specs.Members.{current, is_explicit_task}
-use Rattle.omp_model.specs.Touching.{come_to, pooled_after, pooled_back}
+use Rattle.omp_model.proofs.Touching.{come_to, pooled_after, pooled_back}
 use Rattle.omp_model.proofs.MadeWords.{pool-at}
 use Rattle.nested_runs.proofs.Coming.{ComesToTask, PicksTask, PicksUndeferred}
 use Rattle.nested_runs.proofs.Recorded.{Inside, inside, recorded}

@@ -14,7 +14,7 @@ use Rattle.omp_model.specs.declared.event.Share.TheVariants.{Chunk, Section}
 use Rattle.omp_model.specs.State.{Run, Thread, World, first, first_world, thread_at}
 use Rattle.omp_model.specs.Changes.{made, summoned}
 use Rattle.omp_model.specs.Calls.{call_of, thread_kind}
-use Rattle.omp_model.specs.Touching.{is_summoned, thread_after, thread_back}
+use Rattle.omp_model.proofs.Touching.{is_summoned, thread_after, thread_back}
 use Rattle.nested_runs.proofs.Coming.{Comes}
 use Rattle.nested_runs.proofs.Recorded.{Inside, inside, recorded}
 use Rattle.nested_runs.proofs.Knows.{ComesBack, Goes, IsWholeRun, Stays}

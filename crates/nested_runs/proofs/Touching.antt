@@ -12,8 +12,8 @@ use Rattle.omp_model.specs.declared.event.Event.TheVariants.{MemberBegin}
 use Rattle.omp_model.specs.declared.event.Share.{Share}
 use Rattle.omp_model.specs.declared.event.Share.TheVariants.{Chunk, Section}
 use Rattle.omp_model.specs.State.{World, pooled_at, region_at, task_at, thread_at}
-use Rattle.omp_model.specs.Alike.{AlikeWorld}
-use Rattle.omp_model.specs.Touching.{TouchesWorld, is_of_code}
+use Rattle.omp_model.proofs.Alike.{AlikeWorld}
+use Rattle.omp_model.proofs.Touching.{TouchesWorld, is_of_code}
 use Rattle.omp_model.specs.Members.{current}
 use Rattle.nested_runs.proofs.Effects.{behind_after, effect_of_event, opens_after, stand_after}
 use Rattle.nested_runs.proofs.Shown.{opens_at}

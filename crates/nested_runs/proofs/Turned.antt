@@ -11,7 +11,7 @@ use Rattle.omp_model.specs.declared.event.Event.{Event}
 use Rattle.omp_model.specs.declared.event.Outcome.{Outcome}
 use Rattle.omp_model.specs.declared.event.Outcome.TheVariants as outcome
 use Rattle.omp_model.specs.State.{Run, State, World, pending_at, thread_at}
-use Rattle.omp_model.specs.Alike.{QuietWorld}
+use Rattle.omp_model.proofs.Alike.{QuietWorld}
 use Rattle.omp_model.specs.Changes.{gone_past}
 use Rattle.omp_model.specs.Conditions.{IsOrderly}
 use Rattle.omp_model.specs.Gates.{arrival}

@@ -16,7 +16,7 @@ use Rattle.c_model.specs.Clauses.{sections_of, statements_among}
 use Rattle.c_model.specs.Going.{after_answer}
 use Rattle.c_model.specs.Occurring.{IsAskOf, IsAskOfNext}
 use Rattle.c_model.specs.Parts.{trees_in}
-use Rattle.c_model.specs.Standing.{Fits}
+use Rattle.c_model.proofs.Fitting.{Fits}
 use Rattle.c_model.specs.Step.{settled_task, silent}
 use Rattle.c_model.specs.Task.{Item, Moment, Outcome, Task as Code}
 use Rattle.c_model.specs.Task.Item.{NextSection}

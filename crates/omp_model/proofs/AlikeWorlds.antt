@@ -21,7 +21,7 @@ use Rattle.team_parts.specs.Team.{TeamView, after_taking, last_meeting, last_num
 use Rattle.omp_model.specs.declared.parts.RegionHead.{RegionHead}
 use Rattle.omp_model.specs.State.{Region, Run, State, Task, Thread, World, no_region, no_task, region_at, task_at, thread_at, unmade, with_region, with_task, with_thread}
 use Rattle.omp_model.specs.Members.{current, current_index, current_region, current_team, is_member, moment_of, view_of}
-use Rattle.omp_model.specs.Alike.{AlikeHead, AlikeTeam, AlikeThread, AlikeWorld, HasSomeShare, QuietWorld}
+use Rattle.omp_model.proofs.Alike.{AlikeHead, AlikeTeam, AlikeThread, AlikeWorld, HasSomeShare, QuietWorld}
 use Rattle.omp_model.specs.Changes.{gone_past, gone_to, sharing}
 use Rattle.omp_model.specs.Made.{IsMadeWorld, IsTask}
 use Rattle.omp_model.specs.Silent.{Goes, Silence, Stops, answer_to, answered, chunk_dealt, fits_loop, fitting_chunk, fitting_section, items_asking, section_dealt, share_of_chunk, share_of_section, share_taken, silence_of, silent_step, team_after, team_asked}

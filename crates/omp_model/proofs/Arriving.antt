@@ -24,7 +24,7 @@ use Rattle.omp_model.specs.declared.event.Share.{Share}
 use Rattle.omp_model.specs.State.{World, pooled_at, task_at, thread_at}
 use Rattle.omp_model.specs.Members.{code_of, current, current_region, is_explicit_task, region_of, view_of}
 use Rattle.omp_model.specs.Gates.{all_left, arrival, arrival_around, arrival_at, arrival_at_end, arrival_at_sync, arrival_in, arrival_invited, arrival_of_task, arrival_of_worker, arrival_with_share, arrival_with_undeferred, arrival_without_task, comes_if, has_no_tasks, is_owned, main_returned, may_end, next_task, starts_if, workers_over}
-use Rattle.omp_model.specs.Arrivals.{ComesToDispatch, ComesToThreadEnd, IsFree, IsInTask, IsQuiet}
+use Rattle.omp_model.proofs.Arrivals.{ComesToDispatch, ComesToThreadEnd, IsFree, IsInTask, IsQuiet}
 use Rattle.omp_model.specs.Turn.{goes_on}
 use Rattle.omp_model.specs.Words.{is_made_thread}
 use Rattle.omp_model.specs.Made.{IsThread}

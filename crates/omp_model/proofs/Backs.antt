@@ -15,7 +15,7 @@ use Rattle.omp_model.specs.Changes.{all_summoned, begun, finished, forked, membe
 use Rattle.omp_model.specs.Conditions.{AreOrderly, EventOrderly, HasEnded, WasCreated}
 use Rattle.omp_model.specs.Made.{HasOccurred, IsForkedRegion, IsMadeWorld, IsTask, IsThread}
 use Rattle.omp_model.specs.Returning.{after_created, after_wait_begun, at_back}
-use Rattle.omp_model.specs.Touching.{Returns}
+use Rattle.omp_model.proofs.Touching.{Returns}
 use Rattle.omp_model.proofs.MadeEvents.{current-below}
 use Rattle.omp_model.proofs.MadeWords.{length-summoned}
 use Rattle.omp_model.proofs.Moves.{finished-is, readied-is}

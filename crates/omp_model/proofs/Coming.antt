@@ -12,7 +12,7 @@ use Rattle.c_model.specs.declared.upcoming.Upcoming.{Upcoming}
 use Rattle.c_model.specs.declared.upcoming.Upcoming.TheVariants as upcoming
 use Rattle.c_model.specs.declared.view.View.{View}
 use Rattle.c_model.specs.Going.{answered_at}
-use Rattle.c_model.specs.Standing.{Fits}
+use Rattle.c_model.proofs.Fitting.{Fits}
 use Rattle.c_model.specs.Step.{is_event, items_from_next, silent, step_at, step_of}
 use Rattle.c_model.specs.Task.{Here, Item, Moment, Outcome}
 use Rattle.c_model.specs.Task.Item.{Forked, Sync, Acquire, TestLock, Tested}

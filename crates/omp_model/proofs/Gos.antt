@@ -13,7 +13,7 @@ use Rattle.omp_model.specs.Conditions.{AreOrderly}
 use Rattle.omp_model.specs.Going.{Happens, effect_of, effect_of_point, event_of_point, fault_of, fault_of_point, going_by, going_in_code, past_point, told, unless}
 use Rattle.omp_model.specs.Made.{IsMadeWorld}
 use Rattle.omp_model.specs.Members.{current, view_of}
-use Rattle.omp_model.specs.Touching.{TouchesWorld, is_of_code, thread_after}
+use Rattle.omp_model.proofs.Touching.{TouchesWorld, is_of_code, thread_after}
 use Rattle.omp_model.specs.Turn.{goes_on}
 use Rattle.omp_model.proofs.Arriving.{Arrives, arrives, thread-goes}
 use Rattle.omp_model.proofs.GosBeside.{touches-effect}

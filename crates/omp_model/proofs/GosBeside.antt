@@ -20,7 +20,7 @@ use Rattle.omp_model.specs.Changes.{emptied, member_begun, popped, started, take
 use Rattle.omp_model.specs.Going.{effect_of, member_code}
 use Rattle.omp_model.specs.Made.{IsMadeWorld, IsTask, IsThread}
 use Rattle.omp_model.specs.Conditions.{AreOrderly, IsUnderWay, member_made}
-use Rattle.omp_model.specs.Touching.{TouchesWorld, come_to, ended_on, joined_by, started_on}
+use Rattle.omp_model.proofs.Touching.{TouchesWorld, come_to, ended_on, joined_by, started_on}
 use Rattle.omp_model.proofs.Arriving.{AtEnd, AtInitialEnd, AtMember, AtSwitch, Reached}
 use Rattle.omp_model.proofs.Conditions.{pooled-added, pooled-other, pooled-same}
 use Rattle.omp_model.proofs.MadeEvents.{coming, current-made, first-of}

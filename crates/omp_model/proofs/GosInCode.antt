@@ -32,7 +32,7 @@ use Rattle.omp_model.specs.Members.{current, current_index, current_region, view
 use Rattle.omp_model.specs.Changes.{met, with_code}
 use Rattle.omp_model.specs.Going.{after_creation, after_fork, after_meeting_at, after_sync, barrier_met, effect_of_point, event_of_point, executes_point, executes_work, fault_of_meeting, fault_of_point, kind_of_task, meeting_at, past_point, single_kind, team_size, told, work_met}
 use Rattle.omp_model.specs.Made.{IsMadeWorld}
-use Rattle.omp_model.specs.Touching.{TouchesWorld, Meets, TeamAfter, forked_after, head_after, locks_after, owner_after, pooled_after, regions_after, tasks_after, thread_after}
+use Rattle.omp_model.proofs.Touching.{TouchesWorld, Meets, TeamAfter, forked_after, head_after, locks_after, owner_after, pooled_after, regions_after, tasks_after, thread_after}
 use Rattle.omp_model.proofs.Conditions.{pooled-added}
 use Rattle.omp_model.proofs.Guards.{member-made}
 use Rattle.omp_model.proofs.MadeWords.{added-last}

@@ -13,7 +13,7 @@ use Rattle.omp_model.specs.declared.event.Outcome.{Outcome}
 use Rattle.omp_model.specs.declared.event.Outcome.TheVariants as outcome
 use Rattle.omp_model.specs.State.{Run, State, World, first, first_world, pending_at, region_at, task_at, thread_at, unmade}
 use Rattle.omp_model.specs.Members.{region_of}
-use Rattle.omp_model.specs.Alike.{QuietWorld}
+use Rattle.omp_model.proofs.Alike.{QuietWorld}
 use Rattle.omp_model.specs.Changes.{gone_past}
 use Rattle.omp_model.specs.Returning.{at_back}
 use Rattle.omp_model.specs.Words.{stored}

@@ -17,7 +17,7 @@ use Rattle.omp_model.specs.declared.event.Event.{Event}
 use Rattle.omp_model.specs.declared.event.Outcome.{Outcome}
 use Rattle.omp_model.specs.declared.event.Outcome.TheVariants as outcome
 use Rattle.omp_model.specs.State.{Run, State, Thread, World, first, first_world, pending_at, pooled_at, thread_at, unmade}
-use Rattle.omp_model.specs.Alike.{QuietWorld}
+use Rattle.omp_model.proofs.Alike.{QuietWorld}
 use Rattle.omp_model.specs.Words.{stored}
 use Rattle.omp_model.specs.Turn.{called, goes_on, turn, walk}
 use Rattle.omp_model.specs.Legal.{after, back_from, does, put_from}

@@ -7,7 +7,7 @@ use Rattle.omp_model.specs.Changes.{all_summoned, summoned}
 use Rattle.omp_model.specs.Made.{IsMadeWorld, IsTask, IsThread}
 use Rattle.omp_model.specs.Members.{current, current_region, region_of}
 use Rattle.omp_model.specs.State.{Region, Thread, World, pooled_at, unmade}
-use Rattle.omp_model.specs.Touching.{come_to}
+use Rattle.omp_model.proofs.Touching.{come_to}
 use Rattle.omp_model.proofs.Conditions.{pooled-other, pooled-same}
 use Rattle.omp_model.proofs.MadeEvents.{current-made}
 use Rattle.omp_model.proofs.Moves.{thread-within}

@@ -20,7 +20,4 @@ pub mod Running
 pub mod Made
 pub mod Named
 pub mod Conditions
-pub mod Arrivals
-pub mod Alike
-pub mod Touching
 pub mod Empty

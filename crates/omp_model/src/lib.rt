@@ -14,18 +14,16 @@
 //! - `Serial`, `Storing`, `Running`: the serial order;
 //! - `Empty`: the smallest program with its run;
 //! - `Made`, `Named`, `Conditions`: what a state names, and what a tool hears and inquires, was made, and how far its tasks have come;
-//! - `Arrivals`, `Alike`, `Touching`: how far a thread has come that comes to an event; worlds that are alike but for code, cells and words, as those
-//!   before and after silent steps; and what of a world, beside code, the Go of an event and its Back change. They serve proofs.
 //!
 //! What one task's code does between events is `c_model`'s, what a team meets `team_parts`', tasks with their ready order `task_pool`'s, and locks
 //! `sync_objects`'.
 //!
 //! The definitions are total. A thread that isn't a member of its region's team meets nothing and is dealt nothing, a finished task doesn't
-//! start, and nothing happens to what wasn't made. No run meets the first two, and what a run names was made: the laws below say so. Of the region of
-//! a `ParallelEnd` they don't say that there is one, and not 0.
+//! start, and nothing happens to what wasn't made. No run meets the first two, and what a run names was made: the laws below say so.
 //!
-//! What the team deals is given to the code only where it fits the work that asks, and a member has code only where the end of the region that was
-//! forked stands first in its encountering task's code. That each run is so is proved nowhere.
+//! What the team deals is given to the code only where it fits the work that asks. A member has code only where the end of the region that was forked
+//! stands first in its encountering task's code. And a `ParallelEnd` may name region 0, which is none. In runs of a program that breaks no rule all
+//! that is dealt fits, each member has its region's code, and each end names a region that was forked: `guard_laws` proves that.
 //!
 //! Proved, by the contract of the function that is named:
 //!
@@ -47,7 +45,8 @@
 //! that runs on them, `GonePast` has what is left as it was where a task leaves out what it goes past, and `Coming` what a task's code comes to
 //! where its thread comes to a step or an event of it. `AlikeWorlds` has that a turn leads to a world that is alike, or to the Go of an event from
 //! one, and what is so of such a world; `Arriving` what is so where a thread has come to an event; `Gos` and `Backs` what each event's Go and Back
-//! change.
+//! change. They say it in words of their own. `Alike` has worlds that are alike but for code, cells and words, as those before and after silent steps.
+//! `Arrivals` has how far a thread has come that comes to an event. `Touching` has what of a world, beside code, the Go of an event and its Back change.
 #![tactic(auto)]
 
 mod cause;

@@ -15,7 +15,7 @@ use Rattle.omp_model.specs.declared.history.What.{What}
 use Rattle.omp_model.specs.declared.history.What.TheVariants.{Go, Put, Back}
 use Rattle.omp_model.specs.declared.parts.ThreadStage.{ThreadStage}
 use Rattle.omp_model.specs.declared.parts.ThreadStage.TheVariants as stage
-use Rattle.omp_model.specs.Alike.{QuietWorld}
+use Rattle.omp_model.proofs.Alike.{QuietWorld}
 use Rattle.omp_model.specs.Cause.{threads_over}
 use Rattle.omp_model.specs.Changes.{all_summoned, made, opened, summoned}
 use Rattle.omp_model.specs.Gates.{arrival, arrival_at, is_out}

@@ -19,7 +19,7 @@ use Rattle.omp_model.specs.declared.event.Event.TheVariants.{Dispatch, InitialTa
 use Rattle.omp_model.specs.declared.event.Share.{Share}
 use Rattle.omp_model.specs.declared.event.Share.TheVariants.{Chunk, Section}
 use Rattle.omp_model.specs.State.{World, pooled_at, region_at, task_at}
-use Rattle.omp_model.specs.Alike.{IsSomeShare}
+use Rattle.omp_model.proofs.Alike.{IsSomeShare}
 use Rattle.omp_model.specs.Members.{current, current_region}
 use Rattle.omp_model.specs.Going.{sync_number}
 use Rattle.omp_model.specs.Words.{null_word, region_word, task_word, thread_word}
@@ -27,7 +27,7 @@ use Rattle.omp_model.specs.Calls.{call_of, dispatch_call, endpoint_number, mutex
 use Rattle.omp_model.specs.Snapshots.{task_flags as flags_of}
 use Rattle.trace_format.specs.Fitting.{FitsCall, FitsWord}
 use Rattle.trace_format.specs.Validity.{IsAmong, IsCall, IsWord, endpoints, mutex_kinds, sync_kinds, task_flags, thread_kinds, work_kinds}
-use Rattle.run_trace.specs.Sensible.{HasNulls, IsSensible}
+use Rattle.run_trace.proofs.Sensible.{HasNulls, IsSensible}
 
 -- Words.
 

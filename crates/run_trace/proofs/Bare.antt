@@ -26,7 +26,7 @@ use Rattle.omp_model.specs.declared.event.Event.{Event}
 use Rattle.omp_model.specs.declared.event.Event.TheVariants as event
 use Rattle.omp_model.specs.declared.event.Halt.{Halt}
 use Rattle.omp_model.specs.State.{Region, Run, Task, World, is_under_way, no_region, no_task, pooled_at, region_at, task_at, task_with, thread_at, with_region, with_task, with_thread}
-use Rattle.omp_model.specs.Alike.{QuietWorld}
+use Rattle.omp_model.proofs.Alike.{QuietWorld}
 use Rattle.omp_model.specs.Members.{current, current_index, current_region, is_member, is_outermost, view_of}
 use Rattle.omp_model.specs.Gates.{is_barrier}
 use Rattle.omp_model.specs.Changes.{all_summoned, begun, finished, forked, is_fresh, met, opened, passed, popped, pushed, readied, region_made, started, summoned, taken_up, task_made, with_code, with_head, with_team}

@@ -11,7 +11,7 @@ use Rattle.omp_model.specs.Snapshots.{state_of}
 use Rattle.omp_model.specs.Turn.{turn}
 use Rattle.trace_format.specs.Fitting.{FitsCall}
 use Rattle.trace_format.specs.Validity.{IsAmong, IsCall}
-use Rattle.run_trace.specs.Sensible.{HasNulls, IsSensible}
+use Rattle.run_trace.proofs.Sensible.{HasNulls, IsSensible}
 use Rattle.run_trace.proofs.Arguments.{stands}
 use Rattle.run_trace.proofs.States.{known}
 use Rattle.run_trace.proofs.Told.{sensible}

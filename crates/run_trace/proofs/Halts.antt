@@ -41,7 +41,7 @@ use Rattle.omp_model.specs.Legal.{Legal, after, does}
 use Rattle.omp_model.proofs.Recording.{put_all-halt}
 use Rattle.omp_model.proofs.Turning.{of-entries}
 use Rattle.omp_model.proofs.Turns.{Leaves, back-halt, leaves-turn}
-use Rattle.run_trace.specs.Sensible.{IsKnownHalt}
+use Rattle.run_trace.proofs.Sensible.{IsKnownHalt}
 
 -- What a halt comes from, where there is one.
 

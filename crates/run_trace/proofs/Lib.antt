@@ -1,3 +1,4 @@
+pub mod Sensible
 mod Bare
 pub mod Nulls
 pub mod States

@@ -12,14 +12,14 @@ use Rattle.omp_model.specs.declared.history.What.{What}
 use Rattle.omp_model.specs.declared.history.What.TheVariants.{Go, Put, Back}
 use Rattle.omp_model.specs.declared.history.Entry.{Entry}
 use Rattle.omp_model.specs.State.{Run, State, World, first, pending_at}
-use Rattle.omp_model.specs.Alike.{QuietWorld}
+use Rattle.omp_model.proofs.Alike.{QuietWorld}
 use Rattle.omp_model.specs.Going.{effect_of, fault_of}
 use Rattle.omp_model.specs.Words.{null_word, is_made}
 use Rattle.omp_model.specs.Turn.{turn}
 use Rattle.omp_model.specs.Legal.{AllowsFrom, Legal, after, after_from, back_from, does, entered, may, may_put, put_from}
 use Rattle.omp_model.proofs.AlikeWorlds.{quiet-turn}
 use Rattle.omp_model.proofs.Turning.{Beside, GoOf, OfCode, Turned}
-use Rattle.run_trace.specs.Sensible.{HasNulls}
+use Rattle.run_trace.proofs.Sensible.{HasNulls}
 use Rattle.run_trace.proofs.Bare.{BareGoing, IsBare, bare-at_back, bare-beside, bare-in_code, bare-quiet, bare-stored, bare-unless}
 
 -- A turn.

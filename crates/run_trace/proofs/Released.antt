@@ -26,7 +26,7 @@ use Rattle.c_model.specs.Calls.{begin_call, begin_lock_call, begin_return_of, be
 use Rattle.c_model.specs.Clauses.{condition_of, requested_threads}
 use Rattle.c_model.specs.Constructs.{begin_loop, begin_parallel, begin_task, value_or}
 use Rattle.c_model.specs.Loops.{loop_of}
-use Rattle.c_model.specs.Standing.{Fits}
+use Rattle.c_model.proofs.Fitting.{Fits}
 use Rattle.c_model.specs.Step.{begin_construct, begin_inside, begin_standalone, begin_statement, items_from_next, silent, step_at, step_of}
 use Rattle.c_model.specs.Task.{Here, Item, Moment, Outcome}
 use Rattle.c_model.specs.Task.Item.{Start, Initialise, Forked, Inside, EndWork, EndMasked, Sync, Acquire, Release}

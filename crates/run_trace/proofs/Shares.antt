@@ -13,12 +13,12 @@ use Rattle.omp_model.specs.declared.history.What.{What}
 use Rattle.omp_model.specs.declared.history.What.TheVariants.{Go, Put, Back}
 use Rattle.omp_model.specs.declared.parts.ThreadStage.TheVariants as thread_stage
 use Rattle.omp_model.specs.State.{Run, State, Thread, World, first, first_world, pending_at, thread_at, unmade}
-use Rattle.omp_model.specs.Alike.{HasSomeShare, QuietWorld}
+use Rattle.omp_model.proofs.Alike.{HasSomeShare, QuietWorld}
 use Rattle.omp_model.specs.Changes.{summoned}
 use Rattle.omp_model.specs.Conditions.{AreOrderly, PendingOrderly}
 use Rattle.omp_model.specs.Legal.{after, back_from, does, put_from}
 use Rattle.omp_model.specs.Made.{IsMadeWorld, MadePending}
-use Rattle.omp_model.specs.Touching.{is_summoned, thread_after, thread_back}
+use Rattle.omp_model.proofs.Touching.{is_summoned, thread_after, thread_back}
 use Rattle.omp_model.specs.Turn.{turn}
 use Rattle.omp_model.proofs.AlikeWorlds.{made-alike, quiet-turn, still-alike, taken-stored}
 use Rattle.omp_model.proofs.Backs.{returns}

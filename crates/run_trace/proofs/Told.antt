@@ -19,7 +19,7 @@ use Rattle.omp_model.specs.declared.event.Halt.{Halt}
 use Rattle.omp_model.specs.declared.event.Outcome.TheVariants as came
 use Rattle.omp_model.specs.declared.history.Entry.{Entry}
 use Rattle.omp_model.specs.State.{Run, World}
-use Rattle.omp_model.specs.Alike.{HasSomeShare, QuietWorld}
+use Rattle.omp_model.proofs.Alike.{HasSomeShare, QuietWorld}
 use Rattle.omp_model.specs.Members.{current, current_region, view_of}
 use Rattle.omp_model.specs.Going.{Going, Happens, event_of_point, fault_of_point, going_by, going_in_code, effect_of_point, kind_of_task, past_point, told, unless, work_begin}
 use Rattle.omp_model.specs.Legal.{after}
@@ -30,7 +30,7 @@ use Rattle.omp_model.proofs.AlikeWorlds.{made-alike, quiet-turn}
 use Rattle.omp_model.proofs.Arriving.{Arrives, Reached, arrives}
 use Rattle.omp_model.proofs.MadeRuns.{made-after}
 use Rattle.omp_model.proofs.Turning.{Beside, GoOf, OfCode, Turned}
-use Rattle.run_trace.specs.Sensible.{IsSensible}
+use Rattle.run_trace.proofs.Sensible.{IsSensible}
 use Rattle.run_trace.proofs.Released.{IsNoTest, ReleasesNoTest, releases-no-test}
 use Rattle.run_trace.proofs.Shares.{AreSome, some-after, some-quiet}
 

@@ -24,7 +24,7 @@ use Rattle.trace_format.specs.declared.trace.TheConstants.{RECORDED, SEQ_LIMIT, 
 use Rattle.trace_format.specs.Fitting.{FitsCall, FitsFields}
 use Rattle.trace_format.specs.Validity.{AreEvents, IsAmong, IsCall, IsDetail, IsEvent, IsHeader, IsTrace}
 use Rattle.trace_format.proofs.Profile.{profile_bits}
-use Rattle.run_trace.specs.Sensible.{IsKnownHalt}
+use Rattle.run_trace.proofs.Sensible.{IsKnownHalt}
 use Rattle.run_trace.specs.TraceOf.{FitsCause, detail_of, status_of, trace_of}
 use Rattle.run_trace.proofs.Events.{call-stands, events-sensible, state-known}
 use Rattle.run_trace.proofs.Halts.{halts-known}

@@ -1,2 +1,1 @@
 pub mod TraceOf
-pub mod Sensible

@@ -1,7 +1,7 @@
 -- The Back of an event: a member has arrived at a barrier where its wait has begun.
 use Rattle.team_parts.specs.Meetings.{is_barrier as meets_at_barrier}
 use Rattle.nested_runs.proofs.TellBrackets.{unstarted-back}
-use Rattle.omp_model.specs.Touching.{pooled_back, team_back}
+use Rattle.omp_model.proofs.Touching.{pooled_back, team_back}
 use Rattle.nested_runs.proofs.RegionHeads.{member-seated, place-within, plain-kinds, plain-seated, region-made}
 use Rattle.omp_model.specs.Gates.{is_barrier}
 use Rattle.omp_model.specs.Members.{current, current_index, current_region, current_team, is_explicit_task, member_index, region_of}

@@ -46,7 +46,7 @@ use Rattle.omp_model.specs.Going.{Happens, after_meeting_at, barrier_met, effect
 use Rattle.omp_model.specs.Made.{IsTask}
 use Rattle.omp_model.specs.Members.{current, current_index, current_region, current_team, is_explicit_task, is_member, member_index, region_of, view_of}
 use Rattle.omp_model.specs.State.{Region, Run, World, fresh_team, no_region, pooled_at, region_at, task_at, Thread}
-use Rattle.omp_model.specs.Touching.{Meets, SameTeam, is_of_code, MeetsWork, regions_after}
+use Rattle.omp_model.proofs.Touching.{Meets, SameTeam, is_of_code, MeetsWork, regions_after}
 use Rattle.omp_model.proofs.Gos.{unless-goes, current-kept}
 use Rattle.omp_model.proofs.Guards.{member-made}
 use Rattle.omp_model.proofs.Turning.{GoOf}

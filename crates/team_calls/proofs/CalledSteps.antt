@@ -39,7 +39,7 @@ use Rattle.code_brackets.specs.Opened.{Open}
 use Rattle.work_laws.proofs.Walks.{On, on-past, on-step}
 use Rattle.omp_model.specs.declared.event.Halt.TheVariants.{Limit}
 use Rattle.omp_model.specs.Made.{IsTask}
-use Rattle.omp_model.specs.Arrivals.{IsInTask}
+use Rattle.omp_model.proofs.Arrivals.{IsInTask}
 use Rattle.guard_laws.proofs.DealtRuns.{IsAsked, IsMet, asked-reached, newest-fits}
 use Rattle.omp_model.specs.declared.limits.TheConstants.{IMPLICIT_REGION, INITIAL_TASK, STEPS}
 use Rattle.nested_runs.proofs.Knows.{Knows}

@@ -6,7 +6,7 @@ use Rattle.c_model.specs.declared.point.SyncStage.{SyncStage}
 use Rattle.c_model.specs.declared.point.SyncStage.TheVariants as stage
 use Rattle.team_words.specs.Team.{Met, is_at_barrier, last_met, may_go_on}
 use Rattle.omp_model.specs.Gates.{is_barrier}
-use Rattle.omp_model.specs.Touching.{AtBarrierElse}
+use Rattle.omp_model.proofs.Touching.{AtBarrierElse}
 use Rattle.nested_runs.proofs.Standing.{Stand}
 use Rattle.nested_runs.proofs.Standing.Stand.{AtFork, AtMutex, AtSync, Free}
 use Rattle.nested_runs.proofs.Touching.{ComesFree}

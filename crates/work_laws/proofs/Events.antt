@@ -17,13 +17,13 @@ use Rattle.omp_model.specs.declared.event.Event.{Event}
 use Rattle.omp_model.specs.declared.event.Event.TheVariants.{Dispatch, Work}
 use Rattle.omp_model.specs.declared.event.Share.{Share}
 use Rattle.omp_model.specs.declared.parts.RegionHead.{RegionHead}
-use Rattle.omp_model.specs.Arrivals.{IsFree}
+use Rattle.omp_model.proofs.Arrivals.{IsFree}
 use Rattle.omp_model.specs.Conditions.{IsOrderly}
 use Rattle.omp_model.specs.Gates.{arrival}
 use Rattle.omp_model.specs.Made.{IsMadeState, IsThread}
 use Rattle.omp_model.specs.Members.{current, current_index, current_region, current_team, is_explicit_task, member_index, region_of}
 use Rattle.omp_model.specs.State.{Run, State, Thread, World, pending_at, pooled_at, region_at, thread_at}
-use Rattle.omp_model.specs.Touching.{thread_after}
+use Rattle.omp_model.proofs.Touching.{thread_after}
 use Rattle.omp_model.specs.Turn.{called, enabled, goes_on}
 use Rattle.omp_model.proofs.Arriving.{thread-goes}
 use Rattle.omp_model.proofs.Gos.{current-kept}

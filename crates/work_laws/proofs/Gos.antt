@@ -42,7 +42,7 @@ use Rattle.omp_model.specs.Going.{barrier_met, event_of_point, executes_point, t
 use Rattle.omp_model.specs.Made.{IsTask}
 use Rattle.omp_model.specs.Members.{code_of, current, current_index, current_region, current_team, is_explicit_task, member_index, moment_of, region_of, view_of}
 use Rattle.omp_model.specs.State.{Region, Run, World, fresh_team, no_region, pooled_at, region_at, task_at}
-use Rattle.omp_model.specs.Touching.{AtBarrierElse, Meets, MeetsWork, SameTeam}
+use Rattle.omp_model.proofs.Touching.{AtBarrierElse, Meets, MeetsWork, SameTeam}
 use Rattle.omp_model.proofs.MadeEvents.{current-below}
 use Rattle.omp_model.proofs.Turning.{GoOf}
 use Rattle.nested_runs.proofs.Effects.{effect_of_event, opens_after}

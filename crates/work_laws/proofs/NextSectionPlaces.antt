@@ -24,8 +24,8 @@ use Rattle.team_parts.specs.Team.{TeamView, last_meeting, last_number, member_at
 use Rattle.omp_model.specs.declared.event.Arrival.TheVariants.{Steps}
 use Rattle.omp_model.specs.declared.event.Share.{Share}
 use Rattle.omp_model.specs.declared.event.Share.TheVariants.{Section}
-use Rattle.omp_model.specs.Alike.{what_met}
-use Rattle.omp_model.specs.Arrivals.{IsInTask}
+use Rattle.omp_model.proofs.Alike.{what_met}
+use Rattle.omp_model.proofs.Arrivals.{IsInTask}
 use Rattle.omp_model.specs.Changes.{gone_past}
 use Rattle.omp_model.specs.Gates.{arrival}
 use Rattle.omp_model.specs.Members.{current, current_index, current_region, current_team, moment_of, view_of}

@@ -15,7 +15,7 @@ use Rattle.team_parts.specs.Team.{last_meeting, last_number, next_section}
 use Rattle.omp_model.specs.declared.event.Arrival.TheVariants.{Steps}
 use Rattle.omp_model.specs.declared.event.Share.{Share}
 use Rattle.omp_model.specs.declared.history.Entry.{Entry}
-use Rattle.omp_model.specs.Arrivals.{IsInTask}
+use Rattle.omp_model.proofs.Arrivals.{IsInTask}
 use Rattle.omp_model.specs.Gates.{arrival}
 use Rattle.omp_model.specs.Legal.{Legal, after}
 use Rattle.omp_model.specs.Members.{current_index, current_region, current_team, moment_of, view_of}

@@ -24,7 +24,7 @@ use Rattle.omp_model.specs.Legal.{AllowsFrom, Legal, after, after_from, does, en
 use Rattle.omp_model.specs.Made.{IsMadeState, IsTask}
 use Rattle.omp_model.specs.Members.{current_index, current_region, region_of}
 use Rattle.omp_model.specs.State.{Region, Run, State, Task, Thread, World, first, first_world, no_region, no_task, pending_at, region_at, task_at, thread_at}
-use Rattle.omp_model.specs.Touching.{Returns, is_summoned, team_back, thread_back}
+use Rattle.omp_model.proofs.Touching.{Returns, is_summoned, team_back, thread_back}
 use Rattle.omp_model.specs.Turn.{enabled, turn}
 use Rattle.omp_model.specs.Words.{stored}
 use Rattle.omp_model.proofs.AlikeWorlds.{alike-stored, taken-stored}

@@ -36,8 +36,8 @@ use Rattle.team_parts.specs.Team.{TeamView, after_chunk, after_section, after_ta
 use Rattle.omp_model.specs.declared.limits.TheConstants.{IMPLICIT_REGION}
 use Rattle.omp_model.specs.declared.event.Event.TheVariants.{Dispatch}
 use Rattle.omp_model.specs.declared.event.Share.{Share}
-use Rattle.omp_model.specs.Alike.{AlikeWorld}
-use Rattle.omp_model.specs.Arrivals.{IsInTask}
+use Rattle.omp_model.proofs.Alike.{AlikeWorld}
+use Rattle.omp_model.proofs.Arrivals.{IsInTask}
 use Rattle.omp_model.specs.Changes.{gone_past, gone_to, sharing, with_team}
 use Rattle.omp_model.specs.Made.{IsTask}
 use Rattle.omp_model.specs.Members.{code_of, current, current_index, current_region, current_team, is_explicit_task, is_member, member_index, moment_of, region_of, view_of}

@@ -13,7 +13,7 @@ use Rattle.omp_model.specs.declared.event.Arrival.TheVariants.{Meets, Steps}
 use Rattle.omp_model.specs.declared.event.Event.TheVariants.{Dispatch}
 use Rattle.omp_model.specs.declared.event.Share.{Share}
 use Rattle.omp_model.specs.declared.event.Share.TheVariants.{Chunk, Section}
-use Rattle.omp_model.specs.Arrivals.{IsFree, IsInTask}
+use Rattle.omp_model.proofs.Arrivals.{IsFree, IsInTask}
 use Rattle.omp_model.specs.Changes.{gone_past, gone_to}
 use Rattle.omp_model.specs.Gates.{arrival, arrival_at, arrival_invited, arrival_with_share, arrival_with_undeferred}
 use Rattle.omp_model.specs.Made.{IsThread}

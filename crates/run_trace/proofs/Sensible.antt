@@ -6,7 +6,7 @@ use Rattle.omp_model.specs.declared.event.Event.{Event}
 use Rattle.omp_model.specs.declared.event.Event.TheVariants.{Dispatch, MutexReleased, TaskCreate}
 use Rattle.omp_model.specs.declared.event.Halt.{Halt}
 use Rattle.omp_model.specs.declared.event.Halt.TheVariants.{Limit, Trap}
-use Rattle.omp_model.specs.Alike.{IsSomeShare}
+use Rattle.omp_model.proofs.Alike.{IsSomeShare}
 use Rattle.omp_model.specs.State.{World, pooled_at}
 use Rattle.omp_model.specs.Words.{null_word, region_word, task_word}
 
