@@ -6,6 +6,7 @@ use Rattle.ompt_calls.specs.Number.{is_registered}
 use Rattle.ompt_calls.specs.declared.snapshot.Target.{Target}
 use Rattle.ompt_calls.specs.declared.snapshot.Target.TheVariants as target
 use Rattle.omp_codes.specs.Answers.{answer_of}
+use Rattle.omp_codes.specs.declared.set_results.TheConstants.{ALWAYS}
 use Rattle.omp_model.specs.declared.history.Entry.{Entry}
 use Rattle.omp_model.specs.declared.history.What.{What}
 use Rattle.omp_model.specs.declared.history.What.TheVariants.{Back, Go, Put}
@@ -87,7 +88,7 @@ is_thread_count n = nat_le 1 n && nat_le n THREAD_LIMIT
 -- of the first so many callbacks each that is registered is one that is called always
 unfoldable pub always_below : ℕ → ℕ → Bool
 always_below mask zero = true
-always_below mask (suc n) = always_below mask n && (not (is_registered mask n) || answer_of n == 5)
+always_below mask (suc n) = always_below mask n && (not (is_registered mask n) || answer_of n == ALWAYS)
 
 unfoldable pub is_mask : ℕ → Bool
 is_mask mask = always_below mask 64

@@ -7,6 +7,7 @@ ghost use Rattle.history_file.specs.Reading.{is_identity, is_kind, is_mask, is_s
 use crate::file::{STEP_LIMIT, TEXT_LIMIT, THREAD_LIMIT};
 use crate::kind;
 use omp_codes::set_answer;
+use omp_codes::set_results::ALWAYS;
 use ompt_calls::is_registered;
 
 /// Whether a run can have so many threads.
@@ -15,9 +16,6 @@ pub fn is_thread_count(n: u8) -> bool
 {
     n >= 1 && n <= THREAD_LIMIT
 }
-
-/// What a registration is answered of a callback that is called always.
-const ALWAYS: u8 = 5;
 
 /// Whether each callback in the mask is one that is called always.
 pub fn is_mask(mask: u64) -> bool

@@ -8,39 +8,13 @@ use crate::board::{Board, sync_number};
 use crate::frames::current_frame;
 use crate::levels::task_flags;
 use c_model::{MutexKind, SyncKind, SyncStage, WorkKind};
-use omp_codes::callbacks;
+use omp_codes::task_flags::{IMPLICIT, INITIAL};
+use omp_codes::{
+    callbacks, dispatch_kinds, endpoints, mutex_kinds, parallel_flags, task_statuses, thread_kinds,
+    work_kinds,
+};
 use omp_model::{Endpoint, Event, IMPLICIT_REGION, INITIAL_TASK, Share};
 use ompt_calls::{Call, Word};
-
-/// `ompt_thread_initial` of `ompt_thread_t` (OpenMP 5.2, 19.4.4.10).
-const INITIAL_THREAD: u32 = 1;
-
-/// `ompt_thread_worker` of `ompt_thread_t`.
-const WORKER: u32 = 2;
-
-/// `ompt_scope_begin` of `ompt_scope_endpoint_t` (OpenMP 5.2, 19.4.4.11).
-const SCOPE_BEGIN: u32 = 1;
-
-/// `ompt_scope_end` of `ompt_scope_endpoint_t`.
-const SCOPE_END: u32 = 2;
-
-/// `ompt_parallel_invoker_program` and `ompt_parallel_team` of `ompt_parallel_flag_t` (OpenMP 5.2, 19.4.4).
-const PARALLEL_FLAGS: u32 = 0x8000_0001;
-
-/// `ompt_task_initial` and `ompt_task_implicit` of `ompt_task_flag_t` (OpenMP 5.2, 19.4.4).
-const TASK_INITIAL: u32 = 1;
-
-const TASK_IMPLICIT: u32 = 2;
-
-/// `ompt_task_complete` and `ompt_task_switch` of `ompt_task_status_t` (OpenMP 5.2, 19.4.4).
-const TASK_COMPLETE: u32 = 1;
-
-const TASK_SWITCH: u32 = 7;
-
-/// `ompt_dispatch_section` and `ompt_dispatch_ws_loop_chunk` of `ompt_dispatch_t` (OpenMP 5.2, 19.4.4).
-const DISPATCH_SECTION: u32 = 2;
-
-const DISPATCH_CHUNK: u32 = 3;
 
 /// The callback of the event that has just occurred on the thread, with its arguments (OpenMP 5.2, 19.5.2).
 #[tactic(auto, unfolding(omp_model::specs::Calls::call_of))]
@@ -56,20 +30,20 @@ pub fn call_of(board: &Board, thread: u8, event: Event) -> Call
             thread: board.thread_word(thread),
         },
         Event::InitialTaskBegin => Call::ImplicitTask {
-            endpoint: SCOPE_BEGIN,
+            endpoint: endpoints::BEGIN,
             region: board.region_word(IMPLICIT_REGION),
             task: board.task_word(INITIAL_TASK),
             actual: 1,
             index: 1,
-            flags: TASK_INITIAL,
+            flags: INITIAL,
         },
         Event::InitialTaskEnd => Call::ImplicitTask {
-            endpoint: SCOPE_END,
+            endpoint: endpoints::END,
             region: null_word(),
             task: board.task_word(INITIAL_TASK),
             actual: 0,
             index: 1,
-            flags: TASK_INITIAL,
+            flags: INITIAL,
         },
         Event::ParallelBegin {
             region,
@@ -80,30 +54,30 @@ pub fn call_of(board: &Board, thread: u8, event: Event) -> Call
             frame: current_frame(board, thread, event),
             region: board.region_word(region),
             requested,
-            flags: PARALLEL_FLAGS,
+            flags: parallel_flags::TEAM_OF_PROGRAM,
             codeptr,
         },
         Event::ParallelEnd { region, codeptr } => Call::ParallelEnd {
             region: board.region_word(region),
             task: own_task_word(board, thread),
-            flags: PARALLEL_FLAGS,
+            flags: parallel_flags::TEAM_OF_PROGRAM,
             codeptr,
         },
         Event::MemberBegin { region, task } => Call::ImplicitTask {
-            endpoint: SCOPE_BEGIN,
+            endpoint: endpoints::BEGIN,
             region: board.region_word(region),
             task: board.task_word(task),
             actual: u32::from(board.size(region)),
             index: u32::from(board.member_index(thread, region)),
-            flags: TASK_IMPLICIT,
+            flags: IMPLICIT,
         },
         Event::MemberEnd { region, task } => Call::ImplicitTask {
-            endpoint: SCOPE_END,
+            endpoint: endpoints::END,
             region: null_word(),
             task: board.task_word(task),
             actual: 0,
             index: u32::from(board.member_index(thread, region)),
-            flags: TASK_IMPLICIT,
+            flags: IMPLICIT,
         },
         Event::TaskCreate { task, codeptr, .. } => Call::TaskCreate {
             task: own_task_word(board, thread),
@@ -115,12 +89,12 @@ pub fn call_of(board: &Board, thread: u8, event: Event) -> Call
         },
         Event::TaskBegin { prior, task } => Call::TaskSchedule {
             prior: board.task_word(prior),
-            status: TASK_SWITCH,
+            status: task_statuses::SWITCH,
             next: board.task_word(task),
         },
         Event::TaskEnd { task } => Call::TaskSchedule {
             prior: board.task_word(task),
-            status: TASK_COMPLETE,
+            status: task_statuses::COMPLETE,
             next: own_task_word(board, thread),
         },
         Event::Work {
@@ -196,7 +170,11 @@ pub fn call_of(board: &Board, thread: u8, event: Event) -> Call
 fn thread_kind(thread: u8) -> u32
     ensures { result ≡ calls.thread_kind thread }
 {
-    if thread == 0 { INITIAL_THREAD } else { WORKER }
+    if thread == 0 {
+        thread_kinds::INITIAL
+    } else {
+        thread_kinds::WORKER
+    }
 }
 
 /// The end of an interval that an event is at.
@@ -204,8 +182,8 @@ fn endpoint_number(endpoint: Endpoint) -> u32
     ensures { result ≡ calls.endpoint_number endpoint }
 {
     match endpoint {
-        Endpoint::Begin => SCOPE_BEGIN,
-        Endpoint::End => SCOPE_END,
+        Endpoint::Begin => endpoints::BEGIN,
+        Endpoint::End => endpoints::END,
     }
 }
 
@@ -214,10 +192,10 @@ fn work_number(kind: WorkKind) -> u32
     ensures { result ≡ calls.work_number kind }
 {
     match kind {
-        WorkKind::Loop => 1,
-        WorkKind::Sections => 2,
-        WorkKind::SingleExecutor => 3,
-        WorkKind::SingleOther => 4,
+        WorkKind::Loop => work_kinds::LOOP,
+        WorkKind::Sections => work_kinds::SECTIONS,
+        WorkKind::SingleExecutor => work_kinds::SINGLE_EXECUTOR,
+        WorkKind::SingleOther => work_kinds::SINGLE_OTHER,
     }
 }
 
@@ -226,9 +204,9 @@ fn mutex_number(kind: MutexKind) -> u32
     ensures { result ≡ calls.mutex_number kind }
 {
     match kind {
-        MutexKind::Lock => 1,
-        MutexKind::TestLock => 2,
-        MutexKind::Critical => 5,
+        MutexKind::Lock => mutex_kinds::LOCK,
+        MutexKind::TestLock => mutex_kinds::TEST_LOCK,
+        MutexKind::Critical => mutex_kinds::CRITICAL,
     }
 }
 
@@ -276,28 +254,28 @@ fn sync_call(board: &Board, thread: u8, kind: SyncKind, codeptr: u64, stage: Syn
     match stage {
         SyncStage::RegionBegin => Call::SyncRegion {
             kind,
-            endpoint: SCOPE_BEGIN,
+            endpoint: endpoints::BEGIN,
             region,
             task,
             codeptr,
         },
         SyncStage::WaitBegin => Call::SyncRegionWait {
             kind,
-            endpoint: SCOPE_BEGIN,
+            endpoint: endpoints::BEGIN,
             region,
             task,
             codeptr,
         },
         SyncStage::WaitEnd => Call::SyncRegionWait {
             kind,
-            endpoint: SCOPE_END,
+            endpoint: endpoints::END,
             region,
             task,
             codeptr,
         },
         SyncStage::RegionEnd => Call::SyncRegion {
             kind,
-            endpoint: SCOPE_END,
+            endpoint: endpoints::END,
             region,
             task,
             codeptr,
@@ -315,14 +293,14 @@ fn dispatch_call(board: &Board, thread: u8, share: Share) -> Call
         Share::Chunk { start, count } => Call::Dispatch {
             region,
             task,
-            kind: DISPATCH_CHUNK,
+            kind: dispatch_kinds::WS_LOOP_CHUNK,
             start,
             iterations: count,
         },
         Share::Section(codeptr) => Call::Dispatch {
             region,
             task,
-            kind: DISPATCH_SECTION,
+            kind: dispatch_kinds::SECTION,
             start: codeptr,
             iterations: 0,
         },

@@ -7,6 +7,7 @@ ghost use Rattle.omp_board.specs.Levels.{region_level, unless_again};
 
 use crate::board::Board;
 use crate::frames::frame_of;
+use omp_codes::task_flags::{EXPLICIT, EXPLICIT_UNDEFERRED, IMPLICIT, INITIAL};
 use omp_model::{Event, INITIAL_TASK, STACK_LIMIT};
 use ompt_calls::{RegionLevel, RegionLevels, TaskLevel, TaskLevels, Word};
 use std::alloc::{AllocError, Global};
@@ -74,16 +75,15 @@ impl Levels {
     }
 }
 
-/// The flags of a task of this kind: `ompt_task_initial`, `ompt_task_implicit`, `ompt_task_explicit` and `ompt_task_undeferred` of
-/// `ompt_task_flag_t` (OpenMP 5.2, 19.4.4).
+/// The flags of a task of this kind.
 pub fn task_flags(kind: TaskKind) -> u32
     ensures { result ≡ snapshots.task_flags kind }
 {
     match kind {
-        TaskKind::Initial => 1,
-        TaskKind::Implicit => 2,
-        TaskKind::Explicit => 4,
-        TaskKind::Undeferred => 0x0800_0004,
+        TaskKind::Initial => INITIAL,
+        TaskKind::Implicit => IMPLICIT,
+        TaskKind::Explicit => EXPLICIT,
+        TaskKind::Undeferred => EXPLICIT_UNDEFERRED,
     }
 }
 

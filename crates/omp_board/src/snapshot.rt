@@ -8,38 +8,13 @@ ghost use Rattle.omp_model.specs.Members.{current};
 use crate::board::Board;
 use crate::levels::Levels;
 use c_model::{MutexKind, SyncKind, SyncStage, Upcoming};
+use omp_codes::thread_states::{
+    IDLE, OVERHEAD, WAIT_BARRIER_EXPLICIT, WAIT_BARRIER_IMPLICIT_PARALLEL,
+    WAIT_BARRIER_IMPLICIT_WORKSHARE, WAIT_CRITICAL, WAIT_LOCK, WAIT_TASKWAIT, WORK_PARALLEL,
+    WORK_SERIAL,
+};
 use omp_model::{Event, IMPLICIT_REGION, INITIAL_TASK};
 use ompt_calls::{Snapshot, Target};
-
-/// `ompt_state_work_serial` of `ompt_state_t` (OpenMP 5.2, 19.4.4).
-const WORK_SERIAL: u16 = 0x000;
-
-/// `ompt_state_work_parallel`.
-const WORK_PARALLEL: u16 = 0x001;
-
-/// `ompt_state_wait_barrier_implicit_parallel`.
-const WAIT_BARRIER_IMPLICIT_PARALLEL: u16 = 0x011;
-
-/// `ompt_state_wait_barrier_implicit_workshare`.
-const WAIT_BARRIER_IMPLICIT_WORKSHARE: u16 = 0x012;
-
-/// `ompt_state_wait_barrier_explicit`.
-const WAIT_BARRIER_EXPLICIT: u16 = 0x014;
-
-/// `ompt_state_wait_taskwait`.
-const WAIT_TASKWAIT: u16 = 0x020;
-
-/// `ompt_state_wait_lock`.
-const WAIT_LOCK: u16 = 0x041;
-
-/// `ompt_state_wait_critical`.
-const WAIT_CRITICAL: u16 = 0x042;
-
-/// `ompt_state_idle`.
-const IDLE: u16 = 0x100;
-
-/// `ompt_state_overhead`.
-const OVERHEAD: u16 = 0x101;
 
 /// The state of a thread at work.
 fn work_state(board: &Board, thread: u8) -> u16

@@ -1,6 +1,7 @@
 -- What a registration is answered, and the callbacks of the profile. The numbers are those of `ompt_callbacks_t`
 -- (OpenMP 5.2, 19.4.2).
 use Rattle.std.specs.Prelude.{ℕ, ◌+◌, ◌^◌, Bool, ◌&&◌, ◌||◌, nat_le, if◌then◌else◌, List, [], ◌∷◌}
+use Rattle.omp_codes.specs.declared.set_results.TheConstants.{ALWAYS, ERROR, NEVER}
 
 abbrev pub within : ℕ → ℕ → ℕ → Bool
 within first last number = nat_le first number && nat_le number last
@@ -15,7 +16,7 @@ is_never number = within 18 19 number || within 28 31 number || within 37 37 num
 
 -- `ompt_set_always`, `ompt_set_never`, and `ompt_set_error` for what is no callback
 abbrev pub answer_of : ℕ → ℕ
-answer_of number = if is_always number then 5 else if is_never number then 1 else 0
+answer_of number = if is_always number then ALWAYS else if is_never number then NEVER else ERROR
 
 -- the callbacks whose events a program may have
 abbrev pub in_profile : ℕ → Bool

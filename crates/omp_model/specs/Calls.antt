@@ -9,6 +9,14 @@ use Rattle.c_model.specs.declared.point.SyncStage.TheVariants as stage
 use Rattle.c_model.specs.declared.point.WorkKind.{WorkKind}
 use Rattle.c_model.specs.declared.point.WorkKind.TheVariants as work
 use Rattle.omp_codes.specs.declared.callbacks.TheConstants as callback
+use Rattle.omp_codes.specs.declared.dispatch_kinds.TheConstants as dispatch_kind
+use Rattle.omp_codes.specs.declared.endpoints.TheConstants as scope
+use Rattle.omp_codes.specs.declared.mutex_kinds.TheConstants as mutex_kind
+use Rattle.omp_codes.specs.declared.parallel_flags.TheConstants as parallel_flag
+use Rattle.omp_codes.specs.declared.task_flags.TheConstants as task_flag
+use Rattle.omp_codes.specs.declared.task_statuses.TheConstants as task_status
+use Rattle.omp_codes.specs.declared.thread_kinds.TheConstants as thread_kinds
+use Rattle.omp_codes.specs.declared.work_kinds.TheConstants as work_kind
 use Rattle.ompt_calls.specs.declared.call.Call.{Call}
 use Rattle.ompt_calls.specs.declared.call.Call.TheVariants as call
 use Rattle.ompt_calls.specs.declared.call.Word.{Word}
@@ -28,36 +36,25 @@ use Rattle.omp_model.specs.Snapshots.{task_flags}
 
 -- `ompt_thread_t` (19.4.4.10): the initial thread, or a worker
 abbrev pub thread_kind : ℕ → ℕ
-thread_kind t = if t == 0 then 1 else 2
+thread_kind t = if t == 0 then thread_kinds.INITIAL else thread_kinds.WORKER
 
--- `ompt_scope_begin` and `ompt_scope_end`
+-- `ompt_scope_endpoint_t`
 abbrev pub endpoint_number : Endpoint → ℕ
-endpoint_number endpoint.Begin = 1
-endpoint_number endpoint.End = 2
-
--- `ompt_parallel_team` and `ompt_parallel_invoker_program` (19.4.4)
-abbrev pub parallel_flags : ℕ
-parallel_flags = 0x80000001
+endpoint_number endpoint.Begin = scope.BEGIN
+endpoint_number endpoint.End = scope.END
 
 -- `ompt_work_t`: a loop of any schedule, sections, and the two of a `single`
 abbrev pub work_number : WorkKind → ℕ
-work_number work.Loop = 1
-work_number work.Sections = 2
-work_number work.SingleExecutor = 3
-work_number work.SingleOther = 4
+work_number work.Loop = work_kind.LOOP
+work_number work.Sections = work_kind.SECTIONS
+work_number work.SingleExecutor = work_kind.SINGLE_EXECUTOR
+work_number work.SingleOther = work_kind.SINGLE_OTHER
 
 -- `ompt_mutex_t`
 abbrev pub mutex_number : MutexKind → ℕ
-mutex_number mutex.Lock = 1
-mutex_number mutex.TestLock = 2
-mutex_number mutex.Critical = 5
-
--- `ompt_task_status_t`: a task that has ended, and one that another one is started instead of
-abbrev pub task_complete : ℕ
-task_complete = 1
-
-abbrev pub task_switch : ℕ
-task_switch = 7
+mutex_number mutex.Lock = mutex_kind.LOCK
+mutex_number mutex.TestLock = mutex_kind.TEST_LOCK
+mutex_number mutex.Critical = mutex_kind.CRITICAL
 
 -- the words of the thread's region and current task
 abbrev pub own_region_word : World → ℕ → Word
@@ -74,38 +71,40 @@ synced_region W t which at = own_region_word W t
 
 abbrev pub sync_call : World → ℕ → SyncKind → ℕ → SyncStage → Call
 sync_call W t which codeptr stage.RegionBegin =
-    call.SyncRegion (sync_number which) 1 (synced_region W t which stage.RegionBegin) (own_task_word W t) codeptr
+    call.SyncRegion (sync_number which) scope.BEGIN (synced_region W t which stage.RegionBegin) (own_task_word W t) codeptr
 sync_call W t which codeptr stage.WaitBegin =
-    call.SyncRegionWait (sync_number which) 1 (synced_region W t which stage.WaitBegin) (own_task_word W t) codeptr
+    call.SyncRegionWait (sync_number which) scope.BEGIN (synced_region W t which stage.WaitBegin) (own_task_word W t) codeptr
 sync_call W t which codeptr stage.WaitEnd =
-    call.SyncRegionWait (sync_number which) 2 (synced_region W t which stage.WaitEnd) (own_task_word W t) codeptr
+    call.SyncRegionWait (sync_number which) scope.END (synced_region W t which stage.WaitEnd) (own_task_word W t) codeptr
 sync_call W t which codeptr stage.RegionEnd =
-    call.SyncRegion (sync_number which) 2 (synced_region W t which stage.RegionEnd) (own_task_word W t) codeptr
+    call.SyncRegion (sync_number which) scope.END (synced_region W t which stage.RegionEnd) (own_task_word W t) codeptr
 
--- `ompt_dispatch_t`: a chunk of a worksharing loop is 3, a section 2
+-- a chunk of a worksharing loop, or a section
 abbrev pub dispatch_call : World → ℕ → Share → Call
-dispatch_call W t (Chunk start count) = call.Dispatch (own_region_word W t) (own_task_word W t) 3 start count
-dispatch_call W t (Section codeptr) = call.Dispatch (own_region_word W t) (own_task_word W t) 2 codeptr 0
+dispatch_call W t (Chunk start count) =
+    call.Dispatch (own_region_word W t) (own_task_word W t) dispatch_kind.WS_LOOP_CHUNK start count
+dispatch_call W t (Section codeptr) = call.Dispatch (own_region_word W t) (own_task_word W t) dispatch_kind.SECTION codeptr 0
 
--- The callback of the event that has just occurred on the thread, with its arguments, in the world after the Go. They are those of 19.5.2. The flags of
--- the initial task are `ompt_task_initial`, and of a member's task `ompt_task_implicit`; where one ends, its region is NULL and its actual
--- parallelism 0. Hints and variants are 0, and no task has dependences.
+-- The callback of the event that has just occurred on the thread, with its arguments, in the world after the Go. They are those of 19.5.2. Where the
+-- initial task or a member's task ends, its region is NULL and its actual parallelism 0. Hints and variants are 0, and no task has dependences.
 unfoldable pub call_of : World → ℕ → Event → Call
 call_of W t ThreadBegin = call.ThreadBegin (thread_kind t) (thread_word W t)
 call_of W t ThreadEnd = call.ThreadEnd (thread_word W t)
-call_of W t InitialTaskBegin = call.ImplicitTask 1 (region_word W IMPLICIT_REGION) (task_word W INITIAL_TASK) 1 1 1
-call_of W t InitialTaskEnd = call.ImplicitTask 2 null_word (task_word W INITIAL_TASK) 0 1 1
+call_of W t InitialTaskBegin =
+    call.ImplicitTask scope.BEGIN (region_word W IMPLICIT_REGION) (task_word W INITIAL_TASK) 1 1 task_flag.INITIAL
+call_of W t InitialTaskEnd = call.ImplicitTask scope.END null_word (task_word W INITIAL_TASK) 0 1 task_flag.INITIAL
 call_of W t (ParallelBegin r requested codeptr) =
-    call.ParallelBegin (own_task_word W t) (current_frame W t (ParallelBegin r requested codeptr)) (region_word W r) requested parallel_flags codeptr
-call_of W t (ParallelEnd r codeptr) = call.ParallelEnd (region_word W r) (own_task_word W t) parallel_flags codeptr
+    call.ParallelBegin (own_task_word W t) (current_frame W t (ParallelBegin r requested codeptr)) (region_word W r) requested
+    parallel_flag.TEAM_OF_PROGRAM codeptr
+call_of W t (ParallelEnd r codeptr) = call.ParallelEnd (region_word W r) (own_task_word W t) parallel_flag.TEAM_OF_PROGRAM codeptr
 call_of W t (MemberBegin r k) =
-    call.ImplicitTask 1 (region_word W r) (task_word W k) (region_at W r).head.size (member_index W t r) 2
-call_of W t (MemberEnd r k) = call.ImplicitTask 2 null_word (task_word W k) 0 (member_index W t r) 2
+    call.ImplicitTask scope.BEGIN (region_word W r) (task_word W k) (region_at W r).head.size (member_index W t r) task_flag.IMPLICIT
+call_of W t (MemberEnd r k) = call.ImplicitTask scope.END null_word (task_word W k) 0 (member_index W t r) task_flag.IMPLICIT
 call_of W t (TaskCreate task undeferred codeptr) =
     call.TaskCreate (own_task_word W t) (current_frame W t (TaskCreate task undeferred codeptr)) (task_word W task)
     (task_flags (pooled_at W task).kind) 0 codeptr
-call_of W t (TaskBegin prior task) = call.TaskSchedule (task_word W prior) task_switch (task_word W task)
-call_of W t (TaskEnd task) = call.TaskSchedule (task_word W task) task_complete (own_task_word W t)
+call_of W t (TaskBegin prior task) = call.TaskSchedule (task_word W prior) task_status.SWITCH (task_word W task)
+call_of W t (TaskEnd task) = call.TaskSchedule (task_word W task) task_status.COMPLETE (own_task_word W t)
 call_of W t (Work at which count codeptr) =
     call.Work (work_number which) (endpoint_number at) (own_region_word W t) (own_task_word W t) count codeptr
 call_of W t (Dispatch share) = dispatch_call W t share

@@ -1,6 +1,10 @@
 -- The smallest program, and what its run comes to.
 use Rattle.std.specs.Prelude.{ℕ, List, [], ◌∷◌}
 use Rattle.omp_codes.specs.declared.callbacks.TheConstants.{PROFILE_MASK}
+use Rattle.omp_codes.specs.declared.endpoints.TheConstants as scope
+use Rattle.omp_codes.specs.declared.states.TheConstants as thread_state
+use Rattle.omp_codes.specs.declared.task_flags.TheConstants as task_flag
+use Rattle.omp_codes.specs.declared.thread_kinds.TheConstants as thread_kind
 use Rattle.c_syntax.specs.declared.node.NodeKind.{NodeKind}
 use Rattle.c_syntax.specs.declared.node.NodeKind.TheVariants as node
 use Rattle.c_syntax.specs.declared.node.Parameters.TheVariants as parameters
@@ -55,7 +59,13 @@ empty_history = go_zero ∷ back_zero ∷ go_zero ∷ back_zero ∷ go_zero ∷ 
 -- its four records
 abbrev pub empty_records : List EventRecord
 empty_records =
-    record { seq = 0; thread = 0; state = 0x101; wait_id = 0; call = ThreadBegin 1 (fresh_word 1) }
-    ∷ record { seq = 2; thread = 0; state = 0x000; wait_id = 0; call = ImplicitTask 1 (fresh_word 1) (fresh_word 1) 1 1 1 }
-    ∷ record { seq = 4; thread = 0; state = 0x101; wait_id = 0; call = ImplicitTask 2 (fresh_word 0) (fresh_word 1) 0 1 1 }
-    ∷ record { seq = 6; thread = 0; state = 0x101; wait_id = 0; call = ThreadEnd (fresh_word 1) } ∷ []
+    record { seq = 0; thread = 0; state = thread_state.OVERHEAD; wait_id = 0; call = ThreadBegin thread_kind.INITIAL (fresh_word 1) }
+    ∷ record {
+      seq = 2; thread = 0; state = thread_state.WORK_SERIAL; wait_id = 0;
+      call = ImplicitTask scope.BEGIN (fresh_word 1) (fresh_word 1) 1 1 task_flag.INITIAL
+    }
+    ∷ record {
+      seq = 4; thread = 0; state = thread_state.OVERHEAD; wait_id = 0;
+      call = ImplicitTask scope.END (fresh_word 0) (fresh_word 1) 0 1 task_flag.INITIAL
+    }
+    ∷ record { seq = 6; thread = 0; state = thread_state.OVERHEAD; wait_id = 0; call = ThreadEnd (fresh_word 1) } ∷ []

@@ -22,6 +22,7 @@ use Rattle.c_model.specs.Task.{Item, Moment, Outcome, Task as Code}
 use Rattle.c_model.specs.Task.Item.{Forked}
 use Rattle.c_model.specs.Task.Outcome.{Asks, Ends, Limits, Occurs, StepsTo, Traps}
 use Rattle.c_model.specs.Upcoming.{is_in_critical, is_in_exclusive, is_in_work}
+use Rattle.omp_codes.specs.declared.sync_kinds.TheConstants as sync_kind
 use Rattle.task_pool.specs.declared.task.Full.{Full}
 use Rattle.task_pool.specs.declared.task.TaskKind.{TaskKind}
 use Rattle.task_pool.specs.declared.task.TaskKind.TheVariants as kind
@@ -51,10 +52,10 @@ use Rattle.omp_model.specs.Changes.{destroyed, emptied, finished, forked, initia
 
 -- `ompt_sync_region_t`
 abbrev pub sync_number : SyncKind → ℕ
-sync_number sync.Barrier = 3
-sync_number sync.Taskwait = 5
-sync_number sync.Worksharing = 8
-sync_number sync.Parallel = 9
+sync_number sync.Barrier = sync_kind.BARRIER_EXPLICIT
+sync_number sync.Taskwait = sync_kind.TASKWAIT
+sync_number sync.Worksharing = sync_kind.BARRIER_IMPLICIT_WORKSHARE
+sync_number sync.Parallel = sync_kind.BARRIER_IMPLICIT_PARALLEL
 
 -- a chunk that goes to whoever asks has at least one iteration
 abbrev pub dealt_by : Schedule → Dealt

@@ -9,6 +9,8 @@ use Rattle.c_model.specs.declared.point.SyncStage.{SyncStage}
 use Rattle.c_model.specs.declared.point.SyncStage.TheVariants as stage
 use Rattle.c_model.specs.Task.{Item}
 use Rattle.c_model.specs.Task.Item.{Sync as SyncItem}
+use Rattle.omp_codes.specs.declared.states.TheConstants as thread_state
+use Rattle.omp_codes.specs.declared.task_flags.TheConstants as task_flag
 use Rattle.task_pool.specs.declared.task.TaskKind.{TaskKind}
 use Rattle.task_pool.specs.declared.task.TaskKind.TheVariants as kind
 use Rattle.ompt_calls.specs.declared.snapshot.Snapshot.{Snapshot}
@@ -24,40 +26,38 @@ use Rattle.omp_model.specs.Members.{current, current_region, is_outermost, membe
 use Rattle.omp_model.specs.Words.{region_word, task_word, thread_word}
 use Rattle.omp_model.specs.Frames.{frame_of}
 
--- a thread at work: in the implicit region of the initial task `ompt_state_work_serial`, else `ompt_state_work_parallel`
+-- a thread at work: in the implicit region of the initial task, or in a parallel region
 abbrev pub work_state : World → ℕ → ℕ
-work_state W t = if current_region W t == IMPLICIT_REGION then 0x000 else 0x001
+work_state W t = if current_region W t == IMPLICIT_REGION then thread_state.WORK_SERIAL else thread_state.WORK_PARALLEL
 
--- a member that leaves its region: a worker is `ompt_state_idle`, unless the region is a nested one, and the initial thread is in
--- `ompt_state_overhead`
+-- a member that leaves its region: a worker is idle, unless the region is a nested one, and the initial thread is in the runtime
 abbrev pub left_state : World → ℕ → ℕ → ℕ
-left_state W t r = if t == 0 then 0x101 else if is_outermost W r then 0x100 else 0x101
+left_state W t r = if t == 0 then thread_state.OVERHEAD else if is_outermost W r then thread_state.IDLE else thread_state.OVERHEAD
 
--- a wait: `ompt_state_wait_barrier_explicit`, `ompt_state_wait_taskwait`, `ompt_state_wait_barrier_implicit_workshare`,
--- `ompt_state_wait_barrier_implicit_parallel`
+-- a wait
 abbrev pub wait_state : SyncKind → ℕ
-wait_state sync.Barrier = 0x014
-wait_state sync.Taskwait = 0x020
-wait_state sync.Worksharing = 0x012
-wait_state sync.Parallel = 0x011
+wait_state sync.Barrier = thread_state.WAIT_BARRIER_EXPLICIT
+wait_state sync.Taskwait = thread_state.WAIT_TASKWAIT
+wait_state sync.Worksharing = thread_state.WAIT_BARRIER_IMPLICIT_WORKSHARE
+wait_state sync.Parallel = thread_state.WAIT_BARRIER_IMPLICIT_PARALLEL
 
 abbrev pub sync_state : SyncKind → SyncStage → ℕ
 sync_state which stage.WaitBegin = wait_state which
-sync_state which other = 0x101
+sync_state which other = thread_state.OVERHEAD
 
--- who asks for a lock or a critical may have to wait: `ompt_state_wait_lock`, `ompt_state_wait_critical`. A test doesn't wait
+-- who asks for a lock or a critical may have to wait. A test doesn't wait
 abbrev pub acquire_state : World → ℕ → MutexKind → ℕ
-acquire_state W t mutex.Lock = 0x041
+acquire_state W t mutex.Lock = thread_state.WAIT_LOCK
 acquire_state W t mutex.TestLock = work_state W t
-acquire_state W t mutex.Critical = 0x042
+acquire_state W t mutex.Critical = thread_state.WAIT_CRITICAL
 
 -- a thread that goes back to a task: to one in a wait, to the initial one after main has returned, or to work
 abbrev pub resumed_state : World → ℕ → List Item → ℕ
 resumed_state W t (SyncItem tree which stage.WaitEnd ∷ items) = wait_state which
-resumed_state W t [] = if current W t == INITIAL_TASK then 0x101 else work_state W t
+resumed_state W t [] = if current W t == INITIAL_TASK then thread_state.OVERHEAD else work_state W t
 resumed_state W t other = work_state W t
 
--- the `ompt_state_t` of a thread at its event; where nothing else is said, `ompt_state_overhead`
+-- the `ompt_state_t` of a thread at its event; where nothing else is said, it is in the runtime
 unfoldable pub state_of : World → ℕ → Event → ℕ
 state_of W t InitialTaskBegin = work_state W t
 state_of W t (MemberBegin r k) = work_state W t
@@ -74,7 +74,7 @@ state_of W t (MutexAcquired which wait_id codeptr) = work_state W t
 state_of W t (MutexReleased which wait_id codeptr) = work_state W t
 state_of W t (LockInit wait_id codeptr) = work_state W t
 state_of W t (LockDestroy wait_id codeptr) = work_state W t
-state_of W t other = 0x101
+state_of W t other = thread_state.OVERHEAD
 
 -- what the thread waits for, where it is in one of the two states of waiting for a lock or critical
 abbrev pub awaited : MutexKind → ℕ → ℕ
@@ -85,12 +85,12 @@ abbrev pub wait_id_of : Event → ℕ
 wait_id_of (MutexAcquire which wait_id codeptr) = awaited which wait_id
 wait_id_of other = 0
 
--- `ompt_task_initial`, `ompt_task_implicit`, `ompt_task_explicit`, and `ompt_task_undeferred` with that
+-- `ompt_task_flag_t`
 abbrev pub task_flags : TaskKind → ℕ
-task_flags kind.Initial = 1
-task_flags kind.Implicit = 2
-task_flags kind.Explicit = 4
-task_flags kind.Undeferred = 0x08000004
+task_flags kind.Initial = task_flag.INITIAL
+task_flags kind.Implicit = task_flag.IMPLICIT
+task_flags kind.Explicit = task_flag.EXPLICIT
+task_flags kind.Undeferred = task_flag.EXPLICIT_UNDEFERRED
 
 -- a task of thread u with so many below it, at an event of thread t
 abbrev pub task_level : World → ℕ → Event → ℕ → ℕ → ℕ → TaskLevel

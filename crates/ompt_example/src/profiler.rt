@@ -1,31 +1,10 @@
 //! The tool: it hears of parallel regions, of tasks, and of waits at barriers.
 
 use crate::profile::{Barrier, BarrierWait, Profile, Region};
-use omp_codes::callbacks;
+use omp_codes::{callbacks, endpoints, sync_kinds, task_flags, task_statuses};
 use ompt_calls::{Call, Reply, Snapshot, Store, WordAt};
 use std::sync::{Arc, Mutex, Wait};
-use tool_api::{GuestTool, Memory, Registrar};
-
-/// An answer to `initialize` that makes the tool active.
-const ACTIVE: u32 = 1;
-
-/// `ompt_scope_begin`, an endpoint (OpenMP 5.2, 19.4.4, as all that follow).
-const SCOPE_BEGIN: u32 = 1;
-
-/// `ompt_task_implicit`, a flag of tasks.
-const TASK_IMPLICIT: u32 = 2;
-
-/// `ompt_task_switch`: here an explicit task begins, and the prior one hasn't ended.
-const TASK_SWITCH: u32 = 7;
-
-/// `ompt_sync_region_barrier_explicit`, a kind of synchronization region.
-const BARRIER_EXPLICIT: u32 = 3;
-
-/// `ompt_sync_region_barrier_implicit_workshare`.
-const BARRIER_IMPLICIT_WORKSHARE: u32 = 8;
-
-/// `ompt_sync_region_barrier_implicit_parallel`.
-const BARRIER_IMPLICIT_PARALLEL: u32 = 9;
+use tool_api::{ACTIVE, GuestTool, Memory, Registrar};
 
 /// The guest of one thread. The guests of all threads add to one profile. Nothing is promised of what it has then, so `stands_for` holds
 /// of each record.
@@ -74,24 +53,25 @@ fn add(profile: &mut Profile, thread: u8, call: &Call) -> Result<(), Memory> {
     match *call {
         // The team's first thread begins, and the region's word has the place of the construct.
         Call::ImplicitTask {
-            endpoint: SCOPE_BEGIN,
+            endpoint: endpoints::BEGIN,
             region,
             actual,
             index: 0,
-            flags: TASK_IMPLICIT,
+            flags: task_flags::IMPLICIT,
             ..
         } => profile.add_region(Region {
             number: region.identity,
             line: line_of(region.value),
             team: actual,
         }),
+        // An explicit task begins, and the prior one hasn't ended.
         Call::TaskSchedule {
-            status: TASK_SWITCH,
+            status: task_statuses::SWITCH,
             ..
         } => profile.count_task(thread),
         Call::SyncRegionWait {
             kind,
-            endpoint: SCOPE_BEGIN,
+            endpoint: endpoints::BEGIN,
             codeptr,
             ..
         } => match barrier_of(kind) {
@@ -130,9 +110,9 @@ fn line_of(codeptr: u64) -> u64 {
 /// The barrier of this kind of synchronization region. A `taskwait` is none.
 fn barrier_of(kind: u32) -> Option<Barrier> {
     match kind {
-        BARRIER_EXPLICIT => Some(Barrier::Explicit),
-        BARRIER_IMPLICIT_WORKSHARE => Some(Barrier::Worksharing),
-        BARRIER_IMPLICIT_PARALLEL => Some(Barrier::Parallel),
+        sync_kinds::BARRIER_EXPLICIT => Some(Barrier::Explicit),
+        sync_kinds::BARRIER_IMPLICIT_WORKSHARE => Some(Barrier::Worksharing),
+        sync_kinds::BARRIER_IMPLICIT_PARALLEL => Some(Barrier::Parallel),
         _ => None,
     }
 }

@@ -1,16 +1,10 @@
 //! The second tool: it hears when explicit tasks are created and when they begin.
 
 use crate::task_starts::{TaskStart, TaskStarts};
-use omp_codes::callbacks;
+use omp_codes::{callbacks, task_statuses};
 use ompt_calls::{Call, Reply, Snapshot, Store, Word, WordAt};
 use std::sync::{Arc, Mutex, Wait};
-use tool_api::{GuestTool, Memory, Registrar};
-
-/// An answer to `initialize` that makes the tool active.
-const ACTIVE: u32 = 1;
-
-/// `ompt_task_switch` (OpenMP 5.2, 19.4.4): here an explicit task begins, and the prior one hasn't ended.
-const TASK_SWITCH: u32 = 7;
+use tool_api::{ACTIVE, GuestTool, Memory, Registrar};
 
 /// A number that no level of tasks has.
 const PAST_LEVELS: u32 = 512;
@@ -66,7 +60,7 @@ impl<R: Wait + Copy + Send> GuestTool for TaskProfiler<R> {
 fn begun_task(call: &Call) -> Option<Word> {
     match *call {
         Call::TaskSchedule {
-            status: TASK_SWITCH,
+            status: task_statuses::SWITCH,
             next,
             ..
         } => Some(next),

@@ -6,10 +6,7 @@ use crate::storing::Storing;
 use ompt_calls::{Call, Reply, Snapshot};
 use std::alloc::Global;
 use std::sync::{Arc, Mutex, Wait};
-use tool_api::{GuestTool, Memory, Registrar};
-
-/// An answer to `initialize` that makes the tool active.
-const ACTIVE: u32 = 1;
+use tool_api::{ACTIVE, GuestTool, Memory, Registrar};
 
 /// The guest of one thread. It registers each callback of the profile. The guests of all threads add to the same lines. Nothing is promised
 /// of what these have then, so `stands_for` holds of each record.

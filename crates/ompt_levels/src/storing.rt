@@ -1,12 +1,10 @@
 //! What guests store, and the word that asks for it.
 
+use omp_codes::endpoints;
 use ompt_calls::{Call, Reply, Store, WordAt};
 
 /// The word that makes the guests store positions.
 const STORE: &str = "--store";
-
-/// `ompt_scope_begin`, an endpoint (OpenMP 5.2, 19.4.4).
-const SCOPE_BEGIN: u32 = 1;
 
 /// What the guests store.
 #[derive(Clone, Copy)]
@@ -51,7 +49,7 @@ fn begun_word(call: &Call) -> Option<WordAt> {
     match *call {
         Call::ParallelBegin { .. } | Call::TaskCreate { .. } => Some(WordAt::Fresh),
         Call::ImplicitTask {
-            endpoint: SCOPE_BEGIN,
+            endpoint: endpoints::BEGIN,
             ..
         } => Some(WordAt::Task(0)),
         _ => None,

@@ -16,11 +16,9 @@
 //! | `12 0 masked 1 2 2` | the endpoint, the region and the task |
 
 use crate::row_fault::RowFault;
+use omp_codes::parallel_flags::TEAM_OF_PROGRAM;
 use ompt_calls::{Call, EventRecord, Frame, Word};
 use std::alloc::Global;
-
-/// The flags of a region: a team that the program forked.
-const FORKED: u32 = 0x8000_0001;
 
 /// No frame.
 const NOWHERE: Frame = Frame { exit: 0, enter: 0 };
@@ -93,13 +91,13 @@ fn region_call(name: &str, numbers: &[u32]) -> Option<Call> {
             frame: NOWHERE,
             region: word(*region),
             requested: *requested,
-            flags: FORKED,
+            flags: TEAM_OF_PROGRAM,
             codeptr: 0,
         }),
         ("parallel_end", [region, task]) => Some(Call::ParallelEnd {
             region: word(*region),
             task: word(*task),
-            flags: FORKED,
+            flags: TEAM_OF_PROGRAM,
             codeptr: 0,
         }),
         _ => None,

@@ -28,7 +28,7 @@
 //! Proved for every number, by the contracts of [`Registrar`]:
 //!
 //! - [`Registrar::new`] has nothing registered;
-//! - [`Registrar::set`] answers what `omp_codes` says, and registers the callback exactly where that is 5; all others
+//! - [`Registrar::set`] answers what `omp_codes` says, and registers the callback exactly where that is `ALWAYS`; all others
 //!   stay as they were;
 //! - [`Registrar::set_profile`] registers the callbacks of the profile, where nothing is registered yet;
 //! - [`Registrar::get`] answers 1 exactly where the callback is registered, and else 0.

@@ -2,15 +2,14 @@
 
 ghost use Rattle.std.specs.Prelude.{◌≡◌, ◌^◌, ℕ};
 ghost use Rattle.omp_codes.specs.Answers.{answer_of};
+ghost use Rattle.omp_codes.specs.declared.set_results.TheConstants.{ALWAYS};
 ghost use Rattle.ompt_calls.specs.Number.{is_registered};
 ghost use Rattle.tool_api.specs.Registering.{AreAlways, is_registered_after, get_answer};
 
+use omp_codes::set_results::ALWAYS;
 use omp_codes::{PROFILE, PROFILE_MASK, set_answer};
 use ompt_calls::is_registered;
 use std::marker::Model;
-
-/// What `set` answers where it registers: `ompt_set_always`.
-const ALWAYS: u8 = 5;
 
 /// What a tool has registered while it is initialized. Contracts see it as a mask: bit n for the callback with number n
 /// in `ompt_callbacks_t` (OpenMP 5.2, 19.4.2). Each callback that is registered is one that is called always.
@@ -47,8 +46,9 @@ impl Registrar {
         self.mask
     }
 
-    /// Registers the callback with this number, as `ompt_set_callback` does (OpenMP 5.2, 19.6.1.3): where the answer is 5,
-    /// always, it is registered. Otherwise the answer is 1, never, or 0, an error, and nothing changes.
+    /// Registers the callback with this number, as `ompt_set_callback` does (OpenMP 5.2, 19.6.1.3): where the answer is
+    /// `ALWAYS`, it is registered. Otherwise the answer is `NEVER` or `ERROR`, and nothing changes. The answers are those of
+    /// [`set_results`](omp_codes::set_results).
     pub fn set(&mut self, number: u32) -> u8
         ensures answer { result ≡ answer_of number }
         ensures registers { (other : ℕ) → is_registered self.new other ≡ is_registered_after self.old number other }
@@ -86,7 +86,7 @@ impl Registrar {
 
 /// The bit of a callback that is always called.
 fn bit(number: u32) -> u64
-    requires { answer_of number ≡ 5 }
+    requires { answer_of number ≡ ALWAYS }
     ensures { result ≡ 2 ^ number }
 {
     1 << number

@@ -1,6 +1,7 @@
 -- The eight cases and the keys say the same.
 use Rattle.std.proofs.Common.{◌≡◌, ℕ, ◌+◌, ◌==◌, ◌&&◌, ◌||◌, Bool, true, false, cond, not, List, ◌∷◌, Option, Some, None, refl, sym, ◌∙◌, ap}
 use Rattle.std.proofs.lemmas.Bool.{eqb-true}
+use Rattle.omp_codes.specs.declared.task_flags.TheConstants.{EXPLICIT_UNDEFERRED}
 use Rattle.ompt_calls.specs.declared.call.Call.{Call}
 use Rattle.ompt_calls.specs.declared.call.Call.TheVariants.{ImplicitTask, ParallelBegin, ParallelEnd, SyncRegionWait, TaskCreate, TaskSchedule, ThreadBegin}
 use Rattle.ompt_calls.specs.declared.event.EventRecord.{EventRecord}
@@ -9,7 +10,7 @@ use Rattle.tool_tasks.specs.declared.key.Key.{Key}
 use Rattle.tool_tasks.specs.declared.key.Key.TheVariants.{Next, Begun, Left, Created, Child, Ended, Wait}
 use Rattle.tool_tasks.specs.Charge.{charged_task, charges_of}
 use Rattle.tool_tasks.specs.Keys.{given_by, given_by_completion, gives, has_key, is_among_keys, is_key, key_of, leads_by_keys, next_given, next_taken, parent_next, same_key, taken_by}
-use Rattle.tool_tasks.specs.Leads.{and_then, barrier_ended, ends_of, initial_ended, joined_region, leads, numbered, parent_completed, parent_if_undeferred, parent_of, place_after, place_freed, place_of, region_completed, region_entered, region_left, region_of, same, same_two, task_created, taskwait_ended, undeferred_flags, wait_begun, wait_ended}
+use Rattle.tool_tasks.specs.Leads.{and_then, barrier_ended, ends_of, initial_ended, joined_region, leads, numbered, parent_completed, parent_if_undeferred, parent_of, place_after, place_freed, place_of, region_completed, region_entered, region_left, region_of, same, same_two, task_created, taskwait_ended, wait_begun, wait_ended}
 use Rattle.tool_tasks.specs.Tree.{Origin, origin_of}
 
 -- the key of a reading with a number
@@ -39,7 +40,7 @@ reads key past event call =
 freed_is : (past : List EventRecord) (event : EventRecord) (origin : Option Origin)
     → parent_next past event origin ≡ key_at Next (numbered (parent_if_undeferred origin) (λ (parent : ℕ). charges_of parent (event ∷ past)))
 freed_is past event None = refl
-freed_is past event (Some origin) = by-test (origin.flags == undeferred_flags)
+freed_is past event (Some origin) = by-test (origin.flags == EXPLICIT_UNDEFERRED)
   where
     by-test : (b : Bool) → cond b (Some (Next origin.parent (charges_of origin.parent (event ∷ past)))) None
         ≡ key_at Next (numbered (cond b (Some origin.parent) None) (λ (parent : ℕ). charges_of parent (event ∷ past)))

@@ -6,6 +6,7 @@ use Rattle.std.specs.Ordering.{nat_cmp}
 use Rattle.std.proofs.lemmas.Bool.{eqb-true, eq-eqb}
 use Rattle.std.proofs.lemmas.Bool.Decides.{leb_tells}
 use Rattle.std.proofs.lemmas.Option.{slice_get-get_or}
+use Rattle.omp_codes.specs.declared.task_flags.TheConstants.{EXPLICIT_UNDEFERRED}
 use Rattle.ompt_calls.specs.declared.event.EventRecord.{EventRecord}
 use Rattle.trace_check.specs.Before.{greatest_task, is_just}
 use Rattle.trace_check.specs.Checking.{Unbroken}
@@ -17,7 +18,7 @@ use Rattle.tool_tasks.specs.declared.reaches.Reaches.{Reaches}
 use Rattle.tool_tasks.specs.Charge.{charged_task, charges_of, one_if}
 use Rattle.tool_tasks.specs.Holding.{AreAllShort, AreShort, GivesAll, GivesKey, HoldsBests, HoldsNodes, HoldsReaches, IsShortKey, is_given, is_number, length_at, length_for, node_at, number_of, unlinked}
 use Rattle.tool_tasks.specs.Keys.{given_by, gives, has_key, key_of, next_given, next_taken, parent_next, taken_by, takes, with_three, with_two}
-use Rattle.tool_tasks.specs.Leads.{parent_of, undeferred_flags}
+use Rattle.tool_tasks.specs.Leads.{parent_of}
 use Rattle.tool_tasks.specs.Reaching.{best, is_charged, most, reach, span_of}
 use Rattle.tool_tasks.specs.Tree.{Origin, origin_of}
 use Rattle.tool_tasks.proofs.Charged.{no_charges, no_zero_charges}
@@ -71,7 +72,7 @@ uncharged nodes past (suc place) holds unbroken none = elim (leb_tells (length n
 
 pub record IsGiven (past : List EventRecord) (event : EventRecord) (node : TaskNode) (origin : Option Origin) : Type 0 where
   pub child : Some (Child node.parent) ≡ key_of Child (parent_of origin)
-  pub next : cond (node.flags == undeferred_flags) (Some (Next node.parent (charges_of node.parent (event ∷ past)))) None ≡ parent_next past event origin
+  pub next : cond (node.flags == EXPLICIT_UNDEFERRED) (Some (Next node.parent (charges_of node.parent (event ∷ past)))) None ≡ parent_next past event origin
 
 pub completed : (past : List EventRecord) (event : EventRecord) (task n : ℕ) (node : TaskNode) → Some node ≡ unlinked task n (origin_of task (event ∷ past))
     → origin_of task (event ∷ past) ≡ origin_of task past → IsGiven past event node (origin_of task past)
@@ -83,7 +84,7 @@ completed past event task n node is same = by-origin (origin_of task past) (is �
         let e : node ≡ record { identity = task; flags = origin.flags; events = n; parent = origin.parent; first_child = 0; next_sibling = 0 } = cc in
         record {
           child = rw e refl;
-          next = subst (λ (one : TaskNode). cond (one.flags == undeferred_flags) (Some (Next one.parent (charges_of one.parent (event ∷ past)))) None ≡ parent_next past event (Some origin)) (sym e) refl;
+          next = subst (λ (one : TaskNode). cond (one.flags == EXPLICIT_UNDEFERRED) (Some (Next one.parent (charges_of one.parent (event ∷ past)))) None ≡ parent_next past event (Some origin)) (sym e) refl;
         }
 
 pub completed_none : (past : List EventRecord) (event : EventRecord) (task n : ℕ) → None ≡ unlinked task n (origin_of task (event ∷ past))

@@ -1,5 +1,7 @@
 -- Which task an event is charged to: the one that its thread runs, with the events before it, the newest first.
 use Rattle.std.specs.Prelude.{ℕ, ◌+◌, ◌==◌, Bool, true, false, List, [], ◌∷◌, drop, is_some, Option, Some, None, if◌then◌else◌}
+use Rattle.omp_codes.specs.declared.endpoints.TheConstants.{BEGIN, END}
+use Rattle.omp_codes.specs.declared.task_statuses.TheConstants.{COMPLETE, SWITCH}
 use Rattle.ompt_calls.specs.declared.call.Call.{Call}
 use Rattle.ompt_calls.specs.declared.call.Call.TheVariants.{ImplicitTask, TaskSchedule}
 use Rattle.ompt_calls.specs.declared.event.EventRecord.{EventRecord}
@@ -8,10 +10,10 @@ use Rattle.tool_tasks.specs.declared.stack_step.StackStep.{StackStep}
 use Rattle.tool_tasks.specs.declared.stack_step.StackStep.TheVariants.{Push, Pop, Stay}
 
 -- The stack of tasks of a thread: the begin of an implicit or initial task and the switch to a task push it, and its end and its completion pop it.
--- Endpoint 1 is the begin and 2 the end, status 7 the switch and 1 the completion.
 abbrev pub stack_step : Call → StackStep
-stack_step (ImplicitTask endpoint region task actual index flags) = if endpoint == 1 then Push task.identity else if endpoint == 2 then Pop else Stay
-stack_step (TaskSchedule prior status next) = if status == 7 then Push next.identity else if status == 1 then Pop else Stay
+stack_step (ImplicitTask endpoint region task actual index flags) =
+    if endpoint == BEGIN then Push task.identity else if endpoint == END then Pop else Stay
+stack_step (TaskSchedule prior status next) = if status == SWITCH then Push next.identity else if status == COMPLETE then Pop else Stay
 stack_step other = Stay
 
 abbrev pub stack_after : StackStep → List ℕ → List ℕ

@@ -2,6 +2,10 @@
 -- and the proofs. The events before an event stand with the newest first.
 use Rattle.std.specs.Prelude.{ℕ, ◌+◌, ◌==◌, ◌&&◌, Bool, false, not, List, [], ◌∷◌, Option, Some, None, if◌then◌else◌}
 use Rattle.std.specs.List.{list_any}
+use Rattle.omp_codes.specs.declared.endpoints.TheConstants.{BEGIN, END}
+use Rattle.omp_codes.specs.declared.sync_kinds.TheConstants.{TASKWAIT}
+use Rattle.omp_codes.specs.declared.task_flags.TheConstants.{EXPLICIT_UNDEFERRED, INITIAL}
+use Rattle.omp_codes.specs.declared.task_statuses.TheConstants.{COMPLETE, SWITCH}
 use Rattle.ompt_calls.specs.declared.call.Call.{Call}
 use Rattle.ompt_calls.specs.declared.call.Call.TheVariants.{ImplicitTask, ParallelBegin, ParallelEnd, SyncRegionWait, TaskCreate, TaskSchedule}
 use Rattle.ompt_calls.specs.declared.event.EventRecord.{EventRecord}
@@ -9,7 +13,7 @@ use Rattle.trace_check.specs.Before.{is_barrier, waits_of}
 use Rattle.tool_tasks.specs.declared.key.Key.{Key}
 use Rattle.tool_tasks.specs.declared.key.Key.TheVariants.{Next, Begun, Left, Created, Child, Ended, Wait}
 use Rattle.tool_tasks.specs.Charge.{charged_task, charges_of}
-use Rattle.tool_tasks.specs.Leads.{ends_of, joined_region, parent_of, region_of, undeferred_flags}
+use Rattle.tool_tasks.specs.Leads.{ends_of, joined_region, parent_of, region_of}
 use Rattle.tool_tasks.specs.Tree.{Origin, origin_of}
 
 -- ---- keys that an event gives
@@ -27,7 +31,7 @@ next_given past (Some task) = Some (Next task (charges_of task past + 1))
 abbrev pub parent_next : List EventRecord → EventRecord → Option Origin → Option Key
 parent_next past event None = None
 parent_next past event (Some origin) =
-    if origin.flags == undeferred_flags then Some (Next origin.parent (charges_of origin.parent (event ∷ past))) else None
+    if origin.flags == EXPLICIT_UNDEFERRED then Some (Next origin.parent (charges_of origin.parent (event ∷ past))) else None
 
 -- what the completion of a task gives, and the begin of its wait at a barrier
 abbrev pub given_by_completion : List EventRecord → EventRecord → ℕ → Option Key × Option Key × Option Key
@@ -41,11 +45,12 @@ given_by_wait past task = key_of (λ (region : ℕ). Wait region (waits_of task 
 abbrev pub given_by : List EventRecord → EventRecord → Call → Option Key × Option Key × Option Key
 given_by past event (ParallelBegin task frame region requested flags codeptr) = (Some (Begun region.identity), None, None)
 given_by past event (ImplicitTask endpoint region task actual index flags) =
-    (if endpoint == 2 then key_of Left (joined_region task.identity past) else None, None, None)
+    (if endpoint == END then key_of Left (joined_region task.identity past) else None, None, None)
 given_by past event (TaskCreate task frame fresh flags has_dependences codeptr) = (Some (Created fresh.identity), None, None)
-given_by past event (TaskSchedule prior status next) = if status == 1 then given_by_completion past event prior.identity else (None, None, None)
+given_by past event (TaskSchedule prior status next) =
+    if status == COMPLETE then given_by_completion past event prior.identity else (None, None, None)
 given_by past event (SyncRegionWait kind endpoint region task codeptr) =
-    (if (endpoint == 1) && is_barrier kind then given_by_wait past task.identity else None, None, None)
+    (if (endpoint == BEGIN) && is_barrier kind then given_by_wait past task.identity else None, None, None)
 given_by past event other = (None, None, None)
 
 abbrev pub with_three : Option Key → Option Key × Option Key × Option Key → List (Option Key)
@@ -60,10 +65,10 @@ abbrev pub next_taken : List EventRecord → Option ℕ → Option Key
 next_taken past None = None
 next_taken past (Some task) = Some (Next task (charges_of task past))
 
--- what the end of a task's wait takes: a taskwait is of kind 5
+-- what the end of a task's wait takes
 abbrev pub taken_by_wait : List EventRecord → ℕ → ℕ → Option Key × Option Key
 taken_by_wait past kind task =
-    if kind == 5 then (Some (Child task), None)
+    if kind == TASKWAIT then (Some (Child task), None)
     else if is_barrier kind
     then (key_of Ended (joined_region task past), key_of (λ (region : ℕ). Wait region (ends_of task past)) (joined_region task past))
     else (None, None)
@@ -71,12 +76,13 @@ taken_by_wait past kind task =
 -- what the begin of an implicit task takes, and the end of the initial one, the end of a region, a switch to a task, and the end of a wait
 abbrev pub taken_by : List EventRecord → Call → Option Key × Option Key
 taken_by past (ImplicitTask endpoint region task actual index flags) =
-    if (endpoint == 1) && not (flags == 1) then (Some (Begun region.identity), None)
-    else if (endpoint == 2) && (flags == 1) then (Some (Ended 1), None)
+    if (endpoint == BEGIN) && not (flags == INITIAL) then (Some (Begun region.identity), None)
+    else if (endpoint == END) && (flags == INITIAL) then (Some (Ended 1), None)
     else (None, None)
 taken_by past (ParallelEnd region task flags codeptr) = (Some (Left region.identity), None)
-taken_by past (TaskSchedule prior status next) = if status == 7 then (Some (Created next.identity), None) else (None, None)
-taken_by past (SyncRegionWait kind endpoint region task codeptr) = if endpoint == 2 then taken_by_wait past kind task.identity else (None, None)
+taken_by past (TaskSchedule prior status next) = if status == SWITCH then (Some (Created next.identity), None) else (None, None)
+taken_by past (SyncRegionWait kind endpoint region task codeptr) =
+    if endpoint == END then taken_by_wait past kind task.identity else (None, None)
 taken_by past other = (None, None)
 
 abbrev pub with_two : Option Key → Option Key × Option Key → List (Option Key)

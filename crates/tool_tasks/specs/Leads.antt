@@ -1,5 +1,8 @@
 -- When a charged event leads to a later one: eight cases. The events before an event stand with the newest first.
 use Rattle.std.specs.Prelude.{ℕ, ◌+◌, ◌==◌, ◌&&◌, ◌||◌, Bool, false, not, List, [], ◌∷◌, Option, Some, None, if◌then◌else◌}
+use Rattle.omp_codes.specs.declared.endpoints.TheConstants.{BEGIN, END}
+use Rattle.omp_codes.specs.declared.sync_kinds.TheConstants.{TASKWAIT}
+use Rattle.omp_codes.specs.declared.task_flags.TheConstants.{EXPLICIT_UNDEFERRED, INITIAL}
 use Rattle.ompt_calls.specs.declared.call.Call.{Call}
 use Rattle.ompt_calls.specs.declared.call.Call.TheVariants.{ImplicitTask, SyncRegionWait, TaskCreate}
 use Rattle.ompt_calls.specs.declared.event.EventRecord.{EventRecord}
@@ -32,7 +35,7 @@ joined_region k (event ∷ past) = or_else (joins_by k (making_by event.call)) (
 
 -- how many waits at barriers a task has ended
 abbrev pub ended_wait : Call → Option ℕ
-ended_wait (SyncRegionWait kind endpoint region task codeptr) = if (endpoint == 2) && is_barrier kind then Some task.identity else None
+ended_wait (SyncRegionWait kind endpoint region task codeptr) = if (endpoint == END) && is_barrier kind then Some task.identity else None
 ended_wait other = None
 
 abbrev pub ends_of : ℕ → List EventRecord → ℕ
@@ -60,7 +63,8 @@ place_after past event = numbered (charged_task past event) (λ (task : ℕ). ch
 
 -- the region of which an implicit task begins, or ends
 abbrev pub region_entered : Call → Option ℕ
-region_entered (ImplicitTask endpoint region task actual index flags) = if (endpoint == 1) && not (flags == 1) then Some region.identity else None
+region_entered (ImplicitTask endpoint region task actual index flags) =
+    if (endpoint == BEGIN) && not (flags == INITIAL) then Some region.identity else None
 region_entered other = None
 
 abbrev pub region_left : List EventRecord → Call → Option ℕ
@@ -82,22 +86,19 @@ parent_completed past call = and_then (task_completed call) (λ (task : ℕ). pa
 abbrev pub region_completed : List EventRecord → Call → Option ℕ
 region_completed past call = and_then (task_completed call) (λ (task : ℕ). region_of task past)
 
--- the parent of the task that is complete, if this one was undeferred, with how many events are charged to the parent by then. These are the flags of
--- such a task: explicit and undeferred
-abbrev pub undeferred_flags : ℕ
-undeferred_flags = 0x08000004
-
+-- the parent of the task that is complete, if this one was undeferred, with how many events are charged to the parent by then
 abbrev pub parent_if_undeferred : Option Origin → Option ℕ
 parent_if_undeferred None = None
-parent_if_undeferred (Some origin) = if origin.flags == undeferred_flags then Some origin.parent else None
+parent_if_undeferred (Some origin) = if origin.flags == EXPLICIT_UNDEFERRED then Some origin.parent else None
 
 abbrev pub place_freed : List EventRecord → EventRecord → Call → Option (ℕ × ℕ)
 place_freed past event call =
     and_then (task_completed call) (λ (task : ℕ). numbered (parent_if_undeferred (origin_of task past)) (λ (parent : ℕ). charges_of parent (event ∷ past)))
 
--- the task whose wait at a taskwait ends: kind 5
+-- the task whose wait at a taskwait ends
 abbrev pub taskwait_ended : Call → Option ℕ
-taskwait_ended (SyncRegionWait kind endpoint region task codeptr) = if (endpoint == 2) && (kind == 5) then Some task.identity else None
+taskwait_ended (SyncRegionWait kind endpoint region task codeptr) =
+    if (endpoint == END) && (kind == TASKWAIT) then Some task.identity else None
 taskwait_ended other = None
 
 -- the region at whose barrier the wait of an implicit task ends. That of the initial task is 1
@@ -114,7 +115,7 @@ wait_ended past call = and_then (ended_wait call) (λ (task : ℕ). numbered (jo
 
 -- region 1, where the initial task ends
 abbrev pub initial_ended : Call → Option ℕ
-initial_ended (ImplicitTask endpoint region task actual index flags) = if (endpoint == 2) && (flags == 1) then Some 1 else None
+initial_ended (ImplicitTask endpoint region task actual index flags) = if (endpoint == END) && (flags == INITIAL) then Some 1 else None
 initial_ended other = None
 
 -- ---- an event leads to a later one

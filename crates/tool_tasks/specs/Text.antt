@@ -2,6 +2,7 @@
 use Rattle.std.specs.Prelude.{ℕ, zero, suc, ◌≡◌, ◌==◌, List, [], ◌∷◌, ◌++◌, codes, filter, is_some, length, reverse, Option, Some, None, if◌then◌else◌}
 use Rattle.std.specs.Fmt.{decimal}
 use Rattle.std.specs.List.{flat_map}
+use Rattle.omp_codes.specs.declared.task_flags.TheConstants.{IMPLICIT, INITIAL}
 use Rattle.ompt_calls.specs.declared.event.EventRecord.{EventRecord}
 use Rattle.ompt_calls.specs.Line.{spaced}
 use Rattle.tool_tasks.specs.declared.forest.TaskNode.{TaskNode}
@@ -24,7 +25,7 @@ tasks_in_order past = tree_order past (length (tasks_of past)) 1
 
 -- flags 1 are those of an initial task, and flags 2 those of an implicit one
 abbrev pub kind_text : ℕ → List ℕ
-kind_text flags = if flags == 1 then codes "initial" else if flags == 2 then codes "implicit" else codes "explicit"
+kind_text flags = if flags == INITIAL then codes "initial" else if flags == IMPLICIT then codes "implicit" else codes "explicit"
 
 -- the line of a task: its identity, its kind, its parent and how many events are charged to it
 abbrev pub task_line : TaskNode → List ℕ

@@ -1,6 +1,8 @@
 -- The tree of the tasks that events make, the newest event first. Task 1 is there from the start.
 use Rattle.std.specs.Prelude.{ℕ, ◌+◌, ◌-◌, ◌==◌, ◌&&◌, Bool, false, not, List, [], ◌∷◌, filter, Option, Some, None, if◌then◌else◌}
 use Rattle.std.specs.List.{range_with_len}
+use Rattle.omp_codes.specs.declared.endpoints.TheConstants.{BEGIN}
+use Rattle.omp_codes.specs.declared.task_flags.TheConstants.{INITIAL}
 use Rattle.ompt_calls.specs.declared.call.Call.{Call}
 use Rattle.ompt_calls.specs.declared.call.Call.TheVariants.{ImplicitTask, ParallelBegin, TaskCreate}
 use Rattle.ompt_calls.specs.declared.event.EventRecord.{EventRecord}
@@ -11,11 +13,11 @@ use Rattle.tool_tasks.specs.declared.making.Making.TheVariants.{Region, Implicit
 use Rattle.tool_tasks.specs.Charge.{charges_of}
 
 -- A parallel_begin makes its region, with its encountering task. The begin of an implicit task that isn't the initial one makes that task, and a
--- creation the created one. Endpoint 1 is the begin, and flags 1 are those of the initial task.
+-- creation the created one.
 abbrev pub making_by : Call → Making
 making_by (ParallelBegin task frame region requested flags codeptr) = Region region.identity task.identity
 making_by (ImplicitTask endpoint region task actual index flags) =
-    if (endpoint == 1) && not (flags == 1) then Implicit task.identity region.identity flags else Nothing
+    if (endpoint == BEGIN) && not (flags == INITIAL) then Implicit task.identity region.identity flags else Nothing
 making_by (TaskCreate task frame fresh flags has_dependences codeptr) = Explicit fresh.identity task.identity flags
 making_by other = Nothing
 
@@ -51,7 +53,7 @@ originates k past other = None
 
 -- the initial task has no parent, and the flags of initial tasks
 abbrev pub origin_of : ℕ → List EventRecord → Option Origin
-origin_of k [] = if k == 1 then Some (record { parent = 0; flags = 1 }) else None
+origin_of k [] = if k == 1 then Some (record { parent = 0; flags = INITIAL }) else None
 origin_of k (event ∷ past) = or_else (originates k past (making_by event.call)) (origin_of k past)
 
 -- ---- children, in the order of their identities

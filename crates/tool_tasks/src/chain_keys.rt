@@ -1,6 +1,7 @@
 //! The keys that an event gives and takes.
 
 ghost use Rattle.std.specs.Prelude.{◌≡◌, ◌∷◌, ◌==◌, List, None, Some, if◌then◌else◌};
+ghost use Rattle.omp_codes.specs.declared.task_flags.TheConstants.{EXPLICIT_UNDEFERRED};
 ghost use Rattle.ompt_calls.specs.declared.event.EventRecord.{EventRecord as EventOf};
 ghost use Rattle.trace_check.specs.Checking.{Unbroken};
 ghost use Rattle.trace_check.specs.Rules.{first_broken};
@@ -14,15 +15,11 @@ ghost use Rattle.tool_tasks.specs.Tree.{origin_of};
 use crate::chain_tasks::{ChainTasks, INITIAL_REGION, is_barrier};
 use crate::forest::TaskNode;
 use crate::key::Key;
-use crate::making::INITIAL;
-use crate::stack_step::{BEGIN, COMPLETE, END, SWITCH};
+use omp_codes::endpoints::{BEGIN, END};
+use omp_codes::sync_kinds::TASKWAIT;
+use omp_codes::task_flags::{EXPLICIT_UNDEFERRED, INITIAL};
+use omp_codes::task_statuses::{COMPLETE, SWITCH};
 use ompt_calls::{Call, EventRecord};
-
-/// The kind of a taskwait (OpenMP 5.2, 19.4.4).
-const TASKWAIT: u32 = 5;
-
-/// The flags of an explicit task that is undeferred.
-const UNDEFERRED: u32 = 0x0800_0004;
 
 /// The keys that an event takes, beside the place of its task's next event.
 pub(crate) fn taken_keys(tasks: &ChainTasks, call: &Call) -> (Option<Key>, Option<Key>)
@@ -181,9 +178,9 @@ fn ended_given(tasks: &ChainTasks, task: u32) -> Option<Key>
 /// The key that the completion of a task gives to its parent, if it was undeferred.
 fn parent_given(node: &TaskNode, nodes: &[TaskNode]) -> Option<Key>
     ensures { (past : List EventOf) → HoldsNodes nodes.now past past → Unbroken past →
-        result ≡ (if node.now.flags == 0x08000004 then Some (Next node.now.parent (charges_of node.now.parent past)) else None) }
+        result ≡ (if node.now.flags == EXPLICIT_UNDEFERRED then Some (Next node.now.parent (charges_of node.now.parent past)) else None) }
 {
-    if node.flags == UNDEFERRED {
+    if node.flags == EXPLICIT_UNDEFERRED {
         Some(Key::Next(node.parent, events_of(nodes, node.parent)))
     } else {
         None

@@ -8,17 +8,13 @@ ghost use Rattle.trace_check.specs.Before.{is_barrier as is_barrier_of};
 ghost use Rattle.tool_tasks.specs.Holding.{CountsAt, HoldsBegun, HoldsEnded, HoldsJoined, HoldsRegionsOf, HoldsTasks, counted_at};
 
 use crate::making::{Making, making_by};
-use crate::stack_step::{BEGIN, END};
+use omp_codes::endpoints::{BEGIN, END};
+use omp_codes::sync_kinds::{
+    BARRIER_EXPLICIT, BARRIER_IMPLICIT_PARALLEL, BARRIER_IMPLICIT_WORKSHARE,
+};
 use ompt_calls::{Call, EventRecord};
 use std::alloc::{AllocError, Global};
 use std::collections::BTreeMap;
-
-/// The kinds of `ompt_sync_region_t` that are barriers (OpenMP 5.2, 19.4.4): explicit ones, and the implicit ones of worksharing and of regions.
-const BARRIER: u32 = 3;
-
-const WORKSHARE: u32 = 8;
-
-const PARALLEL: u32 = 9;
 
 /// The initial task, and its region.
 const INITIAL_TASK: u32 = 1;
@@ -160,5 +156,7 @@ fn count_one(counts: &mut BTreeMap<u32, u32>, task: u32) -> Result<(), AllocErro
 pub(crate) fn is_barrier(kind: u32) -> bool
     ensures { result ≡ is_barrier_of kind }
 {
-    kind == BARRIER || kind == WORKSHARE || kind == PARALLEL
+    kind == BARRIER_EXPLICIT
+        || kind == BARRIER_IMPLICIT_WORKSHARE
+        || kind == BARRIER_IMPLICIT_PARALLEL
 }

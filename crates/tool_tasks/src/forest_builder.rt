@@ -10,8 +10,9 @@ ghost use Rattle.tool_tasks.specs.Holding.{Builds, CountsOne, HoldsForest, Holds
 
 use crate::chains::Chains;
 use crate::forest::{Forest, TaskNode};
-use crate::making::{INITIAL, Making, making_by};
+use crate::making::{Making, making_by};
 use crate::stacks::Stacks;
+use omp_codes::task_flags::INITIAL;
 use ompt_calls::EventRecord;
 use std::alloc::{AllocError, Global};
 use std::collections::BTreeMap;

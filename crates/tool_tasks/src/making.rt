@@ -3,13 +3,9 @@
 ghost use Rattle.std.specs.Prelude.{◌≡◌};
 ghost use Rattle.tool_tasks.specs.Tree.{making_by};
 
-use crate::stack_step::BEGIN;
+use omp_codes::endpoints::BEGIN;
+use omp_codes::task_flags::INITIAL;
 use ompt_calls::Call;
-
-/// `ompt_task_initial` and `ompt_task_implicit` (OpenMP 5.2, 19.4.4).
-pub(crate) const INITIAL: u32 = 1;
-
-pub(crate) const IMPLICIT: u32 = 2;
 
 /// What an event makes.
 #[derive(Clone, Copy, PartialEq, Eq)]

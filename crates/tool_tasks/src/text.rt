@@ -8,7 +8,7 @@ ghost use Rattle.tool_tasks.specs.Text.{kind_text, lines_of, number_lines, task_
 
 use crate::chain_keys::node_at;
 use crate::forest::TaskNode;
-use crate::making::{IMPLICIT, INITIAL};
+use omp_codes::task_flags::{IMPLICIT, INITIAL};
 use std::alloc::{AllocError, Global};
 
 /// The lines with how many tasks there are, the work and the span.

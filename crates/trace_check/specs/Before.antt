@@ -1,6 +1,10 @@
 -- What the events before one tell, the newest first.
 use Rattle.std.specs.Prelude.{ℕ, ◌==◌, ◌&&◌, ◌||◌, Bool, true, false, not, max, List, [], ◌∷◌, filter, count_by, Option, Some, None, if◌then◌else◌}
 use Rattle.std.specs.List.{list_any}
+use Rattle.omp_codes.specs.declared.endpoints.TheConstants.{BEGIN, END}
+use Rattle.omp_codes.specs.declared.sync_kinds.TheConstants as sync_kind
+use Rattle.omp_codes.specs.declared.task_flags.TheConstants.{INITIAL}
+use Rattle.omp_codes.specs.declared.task_statuses.TheConstants.{COMPLETE, SWITCH}
 use Rattle.ompt_calls.specs.declared.call.Call.{Call}
 use Rattle.ompt_calls.specs.declared.call.Call.TheVariants.{ThreadBegin, ThreadEnd, ParallelBegin, ParallelEnd, TaskCreate, TaskSchedule, ImplicitTask, SyncRegionWait, MutexReleased, MutexAcquired}
 use Rattle.ompt_calls.specs.declared.event.EventRecord.{EventRecord}
@@ -64,7 +68,7 @@ has_ended_region r past = list_any (λ (event : EventRecord). is_just r (region_
 abbrev pub is_open_region : ℕ → List EventRecord → Bool
 is_open_region r past = has_begun_region r past && not (has_ended_region r past)
 
--- the begin of an implicit task: its region, its number, how many the team has, and its index. With flags 1 a task is the initial one
+-- the begin of an implicit task: its region, its number, how many the team has, and its index. The initial task isn't one
 pub record Join : Type 0 where
   pub region : ℕ
   pub task : ℕ
@@ -73,7 +77,7 @@ pub record Join : Type 0 where
 
 abbrev pub join_of : Call → Option Join
 join_of (ImplicitTask endpoint region task actual index flags) =
-    if (endpoint == 1) && not (flags == 1) then Some (record { region = region.identity; task = task.identity; actual = actual; index = index }) else None
+    if (endpoint == BEGIN) && not (flags == INITIAL) then Some (record { region = region.identity; task = task.identity; actual = actual; index = index }) else None
 join_of other = None
 
 abbrev pub and_more : Option Join → List Join → List Join
@@ -90,7 +94,7 @@ joins_of r past = filter (λ (join : Join). join.region == r) (joins past)
 
 -- the end of an implicit task
 abbrev pub left_task : Call → Option ℕ
-left_task (ImplicitTask endpoint region task actual index flags) = if endpoint == 2 then Some task.identity else None
+left_task (ImplicitTask endpoint region task actual index flags) = if endpoint == END then Some task.identity else None
 left_task other = None
 
 abbrev pub has_left : ℕ → List EventRecord → Bool
@@ -100,10 +104,11 @@ has_left task past = list_any (λ (event : EventRecord). is_just task (left_task
 
 -- explicit barriers, and the implicit ones of worksharing and of regions
 abbrev pub is_barrier : ℕ → Bool
-is_barrier kind = (kind == 3) || ((kind == 8) || (kind == 9))
+is_barrier kind =
+    (kind == sync_kind.BARRIER_EXPLICIT) || ((kind == sync_kind.BARRIER_IMPLICIT_WORKSHARE) || (kind == sync_kind.BARRIER_IMPLICIT_PARALLEL))
 
 abbrev pub waiter : Call → Option ℕ
-waiter (SyncRegionWait kind endpoint region task codeptr) = if (endpoint == 1) && is_barrier kind then Some task.identity else None
+waiter (SyncRegionWait kind endpoint region task codeptr) = if (endpoint == BEGIN) && is_barrier kind then Some task.identity else None
 waiter other = None
 
 -- how many waits at barriers the task has begun
@@ -117,7 +122,7 @@ region_made (ParallelBegin task frame region requested flags codeptr) = region.i
 region_made other = 0
 
 abbrev pub task_made : Call → ℕ
-task_made (ImplicitTask endpoint region task actual index flags) = if (endpoint == 1) && not (flags == 1) then task.identity else 0
+task_made (ImplicitTask endpoint region task actual index flags) = if (endpoint == BEGIN) && not (flags == INITIAL) then task.identity else 0
 task_made (TaskCreate task frame fresh flags has_dependences codeptr) = fresh.identity
 task_made other = 0
 
@@ -149,11 +154,11 @@ creations (event ∷ past) = and_one (creation_of event.call) (creations past)
 
 -- the task that a thread goes to, and the one that is complete
 abbrev pub task_started : Call → Option ℕ
-task_started (TaskSchedule prior status next) = if status == 7 then Some next.identity else None
+task_started (TaskSchedule prior status next) = if status == SWITCH then Some next.identity else None
 task_started other = None
 
 abbrev pub task_completed : Call → Option ℕ
-task_completed (TaskSchedule prior status next) = if status == 1 then Some prior.identity else None
+task_completed (TaskSchedule prior status next) = if status == COMPLETE then Some prior.identity else None
 task_completed other = None
 
 abbrev pub has_started : ℕ → List EventRecord → Bool

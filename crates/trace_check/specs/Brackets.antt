@@ -1,5 +1,7 @@
 -- What is open on a thread: regions, tasks, and what a task is in, the innermost first.
 use Rattle.std.specs.Prelude.{ℕ, ◌==◌, ◌&&◌, Bool, false, List, [], ◌∷◌, drop, Option, Some, None, if◌then◌else◌}
+use Rattle.omp_codes.specs.declared.endpoints.TheConstants.{BEGIN, END}
+use Rattle.omp_codes.specs.declared.task_statuses.TheConstants.{COMPLETE, SWITCH}
 use Rattle.ompt_calls.specs.declared.call.Call.{Call}
 use Rattle.ompt_calls.specs.declared.call.Call.TheVariants.{ThreadBegin, ThreadEnd, ParallelBegin, ParallelEnd, TaskCreate, TaskSchedule, ImplicitTask, SyncRegionWait, MutexReleased, Work, Masked, SyncRegion, LockInit, LockDestroy, MutexAcquire, MutexAcquired, Dispatch}
 use Rattle.trace_check.specs.declared.bracket.Bracket.{Bracket}
@@ -7,13 +9,14 @@ use Rattle.trace_check.specs.declared.bracket.Bracket.TheVariants.{Parallel, Imp
 use Rattle.trace_check.specs.declared.change.Change.{Change}
 use Rattle.trace_check.specs.declared.change.Change.TheVariants.{Opens, Closes, Stays}
 
--- what an event does to the brackets of its thread: it opens one, closes one, or leaves them. Endpoint 1 is the begin, and 2 the end
+-- what an event does to the brackets of its thread: it opens one, closes one, or leaves them
 abbrev pub at_endpoint : ℕ → Bracket → Change
-at_endpoint endpoint bracket = if endpoint == 1 then Opens bracket else if endpoint == 2 then Closes bracket else Stays
+at_endpoint endpoint bracket = if endpoint == BEGIN then Opens bracket else if endpoint == END then Closes bracket else Stays
 
--- with status 7 a thread goes from the prior task to the next one, and with status 1 it comes back from the prior one, which is complete
+-- a thread goes from the prior task to the next one, or it comes back from the prior one, which is complete
 abbrev pub at_status : ℕ → ℕ → ℕ → Change
-at_status status prior next = if status == 7 then Opens (Explicit prior next) else if status == 1 then Closes (Explicit next prior) else Stays
+at_status status prior next =
+    if status == SWITCH then Opens (Explicit prior next) else if status == COMPLETE then Closes (Explicit next prior) else Stays
 
 abbrev pub change_of : Call → Change
 change_of (ThreadBegin kind thread) = Stays

@@ -2,6 +2,8 @@
 use Rattle.std.specs.Prelude.{ℕ, ◌≡◌, ◌+◌, ◌*◌, ◌<◌, ◌≤◌, ◌==◌, ◌&&◌, ◌⊎◌, Bool, true, false, not, nat_le, nat_lt, List, [], ◌∷◌, ◌++◌, length, reverse, count_by, Option, Some, None, if◌then◌else◌}
 use Rattle.std.specs.Ordering.{nat_cmp}
 use Rattle.std.specs.BTreeMap.{BTreeMap, IsOrdered, btree_map_len, get}
+use Rattle.omp_codes.specs.declared.endpoints.TheConstants.{END}
+use Rattle.omp_codes.specs.declared.task_flags.TheConstants.{INITIAL}
 use Rattle.ompt_calls.specs.declared.call.Call.{Call}
 use Rattle.ompt_calls.specs.declared.call.Call.TheVariants.{ImplicitTask, MutexAcquire, SyncRegionWait, TaskSchedule}
 use Rattle.ompt_calls.specs.declared.event.EventRecord.{EventRecord}
@@ -184,13 +186,13 @@ LearnsNothing old new = (past : List EventRecord) → KnownThings old past → K
 
 -- the end of a wait at a barrier
 abbrev pub passes_barrier : Call → Bool
-passes_barrier (SyncRegionWait kind endpoint region task codeptr) = (endpoint == 2) && is_barrier kind
+passes_barrier (SyncRegionWait kind endpoint region task codeptr) = (endpoint == END) && is_barrier kind
 passes_barrier other = false
 
 -- the task that a thread runs after the begin of a bracket, with the one that it ran before
 abbrev pub current_after : Call → Option Current → Option Current
 current_after (ImplicitTask endpoint region task actual index flags) before =
-    Some (record { task = task.identity; seat = if flags == 1 then None else Some (record { region = region.identity; index = index }) })
+    Some (record { task = task.identity; seat = if flags == INITIAL then None else Some (record { region = region.identity; index = index }) })
 current_after (TaskSchedule prior status next) before = Some (record { task = next.identity; seat = None })
 current_after other before = before
 

@@ -1,6 +1,13 @@
 -- The rules on events, each as a test of an event after those before it. All are judged on what stands before the event.
 use Rattle.std.specs.Prelude.{ℕ, ◌+◌, ◌==◌, ◌&&◌, ◌||◌, Bool, true, false, not, nat_le, nat_lt, List, [], ◌∷◌, length, Option, Some, None, if◌then◌else◌}
 use Rattle.std.specs.List.{list_all, list_any, range_with_len}
+use Rattle.omp_codes.specs.declared.dispatch_kinds.TheConstants as dispatch_kind
+use Rattle.omp_codes.specs.declared.endpoints.TheConstants.{BEGIN, END}
+use Rattle.omp_codes.specs.declared.sync_kinds.TheConstants.{TASKWAIT}
+use Rattle.omp_codes.specs.declared.task_flags.TheConstants.{INITIAL}
+use Rattle.omp_codes.specs.declared.task_statuses.TheConstants.{SWITCH}
+use Rattle.omp_codes.specs.declared.thread_kinds.TheConstants as thread_kind
+use Rattle.omp_codes.specs.declared.work_kinds.TheConstants as work_kind
 use Rattle.ompt_calls.specs.declared.call.Call.{Call}
 use Rattle.ompt_calls.specs.declared.call.Call.TheVariants.{ThreadBegin, ParallelBegin, ParallelEnd, TaskCreate, TaskSchedule, ImplicitTask, SyncRegionWait, MutexReleased, MutexAcquire, MutexAcquired, Dispatch}
 use Rattle.ompt_calls.specs.declared.event.EventRecord.{EventRecord}
@@ -17,9 +24,13 @@ keeps_threads past event =
     if is_begin event.call then events_of event.thread past == 0
     else not (events_of event.thread past == 0) && not (has_ended event.thread past)
 
+-- the kind of thread t
+abbrev pub kind_of_thread : ℕ → ℕ
+kind_of_thread t = if t == 0 then thread_kind.INITIAL else thread_kind.WORKER
+
 -- rule 3: thread t begins with identity t + 1, and is the initial thread exactly where t is 0
 abbrev pub keeps_kind : List EventRecord → ℕ → Call → Bool
-keeps_kind past t (ThreadBegin kind thread) = (thread.identity == t + 1) && (kind == (if t == 0 then 1 else 2))
+keeps_kind past t (ThreadBegin kind thread) = (thread.identity == t + 1) && (kind == kind_of_thread t)
 keeps_kind past t other = true
 
 -- rule 4: a region is the next one, and its encountering task is the thread's current one
@@ -31,11 +42,11 @@ keeps_regions past t other = true
 -- rule 5: the second event of thread 0 is the begin of the initial task, and stands nowhere else
 abbrev pub is_initial : Call → Bool
 is_initial (ImplicitTask endpoint region task actual index flags) =
-    (endpoint == 1) && ((flags == 1) && ((region.identity == 1) && ((task.identity == 1) && ((actual == 1) && (index == 1)))))
+    (endpoint == BEGIN) && ((flags == INITIAL) && ((region.identity == 1) && ((task.identity == 1) && ((actual == 1) && (index == 1)))))
 is_initial other = false
 
 abbrev pub begins_initial : Call → Bool
-begins_initial (ImplicitTask endpoint region task actual index flags) = (endpoint == 1) && (flags == 1)
+begins_initial (ImplicitTask endpoint region task actual index flags) = (endpoint == BEGIN) && (flags == INITIAL)
 begins_initial other = false
 
 -- the begin of an implicit task is of an open region, has the next number, and an index below its team's size, which is that of the others, that none
@@ -104,7 +115,7 @@ keeps_creations past t other = true
 -- rule 11: a thread goes to a task that was created and hasn't started
 abbrev pub keeps_starts : List EventRecord → Call → Bool
 keeps_starts past (TaskSchedule prior status next) =
-    not (status == 7) || (is_created next.identity past && not (has_started next.identity past))
+    not (status == SWITCH) || (is_created next.identity past && not (has_started next.identity past))
 keeps_starts past other = true
 
 -- rule 12: at the end of a wait at a barrier each index of the task's open region has begun, with at least as many such waits as the task; at the end of
@@ -123,7 +134,7 @@ has_no_child past task = list_all (λ (creation : Creation). not (creation.creat
 
 abbrev pub keeps_waits : List EventRecord → Call → Bool
 keeps_waits past (SyncRegionWait kind endpoint region task codeptr) =
-    not (endpoint == 2) || ((not (is_barrier kind) || may_pass past task.identity) && (not (kind == 5) || has_no_child past task.identity))
+    not (endpoint == END) || ((not (is_barrier kind) || may_pass past task.identity) && (not (kind == TASKWAIT) || has_no_child past task.identity))
 keeps_waits past other = true
 
 -- rule 14: a dispatch stands directly in a work of its region and task, a chunk in a loop and a section in sections, and a chunk ends within the loop
@@ -131,7 +142,8 @@ abbrev pub is_work_of : ℕ → ℕ → ℕ → ℕ → ℕ → List Bracket →
 is_work_of region task kind start iterations [] = false
 is_work_of region task kind start iterations (Worksharing others other like count ∷ rest) =
     (others == region) && ((other == task)
-    && (((kind == 3) && ((like == 1) && nat_le (start + iterations) count)) || ((kind == 2) && (like == 2))))
+    && (((kind == dispatch_kind.WS_LOOP_CHUNK) && ((like == work_kind.LOOP) && nat_le (start + iterations) count))
+    || ((kind == dispatch_kind.SECTION) && (like == work_kind.SECTIONS))))
 is_work_of region task kind start iterations (bracket ∷ rest) = false
 
 abbrev pub keeps_dispatches : List EventRecord → ℕ → Call → Bool

@@ -5,17 +5,9 @@ ghost use Rattle.trace_check.specs.Brackets.{at_endpoint, at_status, change_of, 
 ghost use Rattle.trace_check.specs.Before.{is_begin, is_end};
 
 use crate::bracket::Bracket;
+use omp_codes::endpoints::{BEGIN, END};
+use omp_codes::task_statuses::{COMPLETE, SWITCH};
 use ompt_calls::Call;
-
-/// `ompt_scope_begin` and `ompt_scope_end` (OpenMP 5.2, 19.4.4).
-pub(crate) const BEGIN: u32 = 1;
-
-pub(crate) const END: u32 = 2;
-
-/// `ompt_task_complete` and `ompt_task_switch` (OpenMP 5.2, 19.4.4).
-pub(crate) const COMPLETE: u32 = 1;
-
-pub(crate) const SWITCH: u32 = 7;
 
 /// What an event does to the brackets of its thread.
 #[derive(Clone, Copy, PartialEq, Eq)]

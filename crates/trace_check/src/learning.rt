@@ -15,9 +15,9 @@ use crate::change::{Change, change_of, is_end};
 use crate::kept::Kept;
 use crate::keys::{bracket_key, member_key};
 use crate::putting::{put_created, put_member, put_region, put_thread};
-use crate::rules::INITIAL;
 use crate::teams::{INITIAL_TASK, is_barrier};
 use crate::things::{Asked, Created, Current, Member, Opened, Region, Seat, Thread};
+use omp_codes::task_flags::INITIAL;
 use ompt_calls::{Call, EventRecord};
 use std::alloc::AllocError;
 

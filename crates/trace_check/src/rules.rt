@@ -4,17 +4,16 @@ ghost use Rattle.std.specs.Prelude.{◌≡◌, ◌+◌, ◌==◌, List, length, 
 ghost use Rattle.ompt_calls.specs.declared.event.EventRecord.{EventRecord};
 ghost use Rattle.trace_check.specs.Before.{current, is_just, opened};
 ghost use Rattle.trace_check.specs.Checking.{IsKnown, Unbroken, innermost_in, thread_known};
-ghost use Rattle.trace_check.specs.Rules.{first_broken, keeps_asking, keeps_brackets, keeps_creations, keeps_dispatches, keeps_holders, keeps_kind, keeps_regions, keeps_starts, keeps_threads, may_open};
+ghost use Rattle.trace_check.specs.Rules.{first_broken, keeps_asking, keeps_brackets, keeps_creations, keeps_dispatches, keeps_holders, keeps_kind, keeps_regions, keeps_starts, keeps_threads, kind_of_thread, may_open};
 
 use crate::bracket::Bracket;
-use crate::change::{Change, SWITCH, change_of, is_begin, is_end, is_match};
+use crate::change::{Change, change_of, is_begin, is_end, is_match};
 use crate::kept::Kept;
 use crate::keys::bracket_key;
 use crate::things::Thread;
+use omp_codes::task_statuses::SWITCH;
+use omp_codes::{dispatch_kinds, thread_kinds, work_kinds};
 use ompt_calls::{Call, EventRecord};
-
-/// The flags of an initial task (OpenMP 5.2, 19.4.4).
-pub(crate) const INITIAL: u32 = 1;
 
 impl Kept {
     /// The first rule on events that this one breaks, after those that are known.
@@ -138,10 +137,10 @@ impl Kept {
                 Some(Bracket::Worksharing(others, other, like, count)) => {
                     others == region.identity
                         && other == task.identity
-                        && ((*kind == CHUNK
-                            && like == LOOP
+                        && ((*kind == dispatch_kinds::WS_LOOP_CHUNK
+                            && like == work_kinds::LOOP
                             && ends_within(*start, *iterations, count))
-                            || (*kind == SECTION && like == SECTIONS))
+                            || (*kind == dispatch_kinds::SECTION && like == work_kinds::SECTIONS))
                 }
                 _ => false,
             },
@@ -166,16 +165,6 @@ impl Kept {
     }
 }
 
-/// `ompt_dispatch_section` and `ompt_dispatch_ws_loop_chunk` (OpenMP 5.2, 19.4.4).
-const SECTION: u32 = 2;
-
-const CHUNK: u32 = 3;
-
-/// `ompt_work_loop` and `ompt_work_sections` (OpenMP 5.2, 19.4.4).
-const LOOP: u32 = 1;
-
-const SECTIONS: u32 = 2;
-
 /// Rule 2: `thread_begin` is the first event of its thread and stands nowhere else, and nothing follows `thread_end`.
 fn keeps_threads(thread: Option<Thread>, event: &EventRecord) -> bool
     ensures { (past : List EventRecord) → thread ≡ thread_known event.now.thread past → result ≡ keeps_threads past event.now }
@@ -192,9 +181,20 @@ fn keeps_kind(number: u8, call: &Call) -> bool
 {
     match call {
         Call::ThreadBegin { kind, thread } => {
-            thread.identity == u32::from(number) + 1 && *kind == if number == 0 { 1 } else { 2 }
+            thread.identity == u32::from(number) + 1 && *kind == kind_of_thread(number)
         }
         _ => true,
+    }
+}
+
+/// The kind of the thread with this number.
+fn kind_of_thread(number: u8) -> u32
+    ensures { result ≡ kind_of_thread number }
+{
+    if number == 0 {
+        thread_kinds::INITIAL
+    } else {
+        thread_kinds::WORKER
     }
 }
 

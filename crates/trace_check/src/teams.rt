@@ -4,20 +4,22 @@ ghost use Rattle.std.specs.Prelude.{◌≡◌, ◌==◌, ◌&&◌, ◌||◌, ◌
 ghost use Rattle.std.specs.Ordering.{nat_cmp};
 ghost use Rattle.std.specs.List.{list_all, range_with_len};
 ghost use Rattle.std.specs.BTreeMap.{get};
+ghost use Rattle.omp_codes.specs.declared.sync_kinds.TheConstants.{TASKWAIT};
 ghost use Rattle.ompt_calls.specs.declared.event.EventRecord.{EventRecord};
 ghost use Rattle.trace_check.specs.Before.{events_of, is_barrier, is_open_region, join_of, joins, joins_of, opened};
 ghost use Rattle.trace_check.specs.Checking.{IsKnown, KnownThings, Unbroken, children_kept, children_of, fits_size, has_left_in, has_waited_in, running, team_size, thread_known};
 ghost use Rattle.trace_check.specs.Rules.{begins_initial, has_no_child, have_waited, is_initial, keeps_brackets, keeps_tasks, keeps_teams, keeps_waits, may_join, may_pass};
 
-use crate::change::{BEGIN, END};
 use crate::kept::Kept;
 use crate::keys::member_key;
-use crate::rules::{INITIAL, is_next};
+use crate::rules::is_next;
 use crate::things::{Current, Seat, Thread};
+use omp_codes::endpoints::{BEGIN, END};
+use omp_codes::sync_kinds::{
+    BARRIER_EXPLICIT, BARRIER_IMPLICIT_PARALLEL, BARRIER_IMPLICIT_WORKSHARE, TASKWAIT,
+};
+use omp_codes::task_flags::INITIAL;
 use ompt_calls::Call;
-
-/// `ompt_sync_region_taskwait` (OpenMP 5.2, 19.4.4).
-const TASKWAIT: u32 = 5;
 
 impl Kept {
     /// Rule 5: the second event of thread 0 is the begin of the initial task, which stands nowhere else, and an implicit task joins an open
@@ -139,7 +141,7 @@ impl Kept {
     /// Whether the task that a thread runs may end a wait of this kind.
     fn may_end_wait(&self, current: Current, kind: u32) -> bool
         ensures { (past : List EventRecord) → (t : ℕ) → IsKnown self.now past → Unbroken past → running (joins past) (opened t past) ≡ Some current →
-            result ≡ ((not (is_barrier kind) || may_pass past current.task) && (not (kind == 5) || has_no_child past current.task)) }
+            result ≡ ((not (is_barrier kind) || may_pass past current.task) && (not (kind == TASKWAIT) || has_no_child past current.task)) }
     {
         if is_barrier(kind) && !self.may_pass(current) {
             return false;
@@ -307,5 +309,7 @@ fn begins_initial(call: &Call) -> bool
 pub(crate) fn is_barrier(kind: u32) -> bool
     ensures { result ≡ is_barrier kind }
 {
-    kind == 3 || kind == 8 || kind == 9
+    kind == BARRIER_EXPLICIT
+        || kind == BARRIER_IMPLICIT_WORKSHARE
+        || kind == BARRIER_IMPLICIT_PARALLEL
 }

@@ -6,6 +6,8 @@ use Rattle.byteorder.specs.Endian.{big_number}
 use Rattle.omp_codes.specs.Answers.{in_profile}
 use Rattle.omp_codes.specs.States.{states}
 use Rattle.omp_codes.specs.declared.callbacks.TheConstants.{PROFILE_MASK, THREAD_BEGIN, THREAD_END, PARALLEL_BEGIN, PARALLEL_END, TASK_CREATE, TASK_SCHEDULE, IMPLICIT_TASK, SYNC_REGION_WAIT, MUTEX_RELEASED, WORK, MASKED, SYNC_REGION, LOCK_INIT, LOCK_DESTROY, MUTEX_ACQUIRE, MUTEX_ACQUIRED, DISPATCH}
+use Rattle.omp_codes.specs.declared.dispatch_kinds.TheConstants.{SECTION}
+use Rattle.omp_codes.specs.declared.mutex_kinds.TheConstants.{LOCK}
 use Rattle.ompt_calls.specs.Number.{is_registered}
 use Rattle.trace_format.specs.declared.field.Field.{Field}
 use Rattle.trace_format.specs.declared.field.Field.TheVariants.{Magic, Version, Threads, Origin, Mask, Number, Seq, Numbered, Count}
@@ -15,7 +17,7 @@ use Rattle.trace_format.specs.declared.trace.Header.{Header}
 use Rattle.trace_format.specs.declared.trace.TheConstants.{SEQ_LIMIT, FIRST_VERSION, VERSION, RECORDED, MIGRATED}
 use Rattle.trace_format.specs.Fields.{magic}
 use Rattle.trace_format.specs.Taking.{Stage}
-use Rattle.trace_format.specs.Validity.{is_among, endpoints, implicit_flags, mutex_kinds, parallel_flags, statuses, sync_kinds, task_flags, thread_kinds, work_kinds}
+use Rattle.trace_format.specs.Validity.{dispatch_kinds, is_among, endpoints, implicit_flags, mutex_kinds, parallel_flags, release_kinds, statuses, sync_kinds, task_flags, thread_kinds, work_kinds}
 
 -- the kinds of a callback's arguments, by its number
 abbrev pub kinds_of : ℕ → List Kind
@@ -52,13 +54,13 @@ accepts_kind OfThread before bytes = is_among thread_kinds (big_number 4 bytes)
 accepts_kind Endpoint before bytes = is_among endpoints (big_number 4 bytes)
 accepts_kind OfSync before bytes = is_among sync_kinds (big_number 4 bytes)
 accepts_kind OfMutex before bytes = is_among mutex_kinds (big_number 4 bytes)
-accepts_kind OfRelease before bytes = is_among (1 ∷ 5 ∷ []) (big_number 4 bytes)
+accepts_kind OfRelease before bytes = is_among release_kinds (big_number 4 bytes)
 accepts_kind OfWork before bytes = is_among work_kinds (big_number 4 bytes)
-accepts_kind OfDispatch before bytes = is_among (2 ∷ 3 ∷ []) (big_number 4 bytes)
+accepts_kind OfDispatch before bytes = is_among dispatch_kinds (big_number 4 bytes)
 accepts_kind Iterations (region ∷ task ∷ kind ∷ rest) bytes =
-    if big_number 4 kind == 2 then big_number 8 bytes == 0 else nat_le 1 (big_number 8 bytes)
+    if big_number 4 kind == SECTION then big_number 8 bytes == 0 else nat_le 1 (big_number 8 bytes)
 accepts_kind Status before bytes = is_among statuses (big_number 4 bytes)
-accepts_kind OfLock before bytes = big_number 4 bytes == 1
+accepts_kind OfLock before bytes = big_number 4 bytes == LOCK
 accepts_kind Zero before bytes = big_number 4 bytes == 0
 accepts_kind ParallelFlags before bytes = big_number 4 bytes == parallel_flags
 accepts_kind TaskFlags before bytes = is_among task_flags (big_number 4 bytes)

@@ -4,6 +4,7 @@ use Rattle.byteorder.specs.Endian.{big_number}
 use Rattle.omp_codes.specs.Answers.{in_profile}
 use Rattle.omp_codes.specs.States.{states}
 use Rattle.omp_codes.specs.declared.callbacks.TheConstants.{THREAD_BEGIN, THREAD_END, PARALLEL_BEGIN, PARALLEL_END, TASK_CREATE, TASK_SCHEDULE, IMPLICIT_TASK, SYNC_REGION_WAIT, MUTEX_RELEASED, WORK, MASKED, SYNC_REGION, LOCK_INIT, LOCK_DESTROY, MUTEX_ACQUIRE, MUTEX_ACQUIRED}
+use Rattle.omp_codes.specs.declared.dispatch_kinds.TheConstants.{SECTION}
 use Rattle.ompt_calls.specs.Number.{is_registered}
 use Rattle.trace_format.specs.declared.field.Field.{Field}
 use Rattle.trace_format.specs.declared.field.Field.TheVariants.{Magic, Version, Threads, Origin, Mask, Number, Seq, Numbered, Count}
@@ -54,7 +55,7 @@ passes (test.Thread threads) bytes = nat_lt (big_number 1 bytes) threads
 passes test.State bytes = is_among states (big_number 2 bytes)
 passes test.Any bytes = true
 passes (test.Argument kind) bytes = accepts_kind kind [] bytes
-passes (test.Iterations kind) bytes = if kind == 2 then big_number 8 bytes == 0 else nat_le 1 (big_number 8 bytes)
+passes (test.Iterations kind) bytes = if kind == SECTION then big_number 8 bytes == 0 else nat_le 1 (big_number 8 bytes)
 passes test.Status bytes = is_among (0 ∷ 1 ∷ 4 ∷ 5 ∷ 6 ∷ []) (big_number 1 bytes)
 passes (test.Detail status) bytes = accepts_detail status (big_number 4 bytes)
 passes (test.Count count) bytes = big_number 4 bytes == count

@@ -3,6 +3,15 @@ use Rattle.std.specs.Prelude.{ℕ, ◌≡◌, ◌<◌, ◌≤◌, ◌+◌, ◌^�
 use Rattle.omp_codes.specs.Answers.{in_profile}
 use Rattle.omp_codes.specs.States.{states}
 use Rattle.omp_codes.specs.declared.callbacks.TheConstants.{DISPATCH}
+use Rattle.omp_codes.specs.declared.dispatch_kinds.TheConstants as dispatch_kind
+use Rattle.omp_codes.specs.declared.endpoints.TheConstants as scope
+use Rattle.omp_codes.specs.declared.mutex_kinds.TheConstants as mutex_kind
+use Rattle.omp_codes.specs.declared.parallel_flags.TheConstants as parallel_flag
+use Rattle.omp_codes.specs.declared.sync_kinds.TheConstants as sync_kind
+use Rattle.omp_codes.specs.declared.task_flags.TheConstants as task_flag
+use Rattle.omp_codes.specs.declared.task_statuses.TheConstants as task_status
+use Rattle.omp_codes.specs.declared.thread_kinds.TheConstants as thread_kind
+use Rattle.omp_codes.specs.declared.work_kinds.TheConstants as work_kind
 use Rattle.ompt_calls.specs.declared.call.Word.{Word}
 use Rattle.ompt_calls.specs.declared.call.Frame.{Frame}
 use Rattle.ompt_calls.specs.declared.call.Call.{Call}
@@ -34,43 +43,49 @@ IsWord word = IsShort word.identity × IsLong word.value × (word.identity ≡ 0
 abbrev pub IsFrame : Frame → Type 0
 IsFrame frame = IsShort frame.exit × IsShort frame.enter
 
--- Values of the specification's enumerations (OpenMP 5.2, 19.4.4), as far as a program's events have them: the initial thread and a worker; begin and
--- end; explicit barrier, taskwait, and the implicit barriers of worksharing and of a region; lock, test_lock and critical; loop, sections,
--- single_executor and single_other; complete and switch; section and ws_loop_chunk.
+-- Values of the specification's enumerations (OpenMP 5.2, 19.4.4), as far as a program's events have them.
 abbrev pub thread_kinds : List ℕ
-thread_kinds = 1 ∷ 2 ∷ []
+thread_kinds = thread_kind.INITIAL ∷ thread_kind.WORKER ∷ []
 
 abbrev pub endpoints : List ℕ
-endpoints = 1 ∷ 2 ∷ []
+endpoints = scope.BEGIN ∷ scope.END ∷ []
 
 abbrev pub sync_kinds : List ℕ
-sync_kinds = 3 ∷ 5 ∷ 8 ∷ 9 ∷ []
+sync_kinds =
+    sync_kind.BARRIER_EXPLICIT ∷ sync_kind.TASKWAIT ∷ sync_kind.BARRIER_IMPLICIT_WORKSHARE ∷ sync_kind.BARRIER_IMPLICIT_PARALLEL ∷ []
 
 abbrev pub mutex_kinds : List ℕ
-mutex_kinds = 1 ∷ 2 ∷ 5 ∷ []
+mutex_kinds = mutex_kind.LOCK ∷ mutex_kind.TEST_LOCK ∷ mutex_kind.CRITICAL ∷ []
+
+-- what is released is a lock or a critical
+abbrev pub release_kinds : List ℕ
+release_kinds = mutex_kind.LOCK ∷ mutex_kind.CRITICAL ∷ []
 
 abbrev pub work_kinds : List ℕ
-work_kinds = 1 ∷ 2 ∷ 3 ∷ 4 ∷ []
+work_kinds = work_kind.LOOP ∷ work_kind.SECTIONS ∷ work_kind.SINGLE_EXECUTOR ∷ work_kind.SINGLE_OTHER ∷ []
+
+abbrev pub dispatch_kinds : List ℕ
+dispatch_kinds = dispatch_kind.SECTION ∷ dispatch_kind.WS_LOOP_CHUNK ∷ []
 
 abbrev pub statuses : List ℕ
-statuses = 1 ∷ 7 ∷ []
+statuses = task_status.COMPLETE ∷ task_status.SWITCH ∷ []
 
--- `ompt_parallel_team` and `ompt_parallel_invoker_program`
 abbrev pub parallel_flags : ℕ
-parallel_flags = 2147483649
+parallel_flags = parallel_flag.TEAM_OF_PROGRAM
 
 -- an explicit task, and one that is undeferred
 abbrev pub task_flags : List ℕ
-task_flags = 4 ∷ 134217732 ∷ []
+task_flags = task_flag.EXPLICIT ∷ task_flag.EXPLICIT_UNDEFERRED ∷ []
 
 -- an initial task, and an implicit one
 abbrev pub implicit_flags : List ℕ
-implicit_flags = 1 ∷ 2 ∷ []
+implicit_flags = task_flag.INITIAL ∷ task_flag.IMPLICIT ∷ []
 
 -- a section is no chunk of a loop, and has no iterations. A chunk has some
 abbrev pub IsDispatched : ℕ → ℕ → Type 0
 IsDispatched kind iterations =
-    (IsAmong (2 ∷ 3 ∷ []) kind) × (kind ≡ 2 → iterations ≡ 0) × (kind ≡ 3 → 1 ≤ iterations) × IsLong iterations
+    IsAmong dispatch_kinds kind × (kind ≡ dispatch_kind.SECTION → iterations ≡ 0) × (kind ≡ dispatch_kind.WS_LOOP_CHUNK → 1 ≤ iterations)
+    × IsLong iterations
 
 -- the arguments that a callback may have
 abbrev pub IsCall : Call → Type 0
@@ -86,14 +101,14 @@ IsCall (ImplicitTask endpoint region task actual index flags) =
     IsAmong endpoints endpoint × IsWord region × IsWord task × IsShort actual × IsShort index × IsAmong implicit_flags flags
 IsCall (SyncRegionWait kind endpoint region task codeptr) =
     IsAmong sync_kinds kind × IsAmong endpoints endpoint × IsWord region × IsWord task × IsLong codeptr
-IsCall (MutexReleased kind wait_id codeptr) = IsAmong (1 ∷ 5 ∷ []) kind × IsShort wait_id × IsLong codeptr
+IsCall (MutexReleased kind wait_id codeptr) = IsAmong release_kinds kind × IsShort wait_id × IsLong codeptr
 IsCall (Work kind endpoint region task count codeptr) =
     IsAmong work_kinds kind × IsAmong endpoints endpoint × IsWord region × IsWord task × IsLong count × IsLong codeptr
 IsCall (Masked endpoint region task codeptr) = IsAmong endpoints endpoint × IsWord region × IsWord task × IsLong codeptr
 IsCall (SyncRegion kind endpoint region task codeptr) =
     IsAmong sync_kinds kind × IsAmong endpoints endpoint × IsWord region × IsWord task × IsLong codeptr
-IsCall (LockInit kind hint variant wait_id codeptr) = (kind ≡ 1) × (hint ≡ 0) × (variant ≡ 0) × IsShort wait_id × IsLong codeptr
-IsCall (LockDestroy kind wait_id codeptr) = (kind ≡ 1) × IsShort wait_id × IsLong codeptr
+IsCall (LockInit kind hint variant wait_id codeptr) = (kind ≡ mutex_kind.LOCK) × (hint ≡ 0) × (variant ≡ 0) × IsShort wait_id × IsLong codeptr
+IsCall (LockDestroy kind wait_id codeptr) = (kind ≡ mutex_kind.LOCK) × IsShort wait_id × IsLong codeptr
 IsCall (MutexAcquire kind hint variant wait_id codeptr) =
     IsAmong mutex_kinds kind × (hint ≡ 0) × (variant ≡ 0) × IsShort wait_id × IsLong codeptr
 IsCall (MutexAcquired kind wait_id codeptr) = IsAmong mutex_kinds kind × IsShort wait_id × IsLong codeptr

@@ -4,7 +4,10 @@ ghost use Rattle.std.specs.Prelude.{◌↔◌, [], ◌∷◌, IsTrue};
 ghost use Rattle.trace_format.specs.Validity.{IsAmong, IsCall, IsDispatched, IsWord};
 ghost use Rattle.trace_format.specs.Validity.{endpoints, implicit_flags, mutex_kinds, statuses, sync_kinds, task_flags, thread_kinds, work_kinds};
 
-use crate::kind::PARALLEL_FLAGS;
+use omp_codes::{
+    dispatch_kinds, endpoints, mutex_kinds, parallel_flags, sync_kinds, task_flags, task_statuses,
+    thread_kinds, work_kinds,
+};
 use ompt_calls::{Call, Word};
 
 /// Whether the callback can have its arguments.
@@ -19,13 +22,13 @@ pub(crate) fn is_call(call: Call) -> bool
             region,
             flags,
             ..
-        } => is_word(task) && is_word(region) && flags == PARALLEL_FLAGS,
+        } => is_word(task) && is_word(region) && flags == parallel_flags::TEAM_OF_PROGRAM,
         Call::ParallelEnd {
             region,
             task,
             flags,
             ..
-        } => is_word(region) && is_word(task) && flags == PARALLEL_FLAGS,
+        } => is_word(region) && is_word(task) && flags == parallel_flags::TEAM_OF_PROGRAM,
         Call::TaskCreate {
             task,
             fresh,
@@ -61,7 +64,9 @@ pub(crate) fn is_call(call: Call) -> bool
             task,
             ..
         } => is_sync_kind(kind) && is_endpoint(endpoint) && is_word(region) && is_word(task),
-        Call::MutexReleased { kind, .. } => kind == 1 || kind == 5,
+        Call::MutexReleased { kind, .. } => {
+            kind == mutex_kinds::LOCK || kind == mutex_kinds::CRITICAL
+        }
         Call::Work {
             kind,
             endpoint,
@@ -80,8 +85,8 @@ pub(crate) fn is_call(call: Call) -> bool
             hint,
             variant,
             ..
-        } => kind == 1 && hint == 0 && variant == 0,
-        Call::LockDestroy { kind, .. } => kind == 1,
+        } => kind == mutex_kinds::LOCK && hint == 0 && variant == 0,
+        Call::LockDestroy { kind, .. } => kind == mutex_kinds::LOCK,
         Call::MutexAcquire {
             kind,
             hint,
@@ -110,56 +115,65 @@ fn is_word(word: Word) -> bool
 fn is_thread_kind(kind: u32) -> bool
     ensures { IsTrue result ↔ IsAmong thread_kinds kind }
 {
-    kind == 1 || kind == 2
+    kind == thread_kinds::INITIAL || kind == thread_kinds::WORKER
 }
 
 /// Begin or end.
 fn is_endpoint(endpoint: u32) -> bool
     ensures { IsTrue result ↔ IsAmong endpoints endpoint }
 {
-    endpoint == 1 || endpoint == 2
+    endpoint == endpoints::BEGIN || endpoint == endpoints::END
 }
 
 /// An explicit barrier, a taskwait, or the implicit barrier of a worksharing construct or of a region.
 fn is_sync_kind(kind: u32) -> bool
     ensures { IsTrue result ↔ IsAmong sync_kinds kind }
 {
-    matches!(kind, 3 | 5 | 8 | 9)
+    matches!(
+        kind,
+        sync_kinds::BARRIER_EXPLICIT
+            | sync_kinds::TASKWAIT
+            | sync_kinds::BARRIER_IMPLICIT_WORKSHARE
+            | sync_kinds::BARRIER_IMPLICIT_PARALLEL
+    )
 }
 
 /// A lock, a lock that is tested, or a critical.
 fn is_mutex_kind(kind: u32) -> bool
     ensures { IsTrue result ↔ IsAmong mutex_kinds kind }
 {
-    matches!(kind, 1 | 2 | 5)
+    matches!(
+        kind,
+        mutex_kinds::LOCK | mutex_kinds::TEST_LOCK | mutex_kinds::CRITICAL
+    )
 }
 
 /// A loop, sections, or a single with its statement or without.
 fn is_work_kind(kind: u32) -> bool
     ensures { IsTrue result ↔ IsAmong work_kinds kind }
 {
-    matches!(kind, 1..=4)
+    matches!(kind, work_kinds::LOOP..=work_kinds::SINGLE_OTHER)
 }
 
 /// The task has ended, or is left for another one.
 fn is_status(status: u32) -> bool
     ensures { IsTrue result ↔ IsAmong statuses status }
 {
-    status == 1 || status == 7
+    status == task_statuses::COMPLETE || status == task_statuses::SWITCH
 }
 
 /// An explicit task, which may be undeferred.
 fn is_task_flags(flags: u32) -> bool
     ensures { IsTrue result ↔ IsAmong task_flags flags }
 {
-    flags == 0x0000_0004 || flags == 0x0800_0004
+    flags == task_flags::EXPLICIT || flags == task_flags::EXPLICIT_UNDEFERRED
 }
 
 /// An initial task, or an implicit one.
 fn is_implicit_flags(flags: u32) -> bool
     ensures { IsTrue result ↔ IsAmong implicit_flags flags }
 {
-    flags == 1 || flags == 2
+    flags == task_flags::INITIAL || flags == task_flags::IMPLICIT
 }
 
 /// A section, which has no iterations, or a chunk of a loop, which has some.
@@ -167,8 +181,8 @@ fn is_dispatched(kind: u32, iterations: u64) -> bool
     ensures { IsTrue result ↔ IsDispatched kind iterations }
 {
     match kind {
-        2 => iterations == 0,
-        3 => iterations >= 1,
+        dispatch_kinds::SECTION => iterations == 0,
+        dispatch_kinds::WS_LOOP_CHUNK => iterations >= 1,
         _ => false,
     }
 }

@@ -4,16 +4,10 @@ ghost use Rattle.std.specs.Prelude.{◌≡◌, ◌≤◌, [], length};
 ghost use Rattle.trace_format.specs.Accepting.{accepts_kind, kinds_of, width_of};
 
 use crate::decode::{long_at, short_at};
-use omp_codes::callbacks;
-
-/// The flags of each region: `ompt_parallel_team` and `ompt_parallel_invoker_program`.
-pub(crate) const PARALLEL_FLAGS: u32 = 0x8000_0001;
-
-/// The flags of an explicit task.
-const EXPLICIT_TASK: u32 = 4;
-
-/// The flags of one that is undeferred.
-const UNDEFERRED_TASK: u32 = 134_217_732;
+use omp_codes::{
+    callbacks, dispatch_kinds, endpoints, mutex_kinds, parallel_flags, sync_kinds, task_flags,
+    task_statuses, thread_kinds, work_kinds,
+};
 
 /// What a field of the arguments has, and so how long it is and which values it may have.
 #[derive(Clone, Copy, Debug, PartialEq, Eq)]
@@ -151,18 +145,49 @@ pub fn accepts_kind(kind: Kind, bytes: &[u8]) -> bool
 {
     match kind {
         Kind::Word => short_at(bytes, 0) != 0 || long_at(bytes, 4) == 0,
-        Kind::OfThread | Kind::Endpoint => matches!(short_at(bytes, 0), 1 | 2),
-        Kind::OfSync => matches!(short_at(bytes, 0), 3 | 5 | 8 | 9),
-        Kind::OfMutex => matches!(short_at(bytes, 0), 1 | 2 | 5),
-        Kind::OfRelease => matches!(short_at(bytes, 0), 1 | 5),
-        Kind::OfWork => matches!(short_at(bytes, 0), 1..=4),
-        Kind::OfDispatch => matches!(short_at(bytes, 0), 2 | 3),
-        Kind::Status => matches!(short_at(bytes, 0), 1 | 7),
-        Kind::OfLock => short_at(bytes, 0) == 1,
+        Kind::OfThread => matches!(
+            short_at(bytes, 0),
+            thread_kinds::INITIAL | thread_kinds::WORKER
+        ),
+        Kind::Endpoint => matches!(short_at(bytes, 0), endpoints::BEGIN | endpoints::END),
+        Kind::OfSync => matches!(
+            short_at(bytes, 0),
+            sync_kinds::BARRIER_EXPLICIT
+                | sync_kinds::TASKWAIT
+                | sync_kinds::BARRIER_IMPLICIT_WORKSHARE
+                | sync_kinds::BARRIER_IMPLICIT_PARALLEL
+        ),
+        Kind::OfMutex => matches!(
+            short_at(bytes, 0),
+            mutex_kinds::LOCK | mutex_kinds::TEST_LOCK | mutex_kinds::CRITICAL
+        ),
+        Kind::OfRelease => matches!(
+            short_at(bytes, 0),
+            mutex_kinds::LOCK | mutex_kinds::CRITICAL
+        ),
+        Kind::OfWork => matches!(
+            short_at(bytes, 0),
+            work_kinds::LOOP..=work_kinds::SINGLE_OTHER
+        ),
+        Kind::OfDispatch => matches!(
+            short_at(bytes, 0),
+            dispatch_kinds::SECTION | dispatch_kinds::WS_LOOP_CHUNK
+        ),
+        Kind::Status => matches!(
+            short_at(bytes, 0),
+            task_statuses::COMPLETE | task_statuses::SWITCH
+        ),
+        Kind::OfLock => short_at(bytes, 0) == mutex_kinds::LOCK,
         Kind::Zero => short_at(bytes, 0) == 0,
-        Kind::ParallelFlags => short_at(bytes, 0) == PARALLEL_FLAGS,
-        Kind::TaskFlags => matches!(short_at(bytes, 0), EXPLICIT_TASK | UNDEFERRED_TASK),
-        Kind::ImplicitFlags => matches!(short_at(bytes, 0), 1 | 2),
+        Kind::ParallelFlags => short_at(bytes, 0) == parallel_flags::TEAM_OF_PROGRAM,
+        Kind::TaskFlags => matches!(
+            short_at(bytes, 0),
+            task_flags::EXPLICIT | task_flags::EXPLICIT_UNDEFERRED
+        ),
+        Kind::ImplicitFlags => matches!(
+            short_at(bytes, 0),
+            task_flags::INITIAL | task_flags::IMPLICIT
+        ),
         Kind::Short | Kind::Long | Kind::Frame | Kind::Iterations => true,
     }
 }

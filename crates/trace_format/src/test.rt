@@ -12,6 +12,7 @@ use crate::decode::{byte_at, half_at, long_at, short_at};
 use crate::kind::{Kind, accepts_kind, width_of};
 use crate::trace::{FIRST_VERSION, MAGIC, MIGRATED, RECORDED, SEQ_LIMIT, VERSION};
 use omp_codes::callbacks;
+use omp_codes::dispatch_kinds::SECTION;
 use ompt_calls::is_registered;
 
 /// The test of a field, with what it needs of the fields before.
@@ -48,9 +49,6 @@ pub enum Test {
     /// This number.
     Count(u32),
 }
-
-/// The kind of a section.
-const SECTION: u32 = 2;
 
 impl Test {
     /// How many bytes the field has.

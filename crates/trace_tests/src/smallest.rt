@@ -1,5 +1,7 @@
 //! The trace of `int main(void) { return 0; }`, run by one thread: as a value, and as its bytes, written out by hand.
 
+use omp_codes::thread_states::{OVERHEAD, WORK_SERIAL};
+use omp_codes::{endpoints, task_flags, thread_kinds};
 use ompt_calls::{Call, EventRecord, Word};
 use std::alloc::{AllocError, Global};
 use trace_format::{EndMark, Events, Header, RECORDED, Trace, VERSION};
@@ -47,12 +49,6 @@ const NULL: Word = Word {
     value: 0,
 };
 
-/// `ompt_state_work_serial`.
-const WORK_SERIAL: u16 = 0x000;
-
-/// `ompt_state_overhead`.
-const OVERHEAD: u16 = 0x101;
-
 /// An event of thread 0 in this state.
 fn event(seq: u32, state: u16, call: Call) -> EventRecord {
     EventRecord {
@@ -72,7 +68,7 @@ fn task(endpoint: u32, region: Word, actual: u32) -> Call {
         task: ONE,
         actual,
         index: 1,
-        flags: 1,
+        flags: task_flags::INITIAL,
     }
 }
 
@@ -87,13 +83,13 @@ pub(crate) const HEADER: Header = Header {
 /// Its events.
 pub(crate) fn events() -> [EventRecord; 4] {
     let begin = Call::ThreadBegin {
-        kind: 1,
+        kind: thread_kinds::INITIAL,
         thread: ONE,
     };
     [
         event(0, OVERHEAD, begin),
-        event(2, WORK_SERIAL, task(1, ONE, 1)),
-        event(4, OVERHEAD, task(2, NULL, 0)),
+        event(2, WORK_SERIAL, task(endpoints::BEGIN, ONE, 1)),
+        event(4, OVERHEAD, task(endpoints::END, NULL, 0)),
         event(6, OVERHEAD, Call::ThreadEnd { thread: ONE }),
     ]
 }

@@ -2,6 +2,8 @@
 use Rattle.std.specs.Prelude.{ℕ, ◌==◌, List, [], ◌∷◌, ◌++◌, codes, if◌then◌else◌}
 use Rattle.std.specs.List.{flat_map}
 use Rattle.std.specs.Fmt.{decimal}
+use Rattle.omp_codes.specs.declared.mutex_kinds.TheConstants.{CRITICAL, TEST_LOCK}
+use Rattle.omp_codes.specs.declared.task_statuses.TheConstants.{SWITCH}
 use Rattle.ompt_calls.specs.declared.call.Call.{Call}
 use Rattle.ompt_calls.specs.declared.call.Call.TheVariants.{ThreadBegin, ThreadEnd, TaskCreate, TaskSchedule, MutexReleased, LockInit, LockDestroy, MutexAcquire, MutexAcquired, Dispatch}
 use Rattle.ompt_calls.specs.declared.event.EventRecord.{EventRecord}
@@ -81,7 +83,7 @@ slice_marks Stays = []
 
 -- the name of a critical (kind 5) or of a lock
 abbrev pub mutex_name : ℕ → ℕ → List ℕ
-mutex_name kind wait_id = (if kind == 5 then codes "critical " else codes "lock ") ++ decimal wait_id
+mutex_name kind wait_id = (if kind == CRITICAL then codes "critical " else codes "lock ") ++ decimal wait_id
 
 -- what a call has beside the slices. A thread that tests a lock (kind 2) doesn't wait for it
 abbrev pub own_marks : ℕ → Call → List Mark
@@ -89,14 +91,14 @@ own_marks t (ThreadBegin kind thread) = names_thread t ∷ []
 own_marks t (ThreadEnd thread) = happens (codes "thread_end") ∷ []
 own_marks t (TaskCreate task frame fresh flags has_dependences codeptr) =
     happens (codes "task_create " ++ decimal fresh.identity) ∷ flows_from fresh.identity ∷ []
-own_marks t (TaskSchedule prior status next) = if status == 7 then flows_to next.identity ∷ [] else []
+own_marks t (TaskSchedule prior status next) = if status == SWITCH then flows_to next.identity ∷ [] else []
 own_marks t (MutexReleased kind wait_id codeptr) = holds (codes "e") wait_id (mutex_name kind wait_id) ∷ []
 own_marks t (LockInit kind hint variant wait_id codeptr) = happens (codes "lock_init " ++ decimal wait_id) ∷ []
 own_marks t (LockDestroy kind wait_id codeptr) = happens (codes "lock_destroy " ++ decimal wait_id) ∷ []
 own_marks t (MutexAcquire kind hint variant wait_id codeptr) =
-    if kind == 2 then happens (codes "test_lock " ++ decimal wait_id) ∷ [] else waits (codes "b") t (mutex_name kind wait_id) ∷ []
+    if kind == TEST_LOCK then happens (codes "test_lock " ++ decimal wait_id) ∷ [] else waits (codes "b") t (mutex_name kind wait_id) ∷ []
 own_marks t (MutexAcquired kind wait_id codeptr) =
-    (if kind == 2 then [] else waits (codes "e") t (mutex_name kind wait_id) ∷ [])
+    (if kind == TEST_LOCK then [] else waits (codes "e") t (mutex_name kind wait_id) ∷ [])
     ++ holds (codes "b") wait_id (mutex_name kind wait_id) ∷ []
 own_marks t (Dispatch region task kind start iterations) = happens (dispatch_kind_text kind) ∷ []
 own_marks t other = []

@@ -2,6 +2,7 @@
 use Rattle.std.specs.Prelude.{ℕ, ◌==◌, ◌&&◌, ◌≡◌, Bool, true, false, List, [], ◌∷◌, ◌++◌, codes, length, reverse, Option, Some, None, if◌then◌else◌}
 use Rattle.std.specs.List.{flat_map}
 use Rattle.std.specs.Fmt.{decimal}
+use Rattle.omp_codes.specs.declared.task_statuses.TheConstants.{SWITCH}
 use Rattle.ompt_calls.specs.declared.call.Call.{Call}
 use Rattle.ompt_calls.specs.declared.call.Call.TheVariants.{ParallelBegin, ParallelEnd, TaskCreate, TaskSchedule, ImplicitTask, SyncRegionWait, Work, Masked, SyncRegion, Dispatch}
 use Rattle.ompt_calls.specs.declared.event.EventRecord.{EventRecord}
@@ -18,7 +19,7 @@ abbrev pub named_task : Call → Option ℕ
 named_task (ParallelBegin task frame region requested flags codeptr) = Some task.identity
 named_task (ParallelEnd region task flags codeptr) = Some task.identity
 named_task (TaskCreate task frame fresh flags has_dependences codeptr) = Some task.identity
-named_task (TaskSchedule prior status next) = Some (if status == 7 then next.identity else prior.identity)
+named_task (TaskSchedule prior status next) = Some (if status == SWITCH then next.identity else prior.identity)
 named_task (ImplicitTask endpoint region task actual index flags) = Some task.identity
 named_task (SyncRegionWait kind endpoint region task codeptr) = Some task.identity
 named_task (Work kind endpoint region task count codeptr) = Some task.identity

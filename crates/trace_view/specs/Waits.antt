@@ -3,6 +3,8 @@ use Rattle.std.specs.Prelude.{ℕ, ◌+◌, ◌-◌, ◌*◌, ◌==◌, ◌&&◌
 use Rattle.std.specs.Bool.{beq}
 use Rattle.std.specs.List.{flat_map, sum_by}
 use Rattle.std.specs.Fmt.{decimal}
+use Rattle.omp_codes.specs.declared.endpoints.TheConstants.{END}
+use Rattle.omp_codes.specs.declared.mutex_kinds.TheConstants.{CRITICAL, LOCK, TEST_LOCK}
 use Rattle.ompt_calls.specs.declared.call.Call.{Call}
 use Rattle.ompt_calls.specs.declared.call.Call.TheVariants.{SyncRegionWait, MutexAcquire, MutexAcquired}
 use Rattle.ompt_calls.specs.declared.event.EventRecord.{EventRecord}
@@ -12,13 +14,13 @@ use Rattle.trace_view.specs.declared.wait_ends.WaitEnd.{WaitEnd}
 use Rattle.trace_view.specs.declared.wait_ends.WaitKey.{WaitKey}
 use Rattle.trace_view.specs.Names.{mutex_kind_text, place_text, sync_kind_text}
 
--- A begin or an end of a wait at a barrier or at a taskwait, or for a critical or a lock. A thread that tests a lock (kind 2) doesn't wait.
+-- A begin or an end of a wait at a barrier or at a taskwait, or for a critical or a lock. A thread that tests a lock doesn't wait.
 -- What is waited for, the cause, is a kind of synchronization, or 16 more than a kind of mutex.
 abbrev pub mutex_wait : ℕ → ℕ → Bool → Option WaitEnd
-mutex_wait kind codeptr is_end = if kind == 2 then None else Some (record { place = codeptr; cause = 16 + kind; is_end = is_end })
+mutex_wait kind codeptr is_end = if kind == TEST_LOCK then None else Some (record { place = codeptr; cause = 16 + kind; is_end = is_end })
 
 abbrev pub wait_end : Call → Option WaitEnd
-wait_end (SyncRegionWait kind endpoint region task codeptr) = Some (record { place = codeptr; cause = kind; is_end = endpoint == 2 })
+wait_end (SyncRegionWait kind endpoint region task codeptr) = Some (record { place = codeptr; cause = kind; is_end = endpoint == END })
 wait_end (MutexAcquire kind hint variant wait_id codeptr) = mutex_wait kind codeptr false
 wait_end (MutexAcquired kind wait_id codeptr) = mutex_wait kind codeptr true
 wait_end other = None
@@ -57,7 +59,7 @@ waited key events = positions_of key true events + open_waits key events * last_
 
 -- a wait for a lock or a critical is named by its kind of mutex
 abbrev pub cause_text : ℕ → List ℕ
-cause_text cause = if cause == 17 then mutex_kind_text 1 else if cause == 21 then mutex_kind_text 5 else sync_kind_text cause
+cause_text cause = if cause == 17 then mutex_kind_text LOCK else if cause == 21 then mutex_kind_text CRITICAL else sync_kind_text cause
 
 -- a line: the place, the cause, the thread, how many waits, how long they took, and how many of them have no end
 abbrev pub wait_line : List EventRecord → WaitKey → List ℕ

@@ -3,15 +3,14 @@
 ghost use Rattle.std.specs.Prelude.{◌≡◌, ◌==◌, ◌∷◌, [], IfOk, OnOk, if◌then◌else◌};
 ghost use Rattle.std.specs.Ordering.{nat_cmp};
 ghost use Rattle.std.specs.BTreeSet.{contains};
+ghost use Rattle.omp_codes.specs.declared.task_statuses.TheConstants.{SWITCH};
 ghost use Rattle.trace_view.specs.Bold.{Gains, HasNumbers};
 ghost use Rattle.trace_view.specs.Dot.{crossed_tasks, listed, named_task};
 
+use omp_codes::task_statuses::SWITCH;
 use ompt_calls::{Call, EventRecord};
 use std::alloc::{AllocError, Global};
 use std::collections::BTreeSet;
-
-/// `ompt_task_switch` (OpenMP 5.2, 19.4.4).
-const SWITCH: u32 = 7;
 
 /// The tasks that the events at these positions name.
 pub(crate) fn crossed_tasks(
@@ -98,7 +97,7 @@ fn named_task(call: &Call) -> Option<u32>
 
 /// The task to which a thread goes, or the one that ends.
 fn scheduled_task(status: u32, prior: u32, next: u32) -> u32
-    ensures { result ≡ (if status == 7 then next else prior) }
+    ensures { result ≡ (if status == SWITCH then next else prior) }
 {
     if status == SWITCH { next } else { prior }
 }

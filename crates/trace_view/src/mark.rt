@@ -6,13 +6,11 @@ ghost use Rattle.trace_view.specs.Marking.{happening_text, mark_of, maybe_text, 
 
 use crate::named_lines::NamedCall;
 use crate::number_names::{DispatchKind, SyncKind, WorkKind};
+use omp_codes::mutex_kinds::CRITICAL;
 use ompt_calls::EventRecord;
 use std::fmt;
 use std::fmt::{Display, Formatter};
 use trace_check::Bracket;
-
-/// The kind of mutex of a critical (`ompt_mutex_critical`, OpenMP 5.2, 19.4.4).
-const CRITICAL: u32 = 5;
 
 /// What a mark of an event tells.
 #[derive(Clone, Copy)]

@@ -1,26 +1,17 @@
 //! Which marks an event has: one of a slice at most, and two others at most.
 
 ghost use Rattle.std.specs.Prelude.{◌≡◌, ℕ, ◌==◌, [], ◌∷◌, ◌++◌, if◌then◌else◌};
+ghost use Rattle.omp_codes.specs.declared.task_statuses.TheConstants.{SWITCH};
 ghost use Rattle.trace_check.specs.Brackets.{at_endpoint, at_status, change_of};
 ghost use Rattle.trace_view.specs.Chrome.{flows_to, happens, own_marks, slice_marks};
 ghost use Rattle.trace_view.specs.Marking.{happening_text, marks_of};
 
 use crate::mark::{Happening, MarkKind, MutexName};
+use omp_codes::endpoints::{BEGIN, END};
+use omp_codes::mutex_kinds::TEST_LOCK;
+use omp_codes::task_statuses::{COMPLETE, SWITCH};
 use ompt_calls::Call;
 use trace_check::Bracket;
-
-/// `ompt_scope_begin` and `ompt_scope_end` (OpenMP 5.2, 19.4.4).
-const BEGIN: u32 = 1;
-
-const END: u32 = 2;
-
-/// `ompt_task_complete` and `ompt_task_switch` (OpenMP 5.2, 19.4.4).
-const COMPLETE: u32 = 1;
-
-const SWITCH: u32 = 7;
-
-/// `ompt_mutex_test_lock` (OpenMP 5.2, 19.4.4). A thread that tests a lock doesn't wait for it.
-const TEST_LOCK: u32 = 2;
 
 /// The mark of the slice that a call begins or ends.
 pub(crate) fn slice_mark(call: &Call) -> Option<MarkKind>
@@ -124,7 +115,7 @@ fn happens(happening: Happening) -> Option<MarkKind>
 
 /// The arrow to where a thread goes to a task.
 fn arrow_to(status: u32, task: u32) -> Option<MarkKind>
-    ensures { (t : ℕ) → marks_of t result ≡ (if status == 7 then flows_to task ∷ [] else []) }
+    ensures { (t : ℕ) → marks_of t result ≡ (if status == SWITCH then flows_to task ∷ [] else []) }
 {
     if status == SWITCH {
         Some(MarkKind::FlowsTo(task))
@@ -133,7 +124,7 @@ fn arrow_to(status: u32, task: u32) -> Option<MarkKind>
     }
 }
 
-/// A critical or a lock is asked for.
+/// A critical or a lock is asked for. A thread that tests a lock doesn't wait for it.
 fn asked(kind: u32, wait_id: u32) -> Option<MarkKind>
     ensures { (t : ℕ) → (hint : ℕ) → (variant : ℕ) → (codeptr : ℕ) →
         marks_of t result ≡ own_marks t (Call.MutexAcquire kind hint variant wait_id codeptr) }

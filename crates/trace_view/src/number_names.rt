@@ -8,6 +8,10 @@ use omp_codes::states::{
     WAIT_BARRIER_IMPLICIT_WORKSHARE, WAIT_CRITICAL, WAIT_LOCK, WAIT_TASKWAIT, WORK_PARALLEL,
     WORK_SERIAL,
 };
+use omp_codes::{
+    dispatch_kinds, endpoints, mutex_kinds, parallel_flags, sync_kinds, task_flags, task_statuses,
+    thread_kinds, work_kinds,
+};
 use std::fmt;
 use std::fmt::{Display, Formatter};
 
@@ -22,8 +26,8 @@ impl Display for ThreadKind {
 
     fn fmt<W: fmt::Write>(&self, f: &mut Formatter<W>) -> fmt::Result {
         match self.number {
-            1 => write!(f, "ompt_thread_initial"),
-            2 => write!(f, "ompt_thread_worker"),
+            thread_kinds::INITIAL => write!(f, "ompt_thread_initial"),
+            thread_kinds::WORKER => write!(f, "ompt_thread_worker"),
             number => write!(f, "{number}"),
         }
     }
@@ -40,8 +44,8 @@ impl Display for Endpoint {
 
     fn fmt<W: fmt::Write>(&self, f: &mut Formatter<W>) -> fmt::Result {
         match self.number {
-            1 => write!(f, "ompt_scope_begin"),
-            2 => write!(f, "ompt_scope_end"),
+            endpoints::BEGIN => write!(f, "ompt_scope_begin"),
+            endpoints::END => write!(f, "ompt_scope_end"),
             number => write!(f, "{number}"),
         }
     }
@@ -58,10 +62,16 @@ impl Display for SyncKind {
 
     fn fmt<W: fmt::Write>(&self, f: &mut Formatter<W>) -> fmt::Result {
         match self.number {
-            3 => write!(f, "ompt_sync_region_barrier_explicit"),
-            5 => write!(f, "ompt_sync_region_taskwait"),
-            8 => write!(f, "ompt_sync_region_barrier_implicit_workshare"),
-            9 => write!(f, "ompt_sync_region_barrier_implicit_parallel"),
+            sync_kinds::BARRIER_EXPLICIT => write!(f, "ompt_sync_region_barrier_explicit"),
+            sync_kinds::TASKWAIT => write!(f, "ompt_sync_region_taskwait"),
+            sync_kinds::BARRIER_IMPLICIT_WORKSHARE => write!(
+                f,
+                "ompt_sync_region_barrier_implicit_workshare"
+            ),
+            sync_kinds::BARRIER_IMPLICIT_PARALLEL => write!(
+                f,
+                "ompt_sync_region_barrier_implicit_parallel"
+            ),
             number => write!(f, "{number}"),
         }
     }
@@ -78,9 +88,9 @@ impl Display for MutexKind {
 
     fn fmt<W: fmt::Write>(&self, f: &mut Formatter<W>) -> fmt::Result {
         match self.number {
-            1 => write!(f, "ompt_mutex_lock"),
-            2 => write!(f, "ompt_mutex_test_lock"),
-            5 => write!(f, "ompt_mutex_critical"),
+            mutex_kinds::LOCK => write!(f, "ompt_mutex_lock"),
+            mutex_kinds::TEST_LOCK => write!(f, "ompt_mutex_test_lock"),
+            mutex_kinds::CRITICAL => write!(f, "ompt_mutex_critical"),
             number => write!(f, "{number}"),
         }
     }
@@ -97,10 +107,10 @@ impl Display for WorkKind {
 
     fn fmt<W: fmt::Write>(&self, f: &mut Formatter<W>) -> fmt::Result {
         match self.number {
-            1 => write!(f, "ompt_work_loop"),
-            2 => write!(f, "ompt_work_sections"),
-            3 => write!(f, "ompt_work_single_executor"),
-            4 => write!(f, "ompt_work_single_other"),
+            work_kinds::LOOP => write!(f, "ompt_work_loop"),
+            work_kinds::SECTIONS => write!(f, "ompt_work_sections"),
+            work_kinds::SINGLE_EXECUTOR => write!(f, "ompt_work_single_executor"),
+            work_kinds::SINGLE_OTHER => write!(f, "ompt_work_single_other"),
             number => write!(f, "{number}"),
         }
     }
@@ -117,8 +127,8 @@ impl Display for DispatchKind {
 
     fn fmt<W: fmt::Write>(&self, f: &mut Formatter<W>) -> fmt::Result {
         match self.number {
-            2 => write!(f, "ompt_dispatch_section"),
-            3 => write!(f, "ompt_dispatch_ws_loop_chunk"),
+            dispatch_kinds::SECTION => write!(f, "ompt_dispatch_section"),
+            dispatch_kinds::WS_LOOP_CHUNK => write!(f, "ompt_dispatch_ws_loop_chunk"),
             number => write!(f, "{number}"),
         }
     }
@@ -135,8 +145,8 @@ impl Display for TaskStatus {
 
     fn fmt<W: fmt::Write>(&self, f: &mut Formatter<W>) -> fmt::Result {
         match self.number {
-            1 => write!(f, "ompt_task_complete"),
-            7 => write!(f, "ompt_task_switch"),
+            task_statuses::COMPLETE => write!(f, "ompt_task_complete"),
+            task_statuses::SWITCH => write!(f, "ompt_task_switch"),
             number => write!(f, "{number}"),
         }
     }
@@ -153,10 +163,13 @@ impl Display for TaskFlags {
 
     fn fmt<W: fmt::Write>(&self, f: &mut Formatter<W>) -> fmt::Result {
         match self.number {
-            1 => write!(f, "ompt_task_initial"),
-            2 => write!(f, "ompt_task_implicit"),
-            4 => write!(f, "ompt_task_explicit"),
-            134_217_732 => write!(f, "ompt_task_explicit|ompt_task_undeferred"),
+            task_flags::INITIAL => write!(f, "ompt_task_initial"),
+            task_flags::IMPLICIT => write!(f, "ompt_task_implicit"),
+            task_flags::EXPLICIT => write!(f, "ompt_task_explicit"),
+            task_flags::EXPLICIT_UNDEFERRED => write!(
+                f,
+                "ompt_task_explicit|ompt_task_undeferred"
+            ),
             number => write!(f, "{number}"),
         }
     }
@@ -173,7 +186,10 @@ impl Display for RegionFlags {
 
     fn fmt<W: fmt::Write>(&self, f: &mut Formatter<W>) -> fmt::Result {
         match self.number {
-            2_147_483_649 => write!(f, "ompt_parallel_invoker_program|ompt_parallel_team"),
+            parallel_flags::TEAM_OF_PROGRAM => write!(
+                f,
+                "ompt_parallel_invoker_program|ompt_parallel_team"
+            ),
             number => write!(f, "{number}"),
         }
     }

@@ -3,13 +3,9 @@
 ghost use Rattle.std.specs.Prelude.{◌≡◌};
 ghost use Rattle.trace_view.specs.Waits.{mutex_wait, wait_end};
 
+use omp_codes::endpoints::END;
+use omp_codes::mutex_kinds::TEST_LOCK;
 use ompt_calls::Call;
-
-/// `ompt_scope_end` (OpenMP 5.2, 19.4.4).
-const END: u32 = 2;
-
-/// `ompt_mutex_test_lock`.
-const TEST_LOCK: u32 = 2;
 
 /// By how much the cause of a wait for a mutex is more than the kind of the mutex.
 const MUTEX: u64 = 16;

@@ -1,14 +1,11 @@
 //! A trace of one thread that creates a task, goes to it, and holds a critical within it.
 
+use omp_codes::mutex_kinds::CRITICAL;
+use omp_codes::task_flags;
+use omp_codes::thread_states::OVERHEAD;
 use ompt_calls::{Call, EventRecord, Frame, Word};
 use std::alloc::{AllocError, Global};
 use trace_format::{EndMark, Events, Header, RECORDED, Trace, VERSION};
-
-/// `ompt_state_overhead`.
-const OVERHEAD: u16 = 0x101;
-
-/// `ompt_mutex_critical`.
-const CRITICAL: u32 = 5;
 
 /// The data word of the thread, of the task or of the region with this number.
 fn word(identity: u32) -> Word {
@@ -32,7 +29,7 @@ fn creation() -> Call {
         task: word(1),
         frame: Frame { exit: 0, enter: 0 },
         fresh: word(2),
-        flags: 4,
+        flags: task_flags::EXPLICIT,
         has_dependences: 0,
         codeptr: 131_077,
     }

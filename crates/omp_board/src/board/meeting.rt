@@ -5,6 +5,7 @@ ghost use Rattle.team_parts.specs.Meetings.{HasChunk};
 ghost use Rattle.omp_model.specs.Going as going;
 
 use c_model::{Schedule, SyncKind, Work};
+use omp_codes::sync_kinds;
 use team_parts::{Meeting, Schedule as Dealt};
 
 /// How a loop is dealt. A chunk that goes to whoever asks has at least one iteration.
@@ -57,9 +58,9 @@ pub fn sync_number(kind: SyncKind) -> u32
     ensures { result ≡ going.sync_number kind }
 {
     match kind {
-        SyncKind::Barrier => 3,
-        SyncKind::Taskwait => 5,
-        SyncKind::Worksharing => 8,
-        SyncKind::Parallel => 9,
+        SyncKind::Barrier => sync_kinds::BARRIER_EXPLICIT,
+        SyncKind::Taskwait => sync_kinds::TASKWAIT,
+        SyncKind::Worksharing => sync_kinds::BARRIER_IMPLICIT_WORKSHARE,
+        SyncKind::Parallel => sync_kinds::BARRIER_IMPLICIT_PARALLEL,
     }
 }
