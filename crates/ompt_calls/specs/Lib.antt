@@ -1,3 +1,4 @@
+pub mod Arguments
 pub mod Item
 pub mod Line
 pub mod Number

@@ -1,10 +1,14 @@
 -- The line of a call: sequence number, thread, name and arguments in order, with a space between.
-use Rattle.std.specs.Prelude.{ℕ, List, [], ◌∷◌, ◌++◌, codes}
+use Rattle.std.specs.Prelude.{ℕ, ◌/◌, ◌%◌, List, [], ◌∷◌, ◌++◌, codes, map}
 use Rattle.std.specs.Fmt.{decimal}
+use Rattle.ompt_calls.specs.declared.argument.Argument.{Argument}
+use Rattle.ompt_calls.specs.declared.argument.Argument.TheVariants.{Short, Long}
+use Rattle.ompt_calls.specs.declared.argument.Argument.TheVariants as argument
 use Rattle.ompt_calls.specs.declared.call.Word.{Word}
 use Rattle.ompt_calls.specs.declared.call.Frame.{Frame}
 use Rattle.ompt_calls.specs.declared.call.Call.{Call}
 use Rattle.ompt_calls.specs.declared.call.Call.TheVariants.{ThreadBegin, ThreadEnd, ParallelBegin, ParallelEnd, TaskCreate, TaskSchedule, ImplicitTask, SyncRegionWait, MutexReleased, Work, Masked, SyncRegion, LockInit, LockDestroy, MutexAcquire, MutexAcquired, Dispatch}
+use Rattle.ompt_calls.specs.Arguments.{arguments_of}
 
 -- the parts, with one space between
 abbrev pub spaced : List (List ℕ) → List ℕ
@@ -20,36 +24,46 @@ word_text word = decimal word.identity ++ codes ":" ++ decimal word.value
 abbrev pub frame_text : Frame → List ℕ
 frame_text frame = decimal frame.exit ++ codes "/" ++ decimal frame.enter
 
+-- a place in the source is line × 65536 + column, and is written as line:column
+abbrev pub line_number_of : ℕ → ℕ
+line_number_of place = place / 65536
+
+abbrev pub column_of : ℕ → ℕ
+column_of place = place % 65536
+
+abbrev pub place_text : ℕ → List ℕ
+place_text place = decimal (line_number_of place) ++ codes ":" ++ decimal (column_of place)
+
+-- an argument
+abbrev pub argument_text : Argument → List ℕ
+argument_text (Short number) = decimal number
+argument_text (Long number) = decimal number
+argument_text (argument.Word word) = word_text word
+argument_text (argument.Frame frame) = frame_text frame
+
+-- the name of the callback
+abbrev pub name_of : Call → List ℕ
+name_of (ThreadBegin kind thread) = codes "thread_begin"
+name_of (ThreadEnd thread) = codes "thread_end"
+name_of (ParallelBegin task frame region requested flags codeptr) = codes "parallel_begin"
+name_of (ParallelEnd region task flags codeptr) = codes "parallel_end"
+name_of (TaskCreate task frame fresh flags has_dependences codeptr) = codes "task_create"
+name_of (TaskSchedule prior status next) = codes "task_schedule"
+name_of (ImplicitTask endpoint region task actual index flags) = codes "implicit_task"
+name_of (SyncRegionWait kind endpoint region task codeptr) = codes "sync_region_wait"
+name_of (MutexReleased kind wait_id codeptr) = codes "mutex_released"
+name_of (Work kind endpoint region task count codeptr) = codes "work"
+name_of (Masked endpoint region task codeptr) = codes "masked"
+name_of (SyncRegion kind endpoint region task codeptr) = codes "sync_region"
+name_of (LockInit kind hint variant wait_id codeptr) = codes "lock_init"
+name_of (LockDestroy kind wait_id codeptr) = codes "lock_destroy"
+name_of (MutexAcquire kind hint variant wait_id codeptr) = codes "mutex_acquire"
+name_of (MutexAcquired kind wait_id codeptr) = codes "mutex_acquired"
+name_of (Dispatch region task kind start iterations) = codes "dispatch"
+
 -- the name of the callback and its arguments
 abbrev pub parts_of : Call → List (List ℕ)
-parts_of (ThreadBegin kind thread) = codes "thread_begin" ∷ decimal kind ∷ word_text thread ∷ []
-parts_of (ThreadEnd thread) = codes "thread_end" ∷ word_text thread ∷ []
-parts_of (ParallelBegin task frame region requested flags codeptr) =
-    codes "parallel_begin" ∷ word_text task ∷ frame_text frame ∷ word_text region ∷ decimal requested ∷ decimal flags ∷ decimal codeptr ∷ []
-parts_of (ParallelEnd region task flags codeptr) =
-    codes "parallel_end" ∷ word_text region ∷ word_text task ∷ decimal flags ∷ decimal codeptr ∷ []
-parts_of (TaskCreate task frame fresh flags has_dependences codeptr) =
-    codes "task_create" ∷ word_text task ∷ frame_text frame ∷ word_text fresh ∷ decimal flags ∷ decimal has_dependences ∷ decimal codeptr ∷ []
-parts_of (TaskSchedule prior status next) = codes "task_schedule" ∷ word_text prior ∷ decimal status ∷ word_text next ∷ []
-parts_of (ImplicitTask endpoint region task actual index flags) =
-    codes "implicit_task" ∷ decimal endpoint ∷ word_text region ∷ word_text task ∷ decimal actual ∷ decimal index ∷ decimal flags ∷ []
-parts_of (SyncRegionWait kind endpoint region task codeptr) =
-    codes "sync_region_wait" ∷ decimal kind ∷ decimal endpoint ∷ word_text region ∷ word_text task ∷ decimal codeptr ∷ []
-parts_of (MutexReleased kind wait_id codeptr) = codes "mutex_released" ∷ decimal kind ∷ decimal wait_id ∷ decimal codeptr ∷ []
-parts_of (Work kind endpoint region task count codeptr) =
-    codes "work" ∷ decimal kind ∷ decimal endpoint ∷ word_text region ∷ word_text task ∷ decimal count ∷ decimal codeptr ∷ []
-parts_of (Masked endpoint region task codeptr) =
-    codes "masked" ∷ decimal endpoint ∷ word_text region ∷ word_text task ∷ decimal codeptr ∷ []
-parts_of (SyncRegion kind endpoint region task codeptr) =
-    codes "sync_region" ∷ decimal kind ∷ decimal endpoint ∷ word_text region ∷ word_text task ∷ decimal codeptr ∷ []
-parts_of (LockInit kind hint variant wait_id codeptr) =
-    codes "lock_init" ∷ decimal kind ∷ decimal hint ∷ decimal variant ∷ decimal wait_id ∷ decimal codeptr ∷ []
-parts_of (LockDestroy kind wait_id codeptr) = codes "lock_destroy" ∷ decimal kind ∷ decimal wait_id ∷ decimal codeptr ∷ []
-parts_of (MutexAcquire kind hint variant wait_id codeptr) =
-    codes "mutex_acquire" ∷ decimal kind ∷ decimal hint ∷ decimal variant ∷ decimal wait_id ∷ decimal codeptr ∷ []
-parts_of (MutexAcquired kind wait_id codeptr) = codes "mutex_acquired" ∷ decimal kind ∷ decimal wait_id ∷ decimal codeptr ∷ []
-parts_of (Dispatch region task kind start iterations) =
-    codes "dispatch" ∷ word_text region ∷ word_text task ∷ decimal kind ∷ decimal start ∷ decimal iterations ∷ []
+parts_of call = name_of call ∷ map argument_text (arguments_of call)
 
 -- the text of a call
 abbrev pub call_text : Call → List ℕ

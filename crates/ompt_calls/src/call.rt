@@ -1,6 +1,7 @@
 //! A callback with its arguments.
 
 ghost use Rattle.std.specs.Prelude.{◌≡◌};
+ghost use Rattle.ompt_calls.specs.Line.{name_of};
 ghost use Rattle.ompt_calls.specs.Number.{number_of};
 
 use omp_codes::callbacks;
@@ -175,6 +176,30 @@ impl Call {
             Call::MutexAcquire { .. } => callbacks::MUTEX_ACQUIRE,
             Call::MutexAcquired { .. } => callbacks::MUTEX_ACQUIRED,
             Call::Dispatch { .. } => callbacks::DISPATCH,
+        }
+    }
+    /// The name of the callback, as a line has it: that of OpenMP 5.2, 19.4.2, without `ompt_callback_`.
+    pub fn name(&self) -> &'static str
+        ensures { result.now ≡ name_of self.now }
+    {
+        match self {
+            Call::ThreadBegin { .. } => "thread_begin",
+            Call::ThreadEnd { .. } => "thread_end",
+            Call::ParallelBegin { .. } => "parallel_begin",
+            Call::ParallelEnd { .. } => "parallel_end",
+            Call::TaskCreate { .. } => "task_create",
+            Call::TaskSchedule { .. } => "task_schedule",
+            Call::ImplicitTask { .. } => "implicit_task",
+            Call::SyncRegionWait { .. } => "sync_region_wait",
+            Call::MutexReleased { .. } => "mutex_released",
+            Call::Work { .. } => "work",
+            Call::Masked { .. } => "masked",
+            Call::SyncRegion { .. } => "sync_region",
+            Call::LockInit { .. } => "lock_init",
+            Call::LockDestroy { .. } => "lock_destroy",
+            Call::MutexAcquire { .. } => "mutex_acquire",
+            Call::MutexAcquired { .. } => "mutex_acquired",
+            Call::Dispatch { .. } => "dispatch",
         }
     }
 }

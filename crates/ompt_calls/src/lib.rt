@@ -9,10 +9,12 @@
 //!
 //! Proved for every call, over the definitions of `specs/`:
 //!
-//! - `{}` of a [`Word`] writes exactly the bytes of `word_text`, `{}` of a [`Frame`] those of `frame_text`, and `{}`
-//!   of a [`Call`] those of `call_text`;
+//! - `{}` of a [`Word`] writes exactly the bytes of `word_text`, `{}` of a [`Frame`] those of `frame_text`, `{}` of a
+//!   [`CodePlace`] those of `place_text`, and `{}` of a [`Call`] those of `call_text`;
+//! - [`Call::arguments`] is `arguments_of`, the one table of arguments, and [`Call::name`] is `name_of`: a line is made of both;
 //! - where it finds memory, [`line_of`] returns exactly the bytes of `line_text`;
 //! - [`Call::number`] is `number_of`, the value in `ompt_callbacks_t`;
+//! - [`Reply::none`] stores nothing, and [`Reply::store`] one word at one place;
 //! - the inquiries of a [`Snapshot`] answer what it has: [`Snapshot::get_task_info`] and
 //!   [`Snapshot::get_parallel_info`] the level that is asked for, and `None` exactly where there is none, as `task_info`
 //!   and `parallel_info` say; [`Snapshot::target`] the word at a place, as `target_of` says;
@@ -26,14 +28,18 @@
 //! Tests in `call_tests` compare lines and inquiries with what was written out by hand, since a definition cannot check itself.
 #![tactic(auto)]
 
+mod argument;
 mod call;
+mod code_place;
 mod event;
 mod line;
 mod mask;
 mod reply;
 mod snapshot;
 
+pub use argument::{Argument, Arguments};
 pub use call::{Call, Frame, Word};
+pub use code_place::CodePlace;
 pub use event::EventRecord;
 pub use line::{Memory, line_of};
 pub use mask::is_registered;

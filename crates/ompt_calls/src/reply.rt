@@ -1,5 +1,9 @@
 //! What a tool answers to a call: the words that it stores.
 
+ghost use Rattle.std.specs.Prelude.{◌≡◌, [], None, Some};
+ghost use Rattle.ompt_calls.specs.Snapshot.{stored, stores_of, target_of};
+ghost use Rattle.ompt_calls.specs.declared.snapshot.Snapshot.{Snapshot};
+
 /// The place of a data word, as a call's tool names it.
 #[derive(Clone, Copy, PartialEq, Eq)]
 pub enum WordAt {
@@ -31,4 +35,30 @@ pub struct Reply {
     pub second: Option<Store>,
     /// The third store.
     pub third: Option<Store>,
+}
+
+impl Reply {
+    /// Nothing is stored.
+    pub fn none() -> Reply
+        ensures reply { result ≡ record { first = None; second = None; third = None } }
+        ensures stores { (snapshot : Snapshot) → stores_of result snapshot ≡ [] }
+    {
+        Reply {
+            first: None,
+            second: None,
+            third: None,
+        }
+    }
+
+    /// One word is stored, at this place.
+    pub fn store(place: WordAt, word: u64) -> Reply
+        ensures reply { result ≡ record { first = Some (record { place = place; word = word }); second = None; third = None } }
+        ensures stores { (snapshot : Snapshot) → stores_of result snapshot ≡ stored word (target_of snapshot place) }
+    {
+        Reply {
+            first: Some(Store { place, word }),
+            second: None,
+            third: None,
+        }
+    }
 }

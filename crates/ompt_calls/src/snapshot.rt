@@ -1,11 +1,16 @@
 //! What a tool can inquire during a call: the state right after the event.
 
-ghost use Rattle.std.specs.Prelude.{◌≡◌, slice_get};
+ghost use Rattle.std.specs.Prelude.{◌≡◌, ◌<◌, ◌^◌, length, slice_get};
+ghost use Rattle.std.specs.Iterator.Adapters.{IterYieldsInOrder};
+ghost use Rattle.std.specs.Slice.Iter.{iter_rest};
+ghost use Rattle.ompt_calls.specs.declared.snapshot.TaskLevel.{TaskLevel};
+ghost use Rattle.ompt_calls.specs.declared.snapshot.RegionLevel.{RegionLevel};
 ghost use Rattle.ompt_calls.specs.Snapshot.{task_info, parallel_info, target_of};
 
 use crate::call::{Frame, Word};
 use crate::reply::WordAt;
 use std::marker::Model;
+use std::slice;
 
 /// A data word that a tool may store into.
 #[derive(Clone, Copy, PartialEq, Eq)]
@@ -86,6 +91,29 @@ pub struct Snapshot {
 }
 
 impl TaskLevels {
+    /// The levels in turn, the current task's first.
+    pub fn iter(&self) -> slice::Iter<'_, TaskLevel>
+        ensures levels { iter_rest result ≡ self.now }
+        ensures bound { length (iter_rest result) < 2 ^ 64 }
+        ensures runs { IterYieldsInOrder TaskLevel }
+    {
+        self.0.iter()
+    }
+
+    /// The same as a slice.
+    pub fn as_slice(&self) -> &[TaskLevel]
+        ensures { result.now ≡ self.now }
+    {
+        self.0.as_slice()
+    }
+
+    /// How many levels there are.
+    pub fn len(&self) -> usize
+        ensures { result ≡ length self.now }
+    {
+        self.0.len()
+    }
+
     /// The task at this level.
     fn get(&self, level: u32) -> Option<TaskLevel>
         ensures { result ≡ slice_get self.now level }
@@ -95,6 +123,29 @@ impl TaskLevels {
 }
 
 impl RegionLevels {
+    /// The levels in turn, the innermost first.
+    pub fn iter(&self) -> slice::Iter<'_, RegionLevel>
+        ensures levels { iter_rest result ≡ self.now }
+        ensures bound { length (iter_rest result) < 2 ^ 64 }
+        ensures runs { IterYieldsInOrder RegionLevel }
+    {
+        self.0.iter()
+    }
+
+    /// The same as a slice.
+    pub fn as_slice(&self) -> &[RegionLevel]
+        ensures { result.now ≡ self.now }
+    {
+        self.0.as_slice()
+    }
+
+    /// How many levels there are.
+    pub fn len(&self) -> usize
+        ensures { result ≡ length self.now }
+    {
+        self.0.len()
+    }
+
     /// The region at this level.
     fn get(&self, level: u32) -> Option<RegionLevel>
         ensures { result ≡ slice_get self.now level }

@@ -3,15 +3,16 @@ use Rattle.std.proofs.Common.{ℕ, ◌≡◌, Bool, true, false, ◌==◌, List,
 use Rattle.std.proofs.lemmas.Bool.{false≢true}
 use Rattle.std.proofs.lemmas.List.{append-nil}
 use Rattle.byteorder.specs.Endian.{big_number}
+use Rattle.ompt_calls.specs.declared.argument.Argument.{Argument}
 use Rattle.trace_format.specs.declared.kind.Kind.{Kind}
 use Rattle.trace_format.specs.declared.kind.Kind.TheVariants as kind
 use Rattle.trace_format.specs.Accepting.{Next, argument_next, next_of}
-use Rattle.trace_format.specs.Fields.{long, short}
+use Rattle.trace_format.specs.Fields.{long, short, spell}
 use Rattle.trace_format.specs.Reached.{AreAccepted, IsAccepted, IsBytes}
 use Rattle.trace_format.specs.Taking.{Stage}
 use Rattle.trace_format.specs.Validity.{parallel_flags}
 use Rattle.trace_format.proofs.Spelling.{spelt_bytes}
-use Rattle.trace_format.proofs.Values.{IsArgument, IsValue, Value, spell, spelt_value, value_of}
+use Rattle.trace_format.proofs.Values.{IsArgument, IsValue, spelt_value, value_of}
 
 abbrev pub width_in : Option Next → ℕ
 width_in None = 0
@@ -47,17 +48,17 @@ StartArguments before kinds [] = Unit {0}
 StartArguments before (which ∷ kinds) (bytes ∷ rest) = IsArgument which before bytes × StartArguments (before ++ bytes ∷ []) kinds rest
 StartArguments before [] (bytes ∷ rest) = ⊥
 
-abbrev pub AreValues : List Value → List Kind → List Value → Type 0
+abbrev pub AreValues : List Argument → List Kind → List Argument → Type 0
 AreValues before [] [] = Unit {0}
 AreValues before (which ∷ kinds) (value ∷ rest) = IsValue which before value × AreValues (before ++ value ∷ []) kinds rest
 AreValues before kinds rest = ⊥
 
-spell_one_more : (before : List Value) (value : Value) → map spell (before ++ value ∷ []) ≡ map spell before ++ spell value ∷ []
+spell_one_more : (before : List Argument) (value : Argument) → map spell (before ++ value ∷ []) ≡ map spell before ++ spell value ∷ []
 spell_one_more [] value = refl
 spell_one_more (first ∷ before) value = ap (λ (l : List (List ℕ)). spell first ∷ l) (spell_one_more before value)
 
 -- values of these kinds are spelled as arguments of these kinds
-pub spelt_values : (before : List Value) (kinds : List Kind) (values : List Value) → AreValues before kinds values → AreArguments (map spell before) kinds (map spell values)
+pub spelt_values : (before : List Argument) (kinds : List Kind) (values : List Argument) → AreValues before kinds values → AreArguments (map spell before) kinds (map spell values)
 spelt_values before [] [] are = tt
 spelt_values before [] (value ∷ rest) are = absurd are
 spelt_values before (which ∷ kinds) [] are = absurd are
@@ -67,12 +68,12 @@ spelt_values before (which ∷ kinds) (value ∷ rest) are = (
 )
 
 -- the values that arguments spell
-pub record AreSpelt (before : List Value) (kinds : List Kind) (args : List (List ℕ)) : Type 0 where
-  pub values : List Value
+pub record AreSpelt (before : List Argument) (kinds : List Kind) (args : List (List ℕ)) : Type 0 where
+  pub values : List Argument
   pub are_values : AreValues before kinds values
   pub spelt : map spell values ≡ args
 
-pub values_from : (before : List Value) (kinds : List Kind) (args : List (List ℕ)) → AreArguments (map spell before) kinds args → AreSpelt before kinds args
+pub values_from : (before : List Argument) (kinds : List Kind) (args : List (List ℕ)) → AreArguments (map spell before) kinds args → AreSpelt before kinds args
 values_from before [] [] are = record { values = []; are_values = tt; spelt = refl }
 values_from before [] (bytes ∷ rest) are = absurd are
 values_from before (which ∷ kinds) [] are = absurd are

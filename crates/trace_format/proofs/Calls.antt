@@ -1,56 +1,31 @@
--- Each callback is the list of its arguments' values, and the values of its kinds are a callback.
+-- The arguments of each callback are of the kinds of its number, and arguments of these kinds are those of a callback.
 use Rattle.std.proofs.Common.{ℕ, ◌≡◌, ◌≢◌, ◌^◌, ◌==◌, List, [], ◌∷◌, map, inl, inr, refl, sym, ◌∙◌, arith}
 use Rattle.std.proofs.lemmas.Bool.{eqb-true, or_cases}
 use Rattle.byteorder.specs.Endian.{big_number}
+use Rattle.ompt_calls.specs.declared.argument.Argument.{Argument}
 use Rattle.ompt_calls.specs.declared.call.Call.{Call}
 use Rattle.ompt_calls.specs.declared.call.Call.TheVariants.{ThreadBegin, ThreadEnd, ParallelBegin, ParallelEnd, TaskCreate, TaskSchedule, ImplicitTask, SyncRegionWait, MutexReleased, Work, Masked, SyncRegion, LockInit, LockDestroy, MutexAcquire, MutexAcquired, Dispatch}
+use Rattle.ompt_calls.specs.Arguments.{arguments_of}
 use Rattle.ompt_calls.specs.Number.{number_of}
 use Rattle.trace_format.specs.Accepting.{kinds_of}
-use Rattle.trace_format.specs.Fields.{arguments, short}
-use Rattle.trace_format.specs.Validity.{IsAmong, IsCall, is_among}
+use Rattle.trace_format.specs.Fields.{short}
+use Rattle.trace_format.specs.Validity.{IsAmong, IsCall, dispatch_kinds, is_among}
 use Rattle.trace_format.proofs.ArgumentLists.{AreValues}
 use Rattle.trace_format.proofs.Shapes.{OfEach}
 use Rattle.trace_format.proofs.Spelling.{reads}
-use Rattle.trace_format.proofs.Values.{AFrame, ALong, AShort, AWord, Value, among_below, spell}
+use Rattle.trace_format.proofs.Values.{among_below}
 
-abbrev pub values_of : Call → List Value
-values_of (ThreadBegin kind thread) = AShort kind ∷ AWord thread ∷ []
-values_of (ThreadEnd thread) = AWord thread ∷ []
-values_of (ParallelBegin task frame region requested flags codeptr) =
-    AWord task ∷ AFrame frame ∷ AWord region ∷ AShort requested ∷ AShort flags ∷ ALong codeptr ∷ []
-values_of (ParallelEnd region task flags codeptr) = AWord region ∷ AWord task ∷ AShort flags ∷ ALong codeptr ∷ []
-values_of (TaskCreate task frame fresh flags has_dependences codeptr) =
-    AWord task ∷ AFrame frame ∷ AWord fresh ∷ AShort flags ∷ AShort has_dependences ∷ ALong codeptr ∷ []
-values_of (TaskSchedule prior status next) = AWord prior ∷ AShort status ∷ AWord next ∷ []
-values_of (ImplicitTask endpoint region task actual index flags) =
-    AShort endpoint ∷ AWord region ∷ AWord task ∷ AShort actual ∷ AShort index ∷ AShort flags ∷ []
-values_of (SyncRegionWait kind endpoint region task codeptr) = AShort kind ∷ AShort endpoint ∷ AWord region ∷ AWord task ∷ ALong codeptr ∷ []
-values_of (MutexReleased kind wait_id codeptr) = AShort kind ∷ AShort wait_id ∷ ALong codeptr ∷ []
-values_of (Work kind endpoint region task count codeptr) =
-    AShort kind ∷ AShort endpoint ∷ AWord region ∷ AWord task ∷ ALong count ∷ ALong codeptr ∷ []
-values_of (Masked endpoint region task codeptr) = AShort endpoint ∷ AWord region ∷ AWord task ∷ ALong codeptr ∷ []
-values_of (SyncRegion kind endpoint region task codeptr) = AShort kind ∷ AShort endpoint ∷ AWord region ∷ AWord task ∷ ALong codeptr ∷ []
-values_of (LockInit kind hint variant wait_id codeptr) = AShort kind ∷ AShort hint ∷ AShort variant ∷ AShort wait_id ∷ ALong codeptr ∷ []
-values_of (LockDestroy kind wait_id codeptr) = AShort kind ∷ AShort wait_id ∷ ALong codeptr ∷ []
-values_of (MutexAcquire kind hint variant wait_id codeptr) = AShort kind ∷ AShort hint ∷ AShort variant ∷ AShort wait_id ∷ ALong codeptr ∷ []
-values_of (MutexAcquired kind wait_id codeptr) = AShort kind ∷ AShort wait_id ∷ ALong codeptr ∷ []
-values_of (Dispatch region task kind start iterations) = AWord region ∷ AWord task ∷ AShort kind ∷ ALong start ∷ ALong iterations ∷ []
-
-pub spelt_call : (call : Call) → map spell (values_of call) ≡ arguments call
-spelt_call (ThreadEnd thread) = refl
-spelt_call call = refl
-
-not_three : (kind : ℕ) → IsAmong (2 ∷ 3 ∷ []) kind → kind ≢ 2 → kind ≡ 3
+not_three : (kind : ℕ) → IsAmong dispatch_kinds kind → kind ≢ 2 → kind ≡ 3
 not_three kind among other = elim (or_cases (kind == 2) (is_among (3 ∷ []) kind) among) [
   | inl two ↦ absurd (other (eqb-true kind 2 two))
   | inr rest ↦ elim (or_cases (kind == 3) (is_among [] kind) rest) [ inl three ↦ eqb-true kind 3 three | inr none ↦ absurd cc ]
 ]
 
-kind_read : (kind : ℕ) → IsAmong (2 ∷ 3 ∷ []) kind → big_number 4 (short kind) ≡ kind
-kind_read kind among = reads 4 kind (among_below (2 ∷ 3 ∷ []) kind (2 ^ 32) refl among)
+kind_read : (kind : ℕ) → IsAmong dispatch_kinds kind → big_number 4 (short kind) ≡ kind
+kind_read kind among = reads 4 kind (among_below dispatch_kinds kind (2 ^ 32) refl among)
 
 -- a callback's values have the kinds of its number
-pub call_values : (call : Call) → IsCall call → AreValues [] (kinds_of (number_of call)) (values_of call)
+pub call_values : (call : Call) → IsCall call → AreValues [] (kinds_of (number_of call)) (arguments_of call)
 call_values (ThreadBegin kind thread) is = (is.0, (is.1, tt))
 call_values (ThreadEnd thread) is = (is, tt)
 call_values (ParallelBegin task frame region requested flags codeptr) is = (is.0, (is.1, (is.2, (is.3, (is.4, (is.5, tt))))))
@@ -72,11 +47,11 @@ call_values (Dispatch region task kind start iterations) is =
     (is.0, (is.1, (is.3.0, (is.2, ((λ two. is.3.1 (sym read ∙ two), λ other. is.3.2 (not_three kind is.3.0 (λ two. other (read ∙ two))), is.3.3), tt)))))
 
 -- the callback that has these values
-pub record IsCallOf (number : ℕ) (values : List Value) : Type 0 where
+pub record IsCallOf (number : ℕ) (values : List Argument) : Type 0 where
   pub call : Call
   pub is_call : IsCall call
   pub number_is : number_of call ≡ number
-  pub values_are : values_of call ≡ values
+  pub values_are : arguments_of call ≡ values
 
 abbrev pub Row : ℕ → Type 0
 Row number = OfEach [] (kinds_of number) (IsCallOf number)

@@ -5,18 +5,19 @@ use Rattle.std.proofs.lemmas.Nat.Bits.{bit_at_above}
 use Rattle.std.specs.Prelude.{nat_le}
 use Rattle.omp_codes.specs.Answers.{in_profile, within}
 use Rattle.omp_codes.specs.declared.callbacks.TheConstants.{PROFILE_MASK}
+use Rattle.ompt_calls.specs.declared.argument.Argument.{Argument}
 use Rattle.ompt_calls.specs.declared.call.Call.{Call}
 use Rattle.ompt_calls.specs.declared.call.Call.TheVariants.{ThreadBegin, ThreadEnd, ParallelBegin, ParallelEnd, TaskCreate, TaskSchedule, ImplicitTask, SyncRegionWait, MutexReleased, Work, Masked, SyncRegion, LockInit, LockDestroy, MutexAcquire, MutexAcquired, Dispatch}
+use Rattle.ompt_calls.specs.Arguments.{arguments_of}
 use Rattle.ompt_calls.specs.Number.{is_registered, number_of}
 use Rattle.trace_format.specs.Accepting.{kinds_of}
 use Rattle.trace_format.specs.Decoding.{call_in}
-use Rattle.trace_format.specs.Fields.{arguments}
+use Rattle.trace_format.specs.Fields.{arguments, spell}
 use Rattle.trace_format.specs.Reached.{flat}
 use Rattle.trace_format.specs.Validity.{IsCall, is_among}
 use Rattle.trace_format.proofs.ArgumentLists.{AreArguments, AreValues, spelt_values, values_from}
-use Rattle.trace_format.proofs.Calls.{IsCallOf, Row, call_values, row_1, row_16, row_17, row_2, row_20, row_21, row_23, row_24, row_25, row_26, row_27, row_3, row_32, row_4, row_5, row_6, row_7, spelt_call, values_of}
+use Rattle.trace_format.proofs.Calls.{IsCallOf, Row, call_values, row_1, row_16, row_17, row_2, row_20, row_21, row_23, row_24, row_25, row_26, row_27, row_3, row_32, row_4, row_5, row_6, row_7}
 use Rattle.trace_format.proofs.Shapes.{made_again, made_from, of_all}
-use Rattle.trace_format.proofs.Values.{Value, spell}
 
 -- the numbers of the profile
 abbrev numbers : List ℕ
@@ -57,7 +58,7 @@ among_numbers n inside =
     sym (agree_below_at in_profile (is_among numbers) 33 n refl (omega arith)) ∙ inside
 
 -- a number that has values of its kinds is that of a callback with these values
-pub call_of : (number : ℕ) → in_profile number ≡ true → (values : List Value) → AreValues [] (kinds_of number) values → IsCallOf number values
+pub call_of : (number : ℕ) → in_profile number ≡ true → (values : List Argument) → AreValues [] (kinds_of number) values → IsCallOf number values
 call_of number inside values are =
     of_all [] (kinds_of number) (IsCallOf number)
     (each_among Row numbers
@@ -80,7 +81,7 @@ profile_bits n = elim (cases_lt n 64) [
 ]
 
 -- the callback that bytes with these values at their places are
-call_at : (call : Call) (bytes : List ℕ) → made_from 0 (kinds_of (number_of call)) bytes ≡ values_of call → call_in (number_of call) bytes ≡ call
+call_at : (call : Call) (bytes : List ℕ) → made_from 0 (kinds_of (number_of call)) bytes ≡ arguments_of call → call_in (number_of call) bytes ≡ call
 call_at (ThreadBegin kind thread) bytes e = cc
 call_at (ThreadEnd thread) bytes e = cc
 call_at (ParallelBegin task frame region requested flags codeptr) bytes e = cc
@@ -103,11 +104,11 @@ call_at (Dispatch region task kind start iterations) bytes e = cc
 pub call_again : (call : Call) → IsCall call → call_in (number_of call) (flat (arguments call)) ≡ call
 call_again call is =
     call_at call (flat (arguments call))
-    (made_again [] (kinds_of (number_of call)) (values_of call) 0 (flat (arguments call)) (call_values call is) (ap flat (sym (spelt_call call))))
+    (made_again [] (kinds_of (number_of call)) (arguments_of call) 0 (flat (arguments call)) (call_values call is) refl)
 
 -- its arguments are accepted by their kinds
 pub call_arguments : (call : Call) → IsCall call → AreArguments [] (kinds_of (number_of call)) (arguments call)
-call_arguments call is = rw (← spelt_call call) (spelt_values [] (kinds_of (number_of call)) (values_of call) (call_values call is))
+call_arguments call is = spelt_values [] (kinds_of (number_of call)) (arguments_of call) (call_values call is)
 
 -- arguments of the kinds of a number are those of a callback
 pub record HasArguments (number : ℕ) (args : List (List ℕ)) : Type 0 where
@@ -124,5 +125,5 @@ call_from number args inside are =
       call = found.call;
       is_call = found.is_call;
       number_is = found.number_is;
-      arguments_are = sym (spelt_call found.call) ∙ ap (λ (values : List Value). map spell values) found.values_are ∙ spelt.spelt;
+      arguments_are = ap (λ (values : List Argument). map spell values) found.values_are ∙ spelt.spelt;
     }

@@ -2,18 +2,20 @@
 use Rattle.std.proofs.Common.{ℕ, ◌≡◌, ◌<◌, ◌+◌, ◌^◌, List, [], ◌∷◌, ◌++◌, length, map, drop, refl, sym, ap, ◌∙◌, arith}
 use Rattle.std.proofs.lemmas.List.{drop-drop}
 use Rattle.byteorder.specs.Endian.{big_number}
+use Rattle.ompt_calls.specs.declared.argument.Argument.{Argument}
+use Rattle.ompt_calls.specs.declared.argument.Argument.TheVariants as argument
 use Rattle.ompt_calls.specs.declared.call.Frame.{Frame}
 use Rattle.ompt_calls.specs.declared.call.Word.{Word}
 use Rattle.trace_format.specs.declared.kind.Kind.{Kind}
 use Rattle.trace_format.specs.declared.kind.Kind.TheVariants as kind
 use Rattle.trace_format.specs.Accepting.{width_of}
 use Rattle.trace_format.specs.Decoding.{frame_at, long_at, short_at, word_at}
-use Rattle.trace_format.specs.Fields.{long, short}
+use Rattle.trace_format.specs.Fields.{long, short, spell}
 use Rattle.trace_format.specs.Reached.{flat}
-use Rattle.trace_format.specs.Validity.{IsLong, IsShort, endpoints, implicit_flags, mutex_kinds, statuses, sync_kinds, task_flags, thread_kinds, work_kinds}
+use Rattle.trace_format.specs.Validity.{IsLong, IsShort, dispatch_kinds, endpoints, implicit_flags, mutex_kinds, release_kinds, statuses, sync_kinds, task_flags, thread_kinds, work_kinds}
 use Rattle.trace_format.proofs.ArgumentLists.{AreValues}
 use Rattle.trace_format.proofs.Spelling.{drop_field, length_spelt, reads_front}
-use Rattle.trace_format.proofs.Values.{AFrame, ALong, AShort, AWord, IsValue, Value, among_below, iterations_width, spell, spelt_value}
+use Rattle.trace_format.proofs.Values.{IsValue, among_below, iterations_width, spelt_value}
 
 pub data Shape : Type 0 where
   AsShort : Shape
@@ -34,85 +36,85 @@ Of AsLong = ℕ
 Of AsWord = Word
 Of AsFrame = Frame
 
-abbrev pub made : (shape : Shape) → Of shape → Value
-made AsShort n = AShort n
-made AsLong n = ALong n
-made AsWord w = AWord w
-made AsFrame f = AFrame f
+abbrev pub made : (shape : Shape) → Of shape → Argument
+made AsShort n = argument.Short n
+made AsLong n = argument.Long n
+made AsWord w = argument.Word w
+made AsFrame f = argument.Frame f
 
 -- a function of a value of each kind in turn, behind these
-abbrev pub OfEach : List Value → List Kind → (List Value → Type 0) → Type 0
+abbrev pub OfEach : List Argument → List Kind → (List Argument → Type 0) → Type 0
 OfEach before [] P = P []
 OfEach before (which ∷ kinds) P =
     (x : Of (shape_of which)) → IsValue which before (made (shape_of which) x) → OfEach (before ++ made (shape_of which) x ∷ []) kinds (λ rest. P (made (shape_of which) x ∷ rest))
 
 -- a value of a kind has its shape
-of_one : (which : Kind) (before : List Value) (P : Value → Type 0) → ((x : Of (shape_of which)) → IsValue which before (made (shape_of which) x) → P (made (shape_of which) x)) → (value : Value) → IsValue which before value → P value
-of_one kind.Short before P each (AShort n) is = each n is
-of_one kind.Long before P each (ALong n) is = each n is
-of_one kind.Word before P each (AWord w) is = each w is
-of_one kind.Frame before P each (AFrame f) is = each f is
-of_one kind.OfThread before P each (AShort n) is = each n is
-of_one kind.Endpoint before P each (AShort n) is = each n is
-of_one kind.OfSync before P each (AShort n) is = each n is
-of_one kind.OfMutex before P each (AShort n) is = each n is
-of_one kind.OfRelease before P each (AShort n) is = each n is
-of_one kind.OfWork before P each (AShort n) is = each n is
-of_one kind.OfDispatch before P each (AShort n) is = each n is
-of_one kind.Iterations before P each (ALong n) is = each n is
-of_one kind.Status before P each (AShort n) is = each n is
-of_one kind.OfLock before P each (AShort n) is = each n is
-of_one kind.Zero before P each (AShort n) is = each n is
-of_one kind.ParallelFlags before P each (AShort n) is = each n is
-of_one kind.TaskFlags before P each (AShort n) is = each n is
-of_one kind.ImplicitFlags before P each (AShort n) is = each n is
+of_one : (which : Kind) (before : List Argument) (P : Argument → Type 0) → ((x : Of (shape_of which)) → IsValue which before (made (shape_of which) x) → P (made (shape_of which) x)) → (value : Argument) → IsValue which before value → P value
+of_one kind.Short before P each (argument.Short n) is = each n is
+of_one kind.Long before P each (argument.Long n) is = each n is
+of_one kind.Word before P each (argument.Word w) is = each w is
+of_one kind.Frame before P each (argument.Frame f) is = each f is
+of_one kind.OfThread before P each (argument.Short n) is = each n is
+of_one kind.Endpoint before P each (argument.Short n) is = each n is
+of_one kind.OfSync before P each (argument.Short n) is = each n is
+of_one kind.OfMutex before P each (argument.Short n) is = each n is
+of_one kind.OfRelease before P each (argument.Short n) is = each n is
+of_one kind.OfWork before P each (argument.Short n) is = each n is
+of_one kind.OfDispatch before P each (argument.Short n) is = each n is
+of_one kind.Iterations before P each (argument.Long n) is = each n is
+of_one kind.Status before P each (argument.Short n) is = each n is
+of_one kind.OfLock before P each (argument.Short n) is = each n is
+of_one kind.Zero before P each (argument.Short n) is = each n is
+of_one kind.ParallelFlags before P each (argument.Short n) is = each n is
+of_one kind.TaskFlags before P each (argument.Short n) is = each n is
+of_one kind.ImplicitFlags before P each (argument.Short n) is = each n is
 of_one which before P each value is = absurd is
 
-pub of_all : (before : List Value) (kinds : List Kind) (P : List Value → Type 0) → OfEach before kinds P → (values : List Value) → AreValues before kinds values → P values
+pub of_all : (before : List Argument) (kinds : List Kind) (P : List Argument → Type 0) → OfEach before kinds P → (values : List Argument) → AreValues before kinds values → P values
 of_all before [] P each [] are = each
 of_all before [] P each (value ∷ rest) are = absurd are
 of_all before (which ∷ kinds) P each [] are = absurd are
 of_all before (which ∷ kinds) P each (value ∷ rest) are =
-    of_one which before (λ v. (later : List Value) → AreValues (before ++ v ∷ []) kinds later → P (v ∷ later))
+    of_one which before (λ v. (later : List Argument) → AreValues (before ++ v ∷ []) kinds later → P (v ∷ later))
     (λ x is. of_all (before ++ made (shape_of which) x ∷ []) kinds (λ later. P (made (shape_of which) x ∷ later)) (each x is))
     value are.0 rest are.1
 
 -- the numbers of a value fit their fields
-abbrev pub IsSmall : Value → Type 0
-IsSmall (AShort n) = IsShort n
-IsSmall (ALong n) = IsLong n
-IsSmall (AWord w) = IsShort w.identity × IsLong w.value
-IsSmall (AFrame f) = IsShort f.exit × IsShort f.enter
+abbrev pub IsSmall : Argument → Type 0
+IsSmall (argument.Short n) = IsShort n
+IsSmall (argument.Long n) = IsLong n
+IsSmall (argument.Word w) = IsShort w.identity × IsLong w.value
+IsSmall (argument.Frame f) = IsShort f.exit × IsShort f.enter
 
-is_small : (which : Kind) (before : List Value) (value : Value) → IsValue which before value → IsSmall value
-is_small kind.Short before (AShort n) is = is
-is_small kind.Long before (ALong n) is = is
-is_small kind.Word before (AWord w) is = (is.0, is.1)
-is_small kind.Frame before (AFrame f) is = is
-is_small kind.OfThread before (AShort n) is = among_below thread_kinds n (2 ^ 32) refl is
-is_small kind.Endpoint before (AShort n) is = among_below endpoints n (2 ^ 32) refl is
-is_small kind.OfSync before (AShort n) is = among_below sync_kinds n (2 ^ 32) refl is
-is_small kind.OfMutex before (AShort n) is = among_below mutex_kinds n (2 ^ 32) refl is
-is_small kind.OfRelease before (AShort n) is = among_below (1 ∷ 5 ∷ []) n (2 ^ 32) refl is
-is_small kind.OfWork before (AShort n) is = among_below work_kinds n (2 ^ 32) refl is
-is_small kind.OfDispatch before (AShort n) is = among_below (2 ∷ 3 ∷ []) n (2 ^ 32) refl is
-is_small kind.Iterations before (ALong n) is = iterations_width before n is
-is_small kind.Status before (AShort n) is = among_below statuses n (2 ^ 32) refl is
-is_small kind.OfLock before (AShort n) is = omega arith
-is_small kind.Zero before (AShort n) is = omega arith
-is_small kind.ParallelFlags before (AShort n) is = omega arith
-is_small kind.TaskFlags before (AShort n) is = among_below task_flags n (2 ^ 32) refl is
-is_small kind.ImplicitFlags before (AShort n) is = among_below implicit_flags n (2 ^ 32) refl is
+is_small : (which : Kind) (before : List Argument) (value : Argument) → IsValue which before value → IsSmall value
+is_small kind.Short before (argument.Short n) is = is
+is_small kind.Long before (argument.Long n) is = is
+is_small kind.Word before (argument.Word w) is = (is.0, is.1)
+is_small kind.Frame before (argument.Frame f) is = is
+is_small kind.OfThread before (argument.Short n) is = among_below thread_kinds n (2 ^ 32) refl is
+is_small kind.Endpoint before (argument.Short n) is = among_below endpoints n (2 ^ 32) refl is
+is_small kind.OfSync before (argument.Short n) is = among_below sync_kinds n (2 ^ 32) refl is
+is_small kind.OfMutex before (argument.Short n) is = among_below mutex_kinds n (2 ^ 32) refl is
+is_small kind.OfRelease before (argument.Short n) is = among_below release_kinds n (2 ^ 32) refl is
+is_small kind.OfWork before (argument.Short n) is = among_below work_kinds n (2 ^ 32) refl is
+is_small kind.OfDispatch before (argument.Short n) is = among_below dispatch_kinds n (2 ^ 32) refl is
+is_small kind.Iterations before (argument.Long n) is = iterations_width before n is
+is_small kind.Status before (argument.Short n) is = among_below statuses n (2 ^ 32) refl is
+is_small kind.OfLock before (argument.Short n) is = omega arith
+is_small kind.Zero before (argument.Short n) is = omega arith
+is_small kind.ParallelFlags before (argument.Short n) is = omega arith
+is_small kind.TaskFlags before (argument.Short n) is = among_below task_flags n (2 ^ 32) refl is
+is_small kind.ImplicitFlags before (argument.Short n) is = among_below implicit_flags n (2 ^ 32) refl is
 is_small which before value is = absurd is
 
 -- the value of this shape that begins at this place
-abbrev pub made_at : Shape → ℕ → List ℕ → Value
-made_at AsShort place bytes = AShort (short_at place bytes)
-made_at AsLong place bytes = ALong (long_at place bytes)
-made_at AsWord place bytes = AWord (word_at place bytes)
-made_at AsFrame place bytes = AFrame (frame_at place bytes)
+abbrev pub made_at : Shape → ℕ → List ℕ → Argument
+made_at AsShort place bytes = argument.Short (short_at place bytes)
+made_at AsLong place bytes = argument.Long (long_at place bytes)
+made_at AsWord place bytes = argument.Word (word_at place bytes)
+made_at AsFrame place bytes = argument.Frame (frame_at place bytes)
 
-abbrev pub made_from : ℕ → List Kind → List ℕ → List Value
+abbrev pub made_from : ℕ → List Kind → List ℕ → List Argument
 made_from place [] bytes = []
 made_from place (which ∷ kinds) bytes = made_at (shape_of which) place bytes ∷ made_from (place + width_of which) kinds bytes
 
@@ -128,27 +130,27 @@ at_long : (place : ℕ) (bytes rest : List ℕ) (n : ℕ) → drop place bytes �
 at_long place bytes rest n at small = ap (big_number 8) at ∙ reads_front 8 n rest small
 
 -- a value that was spelled at a place stands there
-at_made : (which : Kind) (before : List Value) (value : Value) (place : ℕ) (bytes rest : List ℕ) → IsValue which before value → drop place bytes ≡ spell value ++ rest → made_at (shape_of which) place bytes ≡ value
+at_made : (which : Kind) (before : List Argument) (value : Argument) (place : ℕ) (bytes rest : List ℕ) → IsValue which before value → drop place bytes ≡ spell value ++ rest → made_at (shape_of which) place bytes ≡ value
 at_made which before value place bytes rest is at =
     of_one which before (λ v. IsSmall v → drop place bytes ≡ spell v ++ rest → made_at (shape_of which) place bytes ≡ v)
     (λ x is_x. by_shape (shape_of which) x) value is (is_small which before value is) at
   where
     by_shape : (shape : Shape) (x : Of shape) → IsSmall (made shape x) → drop place bytes ≡ spell (made shape x) ++ rest → made_at shape place bytes ≡ made shape x
-    by_shape AsShort n small here = ap AShort (at_short place bytes rest n here small)
-    by_shape AsLong n small here = ap ALong (at_long place bytes rest n here small)
+    by_shape AsShort n small here = ap argument.Short (at_short place bytes rest n here small)
+    by_shape AsLong n small here = ap argument.Long (at_long place bytes rest n here small)
     by_shape AsWord w small here =
         let parts : drop place bytes ≡ short w.identity ++ (long w.value ++ rest) = here in
         let first = at_short place bytes (long w.value ++ rest) w.identity parts small.0 in
         let second = at_long (place + 4) bytes rest w.value (behind place bytes (short w.identity) (long w.value ++ rest) 4 parts (length_spelt 4 w.identity)) small.1 in
-        ap (λ (n : ℕ). AWord (record { identity = n; value = long_at (place + 4) bytes })) first ∙ ap (λ (n : ℕ). AWord (record { identity = w.identity; value = n })) second
+        ap (λ (n : ℕ). argument.Word (record { identity = n; value = long_at (place + 4) bytes })) first ∙ ap (λ (n : ℕ). argument.Word (record { identity = w.identity; value = n })) second
     by_shape AsFrame f small here =
         let parts : drop place bytes ≡ short f.exit ++ (short f.enter ++ rest) = here in
         let first = at_short place bytes (short f.enter ++ rest) f.exit parts small.0 in
         let second = at_short (place + 4) bytes rest f.enter (behind place bytes (short f.exit) (short f.enter ++ rest) 4 parts (length_spelt 4 f.exit)) small.1 in
-        ap (λ (n : ℕ). AFrame (record { exit = n; enter = short_at (place + 4) bytes })) first ∙ ap (λ (n : ℕ). AFrame (record { exit = f.exit; enter = n })) second
+        ap (λ (n : ℕ). argument.Frame (record { exit = n; enter = short_at (place + 4) bytes })) first ∙ ap (λ (n : ℕ). argument.Frame (record { exit = f.exit; enter = n })) second
 
 -- values that were spelled stand at their places
-pub made_again : (before : List Value) (kinds : List Kind) (values : List Value) (place : ℕ) (bytes : List ℕ) → AreValues before kinds values → drop place bytes ≡ flat (map spell values) → made_from place kinds bytes ≡ values
+pub made_again : (before : List Argument) (kinds : List Kind) (values : List Argument) (place : ℕ) (bytes : List ℕ) → AreValues before kinds values → drop place bytes ≡ flat (map spell values) → made_from place kinds bytes ≡ values
 made_again before [] [] place bytes are at = refl
 made_again before [] (value ∷ rest) place bytes are at = absurd are
 made_again before (which ∷ kinds) [] place bytes are at = absurd are
@@ -156,4 +158,4 @@ made_again before (which ∷ kinds) (value ∷ rest) place bytes are at =
     let first = at_made which before value place bytes (flat (map spell rest)) are.0 at in
     let width = (spelt_value which before value are.0).width in
     let later = made_again (before ++ value ∷ []) kinds rest (place + width_of which) bytes are.1 (behind place bytes (spell value) (flat (map spell rest)) (width_of which) at width) in
-    ap (λ (v : Value). v ∷ made_from (place + width_of which) kinds bytes) first ∙ ap (λ (l : List Value). value ∷ l) later
+    ap (λ (v : Argument). v ∷ made_from (place + width_of which) kinds bytes) first ∙ ap (λ (l : List Argument). value ∷ l) later

@@ -4,55 +4,44 @@ use Rattle.std.specs.Prelude.{nat_le, nat_lt}
 use Rattle.std.proofs.lemmas.Bool.{and_parts, cases_eq, eqb-true, le-leb, leb-true, ltb-true, or_cases}
 use Rattle.std.proofs.lemmas.List.{length-drop, take-append-drop, length-take}
 use Rattle.byteorder.specs.Endian.{big_bytes, big_number}
+use Rattle.ompt_calls.specs.declared.argument.Argument.{Argument}
+use Rattle.ompt_calls.specs.declared.argument.Argument.TheVariants as argument
 use Rattle.ompt_calls.specs.declared.call.Frame.{Frame}
 use Rattle.ompt_calls.specs.declared.call.Word.{Word}
 use Rattle.trace_format.specs.declared.kind.Kind.{Kind}
 use Rattle.trace_format.specs.declared.kind.Kind.TheVariants as kind
 use Rattle.trace_format.specs.Accepting.{accepts_kind, width_of}
-use Rattle.trace_format.specs.Fields.{frame, long, short, word}
+use Rattle.trace_format.specs.Fields.{frame, long, short, spell, word}
 use Rattle.trace_format.specs.Reached.{IsBytes}
-use Rattle.trace_format.specs.Validity.{IsAmong, IsFrame, IsLong, IsShort, IsWord, endpoints, implicit_flags, is_among, mutex_kinds, parallel_flags, statuses, sync_kinds, task_flags, thread_kinds, work_kinds}
+use Rattle.trace_format.specs.Validity.{IsAmong, IsFrame, IsLong, IsShort, IsWord, endpoints, implicit_flags, dispatch_kinds, is_among, mutex_kinds, parallel_flags, release_kinds, statuses, sync_kinds, task_flags, thread_kinds, work_kinds}
 use Rattle.trace_format.proofs.Spelling.{append_bytes, drop_bytes, drop_field, length_spelt, number_small, reads, reads_first, reads_front, spells, spelt_bytes, take_bytes}
 
--- A value is a number of 32 or of 64 bits, a data word or a frame.
-pub data Value : Type 0 where
-  AShort : ℕ → Value
-  ALong : ℕ → Value
-  AWord : Word → Value
-  AFrame : Frame → Value
-
-abbrev pub spell : Value → List ℕ
-spell (AShort n) = short n
-spell (ALong n) = long n
-spell (AWord w) = word w
-spell (AFrame f) = frame f
-
 -- how many iterations there may be behind these arguments
-abbrev pub AreIterations : List Value → ℕ → Type 0
+abbrev pub AreIterations : List Argument → ℕ → Type 0
 AreIterations (region ∷ task ∷ which ∷ rest) n =
     (big_number 4 (spell which) ≡ 2 → n ≡ 0) × (big_number 4 (spell which) ≢ 2 → 1 ≤ n) × IsLong n
 AreIterations other n = IsLong n
 
 -- the values of a kind behind these arguments
-abbrev pub IsValue : Kind → List Value → Value → Type 0
-IsValue kind.Short before (AShort n) = IsShort n
-IsValue kind.Long before (ALong n) = IsLong n
-IsValue kind.Word before (AWord w) = IsWord w
-IsValue kind.Frame before (AFrame f) = IsFrame f
-IsValue kind.OfThread before (AShort n) = IsAmong thread_kinds n
-IsValue kind.Endpoint before (AShort n) = IsAmong endpoints n
-IsValue kind.OfSync before (AShort n) = IsAmong sync_kinds n
-IsValue kind.OfMutex before (AShort n) = IsAmong mutex_kinds n
-IsValue kind.OfRelease before (AShort n) = IsAmong (1 ∷ 5 ∷ []) n
-IsValue kind.OfWork before (AShort n) = IsAmong work_kinds n
-IsValue kind.OfDispatch before (AShort n) = IsAmong (2 ∷ 3 ∷ []) n
-IsValue kind.Iterations before (ALong n) = AreIterations before n
-IsValue kind.Status before (AShort n) = IsAmong statuses n
-IsValue kind.OfLock before (AShort n) = n ≡ 1
-IsValue kind.Zero before (AShort n) = n ≡ 0
-IsValue kind.ParallelFlags before (AShort n) = n ≡ parallel_flags
-IsValue kind.TaskFlags before (AShort n) = IsAmong task_flags n
-IsValue kind.ImplicitFlags before (AShort n) = IsAmong implicit_flags n
+abbrev pub IsValue : Kind → List Argument → Argument → Type 0
+IsValue kind.Short before (argument.Short n) = IsShort n
+IsValue kind.Long before (argument.Long n) = IsLong n
+IsValue kind.Word before (argument.Word w) = IsWord w
+IsValue kind.Frame before (argument.Frame f) = IsFrame f
+IsValue kind.OfThread before (argument.Short n) = IsAmong thread_kinds n
+IsValue kind.Endpoint before (argument.Short n) = IsAmong endpoints n
+IsValue kind.OfSync before (argument.Short n) = IsAmong sync_kinds n
+IsValue kind.OfMutex before (argument.Short n) = IsAmong mutex_kinds n
+IsValue kind.OfRelease before (argument.Short n) = IsAmong release_kinds n
+IsValue kind.OfWork before (argument.Short n) = IsAmong work_kinds n
+IsValue kind.OfDispatch before (argument.Short n) = IsAmong dispatch_kinds n
+IsValue kind.Iterations before (argument.Long n) = AreIterations before n
+IsValue kind.Status before (argument.Short n) = IsAmong statuses n
+IsValue kind.OfLock before (argument.Short n) = n ≡ 1
+IsValue kind.Zero before (argument.Short n) = n ≡ 0
+IsValue kind.ParallelFlags before (argument.Short n) = n ≡ parallel_flags
+IsValue kind.TaskFlags before (argument.Short n) = IsAmong task_flags n
+IsValue kind.ImplicitFlags before (argument.Short n) = IsAmong implicit_flags n
 IsValue other before value = ⊥
 
 -- bytes that are accepted by their kind behind these
@@ -110,20 +99,20 @@ iterations_none a n test two = eqb-true n 0 (rw (eq-eqb a 2 two) at test)
 iterations_some : (a n : ℕ) → cond (a == 2) (n == 0) (nat_le 1 n) ≡ true → a ≢ 2 → 1 ≤ n
 iterations_some a n test other = leb-true 1 n (rw (ne_eqb a 2 other) at test)
 
-pub iterations_width : (before : List Value) (n : ℕ) → AreIterations before n → n < 2 ^ 64
+pub iterations_width : (before : List Argument) (n : ℕ) → AreIterations before n → n < 2 ^ 64
 iterations_width [] n are = are
 iterations_width (a ∷ []) n are = are
 iterations_width (a ∷ b ∷ []) n are = are
 iterations_width (a ∷ b ∷ c ∷ rest) n are = are.2
 
-iterations_accepted : (before : List Value) (n : ℕ) → AreIterations before n → accepts_kind kind.Iterations (map spell before) (long n) ≡ true
+iterations_accepted : (before : List Argument) (n : ℕ) → AreIterations before n → accepts_kind kind.Iterations (map spell before) (long n) ≡ true
 iterations_accepted [] n are = refl
 iterations_accepted (a ∷ []) n are = refl
 iterations_accepted (a ∷ b ∷ []) n are = refl
 iterations_accepted (a ∷ b ∷ c ∷ rest) n are =
     ap (λ (m : ℕ). cond (big_number 4 (spell c) == 2) (m == 0) (nat_le 1 m)) (reads 8 n are.2) ∙ iterations_test (big_number 4 (spell c)) n are.0 are.1
 
-iterations_back : (before : List Value) (bytes : List ℕ) → length bytes ≡ 8 → IsBytes bytes → accepts_kind kind.Iterations (map spell before) bytes ≡ true → AreIterations before (big_number 8 bytes)
+iterations_back : (before : List Argument) (bytes : List ℕ) → length bytes ≡ 8 → IsBytes bytes → accepts_kind kind.Iterations (map spell before) bytes ≡ true → AreIterations before (big_number 8 bytes)
 iterations_back [] bytes width of_bytes test = number_small 8 bytes of_bytes
 iterations_back (a ∷ []) bytes width of_bytes test = number_small 8 bytes of_bytes
 iterations_back (a ∷ b ∷ []) bytes width of_bytes test = number_small 8 bytes of_bytes
@@ -148,36 +137,36 @@ a_short : (which : Kind) (before : List (List ℕ)) (n : ℕ) → width_of which
 a_short which before n four accepted = record { width = length_spelt 4 n ∙ sym four; is_bytes = spelt_bytes 4 n; accepted = accepted }
 
 -- a value of a kind is spelled as bytes that are accepted
-pub spelt_value : (which : Kind) (before : List Value) (value : Value) → IsValue which before value → IsArgument which (map spell before) (spell value)
-spelt_value kind.Short before (AShort n) is = a_short kind.Short (map spell before) n refl refl
-spelt_value kind.Long before (ALong n) is = record { width = length_spelt 8 n; is_bytes = spelt_bytes 8 n; accepted = refl }
-spelt_value kind.Word before (AWord w) is =
+pub spelt_value : (which : Kind) (before : List Argument) (value : Argument) → IsValue which before value → IsArgument which (map spell before) (spell value)
+spelt_value kind.Short before (argument.Short n) is = a_short kind.Short (map spell before) n refl refl
+spelt_value kind.Long before (argument.Long n) is = record { width = length_spelt 8 n; is_bytes = spelt_bytes 8 n; accepted = refl }
+spelt_value kind.Word before (argument.Word w) is =
     record {
       width = length_both (short w.identity) (long w.value) 4 8 (length_spelt 4 w.identity) (length_spelt 8 w.value);
       is_bytes = append_bytes (short w.identity) (long w.value) (spelt_bytes 4 w.identity) (spelt_bytes 8 w.value);
       accepted = word_accepted w is;
     }
-spelt_value kind.Frame before (AFrame f) is =
+spelt_value kind.Frame before (argument.Frame f) is =
     record {
       width = length_both (short f.exit) (short f.enter) 4 4 (length_spelt 4 f.exit) (length_spelt 4 f.enter);
       is_bytes = append_bytes (short f.exit) (short f.enter) (spelt_bytes 4 f.exit) (spelt_bytes 4 f.enter);
       accepted = refl;
     }
-spelt_value kind.OfThread before (AShort n) is = a_short kind.OfThread (map spell before) n refl (listed thread_kinds n refl is)
-spelt_value kind.Endpoint before (AShort n) is = a_short kind.Endpoint (map spell before) n refl (listed endpoints n refl is)
-spelt_value kind.OfSync before (AShort n) is = a_short kind.OfSync (map spell before) n refl (listed sync_kinds n refl is)
-spelt_value kind.OfMutex before (AShort n) is = a_short kind.OfMutex (map spell before) n refl (listed mutex_kinds n refl is)
-spelt_value kind.OfRelease before (AShort n) is = a_short kind.OfRelease (map spell before) n refl (listed (1 ∷ 5 ∷ []) n refl is)
-spelt_value kind.OfWork before (AShort n) is = a_short kind.OfWork (map spell before) n refl (listed work_kinds n refl is)
-spelt_value kind.OfDispatch before (AShort n) is = a_short kind.OfDispatch (map spell before) n refl (listed (2 ∷ 3 ∷ []) n refl is)
-spelt_value kind.Iterations before (ALong n) is =
+spelt_value kind.OfThread before (argument.Short n) is = a_short kind.OfThread (map spell before) n refl (listed thread_kinds n refl is)
+spelt_value kind.Endpoint before (argument.Short n) is = a_short kind.Endpoint (map spell before) n refl (listed endpoints n refl is)
+spelt_value kind.OfSync before (argument.Short n) is = a_short kind.OfSync (map spell before) n refl (listed sync_kinds n refl is)
+spelt_value kind.OfMutex before (argument.Short n) is = a_short kind.OfMutex (map spell before) n refl (listed mutex_kinds n refl is)
+spelt_value kind.OfRelease before (argument.Short n) is = a_short kind.OfRelease (map spell before) n refl (listed release_kinds n refl is)
+spelt_value kind.OfWork before (argument.Short n) is = a_short kind.OfWork (map spell before) n refl (listed work_kinds n refl is)
+spelt_value kind.OfDispatch before (argument.Short n) is = a_short kind.OfDispatch (map spell before) n refl (listed dispatch_kinds n refl is)
+spelt_value kind.Iterations before (argument.Long n) is =
     record { width = length_spelt 8 n; is_bytes = spelt_bytes 8 n; accepted = iterations_accepted before n is }
-spelt_value kind.Status before (AShort n) is = a_short kind.Status (map spell before) n refl (listed statuses n refl is)
-spelt_value kind.OfLock before (AShort n) is = a_short kind.OfLock (map spell before) n refl (exactly n 1 (omega arith) is)
-spelt_value kind.Zero before (AShort n) is = a_short kind.Zero (map spell before) n refl (exactly n 0 (omega arith) is)
-spelt_value kind.ParallelFlags before (AShort n) is = a_short kind.ParallelFlags (map spell before) n refl (exactly n parallel_flags (omega arith) is)
-spelt_value kind.TaskFlags before (AShort n) is = a_short kind.TaskFlags (map spell before) n refl (listed task_flags n refl is)
-spelt_value kind.ImplicitFlags before (AShort n) is = a_short kind.ImplicitFlags (map spell before) n refl (listed implicit_flags n refl is)
+spelt_value kind.Status before (argument.Short n) is = a_short kind.Status (map spell before) n refl (listed statuses n refl is)
+spelt_value kind.OfLock before (argument.Short n) is = a_short kind.OfLock (map spell before) n refl (exactly n 1 (omega arith) is)
+spelt_value kind.Zero before (argument.Short n) is = a_short kind.Zero (map spell before) n refl (exactly n 0 (omega arith) is)
+spelt_value kind.ParallelFlags before (argument.Short n) is = a_short kind.ParallelFlags (map spell before) n refl (exactly n parallel_flags (omega arith) is)
+spelt_value kind.TaskFlags before (argument.Short n) is = a_short kind.TaskFlags (map spell before) n refl (listed task_flags n refl is)
+spelt_value kind.ImplicitFlags before (argument.Short n) is = a_short kind.ImplicitFlags (map spell before) n refl (listed implicit_flags n refl is)
 spelt_value which before value is = absurd is
 
 -- two numbers, one behind the other
@@ -193,28 +182,28 @@ spells_both n m bytes long of_bytes =
     ∙ whole
 
 -- the value whose bytes these are
-pub record IsSpelt (which : Kind) (before : List Value) (bytes : List ℕ) : Type 0 where
-  pub value : Value
+pub record IsSpelt (which : Kind) (before : List Argument) (bytes : List ℕ) : Type 0 where
+  pub value : Argument
   pub is_value : IsValue which before value
   pub spelt : spell value ≡ bytes
 
 -- A short number's value is read from its bytes.
-from_short : (which : Kind) (before : List Value) (bytes : List ℕ) → length bytes ≡ 4 → IsBytes bytes → IsValue which before (AShort (big_number 4 bytes)) → IsSpelt which before bytes
-from_short which before bytes width of_bytes is = record { value = AShort (big_number 4 bytes); is_value = is; spelt = spells 4 bytes width of_bytes }
+from_short : (which : Kind) (before : List Argument) (bytes : List ℕ) → length bytes ≡ 4 → IsBytes bytes → IsValue which before (argument.Short (big_number 4 bytes)) → IsSpelt which before bytes
+from_short which before bytes width of_bytes is = record { value = argument.Short (big_number 4 bytes); is_value = is; spelt = spells 4 bytes width of_bytes }
 
-pub value_of : (which : Kind) (before : List Value) (bytes : List ℕ) → IsArgument which (map spell before) bytes → IsSpelt which before bytes
+pub value_of : (which : Kind) (before : List Argument) (bytes : List ℕ) → IsArgument which (map spell before) bytes → IsSpelt which before bytes
 value_of kind.Short before bytes is = from_short kind.Short before bytes is.width is.is_bytes (number_small 4 bytes is.is_bytes)
 value_of kind.Long before bytes is =
-    record { value = ALong (big_number 8 bytes); is_value = number_small 8 bytes is.is_bytes; spelt = spells 8 bytes is.width is.is_bytes }
+    record { value = argument.Long (big_number 8 bytes); is_value = number_small 8 bytes is.is_bytes; spelt = spells 8 bytes is.width is.is_bytes }
 value_of kind.Word before bytes is =
     record {
-      value = AWord (record { identity = big_number 4 bytes; value = big_number 8 (drop 4 bytes) });
+      value = argument.Word (record { identity = big_number 4 bytes; value = big_number 8 (drop 4 bytes) });
       is_value = (number_small 4 bytes is.is_bytes, number_small 8 (drop 4 bytes) (drop_bytes 4 bytes is.is_bytes), null_back (big_number 4 bytes) (big_number 8 (drop 4 bytes)) is.accepted);
       spelt = spells_both 4 8 bytes is.width is.is_bytes;
     }
 value_of kind.Frame before bytes is =
     record {
-      value = AFrame (record { exit = big_number 4 bytes; enter = big_number 4 (drop 4 bytes) });
+      value = argument.Frame (record { exit = big_number 4 bytes; enter = big_number 4 (drop 4 bytes) });
       is_value = (number_small 4 bytes is.is_bytes, number_small 4 (drop 4 bytes) (drop_bytes 4 bytes is.is_bytes));
       spelt = spells_both 4 4 bytes is.width is.is_bytes;
     }
@@ -226,7 +215,7 @@ value_of kind.OfRelease before bytes is = from_short kind.OfRelease before bytes
 value_of kind.OfWork before bytes is = from_short kind.OfWork before bytes is.width is.is_bytes is.accepted
 value_of kind.OfDispatch before bytes is = from_short kind.OfDispatch before bytes is.width is.is_bytes is.accepted
 value_of kind.Iterations before bytes is =
-    record { value = ALong (big_number 8 bytes); is_value = iterations_back before bytes is.width is.is_bytes is.accepted; spelt = spells 8 bytes is.width is.is_bytes }
+    record { value = argument.Long (big_number 8 bytes); is_value = iterations_back before bytes is.width is.is_bytes is.accepted; spelt = spells 8 bytes is.width is.is_bytes }
 value_of kind.Status before bytes is = from_short kind.Status before bytes is.width is.is_bytes is.accepted
 value_of kind.OfLock before bytes is = from_short kind.OfLock before bytes is.width is.is_bytes (eqb-true (big_number 4 bytes) 1 is.accepted)
 value_of kind.Zero before bytes is = from_short kind.Zero before bytes is.width is.is_bytes (eqb-true (big_number 4 bytes) 0 is.accepted)

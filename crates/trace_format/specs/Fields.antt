@@ -1,12 +1,14 @@
 -- The fields of a trace in order, and the bytes that spell them. Each number is spelled with its highest byte first.
-use Rattle.std.specs.Prelude.{ℕ, ◌+◌, List, [], ◌∷◌, ◌++◌, codes}
+use Rattle.std.specs.Prelude.{ℕ, ◌+◌, List, [], ◌∷◌, ◌++◌, codes, map}
 use Rattle.std.specs.List.{flat_map}
 use Rattle.byteorder.specs.Endian.{big_bytes}
+use Rattle.ompt_calls.specs.declared.argument.Argument.{Argument}
+use Rattle.ompt_calls.specs.declared.argument.Argument.TheVariants as argument
 use Rattle.ompt_calls.specs.declared.call.Word.{Word}
 use Rattle.ompt_calls.specs.declared.call.Frame.{Frame}
 use Rattle.ompt_calls.specs.declared.call.Call.{Call}
-use Rattle.ompt_calls.specs.declared.call.Call.TheVariants.{ThreadBegin, ThreadEnd, ParallelBegin, ParallelEnd, TaskCreate, TaskSchedule, ImplicitTask, SyncRegionWait, MutexReleased, Work, Masked, SyncRegion, LockInit, LockDestroy, MutexAcquire, MutexAcquired, Dispatch}
 use Rattle.ompt_calls.specs.declared.event.EventRecord.{EventRecord}
+use Rattle.ompt_calls.specs.Arguments.{arguments_of}
 use Rattle.ompt_calls.specs.Number.{number_of}
 use Rattle.trace_format.specs.declared.field.Field.{Field}
 use Rattle.trace_format.specs.declared.field.Field.TheVariants.{Magic, Version, Threads, Origin, Mask, Number, Seq, Numbered, Count}
@@ -50,29 +52,15 @@ word data_word = short data_word.identity ++ long data_word.value
 abbrev pub frame : Frame → List ℕ
 frame of_task = short of_task.exit ++ short of_task.enter
 
+abbrev pub spell : Argument → List ℕ
+spell (argument.Short n) = short n
+spell (argument.Long n) = long n
+spell (argument.Word data_word) = word data_word
+spell (argument.Frame of_task) = frame of_task
+
 -- the arguments of a callback, each as one field
 abbrev pub arguments : Call → List (List ℕ)
-arguments (ThreadBegin kind thread) = short kind ∷ word thread ∷ []
-arguments (ThreadEnd thread) = word thread ∷ []
-arguments (ParallelBegin task of_task region requested flags codeptr) =
-    word task ∷ frame of_task ∷ word region ∷ short requested ∷ short flags ∷ long codeptr ∷ []
-arguments (ParallelEnd region task flags codeptr) = word region ∷ word task ∷ short flags ∷ long codeptr ∷ []
-arguments (TaskCreate task of_task fresh flags has_dependences codeptr) =
-    word task ∷ frame of_task ∷ word fresh ∷ short flags ∷ short has_dependences ∷ long codeptr ∷ []
-arguments (TaskSchedule prior status next) = word prior ∷ short status ∷ word next ∷ []
-arguments (ImplicitTask endpoint region task actual index flags) =
-    short endpoint ∷ word region ∷ word task ∷ short actual ∷ short index ∷ short flags ∷ []
-arguments (SyncRegionWait kind endpoint region task codeptr) = short kind ∷ short endpoint ∷ word region ∷ word task ∷ long codeptr ∷ []
-arguments (MutexReleased kind wait_id codeptr) = short kind ∷ short wait_id ∷ long codeptr ∷ []
-arguments (Work kind endpoint region task count codeptr) =
-    short kind ∷ short endpoint ∷ word region ∷ word task ∷ long count ∷ long codeptr ∷ []
-arguments (Masked endpoint region task codeptr) = short endpoint ∷ word region ∷ word task ∷ long codeptr ∷ []
-arguments (SyncRegion kind endpoint region task codeptr) = short kind ∷ short endpoint ∷ word region ∷ word task ∷ long codeptr ∷ []
-arguments (LockInit kind hint variant wait_id codeptr) = short kind ∷ short hint ∷ short variant ∷ short wait_id ∷ long codeptr ∷ []
-arguments (LockDestroy kind wait_id codeptr) = short kind ∷ short wait_id ∷ long codeptr ∷ []
-arguments (MutexAcquire kind hint variant wait_id codeptr) = short kind ∷ short hint ∷ short variant ∷ short wait_id ∷ long codeptr ∷ []
-arguments (MutexAcquired kind wait_id codeptr) = short kind ∷ short wait_id ∷ long codeptr ∷ []
-arguments (Dispatch region task kind start iterations) = word region ∷ word task ∷ short kind ∷ long start ∷ long iterations ∷ []
+arguments call = map spell (arguments_of call)
 
 -- fields by their places, from this one on
 abbrev pub numbered_from : ℕ → List (List ℕ) → List Spelt

@@ -1,0 +1,29 @@
+-- The arguments of a callback in the order of the specification (OpenMP 5.2, 19.5.2).
+use Rattle.std.specs.Prelude.{List, [], ◌∷◌}
+use Rattle.ompt_calls.specs.declared.argument.Argument.{Argument}
+use Rattle.ompt_calls.specs.declared.argument.Argument.TheVariants.{Short, Long, Word, Frame}
+use Rattle.ompt_calls.specs.declared.call.Call.{Call}
+use Rattle.ompt_calls.specs.declared.call.Call.TheVariants.{ThreadBegin, ThreadEnd, ParallelBegin, ParallelEnd, TaskCreate, TaskSchedule, ImplicitTask, SyncRegionWait, MutexReleased, Work, Masked, SyncRegion, LockInit, LockDestroy, MutexAcquire, MutexAcquired, Dispatch}
+
+abbrev pub arguments_of : Call → List Argument
+arguments_of (ThreadBegin kind thread) = Short kind ∷ Word thread ∷ []
+arguments_of (ThreadEnd thread) = Word thread ∷ []
+arguments_of (ParallelBegin task frame region requested flags codeptr) =
+    Word task ∷ Frame frame ∷ Word region ∷ Short requested ∷ Short flags ∷ Long codeptr ∷ []
+arguments_of (ParallelEnd region task flags codeptr) = Word region ∷ Word task ∷ Short flags ∷ Long codeptr ∷ []
+arguments_of (TaskCreate task frame fresh flags has_dependences codeptr) =
+    Word task ∷ Frame frame ∷ Word fresh ∷ Short flags ∷ Short has_dependences ∷ Long codeptr ∷ []
+arguments_of (TaskSchedule prior status next) = Word prior ∷ Short status ∷ Word next ∷ []
+arguments_of (ImplicitTask endpoint region task actual index flags) =
+    Short endpoint ∷ Word region ∷ Word task ∷ Short actual ∷ Short index ∷ Short flags ∷ []
+arguments_of (SyncRegionWait kind endpoint region task codeptr) = Short kind ∷ Short endpoint ∷ Word region ∷ Word task ∷ Long codeptr ∷ []
+arguments_of (MutexReleased kind wait_id codeptr) = Short kind ∷ Short wait_id ∷ Long codeptr ∷ []
+arguments_of (Work kind endpoint region task count codeptr) =
+    Short kind ∷ Short endpoint ∷ Word region ∷ Word task ∷ Long count ∷ Long codeptr ∷ []
+arguments_of (Masked endpoint region task codeptr) = Short endpoint ∷ Word region ∷ Word task ∷ Long codeptr ∷ []
+arguments_of (SyncRegion kind endpoint region task codeptr) = Short kind ∷ Short endpoint ∷ Word region ∷ Word task ∷ Long codeptr ∷ []
+arguments_of (LockInit kind hint variant wait_id codeptr) = Short kind ∷ Short hint ∷ Short variant ∷ Short wait_id ∷ Long codeptr ∷ []
+arguments_of (LockDestroy kind wait_id codeptr) = Short kind ∷ Short wait_id ∷ Long codeptr ∷ []
+arguments_of (MutexAcquire kind hint variant wait_id codeptr) = Short kind ∷ Short hint ∷ Short variant ∷ Short wait_id ∷ Long codeptr ∷ []
+arguments_of (MutexAcquired kind wait_id codeptr) = Short kind ∷ Short wait_id ∷ Long codeptr ∷ []
+arguments_of (Dispatch region task kind start iterations) = Word region ∷ Word task ∷ Short kind ∷ Long start ∷ Long iterations ∷ []
