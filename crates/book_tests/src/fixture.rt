@@ -6,18 +6,10 @@ ghost use Rattle.step_book.specs.Sharing.{Sight};
 use c_check::{Program, check};
 use c_syntax::read_program;
 use c_tokens::tokens;
-use ompt_calls::Reply;
 use std::alloc::Global;
 use std::process::Abort;
 use std::test::Fail;
 use step_book::{BookName, Pass};
-
-/// The answer of a tool that stores nothing.
-pub(crate) const NO_STORES: Reply = Reply {
-    first: None,
-    second: None,
-    third: None,
-};
 
 /// How many silent steps a run may have.
 pub(crate) const STEPS: u32 = 1_000_000;

@@ -4,11 +4,11 @@ ghost use Rattle.std.specs.Prelude.{◌≡◌};
 ghost use Rattle.step_book.specs.Owing.{OwesStep};
 ghost use Rattle.step_book.specs.Sharing.{pages_of};
 
-use crate::fixture::{NO_STORES, STEPS, are_in_order, program_of};
+use crate::fixture::{STEPS, are_in_order, program_of};
 use omp_codes::callbacks::PARALLEL_BEGIN;
 use omp_machine::Memory;
 use omp_model::{Entry, What};
-use ompt_calls::{Call, Frame, Word};
+use ompt_calls::{Call, Frame, Reply, Word};
 use std::alloc::Global;
 use std::marker::Brand;
 use std::process::Abort;
@@ -134,7 +134,7 @@ fn begin_the_region<R: Wait + Abort, K: BookName>(
     assert!(rt; seq == 4);
     assert!(rt; call == REGION_BEGINS);
     has_to_wait(rt, book, second);
-    book.answer(rt, first, &NO_STORES, &snapshot);
+    book.answer(rt, first, &Reply::none(), &snapshot);
 }
 
 /// A visit that can't be made yet.

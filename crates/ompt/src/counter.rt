@@ -5,7 +5,7 @@ ghost use Rattle.tool_api.specs.Record.{Record, initialized, told, finalized};
 ghost use Rattle.ompt.specs.Counting.{CountsCalls};
 
 use ompt_calls::{Call, Reply, Snapshot};
-use tool_api::{GuestTool, Memory, Registrar};
+use tool_api::{ACTIVE, GuestTool, Memory, Registrar};
 
 /// A tool that registers each callback of the profile and counts the calls that it gets. That it stores nothing is to be read.
 #[derive(Drop)]
@@ -28,7 +28,7 @@ impl GuestTool for Counter {
 
     fn initialize(&mut self, registrar: &mut Registrar) -> u32 {
         registrar.set_profile();
-        1
+        ACTIVE
     }
 
     fn callback(
@@ -39,11 +39,7 @@ impl GuestTool for Counter {
         _snapshot: &Snapshot,
     ) -> Result<Reply, Memory> {
         self.calls = self.calls.saturating_add(1);
-        Ok(Reply {
-            first: None,
-            second: None,
-            third: None,
-        })
+        Ok(Reply::none())
     }
 
     fn finalize(&mut self) {}

@@ -1,20 +1,19 @@
 //! What the two tools gather, and the guests that gather it.
 
-use crate::part::Part;
-use crate::part_guest::PartGuest;
 use crate::profile::Profile;
 use crate::profiler::Profiler;
 use crate::task_profiler::TaskProfiler;
 use crate::task_starts::TaskStarts;
 use std::alloc::{AllocError, Global};
 use std::sync::{Arc, Mutex, Wait};
+use tool_api::{GuestOf, PartOf};
 use tool_both::{Both, Masks};
 
 /// How many threads there may be.
 const MOST_THREADS: u8 = 16;
 
 /// Both tools of one thread, as its guest.
-pub(crate) type TwoTools<R> = PartGuest<Both<Part<Profiler<R>>, Part<TaskProfiler<R>>>>;
+pub(crate) type TwoTools<R> = GuestOf<Both<PartOf<Profiler<R>>, PartOf<TaskProfiler<R>>>>;
 
 /// What the two tools gather: the guests of all threads add to it, and `main` reports it.
 #[derive(Drop)]
@@ -42,24 +41,24 @@ impl Gathered {
         let mut first = self.profiler(runtime)?;
         let mut second = self.task_profiler(runtime)?;
         let masks = Masks::ask(&mut first, &mut second);
-        guests.push(PartGuest(Both::new(first, second, masks)))?;
+        guests.push(GuestOf(Both::new(first, second, masks)))?;
         for _thread in 1..MOST_THREADS {
             let first = self.profiler(runtime)?;
             let second = self.task_profiler(runtime)?;
-            guests.push(PartGuest(Both::new(first, second, masks)))?;
+            guests.push(GuestOf(Both::new(first, second, masks)))?;
         }
         Ok(guests)
     }
 
     /// The first tool, for one thread.
-    fn profiler<R: Copy>(&self, runtime: R) -> Result<Part<Profiler<R>>, AllocError> {
+    fn profiler<R: Copy>(&self, runtime: R) -> Result<PartOf<Profiler<R>>, AllocError> {
         let profile = Arc::try_clone(&self.profile)?;
-        Ok(Part(Profiler::new(runtime, profile)))
+        Ok(PartOf(Profiler::new(runtime, profile)))
     }
 
     /// The second tool, for one thread.
-    fn task_profiler<R: Copy>(&self, runtime: R) -> Result<Part<TaskProfiler<R>>, AllocError> {
+    fn task_profiler<R: Copy>(&self, runtime: R) -> Result<PartOf<TaskProfiler<R>>, AllocError> {
         let starts = Arc::try_clone(&self.starts)?;
-        Ok(Part(TaskProfiler::new(runtime, starts)))
+        Ok(PartOf(TaskProfiler::new(runtime, starts)))
     }
 }

@@ -14,8 +14,6 @@ ghost use Rattle.std.specs.Process.{exit_status};
 ghost use Rattle.ompt_cli.specs.Ends.{status_of};
 
 mod gathered;
-mod part;
-mod part_guest;
 mod profile;
 mod profiler;
 mod task_profiler;

@@ -2,7 +2,7 @@
 
 use crate::profile::{Barrier, BarrierWait, Profile, Region};
 use omp_codes::{callbacks, endpoints, sync_kinds, task_flags, task_statuses};
-use ompt_calls::{Call, Reply, Snapshot, Store, WordAt};
+use ompt_calls::{Call, CodePlace, Reply, Snapshot, WordAt};
 use std::sync::{Arc, Mutex, Wait};
 use tool_api::{ACTIVE, GuestTool, Memory, Registrar};
 
@@ -61,7 +61,7 @@ fn add(profile: &mut Profile, thread: u8, call: &Call) -> Result<(), Memory> {
             ..
         } => profile.add_region(Region {
             number: region.identity,
-            line: line_of(region.value),
+            line: CodePlace(region.value).line(),
             team: actual,
         }),
         // An explicit task begins, and the prior one hasn't ended.
@@ -78,7 +78,7 @@ fn add(profile: &mut Profile, thread: u8, call: &Call) -> Result<(), Memory> {
             Some(barrier) => profile.add_wait(BarrierWait {
                 thread,
                 barrier,
-                line: line_of(codeptr),
+                line: CodePlace(codeptr).line(),
             }),
             None => Ok(()),
         },
@@ -88,23 +88,10 @@ fn add(profile: &mut Profile, thread: u8, call: &Call) -> Result<(), Memory> {
 
 /// Stores the place of a new region's construct in the data word of the region.
 fn reply_to(call: &Call) -> Reply {
-    let first = match *call {
-        Call::ParallelBegin { codeptr, .. } => Some(Store {
-            place: WordAt::Fresh,
-            word: codeptr,
-        }),
-        _ => None,
-    };
-    Reply {
-        first,
-        second: None,
-        third: None,
+    match *call {
+        Call::ParallelBegin { codeptr, .. } => Reply::store(WordAt::Fresh, codeptr),
+        _ => Reply::none(),
     }
-}
-
-/// The line of a place, which is told as line × 65536 + column.
-fn line_of(codeptr: u64) -> u64 {
-    codeptr / 65_536
 }
 
 /// The barrier of this kind of synchronization region. A `taskwait` is none.

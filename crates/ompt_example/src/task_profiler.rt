@@ -2,12 +2,9 @@
 
 use crate::task_starts::{TaskStart, TaskStarts};
 use omp_codes::{callbacks, task_statuses};
-use ompt_calls::{Call, Reply, Snapshot, Store, Word, WordAt};
+use ompt_calls::{Call, Reply, Snapshot, Word, WordAt};
 use std::sync::{Arc, Mutex, Wait};
 use tool_api::{ACTIVE, GuestTool, Memory, Registrar};
-
-/// A number that no level of tasks has.
-const PAST_LEVELS: u32 = 512;
 
 /// The guest of one thread. The guests of all threads add to the same starts. Nothing is promised of what these have then, so
 /// `stands_for` holds of each record.
@@ -46,7 +43,7 @@ impl<R: Wait + Copy + Send> GuestTool for TaskProfiler<R> {
             let start = TaskStart {
                 thread,
                 waited: u64::from(seq).saturating_sub(next.value),
-                levels: count_levels(snapshot),
+                levels: snapshot.tasks.len(),
             };
             self.starts.lock(&self.runtime).add(next.identity, start)?;
         }
@@ -68,28 +65,10 @@ fn begun_task(call: &Call) -> Option<Word> {
     }
 }
 
-/// How many levels of tasks there are.
-fn count_levels(snapshot: &Snapshot) -> u32 {
-    for level in 0..PAST_LEVELS {
-        if snapshot.get_task_info(level).is_none() {
-            return level;
-        }
-    }
-    PAST_LEVELS
-}
-
 /// Stores the position at which a task is created in the data word of that task.
 fn reply_to(seq: u32, call: &Call) -> Reply {
-    let first = match call {
-        Call::TaskCreate { .. } => Some(Store {
-            place: WordAt::Fresh,
-            word: u64::from(seq),
-        }),
-        _ => None,
-    };
-    Reply {
-        first,
-        second: None,
-        third: None,
+    match call {
+        Call::TaskCreate { .. } => Reply::store(WordAt::Fresh, u64::from(seq)),
+        _ => Reply::none(),
     }
 }

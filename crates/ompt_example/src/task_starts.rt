@@ -13,7 +13,7 @@ pub(crate) struct TaskStart {
     /// How long it had waited for that since it was created, in positions of the history.
     pub waited: u64,
     /// How many levels of tasks the thread had then. The task's own is one of them.
-    pub levels: u32,
+    pub levels: usize,
 }
 
 /// The starts of explicit tasks. Their text is the report.

@@ -1,7 +1,7 @@
 //! What guests store, and the word that asks for it.
 
 use omp_codes::endpoints;
-use ompt_calls::{Call, Reply, Store, WordAt};
+use ompt_calls::{Call, Reply, WordAt};
 
 /// The word that makes the guests store positions.
 const STORE: &str = "--store";
@@ -33,13 +33,9 @@ impl Storing {
             Storing::Nothing => None,
             Storing::Positions => begun_word(call),
         };
-        Reply {
-            first: place.map(|place| Store {
-                place,
-                word: u64::from(seq),
-            }),
-            second: None,
-            third: None,
+        match place {
+            Some(place) => Reply::store(place, u64::from(seq)),
+            None => Reply::none(),
         }
     }
 }

@@ -2,7 +2,6 @@
 //! a run are called one after another, they don't get through.
 
 use crate::fixture::{ample, owned, source_of};
-use crate::listening::NOTHING;
 use omp_codes::callbacks;
 use ompt_calls::{Call, Reply, Snapshot};
 use ompt_cli::top;
@@ -14,7 +13,7 @@ use std::sync::{Arc, Wait};
 use std::test::Fail;
 use std::thread;
 use std::thread::Threads;
-use tool_api::{GuestTool, Registrar};
+use tool_api::{ACTIVE, GuestTool, Registrar};
 
 /// How many turns a guest waits for the others.
 const TURNS: u32 = 100_000_000;
@@ -66,7 +65,7 @@ impl GuestTool for Waiting {
         registrar.set(callbacks::MUTEX_ACQUIRE);
         registrar.set(callbacks::MUTEX_ACQUIRED);
         registrar.set(callbacks::MUTEX_RELEASED);
-        1
+        ACTIVE
     }
 
     fn callback(
@@ -79,7 +78,7 @@ impl GuestTool for Waiting {
         if let Some(notes) = self.gate.get(usize::from(thread)) {
             note(&self.gate, notes, seq, call);
         }
-        Ok(NOTHING)
+        Ok(Reply::none())
     }
 
     fn finalize(&mut self) {}

@@ -3,7 +3,7 @@
 //! A guest that comes back from a run is a `Box<dyn GuestTool>`, of which nothing but its calls is there. So it is asked by
 //! a call at a position that no run has here, and answers in the words of its stores.
 
-use omp_codes::{PROFILE, PROFILE_MASK};
+use omp_codes::{PROFILE, PROFILE_MASK, endpoints};
 use ompt_calls::{
     Call, Frame, RegionLevel, RegionLevels, Reply, Snapshot, Store, TaskLevel, TaskLevels, Word,
     WordAt, is_registered,
@@ -151,28 +151,20 @@ impl Listening {
     /// What it answers to this call.
     fn reply_to(&self, call: &Call) -> Reply {
         if self.habits.stores != 0 && matches!(call, Call::ParallelBegin { .. }) {
-            return storing(WordAt::Fresh, self.habits.stores);
+            return Reply::store(WordAt::Fresh, self.habits.stores);
         }
-        if self.habits.stores_at_work != 0 && matches!(call, Call::Work { endpoint: 1, .. }) {
-            return storing(WordAt::Task(0), self.habits.stores_at_work);
+        if self.habits.stores_at_work != 0
+            && matches!(
+                call,
+                Call::Work {
+                    endpoint: endpoints::BEGIN,
+                    ..
+                }
+            )
+        {
+            return Reply::store(WordAt::Task(0), self.habits.stores_at_work);
         }
-        NOTHING
-    }
-}
-
-/// A reply without a store.
-pub(crate) const NOTHING: Reply = Reply {
-    first: None,
-    second: None,
-    third: None,
-};
-
-/// A reply with one store.
-fn storing(place: WordAt, word: u64) -> Reply {
-    Reply {
-        first: Some(Store { place, word }),
-        second: None,
-        third: None,
+        Reply::none()
     }
 }
 

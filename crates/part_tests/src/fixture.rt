@@ -5,7 +5,7 @@ ghost use Rattle.std.specs.Prelude.{◌≤◌, length};
 use c_check::{Program, check};
 use c_syntax::read_program;
 use c_tokens::tokens;
-use ompt_calls::{Reply, Word};
+use ompt_calls::Word;
 use std::alloc::{AllocError, Global};
 use team_run::{Memory, Ran, run_serial};
 use tool_api::ToolPart;
@@ -17,13 +17,6 @@ pub(crate) const REGION_OF_TWO: &[u8] = b"int main(void) {
 return 0;
 }
 ";
-
-/// A reply without a store.
-pub(crate) const NOTHING: Reply = Reply {
-    first: None,
-    second: None,
-    third: None,
-};
 
 pub(crate) const ONE: Word = Word {
     identity: 1,

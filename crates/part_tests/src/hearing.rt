@@ -1,7 +1,7 @@
 //! Telling a part of events that no run has.
 
-use crate::fixture::{NOTHING, ONE};
-use ompt_calls::{Call, RegionLevels, Snapshot, TaskLevels};
+use crate::fixture::ONE;
+use ompt_calls::{Call, RegionLevels, Reply, Snapshot, TaskLevels};
 use std::alloc::Global;
 use std::process::Abort;
 use tool_api::ToolPart;
@@ -19,7 +19,7 @@ pub(crate) fn hear<R: Abort + AllocGlobal, P: ToolPart>(
 ) -> Result<(), Memory> {
     for (seq, state, call) in events {
         let reply = part.callback(*seq, thread, call, &snapshot_in(rt.alloc(), *state))?;
-        assert!(rt; reply == NOTHING, "at {seq}");
+        assert!(rt; reply == Reply::none(), "at {seq}");
     }
     part.finalize();
     Ok(())

@@ -1,12 +1,12 @@
 //! Serial runs with parts of a tool that no guest is: what each part hears, and replies with several stores.
 
-use crate::fixture::{NOTHING, ONE, REGION_OF_TWO, TWO, run_with};
+use crate::fixture::{ONE, REGION_OF_TWO, TWO, run_with};
 use omp_model::{Cause, Entry, What};
 use ompt_calls::{Call, RegionLevel, Reply, Snapshot, Store, Target, TaskLevel, Word, WordAt};
 use std::alloc::Global;
 use std::process::Abort;
 use team_run::{Memory, Ran};
-use tool_api::{Registrar, ToolPart};
+use tool_api::{ACTIVE, Registrar, ToolPart};
 
 /// A part that registers the callbacks of the profile, keeps what it hears, and stores at its positions.
 #[derive(Drop)]
@@ -41,7 +41,7 @@ impl Keeping {
                 return reply;
             }
         }
-        NOTHING
+        Reply::none()
     }
 }
 
@@ -58,7 +58,7 @@ impl ToolPart for Keeping {
 
     fn initialize(&mut self, registrar: &mut Registrar) -> u32 {
         registrar.set_profile();
-        1
+        ACTIVE
     }
 
     fn callback(

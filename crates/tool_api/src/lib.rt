@@ -21,6 +21,7 @@
 //!
 //! - [`Guest`] hands each call on to the [`GuestTool`] in its box, and stands for what that tool stands for. So a call
 //!   that is left out, doubled or answered otherwise isn't proved;
+//! - [`PartOf`] hands each call on to a [`GuestTool`], and [`GuestOf`] to a [`ToolPart`]. Each stands for what that one stands for;
 //! - [`Quiet`] leaves nothing registered, answers 0 to `initialize`, stores nothing, and finds memory in each call: that is
 //!   `QuietFor`. Its `callback` is never an error;
 //! - [`Handed`] stands for what the part that it holds stands for: that is `HandedFor`.
@@ -39,15 +40,19 @@
 #![tactic(auto)]
 
 mod guest;
+mod guest_of;
 mod guest_tool;
 mod handed;
 mod part;
+mod part_of;
 mod quiet;
 mod registrar;
 
 pub use guest::Guest;
+pub use guest_of::GuestOf;
 pub use guest_tool::GuestTool;
 pub use handed::Handed;
-pub use part::{Memory, ToolPart};
+pub use part::{ACTIVE, Memory, ToolPart};
+pub use part_of::PartOf;
 pub use quiet::Quiet;
 pub use registrar::Registrar;

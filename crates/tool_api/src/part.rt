@@ -10,6 +10,9 @@ use ompt_calls::{Call, Reply, Snapshot};
 /// The error of a call that found no memory.
 pub type Memory = std::alloc::AllocError;
 
+/// An answer to `initialize` that makes a tool active: any but 0 does.
+pub const ACTIVE: u32 = 1;
+
 /// A tool, or a part of one, as a runtime calls it.
 ///
 /// `stands_for` says which records a part may have behind it. Each call keeps this: a part that stands for a record stands

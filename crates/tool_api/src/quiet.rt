@@ -40,11 +40,7 @@ impl ToolPart for Quiet {
         // It takes no memory.
         ensures no_error { IsOk result }
     {
-        Ok(Reply {
-            first: None,
-            second: None,
-            third: None,
-        })
+        Ok(Reply::none())
     }
 
     fn finalize(&mut self) {}

@@ -17,11 +17,10 @@ use Rattle.std.proofs.lemmas.Map.Made.{is_member-filter, is_some-lookup}
 use Rattle.std.proofs.lemmas.Map.Views.{All-found, Contains-from_any, tells_apart}
 use Rattle.std.proofs.lemmas.Option.{none-some, same_Some}
 use Rattle.ompt_calls.specs.declared.event.EventRecord.{EventRecord}
-use Rattle.ompt_calls.specs.Line.{spaced}
+use Rattle.ompt_calls.specs.Line.{place_text, spaced}
 use Rattle.trace_check.specs.Nested.{last_seq}
 use Rattle.trace_view.specs.declared.wait_ends.WaitKey.{WaitKey}
 use Rattle.trace_view.specs.declared.wait_tallies.Tally.{Tally}
-use Rattle.trace_view.specs.Names.{place_text}
 use Rattle.trace_view.specs.Waits.{AreInOrder, IsBefore, IsWaitTable, begun_waits, cause_text, wait_line, waits_head}
 use Rattle.trace_view.specs.WaitTallies.{HasTallies, key_cmp, line_of, no_waits, open_of, tally_line, tally_of, waited_until}
 use Rattle.trace_view.proofs.Counting.{one_key, same_by_order}

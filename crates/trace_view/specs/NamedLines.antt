@@ -5,12 +5,12 @@ use Rattle.std.specs.Fmt.{decimal}
 use Rattle.ompt_calls.specs.declared.call.Call.{Call}
 use Rattle.ompt_calls.specs.declared.call.Call.TheVariants.{ThreadBegin, ThreadEnd, ParallelBegin, ParallelEnd, TaskCreate, TaskSchedule, ImplicitTask, SyncRegionWait, MutexReleased, Work, Masked, SyncRegion, LockInit, LockDestroy, MutexAcquire, MutexAcquired, Dispatch}
 use Rattle.ompt_calls.specs.declared.event.EventRecord.{EventRecord}
-use Rattle.ompt_calls.specs.Line.{frame_text, spaced, word_text}
+use Rattle.ompt_calls.specs.Line.{frame_text, place_text, spaced, word_text}
 use Rattle.trace_format.specs.declared.item.Item.{Item}
 use Rattle.trace_format.specs.declared.item.Item.TheVariants as item
 use Rattle.trace_format.specs.declared.trace.EndMark.{EndMark}
 use Rattle.trace_format.specs.declared.trace.Trace.{Trace}
-use Rattle.trace_view.specs.Names.{dispatch_kind_text, ending_text, endpoint_text, mutex_kind_text, place_text, region_flags_text, state_text, sync_kind_text, task_flags_text, task_status_text, thread_kind_text, work_kind_text}
+use Rattle.trace_view.specs.Names.{dispatch_kind_text, ending_text, endpoint_text, mutex_kind_text, region_flags_text, state_text, sync_kind_text, task_flags_text, task_status_text, thread_kind_text, work_kind_text}
 
 -- The name of the callback and its arguments, in the order of the specification (OpenMP 5.2, 19.5.2). A hint, a variant and dependences are 0 in each trace,
 -- and are written as numbers, as counts, indices and wait identifiers are.

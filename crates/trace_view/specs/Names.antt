@@ -1,5 +1,5 @@
 -- The names that OMPT's header gives to numbers (OpenMP 5.2, 19.4.4), as far as a trace has them. A number without a name here is written as itself.
-use Rattle.std.specs.Prelude.{ℕ, ◌/◌, ◌%◌, ◌==◌, List, ◌++◌, codes, if◌then◌else◌}
+use Rattle.std.specs.Prelude.{ℕ, ◌==◌, List, codes, if◌then◌else◌}
 use Rattle.std.specs.Fmt.{decimal}
 use Rattle.omp_codes.specs.declared.dispatch_kinds.TheConstants as dispatch_kind
 use Rattle.omp_codes.specs.declared.endpoints.TheConstants as scope
@@ -73,10 +73,6 @@ state_text n =
     else if n == WAIT_BARRIER_EXPLICIT then codes "ompt_state_wait_barrier_explicit" else if n == WAIT_TASKWAIT then codes "ompt_state_wait_taskwait"
     else if n == WAIT_LOCK then codes "ompt_state_wait_lock" else if n == WAIT_CRITICAL then codes "ompt_state_wait_critical"
     else if n == IDLE then codes "ompt_state_idle" else if n == OVERHEAD then codes "ompt_state_overhead" else decimal n
-
--- a place in the source, which is told as line × 65536 + column: line:column
-abbrev pub place_text : ℕ → List ℕ
-place_text place = decimal (place / 65536) ++ codes ":" ++ decimal (place % 65536)
 
 -- the status of a run, and what came to pass
 abbrev pub ending_text : ℕ → List ℕ

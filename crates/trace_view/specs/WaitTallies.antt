@@ -5,12 +5,11 @@ use Rattle.std.specs.Fmt.{decimal}
 use Rattle.std.specs.Ordering.{nat_cmp, ordering_then}
 use Rattle.std.specs.declared.cmp.Ordering.{Ordering}
 use Rattle.ompt_calls.specs.declared.event.EventRecord.{EventRecord}
-use Rattle.ompt_calls.specs.Line.{spaced}
+use Rattle.ompt_calls.specs.Line.{place_text, spaced}
 use Rattle.trace_view.specs.declared.wait_ends.WaitEnd.{WaitEnd}
 use Rattle.trace_view.specs.declared.wait_ends.WaitKey.{WaitKey}
 use Rattle.trace_view.specs.declared.wait_tallies.Positions.{Positions}
 use Rattle.trace_view.specs.declared.wait_tallies.Tally.{Tally}
-use Rattle.trace_view.specs.Names.{place_text}
 use Rattle.trace_view.specs.Waits.{cause_text, is_wait_of, key_of, positions_of, same_key}
 
 -- the order of the keys

@@ -8,11 +8,11 @@ use Rattle.omp_codes.specs.declared.mutex_kinds.TheConstants.{CRITICAL, LOCK, TE
 use Rattle.ompt_calls.specs.declared.call.Call.{Call}
 use Rattle.ompt_calls.specs.declared.call.Call.TheVariants.{SyncRegionWait, MutexAcquire, MutexAcquired}
 use Rattle.ompt_calls.specs.declared.event.EventRecord.{EventRecord}
-use Rattle.ompt_calls.specs.Line.{spaced}
+use Rattle.ompt_calls.specs.Line.{place_text, spaced}
 use Rattle.trace_check.specs.Nested.{last_seq}
 use Rattle.trace_view.specs.declared.wait_ends.WaitEnd.{WaitEnd}
 use Rattle.trace_view.specs.declared.wait_ends.WaitKey.{WaitKey}
-use Rattle.trace_view.specs.Names.{mutex_kind_text, place_text, sync_kind_text}
+use Rattle.trace_view.specs.Names.{mutex_kind_text, sync_kind_text}
 
 -- A begin or an end of a wait at a barrier or at a taskwait, or for a critical or a lock. A thread that tests a lock doesn't wait.
 -- What is waited for, the cause, is a kind of synchronization, or 16 more than a kind of mutex.

@@ -4,10 +4,10 @@ ghost use Rattle.std.specs.Prelude.{◌≡◌, IfOk, Some};
 ghost use Rattle.trace_view.specs.NamedLines.{end_line, event_line, named_call, named_item};
 
 use crate::number_names::{
-    DispatchKind, Ending, Endpoint, MutexKind, Place, RegionFlags, StateName, SyncKind, TaskFlags,
+    DispatchKind, Ending, Endpoint, MutexKind, RegionFlags, StateName, SyncKind, TaskFlags,
     TaskStatus, ThreadKind, WorkKind,
 };
-use ompt_calls::{Call, EventRecord};
+use ompt_calls::{Call, CodePlace, EventRecord};
 use std::alloc::{AllocError, Global};
 use std::fmt;
 use std::fmt::{Display, Formatter};
@@ -46,7 +46,7 @@ impl Display for NamedCall {
                 region,
                 requested,
                 RegionFlags { number: flags },
-                Place { number: codeptr }
+                CodePlace(codeptr)
             ),
             Call::ParallelEnd {
                 region,
@@ -59,7 +59,7 @@ impl Display for NamedCall {
                 region,
                 task,
                 RegionFlags { number: flags },
-                Place { number: codeptr }
+                CodePlace(codeptr)
             ),
             Call::TaskCreate {
                 task,
@@ -76,7 +76,7 @@ impl Display for NamedCall {
                 fresh,
                 TaskFlags { number: flags },
                 has_dependences,
-                Place { number: codeptr }
+                CodePlace(codeptr)
             ),
             Call::TaskSchedule {
                 prior,
@@ -119,7 +119,7 @@ impl Display for NamedCall {
                 Endpoint { number: endpoint },
                 region,
                 task,
-                Place { number: codeptr }
+                CodePlace(codeptr)
             ),
             Call::MutexReleased {
                 kind,
@@ -130,7 +130,7 @@ impl Display for NamedCall {
                 "mutex_released {} {} {}",
                 MutexKind { number: kind },
                 wait_id,
-                Place { number: codeptr }
+                CodePlace(codeptr)
             ),
             Call::Work {
                 kind,
@@ -147,7 +147,7 @@ impl Display for NamedCall {
                 region,
                 task,
                 count,
-                Place { number: codeptr }
+                CodePlace(codeptr)
             ),
             Call::Masked {
                 endpoint,
@@ -160,7 +160,7 @@ impl Display for NamedCall {
                 Endpoint { number: endpoint },
                 region,
                 task,
-                Place { number: codeptr }
+                CodePlace(codeptr)
             ),
             Call::SyncRegion {
                 kind,
@@ -175,7 +175,7 @@ impl Display for NamedCall {
                 Endpoint { number: endpoint },
                 region,
                 task,
-                Place { number: codeptr }
+                CodePlace(codeptr)
             ),
             Call::LockInit {
                 kind,
@@ -190,7 +190,7 @@ impl Display for NamedCall {
                 hint,
                 variant,
                 wait_id,
-                Place { number: codeptr }
+                CodePlace(codeptr)
             ),
             Call::LockDestroy {
                 kind,
@@ -201,7 +201,7 @@ impl Display for NamedCall {
                 "lock_destroy {} {} {}",
                 MutexKind { number: kind },
                 wait_id,
-                Place { number: codeptr }
+                CodePlace(codeptr)
             ),
             Call::MutexAcquire {
                 kind,
@@ -216,7 +216,7 @@ impl Display for NamedCall {
                 hint,
                 variant,
                 wait_id,
-                Place { number: codeptr }
+                CodePlace(codeptr)
             ),
             Call::MutexAcquired {
                 kind,
@@ -227,7 +227,7 @@ impl Display for NamedCall {
                 "mutex_acquired {} {} {}",
                 MutexKind { number: kind },
                 wait_id,
-                Place { number: codeptr }
+                CodePlace(codeptr)
             ),
             Call::Dispatch {
                 region,

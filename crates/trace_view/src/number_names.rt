@@ -1,7 +1,7 @@
 //! Numbers of OMPT that are written by their names.
 
 ghost use Rattle.std.specs.Prelude.{◌≡◌, Some};
-ghost use Rattle.trace_view.specs.Names.{dispatch_kind_text, ending_text, endpoint_text, mutex_kind_text, place_text, region_flags_text, state_text, sync_kind_text, task_flags_text, task_status_text, thread_kind_text, work_kind_text};
+ghost use Rattle.trace_view.specs.Names.{dispatch_kind_text, ending_text, endpoint_text, mutex_kind_text, region_flags_text, state_text, sync_kind_text, task_flags_text, task_status_text, thread_kind_text, work_kind_text};
 
 use omp_codes::states::{
     IDLE, OVERHEAD, WAIT_BARRIER_EXPLICIT, WAIT_BARRIER_IMPLICIT_PARALLEL,
@@ -166,10 +166,7 @@ impl Display for TaskFlags {
             task_flags::INITIAL => write!(f, "ompt_task_initial"),
             task_flags::IMPLICIT => write!(f, "ompt_task_implicit"),
             task_flags::EXPLICIT => write!(f, "ompt_task_explicit"),
-            task_flags::EXPLICIT_UNDEFERRED => write!(
-                f,
-                "ompt_task_explicit|ompt_task_undeferred"
-            ),
+            task_flags::EXPLICIT_UNDEFERRED => write!(f, "ompt_task_explicit|ompt_task_undeferred"),
             number => write!(f, "{number}"),
         }
     }
@@ -245,19 +242,5 @@ impl Display for Ending {
             6 => write!(f, "limit"),
             number => write!(f, "{number}"),
         }
-    }
-}
-
-/// A place in the source, line × 65536 + column, as `line:column`.
-#[derive(Clone, Copy)]
-pub(crate) struct Place {
-    pub number: u64,
-}
-
-impl Display for Place {
-    ghost output = { λ p. Some (place_text p.number) };
-
-    fn fmt<W: fmt::Write>(&self, f: &mut Formatter<W>) -> fmt::Result {
-        write!(f, "{}:{}", self.number / 65536, self.number % 65536)
     }
 }

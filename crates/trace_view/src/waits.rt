@@ -6,10 +6,9 @@ ghost use Rattle.trace_check.specs.Nested.{last_seq};
 ghost use Rattle.trace_view.specs.Waits.{IsWaitTable, cause_text};
 ghost use Rattle.trace_view.specs.WaitTallies.{HasTallies, line_of};
 
-use crate::number_names::Place;
 use crate::wait_ends::WaitKey;
 use crate::wait_tallies::{Tally, tallies_of};
-use ompt_calls::EventRecord;
+use ompt_calls::{CodePlace, EventRecord};
 use std::alloc::{AllocError, Global};
 use std::collections::BTreeMap;
 use std::fmt;
@@ -65,7 +64,7 @@ fn put_line(
     if tally.begins.count == 0 {
         return Ok(());
     }
-    let place = Place { number: key.place };
+    let place = CodePlace(key.place);
     let cause = Cause { number: key.cause };
     let waited = tally.waited(last)?;
     let line = format!(in alloc;

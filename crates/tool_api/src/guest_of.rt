@@ -1,14 +1,16 @@
 //! A part as a guest.
 
+use crate::guest_tool::GuestTool;
+use crate::part::{Memory, ToolPart};
+use crate::registrar::Registrar;
 use ompt_calls::{Call, Reply, Snapshot};
-use tool_api::{GuestTool, Memory, Registrar, ToolPart};
 
 /// A part as a guest: it hands each call on to the part, and stands for what the part stands for. So two tools in one, which are a part,
 /// can be the guest of a thread.
 #[derive(Drop)]
-pub(crate) struct PartGuest<P>(pub P);
+pub struct GuestOf<P>(pub P);
 
-impl<P: ToolPart> GuestTool for PartGuest<P> {
+impl<P: ToolPart> GuestTool for GuestOf<P> {
     ghost stands_for = { λ guest h. P.stands_for guest.0 h };
 
     fn initialize(&mut self, registrar: &mut Registrar) -> u32 {

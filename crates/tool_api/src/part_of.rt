@@ -2,15 +2,17 @@
 
 ghost use Rattle.std.specs.Prelude.{⊤};
 
+use crate::guest_tool::GuestTool;
+use crate::part::{Memory, ToolPart};
+use crate::registrar::Registrar;
 use ompt_calls::{Call, Reply, Snapshot};
-use tool_api::{GuestTool, Memory, Registrar, ToolPart};
 
 /// A tool as a part: `tool_both` joins parts. It hands each call on to the tool, and stands for what the tool stands for. A
-/// [`Guest`](tool_api::Guest) is the same for a tool in a box.
+/// [`Guest`](crate::Guest) is the same for a tool in a box.
 #[derive(Drop)]
-pub(crate) struct Part<T>(pub T);
+pub struct PartOf<T>(pub T);
 
-impl<T: GuestTool> ToolPart for Part<T> {
+impl<T: GuestTool> ToolPart for PartOf<T> {
     ghost stands_for = { λ part h. T.stands_for part.0 h };
 
     ghost same = { λ part other. ⊤ };
