@@ -7,8 +7,7 @@ use Rattle.ompt_calls.specs.declared.argument.Argument.TheVariants as argument
 use Rattle.ompt_calls.specs.declared.call.Word.{Word}
 use Rattle.ompt_calls.specs.declared.call.Frame.{Frame}
 use Rattle.ompt_calls.specs.declared.call.Call.{Call}
-use Rattle.ompt_calls.specs.declared.call.Call.TheVariants.{ThreadBegin, ThreadEnd, ParallelBegin, ParallelEnd, TaskCreate, TaskSchedule, ImplicitTask, SyncRegionWait, MutexReleased, Work, Masked, SyncRegion, LockInit, LockDestroy, MutexAcquire, MutexAcquired, Dispatch}
-use Rattle.ompt_calls.specs.Arguments.{arguments_of}
+use Rattle.ompt_calls.specs.Arguments.{arguments_of, name_of}
 
 -- the parts, with one space between
 abbrev pub spaced : List (List ℕ) → List ℕ
@@ -40,26 +39,6 @@ argument_text (Short number) = decimal number
 argument_text (Long number) = decimal number
 argument_text (argument.Word word) = word_text word
 argument_text (argument.Frame frame) = frame_text frame
-
--- the name of the callback
-abbrev pub name_of : Call → List ℕ
-name_of (ThreadBegin kind thread) = codes "thread_begin"
-name_of (ThreadEnd thread) = codes "thread_end"
-name_of (ParallelBegin task frame region requested flags codeptr) = codes "parallel_begin"
-name_of (ParallelEnd region task flags codeptr) = codes "parallel_end"
-name_of (TaskCreate task frame fresh flags has_dependences codeptr) = codes "task_create"
-name_of (TaskSchedule prior status next) = codes "task_schedule"
-name_of (ImplicitTask endpoint region task actual index flags) = codes "implicit_task"
-name_of (SyncRegionWait kind endpoint region task codeptr) = codes "sync_region_wait"
-name_of (MutexReleased kind wait_id codeptr) = codes "mutex_released"
-name_of (Work kind endpoint region task count codeptr) = codes "work"
-name_of (Masked endpoint region task codeptr) = codes "masked"
-name_of (SyncRegion kind endpoint region task codeptr) = codes "sync_region"
-name_of (LockInit kind hint variant wait_id codeptr) = codes "lock_init"
-name_of (LockDestroy kind wait_id codeptr) = codes "lock_destroy"
-name_of (MutexAcquire kind hint variant wait_id codeptr) = codes "mutex_acquire"
-name_of (MutexAcquired kind wait_id codeptr) = codes "mutex_acquired"
-name_of (Dispatch region task kind start iterations) = codes "dispatch"
 
 -- the name of the callback and its arguments
 abbrev pub parts_of : Call → List (List ℕ)

@@ -1,10 +1,9 @@
 //! The arguments of a callback, one after the other.
 
 ghost use Rattle.std.specs.Prelude.{◌≡◌, [], ◌∷◌, Some};
-ghost use Rattle.ompt_calls.specs.Arguments.{arguments_of};
 ghost use Rattle.ompt_calls.specs.Line.{argument_text};
 
-use crate::call::{Call, Frame, Word};
+use crate::call::{Frame, Word};
 use std::fmt;
 use std::fmt::{Display, Formatter};
 use std::marker::Model;
@@ -67,7 +66,7 @@ impl Arguments {
     }
 
     /// One argument.
-    fn one(a: Argument) -> Arguments
+    pub(crate) fn one(a: Argument) -> Arguments
         ensures { result ≡ a ∷ [] }
     {
         Arguments {
@@ -77,7 +76,7 @@ impl Arguments {
     }
 
     /// Two arguments.
-    fn two(a: Argument, b: Argument) -> Arguments
+    pub(crate) fn two(a: Argument, b: Argument) -> Arguments
         ensures { result ≡ a ∷ b ∷ [] }
     {
         Arguments {
@@ -87,7 +86,7 @@ impl Arguments {
     }
 
     /// Three arguments.
-    fn three(a: Argument, b: Argument, c: Argument) -> Arguments
+    pub(crate) fn three(a: Argument, b: Argument, c: Argument) -> Arguments
         ensures { result ≡ a ∷ b ∷ c ∷ [] }
     {
         Arguments {
@@ -97,7 +96,7 @@ impl Arguments {
     }
 
     /// Four arguments.
-    fn four(a: Argument, b: Argument, c: Argument, d: Argument) -> Arguments
+    pub(crate) fn four(a: Argument, b: Argument, c: Argument, d: Argument) -> Arguments
         ensures { result ≡ a ∷ b ∷ c ∷ d ∷ [] }
     {
         Arguments {
@@ -107,7 +106,7 @@ impl Arguments {
     }
 
     /// Five arguments.
-    fn five(a: Argument, b: Argument, c: Argument, d: Argument, e: Argument) -> Arguments
+    pub(crate) fn five(a: Argument, b: Argument, c: Argument, d: Argument, e: Argument) -> Arguments
         ensures { result ≡ a ∷ b ∷ c ∷ d ∷ e ∷ [] }
     {
         Arguments {
@@ -117,167 +116,9 @@ impl Arguments {
     }
 
     /// Six arguments.
-    fn six(items: [Argument; 6]) -> Arguments
+    pub(crate) fn six(items: [Argument; 6]) -> Arguments
         ensures { result ≡ items }
     {
         Arguments { items, count: 6 }
-    }
-}
-
-impl Call {
-    /// The arguments in their order.
-    pub fn arguments(&self) -> Arguments
-        ensures { result ≡ arguments_of self.now }
-    {
-        use Argument::{Frame, Long, Short, Word};
-        match *self {
-            Call::ThreadBegin { kind, thread } => Arguments::two(Short(kind), Word(thread)),
-            Call::ThreadEnd { thread } => Arguments::one(Word(thread)),
-            Call::ParallelBegin {
-                task,
-                frame,
-                region,
-                requested,
-                flags,
-                codeptr,
-            } => Arguments::six([
-                Word(task),
-                Frame(frame),
-                Word(region),
-                Short(requested),
-                Short(flags),
-                Long(codeptr),
-            ]),
-            Call::ParallelEnd {
-                region,
-                task,
-                flags,
-                codeptr,
-            } => Arguments::four(Word(region), Word(task), Short(flags), Long(codeptr)),
-            Call::TaskCreate {
-                task,
-                frame,
-                fresh,
-                flags,
-                has_dependences,
-                codeptr,
-            } => Arguments::six([
-                Word(task),
-                Frame(frame),
-                Word(fresh),
-                Short(flags),
-                Short(has_dependences),
-                Long(codeptr),
-            ]),
-            Call::TaskSchedule {
-                prior,
-                status,
-                next,
-            } => Arguments::three(Word(prior), Short(status), Word(next)),
-            Call::ImplicitTask {
-                endpoint,
-                region,
-                task,
-                actual,
-                index,
-                flags,
-            } => Arguments::six([
-                Short(endpoint),
-                Word(region),
-                Word(task),
-                Short(actual),
-                Short(index),
-                Short(flags),
-            ]),
-            Call::SyncRegionWait {
-                kind,
-                endpoint,
-                region,
-                task,
-                codeptr,
-            }
-            | Call::SyncRegion {
-                kind,
-                endpoint,
-                region,
-                task,
-                codeptr,
-            } => Arguments::five(
-                Short(kind),
-                Short(endpoint),
-                Word(region),
-                Word(task),
-                Long(codeptr),
-            ),
-            Call::MutexReleased {
-                kind,
-                wait_id,
-                codeptr,
-            }
-            | Call::LockDestroy {
-                kind,
-                wait_id,
-                codeptr,
-            }
-            | Call::MutexAcquired {
-                kind,
-                wait_id,
-                codeptr,
-            } => Arguments::three(Short(kind), Short(wait_id), Long(codeptr)),
-            Call::Work {
-                kind,
-                endpoint,
-                region,
-                task,
-                count,
-                codeptr,
-            } => Arguments::six([
-                Short(kind),
-                Short(endpoint),
-                Word(region),
-                Word(task),
-                Long(count),
-                Long(codeptr),
-            ]),
-            Call::Masked {
-                endpoint,
-                region,
-                task,
-                codeptr,
-            } => Arguments::four(Short(endpoint), Word(region), Word(task), Long(codeptr)),
-            Call::LockInit {
-                kind,
-                hint,
-                variant,
-                wait_id,
-                codeptr,
-            }
-            | Call::MutexAcquire {
-                kind,
-                hint,
-                variant,
-                wait_id,
-                codeptr,
-            } => Arguments::five(
-                Short(kind),
-                Short(hint),
-                Short(variant),
-                Short(wait_id),
-                Long(codeptr),
-            ),
-            Call::Dispatch {
-                region,
-                task,
-                kind,
-                start,
-                iterations,
-            } => Arguments::five(
-                Word(region),
-                Word(task),
-                Short(kind),
-                Long(start),
-                Long(iterations),
-            ),
-        }
     }
 }

@@ -1,9 +1,10 @@
 //! A callback with its arguments.
 
 ghost use Rattle.std.specs.Prelude.{◌≡◌};
-ghost use Rattle.ompt_calls.specs.Line.{name_of};
+ghost use Rattle.ompt_calls.specs.Arguments.{arguments_of, name_of};
 ghost use Rattle.ompt_calls.specs.Number.{number_of};
 
+use crate::argument::{Argument, Arguments};
 use omp_codes::callbacks;
 
 /// A data word of a tool: `ompt_data_t` (OpenMP 5.2, 19.4.4.4), named by a number in place of an address.
@@ -178,6 +179,7 @@ impl Call {
             Call::Dispatch { .. } => callbacks::DISPATCH,
         }
     }
+
     /// The name of the callback, as a line has it: that of OpenMP 5.2, 19.4.2, without `ompt_callback_`.
     pub fn name(&self) -> &'static str
         ensures { result.now ≡ name_of self.now }
@@ -200,6 +202,162 @@ impl Call {
             Call::MutexAcquire { .. } => "mutex_acquire",
             Call::MutexAcquired { .. } => "mutex_acquired",
             Call::Dispatch { .. } => "dispatch",
+        }
+    }
+
+    /// The arguments in their order.
+    pub fn arguments(&self) -> Arguments
+        ensures { result ≡ arguments_of self.now }
+    {
+        use Argument::{Frame, Long, Short, Word};
+        match *self {
+            Call::ThreadBegin { kind, thread } => Arguments::two(Short(kind), Word(thread)),
+            Call::ThreadEnd { thread } => Arguments::one(Word(thread)),
+            Call::ParallelBegin {
+                task,
+                frame,
+                region,
+                requested,
+                flags,
+                codeptr,
+            } => Arguments::six([
+                Word(task),
+                Frame(frame),
+                Word(region),
+                Short(requested),
+                Short(flags),
+                Long(codeptr),
+            ]),
+            Call::ParallelEnd {
+                region,
+                task,
+                flags,
+                codeptr,
+            } => Arguments::four(Word(region), Word(task), Short(flags), Long(codeptr)),
+            Call::TaskCreate {
+                task,
+                frame,
+                fresh,
+                flags,
+                has_dependences,
+                codeptr,
+            } => Arguments::six([
+                Word(task),
+                Frame(frame),
+                Word(fresh),
+                Short(flags),
+                Short(has_dependences),
+                Long(codeptr),
+            ]),
+            Call::TaskSchedule {
+                prior,
+                status,
+                next,
+            } => Arguments::three(Word(prior), Short(status), Word(next)),
+            Call::ImplicitTask {
+                endpoint,
+                region,
+                task,
+                actual,
+                index,
+                flags,
+            } => Arguments::six([
+                Short(endpoint),
+                Word(region),
+                Word(task),
+                Short(actual),
+                Short(index),
+                Short(flags),
+            ]),
+            Call::SyncRegionWait {
+                kind,
+                endpoint,
+                region,
+                task,
+                codeptr,
+            }
+            | Call::SyncRegion {
+                kind,
+                endpoint,
+                region,
+                task,
+                codeptr,
+            } => Arguments::five(
+                Short(kind),
+                Short(endpoint),
+                Word(region),
+                Word(task),
+                Long(codeptr),
+            ),
+            Call::MutexReleased {
+                kind,
+                wait_id,
+                codeptr,
+            }
+            | Call::LockDestroy {
+                kind,
+                wait_id,
+                codeptr,
+            }
+            | Call::MutexAcquired {
+                kind,
+                wait_id,
+                codeptr,
+            } => Arguments::three(Short(kind), Short(wait_id), Long(codeptr)),
+            Call::Work {
+                kind,
+                endpoint,
+                region,
+                task,
+                count,
+                codeptr,
+            } => Arguments::six([
+                Short(kind),
+                Short(endpoint),
+                Word(region),
+                Word(task),
+                Long(count),
+                Long(codeptr),
+            ]),
+            Call::Masked {
+                endpoint,
+                region,
+                task,
+                codeptr,
+            } => Arguments::four(Short(endpoint), Word(region), Word(task), Long(codeptr)),
+            Call::LockInit {
+                kind,
+                hint,
+                variant,
+                wait_id,
+                codeptr,
+            }
+            | Call::MutexAcquire {
+                kind,
+                hint,
+                variant,
+                wait_id,
+                codeptr,
+            } => Arguments::five(
+                Short(kind),
+                Short(hint),
+                Short(variant),
+                Short(wait_id),
+                Long(codeptr),
+            ),
+            Call::Dispatch {
+                region,
+                task,
+                kind,
+                start,
+                iterations,
+            } => Arguments::five(
+                Word(region),
+                Word(task),
+                Short(kind),
+                Long(start),
+                Long(iterations),
+            ),
         }
     }
 }

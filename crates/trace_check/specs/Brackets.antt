@@ -3,7 +3,7 @@ use Rattle.std.specs.Prelude.{ℕ, ◌==◌, ◌&&◌, Bool, false, List, [], �
 use Rattle.omp_codes.specs.declared.endpoints.TheConstants.{BEGIN, END}
 use Rattle.omp_codes.specs.declared.task_statuses.TheConstants.{COMPLETE, SWITCH}
 use Rattle.ompt_calls.specs.declared.call.Call.{Call}
-use Rattle.ompt_calls.specs.declared.call.Call.TheVariants.{ThreadBegin, ThreadEnd, ParallelBegin, ParallelEnd, TaskCreate, TaskSchedule, ImplicitTask, SyncRegionWait, MutexReleased, Work, Masked, SyncRegion, LockInit, LockDestroy, MutexAcquire, MutexAcquired, Dispatch}
+use Rattle.ompt_calls.specs.declared.call.Call.TheVariants.{ParallelBegin, ParallelEnd, TaskSchedule, ImplicitTask, SyncRegionWait, Work, Masked, SyncRegion}
 use Rattle.trace_check.specs.declared.bracket.Bracket.{Bracket}
 use Rattle.trace_check.specs.declared.bracket.Bracket.TheVariants.{Parallel, Implicit, Explicit, Worksharing, Masking, Syncing, Waiting}
 use Rattle.trace_check.specs.declared.change.Change.{Change}
@@ -19,23 +19,15 @@ at_status status prior next =
     if status == SWITCH then Opens (Explicit prior next) else if status == COMPLETE then Closes (Explicit next prior) else Stays
 
 abbrev pub change_of : Call → Change
-change_of (ThreadBegin kind thread) = Stays
-change_of (ThreadEnd thread) = Stays
 change_of (ParallelBegin task frame region requested flags codeptr) = Opens (Parallel region.identity)
 change_of (ParallelEnd region task flags codeptr) = Closes (Parallel region.identity)
-change_of (TaskCreate task frame fresh flags has_dependences codeptr) = Stays
 change_of (TaskSchedule prior status next) = at_status status prior.identity next.identity
 change_of (ImplicitTask endpoint region task actual index flags) = at_endpoint endpoint (Implicit task.identity)
 change_of (SyncRegionWait kind endpoint region task codeptr) = at_endpoint endpoint (Waiting task.identity kind)
-change_of (MutexReleased kind wait_id codeptr) = Stays
 change_of (Work kind endpoint region task count codeptr) = at_endpoint endpoint (Worksharing region.identity task.identity kind count)
 change_of (Masked endpoint region task codeptr) = at_endpoint endpoint (Masking task.identity)
 change_of (SyncRegion kind endpoint region task codeptr) = at_endpoint endpoint (Syncing task.identity kind)
-change_of (LockInit kind hint variant wait_id codeptr) = Stays
-change_of (LockDestroy kind wait_id codeptr) = Stays
-change_of (MutexAcquire kind hint variant wait_id codeptr) = Stays
-change_of (MutexAcquired kind wait_id codeptr) = Stays
-change_of (Dispatch region task kind start iterations) = Stays
+change_of other = Stays
 
 -- the brackets after a change
 abbrev pub changed : Change → List Bracket → List Bracket

@@ -1,7 +1,7 @@
 use Rattle.std.proofs.Common.{◌++◌, codes, take}
 use Rattle.std.specs.Fmt.{HasWritten, IsPlainFormatter}
 use Rattle.std.specs.List.{flat_map}
-use Rattle.ompt_calls.specs.Line.{name_of}
+use Rattle.ompt_calls.specs.Arguments.{name_of}
 use Rattle.ompt_calls.proofs.Lines.{spaced_argument}
 use Rattle.ompt_calls.proofs.line.CallDisplay.fmt.Given as goal
 
