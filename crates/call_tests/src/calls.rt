@@ -1,8 +1,8 @@
 //! A line and the inquiries, against values written out by hand. The listing of a region of two has the other lines.
 
 use ompt_calls::{
-    Call, Frame, Memory, RegionLevel, RegionLevels, Snapshot, Target, TaskLevel, TaskLevels, Word,
-    WordAt, line_of,
+    Argument, Call, CodePlace, Frame, Memory, RegionLevel, RegionLevels, Reply, Snapshot, Store,
+    Target, TaskLevel, TaskLevels, Word, WordAt, line_of,
 };
 use std::alloc::Global;
 
@@ -16,6 +16,59 @@ fn the_longest_numbers_are_written(rt: HostRuntime) -> Result<(), Memory> {
     let want = b"4294967295 255 thread_end 4294967295:18446744073709551615\n";
     assert!(rt; line.as_slice() == want.as_slice());
     Ok(())
+}
+
+#[test]
+fn arguments_stand_in_their_order(rt: HostRuntime) {
+    let call = Call::ParallelBegin {
+        task: ONE,
+        frame: Frame { exit: 3, enter: 4 },
+        region: TWO,
+        requested: 5,
+        flags: 6,
+        codeptr: 7,
+    };
+    let want = [
+        Argument::Word(ONE),
+        Argument::Frame(Frame { exit: 3, enter: 4 }),
+        Argument::Word(TWO),
+        Argument::Short(5),
+        Argument::Short(6),
+        Argument::Long(7),
+    ];
+    assert!(rt; call.arguments().as_slice() == want.as_slice());
+    assert!(rt; call.name() == "parallel_begin");
+}
+
+#[test]
+fn places_have_a_line_and_a_column(rt: HostRuntime) -> Result<(), Memory> {
+    let place = CodePlace(131_077);
+    assert!(rt; place.line() == 2);
+    assert!(rt; place.column() == 5);
+    let text = format!(in rt.alloc(); "{place}")?;
+    assert!(rt; text.as_str() == "2:5");
+    Ok(())
+}
+
+#[test]
+fn replies_store_one_word_or_none(rt: HostRuntime) {
+    let none = Reply {
+        first: None,
+        second: None,
+        third: None,
+    };
+    let store = Store {
+        place: WordAt::Fresh,
+        word: 9,
+    };
+    assert!(rt; Reply::none() == none);
+    assert!(rt;
+        Reply::store(WordAt::Fresh, 9)
+            == Reply {
+                first: Some(store),
+                ..none
+            }
+    );
 }
 
 const ONE: Word = Word {
@@ -57,6 +110,7 @@ fn inquiries_read_the_snapshot(rt: HostRuntime) -> Result<(), Memory> {
     let snapshot = snapshot_of_two(rt.alloc())?;
     assert!(rt; snapshot.get_state() == (0x001, 0));
     assert!(rt; snapshot.get_thread_data() == ONE);
+    assert!(rt; (snapshot.tasks.len(), snapshot.regions.len()) == (2, 2));
     for (level, task, region) in WORDS {
         let found = words_at(&snapshot, *level);
         assert!(rt; found == (*task, *region), "at {level}");
