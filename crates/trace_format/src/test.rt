@@ -3,6 +3,7 @@
 ghost use Rattle.std.specs.Prelude.{◌≡◌, ◌≤◌, ◌==◌, ◌&&◌, ◌||◌, nat_le, nat_lt, if◌then◌else◌, length};
 ghost use Rattle.omp_codes.specs.Answers.{in_profile};
 ghost use Rattle.omp_codes.specs.States.{states};
+ghost use Rattle.omp_codes.specs.declared.dispatch_kinds.TheConstants.{SECTION};
 ghost use Rattle.ompt_calls.specs.Number.{is_registered};
 ghost use Rattle.trace_format.specs.Accepting.{accepts_detail, accepts_mask};
 ghost use Rattle.trace_format.specs.Flat.{passes, test_width};
@@ -13,6 +14,11 @@ use crate::kind::{Kind, accepts_kind, width_of};
 use crate::trace::{FIRST_VERSION, MAGIC, MIGRATED, RECORDED, SEQ_LIMIT, VERSION};
 use omp_codes::callbacks;
 use omp_codes::dispatch_kinds::SECTION;
+use omp_codes::thread_states::{
+    IDLE, OVERHEAD, WAIT_BARRIER_EXPLICIT, WAIT_BARRIER_IMPLICIT_PARALLEL,
+    WAIT_BARRIER_IMPLICIT_WORKSHARE, WAIT_CRITICAL, WAIT_LOCK, WAIT_TASKWAIT, WORK_PARALLEL,
+    WORK_SERIAL,
+};
 use ompt_calls::is_registered;
 
 /// The test of a field, with what it needs of the fields before.
@@ -125,13 +131,22 @@ pub(crate) fn is_state(state: u16) -> bool
 {
     matches!(
         state,
-        0x000 | 0x001 | 0x011 | 0x012 | 0x014 | 0x020 | 0x041 | 0x042 | 0x100 | 0x101
+        WORK_SERIAL
+            | WORK_PARALLEL
+            | WAIT_BARRIER_IMPLICIT_PARALLEL
+            | WAIT_BARRIER_IMPLICIT_WORKSHARE
+            | WAIT_BARRIER_EXPLICIT
+            | WAIT_TASKWAIT
+            | WAIT_LOCK
+            | WAIT_CRITICAL
+            | IDLE
+            | OVERHEAD
     )
 }
 
 /// Whether so many iterations may be dispatched: a section has none, and a chunk has some.
 fn is_count(kind: u32, iterations: u64) -> bool
-    ensures { result ≡ (if kind == 2 then iterations == 0 else nat_le 1 iterations) }
+    ensures { result ≡ (if kind == SECTION then iterations == 0 else nat_le 1 iterations) }
 {
     if kind == SECTION {
         iterations == 0

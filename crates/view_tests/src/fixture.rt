@@ -1,8 +1,8 @@
 //! A trace of one thread that creates a task, goes to it, and holds a critical within it.
 
 use omp_codes::mutex_kinds::CRITICAL;
-use omp_codes::task_flags;
 use omp_codes::thread_states::OVERHEAD;
+use omp_codes::{task_flags, thread_kinds};
 use ompt_calls::{Call, EventRecord, Frame, Word};
 use std::alloc::{AllocError, Global};
 use trace_format::{EndMark, Events, Header, RECORDED, Trace, VERSION};
@@ -76,7 +76,7 @@ fn released() -> Call {
 /// The trace.
 pub(crate) fn trace(alloc: Global) -> Result<Trace, AllocError> {
     let begin = Call::ThreadBegin {
-        kind: 1,
+        kind: thread_kinds::INITIAL,
         thread: word(1),
     };
     let events = [
