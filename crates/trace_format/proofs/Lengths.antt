@@ -16,7 +16,7 @@ pub spelling_numbered : (place : ℕ) (fields : List (List ℕ)) → spelling (n
 spelling_numbered place [] = refl
 spelling_numbered place (bytes ∷ fields) = ap (λ (bs : List ℕ). bytes ++ bs) (spelling_numbered (place + 1) fields)
 
-arguments_short : (call : Call) → length (flat (arguments call)) ≤ 48
+pub arguments_short : (call : Call) → length (flat (arguments call)) ≤ 48
 arguments_short (ThreadBegin kind thread) = omega arith
 arguments_short (ThreadEnd thread) = omega arith
 arguments_short (ParallelBegin task of_task region requested flags codeptr) = omega arith

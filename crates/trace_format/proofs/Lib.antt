@@ -6,6 +6,7 @@ pub mod Calls
 pub mod Profile
 pub mod Naming
 pub mod ProfileMask
+pub mod Putting
 pub mod Masks
 pub mod Headers
 pub mod Ends

@@ -1,5 +1,7 @@
 -- Numbers that fit the fields in which they are written, as those of the types do.
 use Rattle.std.specs.Prelude.{⊤}
+use Rattle.ompt_calls.specs.declared.argument.Argument.{Argument}
+use Rattle.ompt_calls.specs.declared.argument.Argument.TheVariants as argument
 use Rattle.ompt_calls.specs.declared.call.Word.{Word}
 use Rattle.ompt_calls.specs.declared.call.Call.{Call}
 use Rattle.ompt_calls.specs.declared.call.Call.TheVariants.{ThreadBegin, ThreadEnd, ParallelBegin, ParallelEnd, TaskCreate, TaskSchedule, ImplicitTask, SyncRegionWait, MutexReleased, Work, Masked, SyncRegion, LockInit, LockDestroy, MutexAcquire, MutexAcquired, Dispatch}
@@ -10,6 +12,13 @@ use Rattle.trace_format.specs.Validity.{IsFrame, IsLong, IsShort}
 
 abbrev pub FitsWord : Word → Type 0
 FitsWord word = IsShort word.identity × IsLong word.value
+
+-- an argument of a callback
+abbrev pub FitsArgument : Argument → Type 0
+FitsArgument (argument.Short n) = IsShort n
+FitsArgument (argument.Long n) = IsLong n
+FitsArgument (argument.Word word) = FitsWord word
+FitsArgument (argument.Frame frame) = IsFrame frame
 
 -- the arguments of a callback, as far as they may have any value
 abbrev pub FitsCall : Call → Type 0

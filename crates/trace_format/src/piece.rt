@@ -2,13 +2,13 @@
 
 ghost use Rattle.std.specs.Prelude.{◌≡◌, ◌≤◌, ◌+◌, [], ◌++◌, length};
 ghost use Rattle.byteorder.specs.Endian.{big_bytes};
-ghost use Rattle.trace_format.specs.Fields.{frame, word};
-ghost use Rattle.trace_format.specs.Fitting.{FitsWord};
+ghost use Rattle.trace_format.specs.Fields.{frame, spell, word};
+ghost use Rattle.trace_format.specs.Fitting.{FitsArgument, FitsWord};
 ghost use Rattle.trace_format.specs.Validity.{IsFrame};
 
 use crate::room::LONGEST_ITEM;
 use byteorder::{BigEndian, ByteOrder};
-use ompt_calls::{Frame, Word};
+use ompt_calls::{Argument, Frame, Word};
 use std::marker::Model;
 
 /// Bytes that are put in order until they are written. Contracts see their list.
@@ -106,5 +106,18 @@ impl Piece {
     {
         self.short(of_task.exit);
         self.short(of_task.enter);
+    }
+    /// Puts an argument of a callback behind the others.
+    pub(crate) fn argument(&mut self, argument: &Argument)
+        requires { length self.old + length (spell argument.now) ≤ 60 }
+        ensures bytes { self.new ≡ self.old ++ spell argument.now }
+        ensures fits { FitsArgument argument.now }
+    {
+        match argument {
+            Argument::Short(n) => self.short(*n),
+            Argument::Long(n) => self.long(*n),
+            Argument::Word(data_word) => self.word(data_word),
+            Argument::Frame(of_task) => self.frame(of_task),
+        }
     }
 }
