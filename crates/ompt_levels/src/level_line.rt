@@ -28,7 +28,7 @@ pub(crate) fn line_of(
 fn add_tasks(line: &mut Vec<u8>, alloc: Global, levels: &TaskLevels) -> Result<(), AllocError>
     ensures { IfOk result (λ done. line.new.items ≡ line.old.items ++ tasks_text levels.now) }
 {
-    for level in &levels.0 {
+    for level in levels.as_slice() {
         let text = text_of_task(alloc, level)?;
         line.extend_from_slice(text.as_slice())?;
     }
@@ -39,7 +39,7 @@ fn add_tasks(line: &mut Vec<u8>, alloc: Global, levels: &TaskLevels) -> Result<(
 fn add_regions(line: &mut Vec<u8>, alloc: Global, levels: &RegionLevels) -> Result<(), AllocError>
     ensures { IfOk result (λ done. line.new.items ≡ line.old.items ++ regions_text levels.now) }
 {
-    for level in &levels.0 {
+    for level in levels.as_slice() {
         let text = text_of_region(alloc, level)?;
         line.extend_from_slice(text.as_slice())?;
     }

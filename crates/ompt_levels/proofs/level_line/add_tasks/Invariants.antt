@@ -3,4 +3,4 @@ use Rattle.ompt_levels.specs.LevelLine.{tasks_text}
 use Rattle.ompt_levels.proofs.level_line.add_tasks.Given as goal
 
 abbrev pub invariant-loop-level : goal.invariant-loop-level
-invariant-loop-level l = l.line.items ≡ l.fn.line.items ++ tasks_text (take l.level-index l.levels)
+invariant-loop-level l = l.line.items ≡ l.fn.line.items ++ tasks_text (take l.level-index l.level-items)
