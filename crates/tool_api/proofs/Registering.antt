@@ -1,5 +1,5 @@
 -- A mask after several callbacks are registered.
-use Rattle.std.proofs.Common.{◌≡◌, ℕ, ◌<◌, ◌^◌, Bool, true, ◌&&◌, ◌==◌, ◌+◌, List, [], ◌∷◌, length, get_or, drop, drop-cons, add-one, bit_or, inl, inr, sym, subst, ◌∙◌, arith}
+use Rattle.std.proofs.Common.{◌≡◌, ℕ, ◌<◌, ◌^◌, true, ◌&&◌, ◌==◌, ◌+◌, List, [], ◌∷◌, length, get_or, drop, drop-cons, add-one, bit_or, inl, inr, sym, subst, ◌∙◌, arith}
 use Rattle.std.specs.List.{All}
 use Rattle.std.specs.Int.{bit_at}
 use Rattle.std.proofs.lemmas.Bool.{and_parts, cases_Bool, eqb-true}
