@@ -61,11 +61,17 @@ abbrev pub empty_records : List EventRecord
 empty_records =
     record { seq = 0; thread = 0; state = thread_state.OVERHEAD; wait_id = 0; call = ThreadBegin thread_kind.INITIAL (fresh_word 1) }
     ∷ record {
-      seq = 2; thread = 0; state = thread_state.WORK_SERIAL; wait_id = 0;
-      call = ImplicitTask scope.BEGIN (fresh_word 1) (fresh_word 1) 1 1 task_flag.INITIAL
+      seq = 2;
+      thread = 0;
+      state = thread_state.WORK_SERIAL;
+      wait_id = 0;
+      call = ImplicitTask scope.BEGIN (fresh_word 1) (fresh_word 1) 1 1 task_flag.INITIAL;
     }
     ∷ record {
-      seq = 4; thread = 0; state = thread_state.OVERHEAD; wait_id = 0;
-      call = ImplicitTask scope.END (fresh_word 0) (fresh_word 1) 0 1 task_flag.INITIAL
+      seq = 4;
+      thread = 0;
+      state = thread_state.OVERHEAD;
+      wait_id = 0;
+      call = ImplicitTask scope.END (fresh_word 0) (fresh_word 1) 0 1 task_flag.INITIAL;
     }
     ∷ record { seq = 6; thread = 0; state = thread_state.OVERHEAD; wait_id = 0; call = ThreadEnd (fresh_word 1) } ∷ []

@@ -10,7 +10,7 @@ returns-clause-writes g c = λ plain ok.
     let rest = c.loop-argument.invariant one.plain in
     let items = c.as_slice-argument-items.result.now in
     let all : take c.loop-argument.argument-index items ≡ arguments_of c.args.self.now =
-        take_all c.loop-argument.argument-index items (omega arith) ∙ (c.as_slice-argument-items.ensures ∙ c.arguments.ensures) in
+    take_all c.loop-argument.argument-index items (omega arith) ∙ (c.as_slice-argument-items.ensures ∙ c.arguments.ensures) in
     has_written_of_eq _ _ _ _ _
     (rw (all, c.name.ensures) (spaced-is (name_of c.args.self.now) (arguments_of c.args.self.now)))
     (has_written_append _ _ _ _ _ _ one rest)
