@@ -154,9 +154,9 @@ const SHORT_NUMBERS: &[(u16, u16)] = &[
 #[test]
 fn numbers_are_those_of_the_header(rt: HostRuntime) {
     for (number, header) in NUMBERS {
-        assert!(rt; number == header, "at {header}");
+        assert!(rt; *number == *header, "at {header}");
     }
     for (number, header) in SHORT_NUMBERS {
-        assert!(rt; number == header, "at {header}");
+        assert!(rt; *number == *header, "at {header}");
     }
 }
