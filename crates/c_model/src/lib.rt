@@ -30,7 +30,7 @@
 //! index and can't be set, a function that there isn't has an empty body, a cell that wasn't made reads as 0, a form that can't stand where it
 //! stands is an empty statement, as a declarator that no block has. In a program that breaks no rule no task uses a name, a function or a cell that
 //! there isn't, and the nodes of its tree have the forms of `Formed`: the laws below say it. The law on
-//! cells takes what an explicit task copies by rule to be in scope where it is created; of the texts that spell such programs `code_slots`
+//! cells takes what an explicit task copies by rule to be in scope where it is created; of the texts that spell such programs `c_slots`
 //! proves that it is. An answer to what wasn't asked changes nothing; `Answers` says which answers are given.
 //!
 //! Proved, by the contract of the function that is named:

@@ -54,7 +54,7 @@
 //! What symbols and names are to the grammar is written once, in the tables of `src/word_table.rt`: the definition cites them, and
 //! the code looks them up.
 //!
-//! The program `text_tables` compares texts with what was written out by hand: that a text is a program, or the number and place of
+//! The program `test_texts` compares texts with what was written out by hand: that a text is a program, or the number and place of
 //! its fault; and the trees of programs, node by node, with their kinds, places, names, numbers and texts.
 #![tactic(auto)]
 

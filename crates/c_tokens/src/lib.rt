@@ -15,7 +15,7 @@
 //! which fault that is, and where. Proved:
 //!
 //! - [`tokens`] answers `Ok` with the list that `tokens_of` has, and a fault, with its place, that `tokens_of` has. So the text is
-//!   read as that list, or ends in that fault. It may answer want of memory at any time; rows of `text_tables` show that it doesn't
+//!   read as that list, or ends in that fault. It may answer want of memory at any time; rows of `test_texts` show that it doesn't
 //!   where there is enough;
 //! - the two definitions have the same lists, by [`tokens_are_read`] and [`reading_is_tokens`], and each text has one at most, by
 //!   [`one_list_of_tokens`]. They have the same faults, by [`faults_end_the_reading`];
@@ -28,7 +28,7 @@
 //!
 //! Time grows linearly with the text. That is no clause, and neither is where memory is wanting.
 //!
-//! The program `text_tables` compares the tokens of texts, of each byte and of symbols side by side with answers written out by
+//! The program `test_texts` compares the tokens of texts, of each byte and of symbols side by side with answers written out by
 //! hand. The must-fail edits try wrong bodies.
 #![tactic(auto)]
 

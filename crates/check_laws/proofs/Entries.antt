@@ -13,8 +13,8 @@ use Rattle.c_check.specs.Checked.{after_all}
 use Rattle.c_check.specs.Constructs.{Construct, Constructs, leaves_out, open_constructs, with_loop, with_mention, with_newest, with_single, without_innermost}
 use Rattle.c_check.specs.Declarations.{find}
 use Rattle.c_check.specs.Here.{Here, after, is_variable, listed, looped, used}
-use Rattle.code_slots.specs.OwnPlaces.{one_if_same, placed_at}
-use Rattle.code_slots.proofs.ActPlaces.{at_itself}
+use Rattle.c_slots.specs.OwnPlaces.{one_if_same, placed_at}
+use Rattle.c_slots.proofs.ActPlaces.{at_itself}
 use Rattle.check_laws.proofs.Broken.{BreaksIn, breaks-either, breaks-left, breaks-right}
 use Rattle.check_laws.proofs.Has.{Has, among-behind, among-case, among-first}
 use Rattle.check_laws.proofs.Means.{not-among, use-around}

@@ -22,8 +22,8 @@ use Rattle.c_check.specs.Statements.{statement_of}
 use Rattle.check_laws.specs.Scopes.{Position, Sort, declared, meaning}
 use Rattle.check_laws.specs.LoopForm.{is_loop_construct}
 use Rattle.check_laws.specs.ListedNames.{HasDefaultNone, Lists, clauses_of, is_construct, is_listable, positions_inside, used, with_inside}
-use Rattle.code_slots.specs.OwnPlaces.{placed_at}
-use Rattle.code_slots.proofs.ActPlaces.{at_itself}
+use Rattle.c_slots.specs.OwnPlaces.{placed_at}
+use Rattle.c_slots.proofs.ActPlaces.{at_itself}
 use Rattle.check_laws.proofs.Broken.{BreaksIn}
 use Rattle.check_laws.proofs.Constructing.{IsBegun, open-begun}
 use Rattle.check_laws.proofs.Entries.{Entry, HavePlaces, OwnEntry, TakesAt, entries, entries-calm, origin, takes}

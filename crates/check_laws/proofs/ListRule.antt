@@ -14,7 +14,7 @@ use Rattle.c_check.specs.Declarations.{Declarations, find}
 use Rattle.c_check.specs.Here.{Here, after}
 use Rattle.check_laws.specs.Scopes.{Declaration, Position, behind, meaning, under}
 use Rattle.check_laws.specs.ListedNames.{HasDefaultNone, Lists, Used, is_construct, is_listable, positions_inside, with_inside}
-use Rattle.code_slots.specs.OwnPlaces.{placed_at}
+use Rattle.c_slots.specs.OwnPlaces.{placed_at}
 use Rattle.check_laws.proofs.Broken.{BreaksIn, breaks-either, breaks-left, breaks-right}
 use Rattle.check_laws.proofs.Does.{AreUses}
 use Rattle.check_laws.proofs.Entries.{Entry, HavePlaces, IsEntry, OwnEntry, TakesAt, count_at, entries, entries-calm, entry-found, found-entry, own-left, own-right, places-left, places-right}

@@ -15,8 +15,8 @@ use Rattle.c_check.specs.Here.{Here, before_all}
 use Rattle.c_check.specs.Rules.{is_loop_inside, unlisted_uses}
 use Rattle.check_laws.specs.Scopes.{Declaration, Position, meaning, positions}
 use Rattle.check_laws.specs.ListedNames.{BreaksListing, Lists, SharesLoopOf, is_listable, positions_inside, used, with_inside}
-use Rattle.code_slots.specs.OwnPlaces.{HasOwnPlaces, placed_at}
-use Rattle.code_slots.proofs.ProductionPlaces.{texts_have_own_places}
+use Rattle.c_slots.specs.OwnPlaces.{HasOwnPlaces, placed_at}
+use Rattle.c_slots.proofs.ProductionPlaces.{texts_have_own_places}
 use Rattle.check_laws.proofs.Broken.{BreaksIn, breaks-broken, breaks-either, breaks-right, broken-breaks}
 use Rattle.check_laws.proofs.Entries.{HavePlaces, OwnEntry, entries}
 use Rattle.check_laws.proofs.Files.{IsTold, first-ready, program-told}

@@ -18,7 +18,7 @@ use Rattle.c_check.specs.Faults.{is_same_spot}
 use Rattle.c_check.specs.Here.{Here, after, is_variable, listed, looped, used}
 use Rattle.c_check.specs.Rules.{is_loop_inside, not_listed}
 use Rattle.c_check.proofs.Places.{same-spot}
-use Rattle.code_slots.proofs.ActPlaces.{same_spot_itself}
+use Rattle.c_slots.proofs.ActPlaces.{same_spot_itself}
 use Rattle.check_laws.proofs.Broken.{BreaksIn}
 use Rattle.check_laws.proofs.Entries.{TakesAt, entries, entries_for, entry-found, found-entry}
 use Rattle.check_laws.proofs.Has.{Has, among-behind, among-case, among-first, has-one, has-weaker}

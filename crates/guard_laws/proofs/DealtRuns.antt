@@ -13,8 +13,8 @@ use Rattle.c_model.specs.Formed.{IsProgramFormed}
 use Rattle.c_model.specs.Step.{items_from_next, silent, step_at}
 use Rattle.c_model.specs.Task.{Item}
 use Rattle.c_model.specs.Task.Outcome.{Asks}
-use Rattle.code_brackets.specs.Opened.{Open}
-use Rattle.code_brackets.specs.Opened.Open.{Works}
+use Rattle.c_brackets.specs.Opened.{Open}
+use Rattle.c_brackets.specs.Opened.Open.{Works}
 use Rattle.team_parts.specs.declared.meeting.Meeting.{Meeting}
 use Rattle.team_parts.specs.Team.{next_chunk, next_section}
 use Rattle.omp_model.specs.declared.event.Outcome.{Outcome}

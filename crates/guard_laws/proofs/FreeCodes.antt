@@ -9,7 +9,7 @@ use Rattle.c_model.specs.declared.point.SyncStage.TheVariants as stage
 use Rattle.c_model.specs.Task.{Item, OpenCall, Task as Code}
 use Rattle.c_model.specs.Task.Item.{EndWork, Iterations, NextChunk, NextSection, Sync}
 use Rattle.c_model.specs.Upcoming.{is_in_exclusive, is_of_exclusive}
-use Rattle.code_brackets.specs.Opened.{Open, open_before, open_calls, open_item, open_items, open_task}
+use Rattle.c_brackets.specs.Opened.{Open, open_before, open_calls, open_item, open_items, open_task}
 use Rattle.guard_laws.proofs.LastMeetings.{is_work}
 
 abbrev has_work : List Open → Bool

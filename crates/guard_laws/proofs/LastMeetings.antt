@@ -6,8 +6,8 @@ use Rattle.std.proofs.lemmas.Bool.{cases_eq, or_parts, true≢false}
 use Rattle.std.proofs.lemmas.List.{get_or-set_other, get_or-set_same, length-append, map-append}
 use Rattle.std.proofs.lemmas.Option.{slice_get-map, slice_get_within}
 use Rattle.c_model.specs.declared.point.WorkKind.TheVariants as work_kind
-use Rattle.code_brackets.specs.Opened.{Open}
-use Rattle.code_brackets.specs.Opened.Open.{Works}
+use Rattle.c_brackets.specs.Opened.{Open}
+use Rattle.c_brackets.specs.Opened.Open.{Works}
 use Rattle.team_parts.specs.declared.meeting.Meeting.{Meeting}
 use Rattle.team_parts.specs.declared.meeting.Meeting.TheVariants as meeting
 use Rattle.team_parts.specs.declared.meeting.Mismatch.{Mismatch}

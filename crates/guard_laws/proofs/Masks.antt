@@ -8,7 +8,7 @@ use Rattle.c_model.specs.Formed.{IsProgramFormed}
 use Rattle.c_model.specs.Step.{silent}
 use Rattle.c_model.specs.Task.{Moment, Outcome}
 use Rattle.c_model.specs.Task.Outcome.{Asks, Ends, Limits, Occurs, StepsTo, Traps}
-use Rattle.code_brackets.proofs.ReturnPrograms.{returns_outside}
+use Rattle.c_brackets.proofs.ReturnPrograms.{returns_outside}
 use Rattle.omp_codes.specs.declared.callbacks.TheConstants.{PROFILE_MASK}
 use Rattle.ompt_calls.specs.declared.snapshot.Target.{Target}
 use Rattle.omp_model.specs.declared.event.Arrival.{Arrival}

@@ -17,8 +17,8 @@ use Rattle.c_model.specs.Step.{silent}
 use Rattle.c_model.specs.Task.{Outcome}
 use Rattle.c_model.specs.Task.Outcome.{Asks, Ends, Limits, Occurs, StepsTo, Traps}
 use Rattle.c_model.specs.Upcoming.{is_in_exclusive}
-use Rattle.code_brackets.specs.Opened.{Open}
-use Rattle.code_brackets.specs.Opened.Open.{Works}
+use Rattle.c_brackets.specs.Opened.{Open}
+use Rattle.c_brackets.specs.Opened.Open.{Works}
 use Rattle.team_parts.specs.declared.meeting.Meeting.{Meeting}
 use Rattle.team_parts.specs.declared.meeting.Meeting.TheVariants as meeting
 use Rattle.team_parts.specs.declared.meeting.Mismatch.{Mismatch}

@@ -5,9 +5,9 @@ use Rattle.std.proofs.lemmas.Bool.{cases_Bool, cases_eq, cases_lt, cond-false, n
 use Rattle.std.proofs.lemmas.List.{get_or_past}
 use Rattle.ompt_calls.specs.declared.event.EventRecord.{EventRecord}
 use Rattle.c_model.specs.declared.point.SyncStage.TheVariants as stage
-use Rattle.code_brackets.specs.Effects.{Effect}
-use Rattle.code_brackets.specs.Effects.Effect.{Opens, Closes, Leaves}
-use Rattle.code_brackets.specs.Opened.{Open}
+use Rattle.c_brackets.specs.Effects.{Effect}
+use Rattle.c_brackets.specs.Effects.Effect.{Opens, Closes, Leaves}
+use Rattle.c_brackets.specs.Opened.{Open}
 use Rattle.task_pool.specs.Tasks.{is_explicit}
 use Rattle.team_parts.specs.declared.meeting.Meeting.{Meeting}
 use Rattle.team_parts.specs.declared.member.Member.{Member}

@@ -2,7 +2,7 @@
 use Rattle.std.proofs.Common.{ℕ, zero, suc, ◌≡◌, ◌≤◌, ◌==◌, ◌&&◌, Bool, true, false, if◌then◌else◌, List, [], length, slice_index_or, refl, sym, ap, ap₂, ◌∙◌, subst, subst₂, arith}
 use Rattle.std.specs.Prelude.{Option, None}
 use Rattle.c_model.specs.declared.point.SyncStage.TheVariants as stage
-use Rattle.code_brackets.specs.Opened.{open_task}
+use Rattle.c_brackets.specs.Opened.{open_task}
 use Rattle.task_pool.specs.declared.task.Task.{Task as PoolTask}
 use Rattle.task_pool.specs.Tasks.{is_explicit, task_at as pool_task_at}
 use Rattle.task_pool.specs.View.{PoolView}

@@ -15,9 +15,9 @@ use Rattle.c_model.specs.Step.{items_from_next, settled_task, silent, step_at}
 use Rattle.c_model.specs.Task.{Item, Moment, Outcome, Task as Code}
 use Rattle.c_model.specs.Task.Item.{Acquire, Forked, Sync, TestLock}
 use Rattle.c_model.specs.Task.Outcome.{Asks, Ends, Limits, Occurs, StepsTo, Traps}
-use Rattle.code_brackets.specs.Opened.{open_task}
-use Rattle.code_brackets.specs.Orderly.{IsOrderly as IsOrderlyCode}
-use Rattle.code_brackets.specs.Returns.{HasReturnsOutside}
+use Rattle.c_brackets.specs.Opened.{open_task}
+use Rattle.c_brackets.specs.Orderly.{IsOrderly as IsOrderlyCode}
+use Rattle.c_brackets.specs.Returns.{HasReturnsOutside}
 use Rattle.ompt_calls.specs.declared.snapshot.Target.{Target}
 use Rattle.ompt_calls.specs.declared.snapshot.Target.TheVariants as target
 use Rattle.task_pool.specs.declared.task.TaskKind.TheVariants as kind

@@ -3,7 +3,7 @@ use Rattle.std.proofs.Common.{ℕ, zero, suc, ◌≡◌, ◌<◌, ◌==◌, Bool
 use Rattle.std.specs.Prelude.{Option, Some, None, option_map}
 use Rattle.std.proofs.lemmas.Bool.{true≢false}
 use Rattle.c_model.specs.Begin.{blank_task}
-use Rattle.code_brackets.specs.Orderly.{AreCallsKept, AreInOrder, IsOrderly as IsOrderlyCode}
+use Rattle.c_brackets.specs.Orderly.{AreCallsKept, AreInOrder, IsOrderly as IsOrderlyCode}
 use Rattle.task_pool.specs.declared.task.Condition.{Condition}
 use Rattle.task_pool.specs.declared.task.Task.{Task as PoolTask}
 use Rattle.task_pool.specs.declared.task.TaskKind.TheVariants as kind

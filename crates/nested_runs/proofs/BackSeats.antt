@@ -4,7 +4,7 @@ use Rattle.std.specs.Prelude.{All, Option, Some, None}
 use Rattle.std.proofs.lemmas.Bool.{cases_eq, cases_lt, cases_Bool, eq-eqb, eqb-true, ne_eqb}
 use Rattle.std.proofs.lemmas.List.Elements.{All-weaker}
 use Rattle.c_model.specs.Task.{Task as Code}
-use Rattle.code_brackets.specs.Opened.{open_task}
+use Rattle.c_brackets.specs.Opened.{open_task}
 use Rattle.task_pool.specs.declared.task.Condition.TheVariants as condition
 use Rattle.task_pool.specs.declared.task.Task.{Task as PoolTask}
 use Rattle.team_parts.specs.declared.meeting.TheConstants.{TEAM_LIMIT}

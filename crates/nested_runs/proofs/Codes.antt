@@ -1,4 +1,4 @@
--- The laws of what codes have open, as they are used here: they are those of `code_brackets`.
+-- The laws of what codes have open, as they are used here: they are those of `c_brackets`.
 use Rattle.std.proofs.Common.{ℕ, ℤ, ◌≡◌, ◌≢◌, Bool, List, [], ◌∷◌, refl}
 use Rattle.c_syntax.specs.language.Numbered.{TreeView}
 use Rattle.c_syntax.specs.language.Tree.{Tree}
@@ -17,13 +17,13 @@ use Rattle.c_model.specs.Step.{settled_task, silent}
 use Rattle.c_model.specs.Task.{Item, Moment, Task as Code}
 use Rattle.c_model.specs.Task.Item.{Forked, Sync}
 use Rattle.c_model.specs.Task.Outcome.{Ends, Occurs, StepsTo}
-use Rattle.code_brackets.specs.Effects.{ForksNext, HasNoFork, IsNewestFork, LeadsTo, effect_of}
-use Rattle.code_brackets.specs.Opened.{Open, open_task}
-use Rattle.code_brackets.specs.Orderly.{IsOrderly}
-use Rattle.code_brackets.specs.Returns.{HasReturnsOutside}
-use Rattle.code_brackets.proofs.Forking.{forks_next}
-use Rattle.code_brackets.proofs.ReturnPrograms.{returns_outside}
-use Rattle.code_brackets.proofs.TurningTasks.{answer_is_orderly, answer_same, ended_none, event_is_orderly, event_leads, explicit_is_orderly, explicit_none, main_is_orderly, main_none, member_is_orderly, member_none, settled_is_orderly, settled_same, step_is_orderly, step_same}
+use Rattle.c_brackets.specs.Effects.{ForksNext, HasNoFork, IsNewestFork, LeadsTo, effect_of}
+use Rattle.c_brackets.specs.Opened.{Open, open_task}
+use Rattle.c_brackets.specs.Orderly.{IsOrderly}
+use Rattle.c_brackets.specs.Returns.{HasReturnsOutside}
+use Rattle.c_brackets.proofs.Forking.{forks_next}
+use Rattle.c_brackets.proofs.ReturnPrograms.{returns_outside}
+use Rattle.c_brackets.proofs.TurningTasks.{answer_is_orderly, answer_same, ended_none, event_is_orderly, event_leads, explicit_is_orderly, explicit_none, main_is_orderly, main_none, member_is_orderly, member_none, settled_is_orderly, settled_same, step_is_orderly, step_same}
 use Rattle.omp_model.specs.State.{World, task_at}
 use Rattle.nested_runs.proofs.Shown.{opens_at}
 use Rattle.nested_runs.proofs.Standing.{stand_among, stand_at, stand_within}

@@ -14,7 +14,7 @@ use Rattle.c_model.specs.Task.{Item, Moment}
 use Rattle.c_model.specs.Task.Item.{Acquire, Forked, Sync, TestLock}
 use Rattle.c_model.specs.Task.Outcome.{Ends}
 use Rattle.c_model.specs.Upcoming.{upcoming_among}
-use Rattle.code_brackets.specs.Returns.{HasReturnsOutside}
+use Rattle.c_brackets.specs.Returns.{HasReturnsOutside}
 use Rattle.task_pool.specs.Allowed.{is_allowed}
 use Rattle.task_pool.specs.declared.task.TaskKind.TheVariants as kind
 use Rattle.omp_model.specs.declared.limits.TheConstants.{INITIAL_TASK}

@@ -25,7 +25,7 @@ use Rattle.c_model.specs.Task.Outcome.{Occurs}
 use Rattle.c_model.specs.Upcoming.{upcoming_among, upcoming_of}
 use Rattle.c_model.proofs.Occurring.{event_is_of_item}
 use Rattle.c_model.proofs.Settled.{next_once}
-use Rattle.code_brackets.proofs.TurningTasks.{here_at}
+use Rattle.c_brackets.proofs.TurningTasks.{here_at}
 use Rattle.sync_objects.specs.declared.lock.Lock.{Lock}
 use Rattle.sync_objects.specs.declared.lock_fault.LockFault.{LockFault}
 use Rattle.sync_objects.specs.declared.lock_fault.LockFault.TheVariants as fault

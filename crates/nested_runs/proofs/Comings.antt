@@ -11,11 +11,11 @@ use Rattle.c_model.specs.Going.{after_event}
 use Rattle.c_model.specs.Step.{silent}
 use Rattle.c_model.specs.Task.{Outcome}
 use Rattle.c_model.specs.Task.Outcome.{Asks, Ends, Limits, Occurs, StepsTo, Traps}
-use Rattle.code_brackets.specs.Effects.{Effect, LeadsTo, effect_of}
-use Rattle.code_brackets.specs.Effects.Effect.{Opens, Closes, Leaves}
-use Rattle.code_brackets.specs.Opened.{Open, open_task}
-use Rattle.code_brackets.specs.Orderly.{IsOrderly}
-use Rattle.code_brackets.specs.Returns.{HasReturnsOutside}
+use Rattle.c_brackets.specs.Effects.{Effect, LeadsTo, effect_of}
+use Rattle.c_brackets.specs.Effects.Effect.{Opens, Closes, Leaves}
+use Rattle.c_brackets.specs.Opened.{Open, open_task}
+use Rattle.c_brackets.specs.Orderly.{IsOrderly}
+use Rattle.c_brackets.specs.Returns.{HasReturnsOutside}
 use Rattle.omp_model.specs.declared.event.Event.{Event}
 use Rattle.omp_model.specs.declared.event.Halt.{Halt}
 use Rattle.omp_model.specs.State.{Run, World}

@@ -20,9 +20,9 @@ use Rattle.c_model.specs.Constructs.{iterations_from}
 use Rattle.c_model.specs.Copies.{combines, combining_all, combining_of, has_own_cells, listed_variables, makes_cells}
 use Rattle.c_model.specs.Task.{Item, OpenCall, SharedLoop, is_declarator, items_of_parts}
 use Rattle.c_model.specs.Task.Item.{Start, Declare, Iterations, MakeCells, NextChunk, Sync}
-use Rattle.code_brackets.specs.Orderly.{has_calls, is_return, may_return}
-use Rattle.code_brackets.specs.Returns.{has_return, has_return_among}
-use Rattle.code_brackets.proofs.OpenLists.{left_true, never, right_true}
+use Rattle.c_brackets.specs.Orderly.{has_calls, is_return, may_return}
+use Rattle.c_brackets.specs.Returns.{has_return, has_return_among}
+use Rattle.c_brackets.proofs.OpenLists.{left_true, never, right_true}
 use Rattle.nested_runs.proofs.Standing.{ends_behind, ends_in_barrier, has_no_barrier, is_ahead, is_region_barrier, is_returned_first}
 
 abbrev pub IsAllowed : Bool → Item → Type 0

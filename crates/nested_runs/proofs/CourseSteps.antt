@@ -44,11 +44,11 @@ use Rattle.c_model.specs.Step.{begin_construct, begin_inside, begin_standalone, 
 use Rattle.c_model.specs.Task.{Here, Item, Moment, OpenCall, Outcome, Store, items_of_parts}
 use Rattle.c_model.specs.Task.Item.{Start, Declare, Leave, Test, Third, Initialise, Return, FallOff, Forked, Inside, MakeCells, NextChunk, Iterations, NextSection, Combine, EndWork, EndMasked, Sync, Acquire, Release, TestLock, Tested}
 use Rattle.c_model.specs.Task.Outcome.{StepsTo, Occurs, Ends, Limits}
-use Rattle.code_brackets.specs.Orderly.{AreInOrder, HasNoReturn, IsProper, is_return, may_return}
-use Rattle.code_brackets.specs.Returns.{ReturnsOutside, has_return, has_return_among}
-use Rattle.code_brackets.proofs.OpenLists.{never}
-use Rattle.code_brackets.proofs.ReturnTrees.{IsFree, body_free, return_at, statement_free}
-use Rattle.code_brackets.proofs.TurningTasks.{here_at}
+use Rattle.c_brackets.specs.Orderly.{AreInOrder, HasNoReturn, IsProper, is_return, may_return}
+use Rattle.c_brackets.specs.Returns.{ReturnsOutside, has_return, has_return_among}
+use Rattle.c_brackets.proofs.OpenLists.{never}
+use Rattle.c_brackets.proofs.ReturnTrees.{IsFree, body_free, return_at, statement_free}
+use Rattle.c_brackets.proofs.TurningTasks.{here_at}
 use Rattle.nested_runs.proofs.Standing.{has_no_barrier, is_ahead, is_region_barrier, is_returned_first}
 use Rattle.nested_runs.proofs.CourseItems.{AreAllowed, ahead-behind, ahead-more, ahead-returned, allowed-both, block-allowed, both-true, first-true, iterations-allowed, makes-allowed, not-returned, rest-true, stands-before, value-allowed}
 

@@ -28,11 +28,11 @@ use Rattle.c_model.specs.Step.{is_masked, is_passed_over, items_from_next, settl
 use Rattle.c_model.specs.Task.{Item, Moment, OpenCall, SharedLoop, Task as Code}
 use Rattle.c_model.specs.Task.Item.{Forked, NextChunk, NextSection, Start, Sync, TestLock}
 use Rattle.c_model.specs.Task.Outcome.{Asks, Ends, Occurs, StepsTo}
-use Rattle.code_brackets.specs.Orderly.{AreInOrder, HasNoReturn, IsFramed, IsOrderly, IsProper, falls_off, has_calls, may_return}
-use Rattle.code_brackets.specs.Returns.{HasReturnsOutside}
-use Rattle.code_brackets.proofs.OpenLists.{never}
-use Rattle.code_brackets.proofs.ReturnTrees.{section_free, statement_free}
-use Rattle.code_brackets.proofs.TurningTasks.{here_at, settled_is_orderly}
+use Rattle.c_brackets.specs.Orderly.{AreInOrder, HasNoReturn, IsFramed, IsOrderly, IsProper, falls_off, has_calls, may_return}
+use Rattle.c_brackets.specs.Returns.{HasReturnsOutside}
+use Rattle.c_brackets.proofs.OpenLists.{never}
+use Rattle.c_brackets.proofs.ReturnTrees.{section_free, statement_free}
+use Rattle.c_brackets.proofs.TurningTasks.{here_at, settled_is_orderly}
 use Rattle.omp_model.specs.State.{World}
 use Rattle.omp_model.specs.Going.{event_of_point, has_forked}
 use Rattle.nested_runs.proofs.Effects.{is_at_region_barrier, is_in_region_barrier}

@@ -4,10 +4,10 @@ use Rattle.c_model.specs.declared.point.SyncKind.{SyncKind}
 use Rattle.c_model.specs.declared.point.SyncKind.TheVariants as sync
 use Rattle.c_model.specs.declared.point.SyncStage.{SyncStage}
 use Rattle.c_model.specs.declared.point.SyncStage.TheVariants as stage
-use Rattle.code_brackets.specs.Effects.{Effect, effect_at}
-use Rattle.code_brackets.specs.Effects.Effect.{Opens, Closes, Leaves}
-use Rattle.code_brackets.specs.Opened.{Open}
-use Rattle.code_brackets.specs.Opened.Open.{Forks, Works, Masks}
+use Rattle.c_brackets.specs.Effects.{Effect, effect_at}
+use Rattle.c_brackets.specs.Effects.Effect.{Opens, Closes, Leaves}
+use Rattle.c_brackets.specs.Opened.{Open}
+use Rattle.c_brackets.specs.Opened.Open.{Forks, Works, Masks}
 use Rattle.omp_model.specs.declared.event.Endpoint.TheVariants.{Begin, End}
 use Rattle.omp_model.specs.declared.event.Event.{Event}
 use Rattle.omp_model.specs.declared.event.Event.TheVariants.{Masked, MutexAcquire, MutexAcquired, ParallelBegin, ParallelEnd, Sync, Work}

@@ -10,11 +10,11 @@ use Rattle.c_model.specs.Going.{after_event}
 use Rattle.c_model.specs.Step.{silent}
 use Rattle.c_model.specs.Task.{Task as Code}
 use Rattle.c_model.specs.Task.Outcome.{Occurs}
-use Rattle.code_brackets.specs.Effects.{Effect, LeadsTo}
-use Rattle.code_brackets.specs.Effects.Effect.{Opens, Leaves}
-use Rattle.code_brackets.specs.Opened.{Open, open_calls, open_items, open_task}
-use Rattle.code_brackets.specs.Orderly.{IsOrderly as IsOrderlyCode}
-use Rattle.code_brackets.specs.Returns.{HasReturnsOutside}
+use Rattle.c_brackets.specs.Effects.{Effect, LeadsTo}
+use Rattle.c_brackets.specs.Effects.Effect.{Opens, Leaves}
+use Rattle.c_brackets.specs.Opened.{Open, open_calls, open_items, open_task}
+use Rattle.c_brackets.specs.Orderly.{IsOrderly as IsOrderlyCode}
+use Rattle.c_brackets.specs.Returns.{HasReturnsOutside}
 use Rattle.task_pool.specs.declared.task.TaskKind.TheVariants as kind
 use Rattle.task_pool.specs.Tasks.{task_at as pool_task_at}
 use Rattle.task_pool.specs.View.{PoolView}

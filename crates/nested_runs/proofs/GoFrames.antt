@@ -1,7 +1,7 @@
 -- What the Go of an event leaves as it is: what was made before it, the other threads, and the tasks on stacks.
 use Rattle.std.proofs.Common.{ℕ, ◌≡◌, ◌≢◌, ◌<◌, ◌≤◌, ◌==◌, ◌⊎◌, Bool, true, false, if◌then◌else◌, [], ◌∷◌, length, refl, sym, ap, ◌∙◌, subst, inl, inr, arith}
 use Rattle.std.proofs.lemmas.Bool.{cases_eq, cases_Bool, eqb-true, ne_eqb}
-use Rattle.code_brackets.specs.Opened.{Open}
+use Rattle.c_brackets.specs.Opened.{Open}
 use Rattle.task_pool.specs.declared.task.Condition.{Condition}
 use Rattle.task_pool.specs.declared.task.Condition.TheVariants as condition
 use Rattle.task_pool.specs.declared.task.Task.{Task as PoolTask}

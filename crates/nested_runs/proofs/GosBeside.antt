@@ -6,8 +6,8 @@ use Rattle.c_model.specs.declared.point.SyncStage.TheVariants as stage
 use Rattle.c_model.specs.Begin.{blank_task, member_task}
 use Rattle.c_model.specs.Task.{Item, Task as Code}
 use Rattle.c_model.specs.Task.Item.{Forked, Sync as SyncItem}
-use Rattle.code_brackets.specs.Opened.{open_task}
-use Rattle.code_brackets.specs.Orderly.{IsOrderly as IsOrderlyCode}
+use Rattle.c_brackets.specs.Opened.{open_task}
+use Rattle.c_brackets.specs.Orderly.{IsOrderly as IsOrderlyCode}
 use Rattle.task_pool.specs.declared.task.Condition.TheVariants as condition
 use Rattle.task_pool.specs.declared.task.Task.{Task as PoolTask}
 use Rattle.task_pool.specs.declared.task.TaskKind.TheVariants as kind

@@ -14,9 +14,9 @@ use Rattle.c_model.specs.Going.{after_event}
 use Rattle.c_model.specs.Step.{silent}
 use Rattle.c_model.specs.Task.{Task as Code}
 use Rattle.c_model.specs.Task.Outcome.{Occurs}
-use Rattle.code_brackets.specs.Opened.{open_task}
-use Rattle.code_brackets.specs.Orderly.{IsOrderly as IsOrderlyCode}
-use Rattle.code_brackets.specs.Returns.{HasReturnsOutside}
+use Rattle.c_brackets.specs.Opened.{open_task}
+use Rattle.c_brackets.specs.Orderly.{IsOrderly as IsOrderlyCode}
+use Rattle.c_brackets.specs.Returns.{HasReturnsOutside}
 use Rattle.sync_objects.specs.View.{LocksView}
 use Rattle.task_pool.specs.declared.task.Task.{Task as PoolTask}
 use Rattle.task_pool.specs.declared.task.TaskKind.TheVariants as kind

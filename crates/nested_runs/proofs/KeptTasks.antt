@@ -3,8 +3,8 @@ use Rattle.std.proofs.Common.{ℕ, ◌≡◌, ◌≢◌, ◌<◌, ◌≤◌, ◌
 use Rattle.std.proofs.lemmas.Bool.{cases_eq, ne_eqb}
 use Rattle.std.proofs.lemmas.List.{get_or_past}
 use Rattle.ompt_calls.specs.declared.event.EventRecord.{EventRecord}
-use Rattle.code_brackets.specs.Effects.{HasNoFork}
-use Rattle.code_brackets.specs.Opened.{open_calls, open_items}
+use Rattle.c_brackets.specs.Effects.{HasNoFork}
+use Rattle.c_brackets.specs.Opened.{open_calls, open_items}
 use Rattle.task_pool.specs.declared.task.Condition.TheVariants as condition
 use Rattle.task_pool.specs.declared.task.Task.{Task as PoolTask}
 use Rattle.task_pool.specs.Tasks.{is_explicit}

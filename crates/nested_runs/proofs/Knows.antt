@@ -2,7 +2,7 @@
 use Rattle.std.specs.Prelude.{ℕ, ◌≡◌, ◌≤◌, length, List, Some, None}
 use Rattle.omp_codes.specs.declared.callbacks.TheConstants.{PROFILE_MASK}
 use Rattle.ompt_calls.specs.declared.event.EventRecord.{EventRecord}
-use Rattle.code_brackets.specs.Returns.{HasReturnsOutside}
+use Rattle.c_brackets.specs.Returns.{HasReturnsOutside}
 use Rattle.omp_model.specs.declared.event.Event.{Event}
 use Rattle.omp_model.specs.State.{Run, World, thread_at}
 use Rattle.omp_model.specs.Conditions.{AreOrderly, EventOrderly}

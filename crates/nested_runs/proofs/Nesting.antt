@@ -15,7 +15,7 @@ use Rattle.omp_model.specs.Gates.{main_returned}
 use Rattle.omp_model.specs.Legal.{Legal, after}
 use Rattle.omp_model.specs.Records.{records_of}
 use Rattle.ompt_calls.specs.declared.event.EventRecord.{EventRecord}
-use Rattle.code_brackets.proofs.ReturnPrograms.{returns_outside}
+use Rattle.c_brackets.proofs.ReturnPrograms.{returns_outside}
 use Rattle.trace_check.specs.Checking.{Unbroken}
 use Rattle.trace_check.specs.Nested.{Broken, BrokenAt, Nested, is_whole_mask}
 use Rattle.trace_check.proofs.Firsts.{breaks_in, keeps_each, unbroken_at}

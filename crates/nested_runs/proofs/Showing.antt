@@ -3,10 +3,10 @@ use Rattle.std.proofs.Common.{ℕ, ◌≡◌, ◌≤◌, ◌⊎◌, Bool, true, 
 use Rattle.std.specs.Prelude.{All, Some}
 use Rattle.std.proofs.lemmas.List.Elements.{All-head, All-tail}
 use Rattle.ompt_calls.specs.declared.event.EventRecord.{EventRecord}
-use Rattle.code_brackets.specs.Effects.{Effect, HasNoFork}
-use Rattle.code_brackets.specs.Effects.Effect.{Opens, Closes, Leaves}
-use Rattle.code_brackets.specs.Opened.{Open}
-use Rattle.code_brackets.specs.Opened.Open.{Forks, Works, Masks, Syncs, Awaits}
+use Rattle.c_brackets.specs.Effects.{Effect, HasNoFork}
+use Rattle.c_brackets.specs.Effects.Effect.{Opens, Closes, Leaves}
+use Rattle.c_brackets.specs.Opened.{Open}
+use Rattle.c_brackets.specs.Opened.Open.{Forks, Works, Masks, Syncs, Awaits}
 use Rattle.omp_model.specs.State.{World, task_at}
 use Rattle.omp_model.specs.Members.{is_explicit_task, region_of}
 use Rattle.omp_model.specs.Calls.{work_number}

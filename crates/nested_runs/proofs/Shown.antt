@@ -1,7 +1,7 @@
 -- What a thread has open, told by the machine's state: the brackets of the tasks on its stack, the innermost first.
 use Rattle.std.specs.Prelude.{ℕ, Bool, true, false, List, [], ◌∷◌, ◌++◌, map, slice_index_or}
-use Rattle.code_brackets.specs.Opened.{Open, open_task}
-use Rattle.code_brackets.specs.Opened.Open.{Forks, Works, Masks, Syncs, Awaits}
+use Rattle.c_brackets.specs.Opened.{Open, open_task}
+use Rattle.c_brackets.specs.Opened.Open.{Forks, Works, Masks, Syncs, Awaits}
 use Rattle.omp_model.specs.State.{World, task_at}
 use Rattle.omp_model.specs.Members.{is_explicit_task, region_of}
 use Rattle.omp_model.specs.Going.{sync_number}

@@ -9,7 +9,7 @@ use Rattle.c_model.specs.declared.point.SyncStage.{SyncStage}
 use Rattle.c_model.specs.declared.point.SyncStage.TheVariants as stage
 use Rattle.c_model.specs.Task.{Item, OpenCall, Task as Code}
 use Rattle.c_model.specs.Task.Item.{Forked, Acquire, TestLock, Sync}
-use Rattle.code_brackets.specs.Orderly.{has_calls, is_return, may_return}
+use Rattle.c_brackets.specs.Orderly.{has_calls, is_return, may_return}
 use Rattle.omp_model.specs.State.{World, task_at}
 
 -- an event of a barrier or taskwait behind the first one

@@ -24,15 +24,15 @@ use Rattle.c_model.specs.Occurring.{IsAskOf, IsAskOfNext}
 use Rattle.c_model.specs.Task.{Item, Moment, Task as Code}
 use Rattle.c_model.specs.Task.Item.{Forked, NextChunk, NextSection, Sync, TestLock}
 use Rattle.c_model.specs.Task.Outcome.{Asks, Occurs, StepsTo}
-use Rattle.code_brackets.specs.Effects.{effect_of}
-use Rattle.code_brackets.specs.Links.{Link, link_made, link_next, link_of}
-use Rattle.code_brackets.specs.Links.Link.{Asking, Forking, Syncing}
-use Rattle.code_brackets.specs.Opened.{Open, open_calls, open_items, open_task}
-use Rattle.code_brackets.specs.Opened.Open.{Works}
-use Rattle.code_brackets.specs.Orderly.{IsOrderly}
-use Rattle.code_brackets.specs.Returns.{HasReturnsOutside}
-use Rattle.code_brackets.proofs.TurningLinks.{answer_next, event_follows, event_makes, member_next, settled_next, step_next}
-use Rattle.code_brackets.proofs.TurningTasks.{settled_same}
+use Rattle.c_brackets.specs.Effects.{effect_of}
+use Rattle.c_brackets.specs.Links.{Link, link_made, link_next, link_of}
+use Rattle.c_brackets.specs.Links.Link.{Asking, Forking, Syncing}
+use Rattle.c_brackets.specs.Opened.{Open, open_calls, open_items, open_task}
+use Rattle.c_brackets.specs.Opened.Open.{Works}
+use Rattle.c_brackets.specs.Orderly.{IsOrderly}
+use Rattle.c_brackets.specs.Returns.{HasReturnsOutside}
+use Rattle.c_brackets.proofs.TurningLinks.{answer_next, event_follows, event_makes, member_next, settled_next, step_next}
+use Rattle.c_brackets.proofs.TurningTasks.{settled_same}
 use Rattle.c_model.proofs.Asking.{question_is_of_next}
 use Rattle.omp_model.specs.State.{World}
 use Rattle.omp_model.specs.declared.event.Endpoint.TheVariants.{Begin}

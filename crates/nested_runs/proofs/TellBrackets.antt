@@ -7,9 +7,9 @@ use Rattle.c_model.specs.declared.point.SyncStage.TheVariants as stage
 use Rattle.c_model.specs.Begin.{blank_task}
 use Rattle.c_model.specs.Task.{Task as Code}
 use Rattle.ompt_calls.specs.declared.event.EventRecord.{EventRecord}
-use Rattle.code_brackets.specs.Effects.{HasNoFork}
-use Rattle.code_brackets.specs.Opened.{Open, open_calls, open_items, open_task}
-use Rattle.code_brackets.specs.Opened.Open.{Forks, Works, Masks, Syncs, Awaits}
+use Rattle.c_brackets.specs.Effects.{HasNoFork}
+use Rattle.c_brackets.specs.Opened.{Open, open_calls, open_items, open_task}
+use Rattle.c_brackets.specs.Opened.Open.{Forks, Works, Masks, Syncs, Awaits}
 use Rattle.task_pool.specs.declared.task.Condition.TheVariants as condition
 use Rattle.task_pool.specs.declared.task.Task.{Task as PoolTask}
 use Rattle.task_pool.specs.Tasks.{is_explicit, task_at as pool_task_at}

@@ -3,9 +3,9 @@ use Rattle.std.specs.Prelude.{ℕ, ◌≡◌, ◌≤◌, ◌<◌, ◌≢◌, ◌
 use Rattle.c_model.specs.declared.point.SyncKind.{SyncKind}
 use Rattle.c_model.specs.declared.point.SyncStage.{SyncStage}
 use Rattle.c_model.specs.declared.point.WorkKind.TheVariants as work_kind
-use Rattle.code_brackets.specs.Opened.{Open}
-use Rattle.code_brackets.specs.Opened.Open.{Works}
-use Rattle.code_brackets.specs.Orderly.{IsOrderly as IsOrderlyCode}
+use Rattle.c_brackets.specs.Opened.{Open}
+use Rattle.c_brackets.specs.Opened.Open.{Works}
+use Rattle.c_brackets.specs.Orderly.{IsOrderly as IsOrderlyCode}
 use Rattle.task_pool.specs.declared.task.TaskKind.TheVariants as kind
 use Rattle.omp_model.specs.declared.event.Event.{Event}
 use Rattle.omp_model.specs.declared.event.Event.TheVariants.{MemberBegin}

@@ -10,7 +10,7 @@
 //! - [`PROFILE_MASK`] is the mask with the callbacks of [`PROFILE`], and they are those that `in_profile` says, by [`profile_has_its_mask`];
 //! - [`next_state`] is `next_of`: the one that follows in the list of the states.
 //!
-//! Tests in `call_tests` compare a few answers with values written out by hand. Nothing here takes memory.
+//! Tests in `test_calls` compare a few answers with values written out by hand. Nothing here takes memory.
 #![tactic(auto)]
 
 mod answers;

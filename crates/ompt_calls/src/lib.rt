@@ -25,7 +25,7 @@
 //! A [`Reply`] has the stores of a tool. Which of them take effect, and in which words, is the definition `stores_of`. What
 //! a tool hears of an event, with these stores, is the definition `Item`.
 //!
-//! Tests in `call_tests` compare lines and inquiries with what was written out by hand, since a definition cannot check itself.
+//! Tests in `test_calls` compare lines and inquiries with what was written out by hand, since a definition cannot check itself.
 #![tactic(auto)]
 
 mod argument;

@@ -30,7 +30,7 @@
 //! [`own_words`] gathers the words for a program's `main`. No clause says which they are, since none can.
 //!
 //! Want of memory is free: no clause says when it comes, only what stands after it. That the calls succeed with ample
-//! memory isn't proved: the rows of `run_tables` show it.
+//! memory isn't proved: the rows of `test_commands` show it.
 #![tactic(auto)]
 
 mod commands;

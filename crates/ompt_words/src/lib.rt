@@ -15,7 +15,7 @@
 //!   no request. A text is shown only where a fault asks for it (`Answers`, over the command of `CommandLine`);
 //! - words of the form up to a `--help` or a `--version` give a text to show.
 //!
-//! What the shown text says isn't proved: clap's clauses don't speak of it. Tests of `call_tests` compare it. Want of memory is
+//! What the shown text says isn't proved: clap's clauses don't speak of it. Tests of `test_calls` compare it. Want of memory is
 //! free: no clause says when it comes.
 #![tactic(auto)]
 

@@ -22,7 +22,7 @@ use Rattle.nested_runs.proofs.Stands.{asks-chunk, asks-section}
 use Rattle.team_calls.proofs.Lists.{asked-chunk, asked-section}
 use Rattle.omp_model.specs.Gates.{arrival}
 use Rattle.nested_runs.proofs.AlikeSteps.{alike-step, alike-past}
-use Rattle.code_brackets.specs.Opened.Open.{Works}
+use Rattle.c_brackets.specs.Opened.Open.{Works}
 use Rattle.work_laws.proofs.Teams.Standing.{Behind, Outside, Within}
 use Rattle.omp_model.specs.Turn.{Walk, going_past, walk, walk_by, walk_on, stepped, walked}
 use Rattle.c_syntax.specs.language.Tree.{Tree}
@@ -35,7 +35,7 @@ use Rattle.omp_model.specs.Silent.{Silence, Stops, answered, items_asking, silen
 use Rattle.omp_model.specs.declared.event.Share.{Share}
 use Rattle.omp_model.specs.State.{Region, Run, State, World, no_region, pooled_at, region_at}
 use Rattle.c_model.specs.Task.{Outcome}
-use Rattle.code_brackets.specs.Opened.{Open}
+use Rattle.c_brackets.specs.Opened.{Open}
 use Rattle.work_laws.proofs.Walks.{On, on-past, on-step}
 use Rattle.omp_model.specs.declared.event.Halt.TheVariants.{Limit}
 use Rattle.omp_model.specs.Made.{IsTask}

@@ -36,7 +36,7 @@
 //!
 //! Each callback that a [`Registrar`] has registered is one that is called always: that is its invariant, and [`Registrar::mask`] says it.
 //!
-//! Tests in `call_tests` register callbacks, and those of `ompt_tests` run tools in boxes. The must-fail edits try wrong bodies.
+//! Tests in `test_calls` register callbacks, and those of `test_top` run tools in boxes. The must-fail edits try wrong bodies.
 #![tactic(auto)]
 
 mod guest;

@@ -32,7 +32,7 @@
 //! - each call keeps `same` of both tools, and [`Both::new`] and [`Both::split`] give these very tools;
 //! - [`each_hears_its_own`] is a law: a tool's record is that of both without the events that aren't in its mask.
 //!
-//! That a `Both` finds memory where its tools do isn't said by a clause: tests show it. Those in `call_tests` compare what each tool heard
+//! That a `Both` finds memory where its tools do isn't said by a clause: tests show it. Those in `test_calls` compare what each tool heard
 //! and what both replied with values written out by hand. The must-fail edits try wrong bodies.
 #![tactic(auto)]
 

@@ -35,7 +35,7 @@
 //! What a line says is in `specs/` of `ompt_calls`. The records are sorted by std's sort, so the cost is n log n for n
 //! records. The cost of a profile's text doesn't grow with the run, and that of a timeline grows as its events.
 //!
-//! Tests in `part_tests` compare the mask, records and lines with values written out by hand. The must-fail edits try wrong
+//! Tests in `test_team_runs` compare the mask, records and lines with values written out by hand. The must-fail edits try wrong
 //! bodies.
 #![tactic(auto)]
 

@@ -26,7 +26,7 @@
 //!   without a refusal are longer than the longest trace;
 //! - [`one_spelling`], [`one_refusal`], [`never_refused`], [`longest`] and [`migrated_once`] are laws of the definitions.
 //!
-//! Neither writing nor reading takes memory. That each item is one piece is tested alone (`trace_tests`). How fast the calls are
+//! Neither writing nor reading takes memory. That each item is one piece is tested alone (`test_traces`). How fast the calls are
 //! isn't proved.
 #![tactic(auto)]
 

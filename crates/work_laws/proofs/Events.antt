@@ -6,7 +6,7 @@ use Rattle.std.proofs.lemmas.List.{get_or-set_other, get_or-set_same, length-set
 use Rattle.ompt_calls.specs.declared.event.EventRecord.{EventRecord}
 use Rattle.c_model.specs.declared.point.WorkKind.{WorkKind}
 use Rattle.c_model.specs.declared.point.WorkKind.TheVariants as work_kind
-use Rattle.code_brackets.specs.Opened.Open.{Works}
+use Rattle.c_brackets.specs.Opened.Open.{Works}
 use Rattle.task_pool.specs.declared.task.Task.{Task as PoolTask}
 use Rattle.team_parts.specs.Team.{TeamView, last_number, member_at, no_meeting}
 use Rattle.omp_model.specs.declared.limits.TheConstants.{IMPLICIT_REGION}

@@ -24,10 +24,10 @@ use Rattle.c_model.specs.Task.{Item, Moment, OpenCall, Task as Code}
 use Rattle.c_model.specs.Task.Item.{EndWork, Forked, Inside as InsideItem, Iterations, NextChunk, NextSection}
 use Rattle.c_model.specs.Task.Outcome.{Occurs}
 use Rattle.c_model.proofs.Occurring.{event_is_of_next}
-use Rattle.code_brackets.specs.Effects.{Effect}
-use Rattle.code_brackets.specs.Effects.Effect.{Closes, Leaves, Opens}
-use Rattle.code_brackets.specs.Opened.{Open, open_calls, open_item, open_items}
-use Rattle.code_brackets.specs.Opened.Open.{Works}
+use Rattle.c_brackets.specs.Effects.{Effect}
+use Rattle.c_brackets.specs.Effects.Effect.{Closes, Leaves, Opens}
+use Rattle.c_brackets.specs.Opened.{Open, open_calls, open_item, open_items}
+use Rattle.c_brackets.specs.Opened.Open.{Works}
 use Rattle.team_parts.specs.declared.meeting.Meeting.{Meeting}
 use Rattle.team_parts.specs.declared.meeting.TheConstants.{TEAM_LIMIT}
 use Rattle.team_parts.specs.declared.member.Member.{Member}

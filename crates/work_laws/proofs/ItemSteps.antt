@@ -51,7 +51,7 @@ use Rattle.c_model.specs.Task.{Here, Item, Moment, OpenCall, Outcome, SharedLoop
 use Rattle.c_model.specs.Task.Item.{Start, Declare, Leave, Test, Third, Initialise, Return, FallOff, Forked, Inside, MakeCells, NextChunk, Iterations, NextSection, Combine, EndWork, EndMasked, Sync, Acquire, Release, TestLock, Tested}
 use Rattle.c_model.specs.Task.Outcome.{Asks, Limits, Occurs, StepsTo}
 use Rattle.c_model.specs.Value.{all_values, cell_of, is_zero}
-use Rattle.code_brackets.proofs.TurningTasks.{here_at}
+use Rattle.c_brackets.proofs.TurningTasks.{here_at}
 use Rattle.work_laws.proofs.Items.{AreCalls, AreItems, AreRules, HoldsCode, IsConstruct, IsItem, both, combining, iterations, making, parts-items, value}
 
 -- the work that an answer ends may end so

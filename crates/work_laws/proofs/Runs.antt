@@ -8,7 +8,7 @@ use Rattle.ompt_calls.specs.declared.snapshot.Target.{Target}
 use Rattle.ompt_calls.specs.declared.snapshot.Target.TheVariants as target
 use Rattle.c_model.specs.declared.point.SyncStage.TheVariants as stage
 use Rattle.c_model.specs.Task.{Task as Code}
-use Rattle.code_brackets.specs.Opened.{Open, open_task}
+use Rattle.c_brackets.specs.Opened.{Open, open_task}
 use Rattle.team_parts.specs.Team.{TeamView, with_begun}
 use Rattle.omp_model.specs.declared.event.Callback.{Callback}
 use Rattle.omp_model.specs.declared.event.Event.{Event}

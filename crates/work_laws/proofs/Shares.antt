@@ -22,9 +22,9 @@ use Rattle.c_model.specs.Program.{place_of}
 use Rattle.c_model.specs.Step.{settled_task, silent}
 use Rattle.c_model.specs.Task.{Moment, Task as Code, Item}
 use Rattle.c_model.specs.Task.Outcome.{Asks, StepsTo}
-use Rattle.code_brackets.specs.Opened.{Open, open_task}
-use Rattle.code_brackets.specs.Opened.Open.{Works}
-use Rattle.code_brackets.specs.Returns.{HasReturnsOutside}
+use Rattle.c_brackets.specs.Opened.{Open, open_task}
+use Rattle.c_brackets.specs.Opened.Open.{Works}
+use Rattle.c_brackets.specs.Returns.{HasReturnsOutside}
 use Rattle.task_pool.specs.Tasks.{task_at as pool_task_at}
 use Rattle.task_pool.specs.View.{PoolView}
 use Rattle.team_parts.specs.declared.meeting.Meeting.{Meeting}

@@ -11,7 +11,7 @@ use Rattle.c_syntax.specs.language.Tree.{Tree}
 use Rattle.c_model.specs.declared.point.WorkKind.{WorkKind}
 use Rattle.c_model.specs.declared.point.WorkKind.TheVariants as work_kind
 use Rattle.c_model.specs.Task.{Task as Code}
-use Rattle.code_brackets.specs.Opened.{open_task}
+use Rattle.c_brackets.specs.Opened.{open_task}
 use Rattle.team_parts.specs.declared.meeting.Meeting.{Meeting}
 use Rattle.team_parts.specs.declared.meeting.TheConstants.{TEAM_LIMIT}
 use Rattle.team_parts.specs.declared.member.Member.{Member}

@@ -1,6 +1,0 @@
--- No return stands in a construct.
-use Rattle.code_brackets.proofs.laws.returns_stand_outside_constructs.Goals as goal
-use Rattle.code_brackets.proofs.ReturnPrograms.{returns_outside}
-
-pub returns : goal.returns
-returns c = returns_outside

@@ -1,9 +1,0 @@
-//! How many rows of a table there were, and how many of them differ from what was wanted.
-//!
-//! The programs that read tables, `text_tables`, `run_tables` and `task_tables`, count their rows with a [`Tally`], and end with its printed
-//! line. Its clauses say that each row is counted, and each row that differs.
-#![tactic(auto)]
-
-mod tally;
-
-pub use tally::{Tally, Verdict};

@@ -1,5 +1,0 @@
-use Rattle.text_tables.proofs.Controls.{last_one}
-use Rattle.text_tables.proofs.driver.Driver.advance.Goals as goal
-
-pub advance_code-requires : goal.advance_code-requires
-advance_code-requires c = last_one c.self.inside.code _ _ c.in-Some.control c.self.invariant c.in-Some.ensures.items
