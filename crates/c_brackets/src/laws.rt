@@ -31,14 +31,20 @@ pub fn returns_stand_outside_constructs()
 /// creation.
 pub fn code_stays_orderly()
     ensures main { (program : TreeView) → HasReturnsOutside program → IsOrderly (main_task program) }
-    ensures step { (program : TreeView) (view : Seen) (now next : Moment) → HasReturnsOutside program → IsOrderly now.task →
+    ensures step { (program : TreeView) (view : Seen) (now next : Moment) → HasReturnsOutside program →
+        IsOrderly now.task →
         silent program view now ≡ StepsTo next → IsOrderly next.task }
-    ensures answer { (view : Seen) (given : Given) (now : Moment) → IsOrderly now.task → IsOrderly (after_answer view given now).task }
-    ensures event { (program : TreeView) (view : Seen) (point : Event) (executes : Bool) (now : Moment) (tree : Part) → HasReturnsOutside program →
-        IsOrderly now.task → silent program view now ≡ Occurs point tree → IsOrderly (after_event view point executes now.task) }
+    ensures answer { (view : Seen) (given : Given) (now : Moment) → IsOrderly now.task →
+        IsOrderly (after_answer view given now).task }
+    ensures event { (program : TreeView) (view : Seen) (point : Event) (executes : Bool) (now : Moment) (tree : Part) →
+        HasReturnsOutside program →
+        IsOrderly now.task → silent program view now ≡ Occurs point tree →
+        IsOrderly (after_event view point executes now.task) }
     ensures member { (task : Task) → IsOrderly task → IsOrderly (member_task task) }
-    ensures explicit { (program : TreeView) (view : Seen) (now : Moment) (codeptr : ℕ) (undeferred : Bool) (tree : Part) → HasReturnsOutside program →
-        IsOrderly now.task → silent program view now ≡ Occurs (TaskCreate codeptr undeferred) tree → IsOrderly (explicit_task program view now).task }
+    ensures explicit { (program : TreeView) (view : Seen) (now : Moment) (codeptr : ℕ) (undeferred : Bool)
+        (tree : Part) → HasReturnsOutside program →
+        IsOrderly now.task → silent program view now ≡ Occurs (TaskCreate codeptr undeferred) tree →
+        IsOrderly (explicit_task program view now).task }
     ensures settled { (view : Seen) (task : Task) → IsOrderly task → IsOrderly (settled_task view task) }
 {}
 
@@ -46,18 +52,23 @@ pub fn code_stays_orderly()
 /// No code begins with something open, and where it has ended nothing is.
 pub fn code_has_open_what_events_began()
     ensures main { (program : TreeView) → open_task (main_task program) ≡ [] }
-    ensures step { (program : TreeView) (view : Seen) (now next : Moment) → HasReturnsOutside program → IsOrderly now.task →
+    ensures step { (program : TreeView) (view : Seen) (now next : Moment) → HasReturnsOutside program →
+        IsOrderly now.task →
         silent program view now ≡ StepsTo next → open_task next.task ≡ open_task now.task }
     ensures answer { (view : Seen) (given : Given) (now : Moment) → IsOrderly now.task →
         open_task (after_answer view given now).task ≡ open_task now.task }
-    ensures event { (program : TreeView) (view : Seen) (point : Event) (executes : Bool) (now : Moment) (tree : Part) → HasReturnsOutside program →
+    ensures event { (program : TreeView) (view : Seen) (point : Event) (executes : Bool) (now : Moment) (tree : Part) →
+        HasReturnsOutside program →
         IsOrderly now.task → silent program view now ≡ Occurs point tree →
         LeadsTo (effect_of point executes) (open_task now.task) (open_task (after_event view point executes now.task)) }
-    ensures ended { (program : TreeView) (view : Seen) (now : Moment) (number : ℤ) → HasReturnsOutside program → IsOrderly now.task →
+    ensures ended { (program : TreeView) (view : Seen) (now : Moment) (number : ℤ) → HasReturnsOutside program →
+        IsOrderly now.task →
         silent program view now ≡ Ends number → open_task now.task ≡ [] }
     ensures member { (task : Task) → IsOrderly task → open_task (member_task task) ≡ [] }
-    ensures explicit { (program : TreeView) (view : Seen) (now : Moment) → open_task (explicit_task program view now).task ≡ [] }
-    ensures settled { (view : Seen) (task : Task) → IsOrderly task → open_task (settled_task view task) ≡ open_task task }
+    ensures explicit { (program : TreeView) (view : Seen) (now : Moment) →
+        open_task (explicit_task program view now).task ≡ [] }
+    ensures settled { (view : Seen) (task : Task) → IsOrderly task →
+        open_task (settled_task view task) ≡ open_task task }
 {}
 
 /// A task has a forked region open where the region's end stands next, and then it is the newest of what is open, and the only one.
@@ -70,16 +81,22 @@ pub fn forked_regions_end_next()
 /// only where a lock was asked for, of which it may make an end.
 pub fn events_follow_what_led_to_them()
     ensures main { (program : TreeView) → link_next (main_task program).todo ≡ None }
-    ensures step { (program : TreeView) (view : Seen) (now next : Moment) → HasReturnsOutside program → IsOrderly now.task →
+    ensures step { (program : TreeView) (view : Seen) (now next : Moment) → HasReturnsOutside program →
+        IsOrderly now.task →
         silent program view now ≡ StepsTo next → link_next next.task.todo ≡ None }
     ensures answer { (view : Seen) (given : Given) (now : Moment) → IsOrderly now.task →
-        (link_next (after_answer view given now).task.todo ≡ link_next now.task.todo) ⊎ (link_next (after_answer view given now).task.todo ≡ None) }
-    ensures follows { (program : TreeView) (view : Seen) (point : Event) (now : Moment) (tree : Part) → HasReturnsOutside program →
+        (link_next (after_answer view given now).task.todo ≡ link_next now.task.todo) ⊎
+        (link_next (after_answer view given now).task.todo ≡ None) }
+    ensures follows { (program : TreeView) (view : Seen) (point : Event) (now : Moment) (tree : Part) →
+        HasReturnsOutside program →
         IsOrderly now.task → silent program view now ≡ Occurs point tree → link_next now.task.todo ≡ link_of point }
-    ensures makes { (program : TreeView) (view : Seen) (point : Event) (executes : Bool) (now : Moment) (tree : Part) → HasReturnsOutside program →
+    ensures makes { (program : TreeView) (view : Seen) (point : Event) (executes : Bool) (now : Moment) (tree : Part) →
+        HasReturnsOutside program →
         IsOrderly now.task → silent program view now ≡ Occurs point tree →
         link_next (after_event view point executes now.task).todo ≡ link_made point }
     ensures member { (task : Task) → link_next (member_task task).todo ≡ None }
-    ensures explicit { (program : TreeView) (view : Seen) (now : Moment) → link_next (explicit_task program view now).task.todo ≡ None }
-    ensures settled { (view : Seen) (task : Task) → IsOrderly task → link_next (settled_task view task).todo ≡ link_next task.todo }
+    ensures explicit { (program : TreeView) (view : Seen) (now : Moment) →
+        link_next (explicit_task program view now).task.todo ≡ None }
+    ensures settled { (view : Seen) (task : Task) → IsOrderly task →
+        link_next (settled_task view task).todo ≡ link_next task.todo }
 {}

@@ -43,7 +43,8 @@ impl Model for Program {
 
     ghost view = { λ program. program.tree };
 
-    ghost invariant = { λ program. IsChecked program.tree program.names program.constructs program.slots program.copies program.criticals };
+    ghost invariant = { λ program. IsChecked program.tree program.names program.constructs program.slots program.copies
+        program.criticals };
 }
 
 impl Program {
@@ -121,7 +122,8 @@ impl Program {
     /// each other one has parts, by a law of `c_model`.
     pub fn shared_loop(&self, construct: u32) -> Option<SharedLoop>
         requires { construct < length self.now.trees }
-        ensures parts { IfSome result (λ found. loop_parts (tree_at self.now.trees construct) ≡ Some (loop_at self.now.trees found)) }
+        ensures parts { IfSome result (λ found.
+            loop_parts (tree_at self.now.trees construct) ≡ Some (loop_at self.now.trees found)) }
         ensures none { IfNone result (loop_parts (tree_at self.now.trees construct) ≡ None) }
         ensures before { IfSome result (λ found. IsBefore construct found) }
     {

@@ -35,12 +35,14 @@ ghost use Rattle.c_model.specs.Scoped.{IsCallable, IsScoped, IsWellScoped, Knows
 /// nothing is asked, and else no event occurs and the code doesn't end. A trap or a limit may come in both cases.
 #[tactic(auto, using(crate::proofs::Standing::stands_fits))]
 pub fn standing_is_told_by_form()
-    ensures { (program : TreeView) (view : Seen) (now : Moment) → FitsTask (silent program view now) (stands view now.task) }
+    ensures { (program : TreeView) (view : Seen) (now : Moment) →
+        FitsTask (silent program view now) (stands view now.task) }
 {}
 
 /// A task comes to the same whether or not it has left out what it goes past, goes on the same behind an answer and behind an event, and
 /// creates the same task.
-#[tactic(auto, using(crate::proofs::Settled::settled_silent, crate::proofs::Settled::settled_answer, crate::proofs::Settled::settled_event, crate::proofs::Settled::settled_creation))]
+#[tactic(auto, using(crate::proofs::Settled::settled_silent, crate::proofs::Settled::settled_answer,
+    crate::proofs::Settled::settled_event, crate::proofs::Settled::settled_creation))]
 pub fn settling_changes_nothing()
     ensures same_step { (program : TreeView) (view : Seen) (now : Moment) →
         silent program view (settled_moment view now) ≡ silent program view now }
@@ -57,7 +59,8 @@ pub fn settling_changes_nothing()
 pub fn ended_code_has_no_step()
     ensures ended { (program : TreeView) (view : Seen) (now : Moment) → now.task.todo ≡ [] →
         silent program view now ≡ Ends (unwrap_or now.task.returned (pos 0)) }
-    ensures none_left { (program : TreeView) (view : Seen) (now : Moment) (number : ℤ) → silent program view now ≡ Ends number →
+    ensures none_left { (program : TreeView) (view : Seen) (now : Moment) (number : ℤ) →
+        silent program view now ≡ Ends number →
         (settled_task view now.task).todo ≡ [] }
 {}
 
@@ -102,18 +105,21 @@ pub fn no_environment_grows_past_the_width()
         silent program view now ≡ StepsTo next → IsWithin program next.task }
     ensures answer { (program : TreeView) (view : Seen) (given : Given) (now : Moment) → IsWithin program now.task →
         IsWithin program (after_answer view given now).task }
-    ensures event { (program : TreeView) (view : Seen) (point : Event) (executes : Bool) (task : Task) → IsWithin program task →
+    ensures event { (program : TreeView) (view : Seen) (point : Event) (executes : Bool) (task : Task) →
+        IsWithin program task →
         IsOfNext point (settled_task view task).todo → IsWithin program (after_event view point executes task) }
     ensures member { (program : TreeView) (task : Task) → IsWithin program task → IsWithin program (member_task task) }
     ensures explicit { (program : TreeView) (view : Seen) (now : Moment) → IsWithin program now.task →
         IsWithin program (explicit_task program view now).task }
-    ensures settled { (program : TreeView) (view : Seen) (task : Task) → IsWithin program task → IsWithin program (settled_task view task) }
+    ensures settled { (program : TreeView) (view : Seen) (task : Task) → IsWithin program task →
+        IsWithin program (settled_task view task) }
 {}
 
 /// The nodes of the tree that words spell have the forms of a program's nodes: what stands below which, and what of it may be missing. Statements and
 /// expressions are taken together, and what a construct executes may be missing.
 pub fn spelled_trees_are_formed()
-    ensures { (words : List Word) (program : TreeView) → IsProgram depth_limit words (root_tree program) → IsProgramFormed program }
+    ensures { (words : List Word) (program : TreeView) → IsProgram depth_limit words (root_tree program) →
+        IsProgramFormed program }
 {}
 
 /// No task of a program that breaks no rule uses a name that isn't in scope, or calls what is no function of the file with so many parameters, neither
@@ -121,19 +127,25 @@ pub fn spelled_trees_are_formed()
 /// each answer and behind each event that a step comes to. The code of a member of a team begins so, where that of the task is so that forks the
 /// region, and the code of an explicit task, where the creating task has come to its creation.
 pub fn no_task_uses_an_unknown_name()
-    ensures checked { (words : List Word) (program : TreeView) → IsProgram depth_limit words (root_tree program) → Checked program → IsWellScoped program }
+    ensures checked { (words : List Word) (program : TreeView) → IsProgram depth_limit words (root_tree program) →
+        Checked program → IsWellScoped program }
     ensures main { (program : TreeView) → IsWellScoped program → IsScoped program (main_task program) }
-    ensures step { (program : TreeView) (view : Seen) (now next : Moment) → IsWellScoped program → IsScoped program now.task →
+    ensures step { (program : TreeView) (view : Seen) (now next : Moment) → IsWellScoped program →
+        IsScoped program now.task →
         silent program view now ≡ StepsTo next → IsScoped program next.task }
     ensures answer { (program : TreeView) (view : Seen) (given : Given) (now : Moment) → IsScoped program now.task →
         IsScoped program (after_answer view given now).task }
-    ensures event { (program : TreeView) (view : Seen) (point : Event) (executes : Bool) (now : Moment) (tree : Part) → IsWellScoped program →
-        IsScoped program now.task → silent program view now ≡ Occurs point tree → IsScoped program (after_event view point executes now.task) }
+    ensures event { (program : TreeView) (view : Seen) (point : Event) (executes : Bool) (now : Moment) (tree : Part) →
+        IsWellScoped program →
+        IsScoped program now.task → silent program view now ≡ Occurs point tree →
+        IsScoped program (after_event view point executes now.task) }
     ensures member { (program : TreeView) (task : Task) → IsScoped program task → IsScoped program (member_task task) }
-    ensures explicit { (program : TreeView) (view : Seen) (now : Moment) (codeptr : ℕ) (undeferred : Bool) (tree : Part) → IsWellScoped program →
+    ensures explicit { (program : TreeView) (view : Seen) (now : Moment) (codeptr : ℕ) (undeferred : Bool)
+        (tree : Part) → IsWellScoped program →
         IsScoped program now.task → silent program view now ≡ Occurs (TaskCreate codeptr undeferred) tree →
         IsScoped program (explicit_task program view now).task }
-    ensures settled { (program : TreeView) (view : Seen) (task : Task) → IsScoped program task → IsScoped program (settled_task view task) }
+    ensures settled { (program : TreeView) (view : Seen) (task : Task) → IsScoped program task →
+        IsScoped program (settled_task view task) }
 {}
 
 /// A name in scope has its entry there, under that name, and what is called is a function of the file. The value of an expression whose names
@@ -154,33 +166,45 @@ pub fn names_in_scope_are_found()
 /// go to. Main begins so, and it stays so in each silent step, behind each answer and behind each event; what others do makes more cells at most. An
 /// explicit task begins so where the variables that it copies by rule are in scope.
 pub fn each_cell_that_a_task_uses_was_made()
-    ensures main { (program : TreeView) → IsWellScoped program → IsTaskMade program (length (first_store program).cells) (main_task program) }
-    ensures step { (program : TreeView) (view : Seen) (now next : Moment) → IsWellScoped program → IsScoped program now.task →
+    ensures main { (program : TreeView) → IsWellScoped program →
+        IsTaskMade program (length (first_store program).cells) (main_task program) }
+    ensures step { (program : TreeView) (view : Seen) (now next : Moment) → IsWellScoped program →
+        IsScoped program now.task →
         IsTaskMade program (length now.store.cells) now.task → silent program view now ≡ StepsTo next →
         (IsTaskMade program (length next.store.cells) next.task) × (length now.store.cells ≤ length next.store.cells) }
-    ensures answer { (program : TreeView) (view : Seen) (given : Given) (now : Moment) → IsTaskMade program (length now.store.cells) now.task →
+    ensures answer { (program : TreeView) (view : Seen) (given : Given) (now : Moment) →
+        IsTaskMade program (length now.store.cells) now.task →
         (IsTaskMade program (length (after_answer view given now).store.cells) (after_answer view given now).task) ×
         (length (after_answer view given now).store.cells ≡ length now.store.cells) }
-    ensures event { (program : TreeView) (view : Seen) (point : Event) (executes : Bool) (now : Moment) (tree : Part) → IsWellScoped program →
-        IsScoped program now.task → IsTaskMade program (length now.store.cells) now.task → silent program view now ≡ Occurs point tree →
+    ensures event { (program : TreeView) (view : Seen) (point : Event) (executes : Bool) (now : Moment) (tree : Part) →
+        IsWellScoped program →
+        IsScoped program now.task → IsTaskMade program (length now.store.cells) now.task →
+        silent program view now ≡ Occurs point tree →
         IsTaskMade program (length now.store.cells) (after_event view point executes now.task) }
-    ensures member { (program : TreeView) (count : ℕ) (task : Task) → IsTaskMade program count task → IsTaskMade program count (member_task task) }
-    ensures explicit { (program : TreeView) (view : Seen) (now : Moment) (codeptr : ℕ) (undeferred : Bool) (tree : Part) → IsWellScoped program →
-        IsScoped program now.task → IsTaskMade program (length now.store.cells) now.task → silent program view now ≡ Occurs (TaskCreate codeptr undeferred) tree →
+    ensures member { (program : TreeView) (count : ℕ) (task : Task) → IsTaskMade program count task →
+        IsTaskMade program count (member_task task) }
+    ensures explicit { (program : TreeView) (view : Seen) (now : Moment) (codeptr : ℕ) (undeferred : Bool)
+        (tree : Part) → IsWellScoped program →
+        IsScoped program now.task → IsTaskMade program (length now.store.cells) now.task →
+        silent program view now ≡ Occurs (TaskCreate codeptr undeferred) tree →
         AreCopiesInScope program (settled_task view now.task) →
-        (IsTaskMade program (length (explicit_task program view now).store.cells) (explicit_task program view now).task) ×
+        (IsTaskMade program (length (explicit_task program view now).store.cells)
+        (explicit_task program view now).task) ×
         (length now.store.cells ≤ length (explicit_task program view now).store.cells) }
     ensures settled { (program : TreeView) (view : Seen) (count : ℕ) (task : Task) → IsTaskMade program count task →
         IsTaskMade program count (settled_task view task) }
-    ensures others { (program : TreeView) (count more : ℕ) (task : Task) → count ≤ more → IsTaskMade program count task → IsTaskMade program more task }
+    ensures others { (program : TreeView) (count more : ℕ) (task : Task) → count ≤ more →
+        IsTaskMade program count task → IsTaskMade program more task }
 {}
 
 /// The cells of a name in scope are among those that were made, and so is the cell that is assigned. The value of an expression whose names are in
 /// scope depends on no cell behind them.
 pub fn cells_in_scope_are_made()
-    ensures name { (count : ℕ) (env : List Entry) (name : ℕ) → All (IsMade count) env → Contains (names_of env) name → IsMade count (entry_of env name) }
+    ensures name { (count : ℕ) (env : List Entry) (name : ℕ) → All (IsMade count) env → Contains (names_of env) name →
+        IsMade count (entry_of env name) }
     ensures assigned { (scope : Scope) (place : Part) (cell : ℕ) → All (IsMade (length scope.cells)) scope.env →
         Contains (names_of scope.env) (name_of place) → cell_of scope place ≡ Ok cell → cell < length scope.cells }
-    ensures value { (more : List ℤ) (scope : Scope) (tree : Part) → All (IsMade (length scope.cells)) scope.env → Sees (names_of scope.env) tree →
+    ensures value { (more : List ℤ) (scope : Scope) (tree : Part) → All (IsMade (length scope.cells)) scope.env →
+        Sees (names_of scope.env) tree →
         value (record scope { cells = scope.cells ++ more }) tree ≡ value scope tree }
 {}

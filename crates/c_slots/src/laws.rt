@@ -31,38 +31,50 @@ pub fn each_name_and_construct_has_its_own_place()
 /// behind each event that a step comes to. The code of a member of a team begins so, where that of the task is so that forks the region, and the code of
 /// an explicit task, where the creating task has come to its creation.
 pub fn each_task_has_the_slots_in_scope()
-    ensures checked { (program : TreeView) → HasOwnPlaces program → Checked program → IsProgramFormed program → IsWellSlotted program }
+    ensures checked { (program : TreeView) → HasOwnPlaces program → Checked program → IsProgramFormed program →
+        IsWellSlotted program }
     ensures main { (program : TreeView) → IsWellSlotted program → IsSlotted program (main_task program) }
-    ensures step { (program : TreeView) (view : Seen) (now next : Moment) → IsWellSlotted program → IsSlotted program now.task →
+    ensures step { (program : TreeView) (view : Seen) (now next : Moment) → IsWellSlotted program →
+        IsSlotted program now.task →
         silent program view now ≡ StepsTo next → IsSlotted program next.task }
     ensures answer { (program : TreeView) (view : Seen) (given : Given) (now : Moment) → IsSlotted program now.task →
         IsSlotted program (after_answer view given now).task }
-    ensures event { (program : TreeView) (view : Seen) (point : Event) (executes : Bool) (now : Moment) (tree : Part) → IsWellSlotted program →
-        IsSlotted program now.task → silent program view now ≡ Occurs point tree → IsSlotted program (after_event view point executes now.task) }
-    ensures member { (program : TreeView) (task : Task) → IsSlotted program task → IsSlotted program (member_task task) }
-    ensures explicit { (program : TreeView) (view : Seen) (now : Moment) (codeptr : ℕ) (undeferred : Bool) (tree : Part) → IsWellSlotted program →
+    ensures event { (program : TreeView) (view : Seen) (point : Event) (executes : Bool) (now : Moment) (tree : Part) →
+        IsWellSlotted program →
+        IsSlotted program now.task → silent program view now ≡ Occurs point tree →
+        IsSlotted program (after_event view point executes now.task) }
+    ensures member { (program : TreeView) (task : Task) → IsSlotted program task →
+        IsSlotted program (member_task task) }
+    ensures explicit { (program : TreeView) (view : Seen) (now : Moment) (codeptr : ℕ) (undeferred : Bool)
+        (tree : Part) → IsWellSlotted program →
         IsSlotted program now.task → silent program view now ≡ Occurs (TaskCreate codeptr undeferred) tree →
         IsSlotted program (explicit_task program view now).task }
-    ensures settled { (program : TreeView) (view : Seen) (task : Task) → IsSlotted program task → IsSlotted program (settled_task view task) }
+    ensures settled { (program : TreeView) (view : Seen) (task : Task) → IsSlotted program task →
+        IsSlotted program (settled_task view task) }
 {}
 
 /// The variables that an explicit task copies by rule, where its construct stands next, are in the scope of the task that creates it.
 pub fn copies_are_in_scope()
-    ensures { (program : TreeView) (task : Task) → IsWellSlotted program → IsSlotted program task → AreCopiesInScope program task }
+    ensures { (program : TreeView) (task : Task) → IsWellSlotted program → IsSlotted program task →
+        AreCopiesInScope program task }
 {}
 
 /// Each cell that an explicit task uses was made when the task begins, also those of the variables that it copies by rule.
 pub fn each_cell_of_an_explicit_task_was_made()
-    ensures { (program : TreeView) (view : Seen) (now : Moment) (codeptr : ℕ) (undeferred : Bool) (tree : Part) → IsWellScoped program →
+    ensures { (program : TreeView) (view : Seen) (now : Moment) (codeptr : ℕ) (undeferred : Bool) (tree : Part) →
+        IsWellScoped program →
         IsScoped program now.task → IsWellSlotted program → IsSlotted program now.task →
-        IsTaskMade program (length now.store.cells) now.task → silent program view now ≡ Occurs (TaskCreate codeptr undeferred) tree →
-        (IsTaskMade program (length (explicit_task program view now).store.cells) (explicit_task program view now).task) ×
+        IsTaskMade program (length now.store.cells) now.task →
+        silent program view now ≡ Occurs (TaskCreate codeptr undeferred) tree →
+        (IsTaskMade program (length (explicit_task program view now).store.cells)
+        (explicit_task program view now).task) ×
         (length now.store.cells ≤ length (explicit_task program view now).store.cells) }
 {}
 
 /// Whatever a task of a text that breaks no rule comes to, all that it uses is there: no step of it meets a name that isn't in scope, a function that
 /// there isn't, or a cell that wasn't made. So it is for main, for each member of a team and for each explicit task, from where it begins.
 pub fn all_that_a_task_uses_is_there()
-    ensures { (text : List ℕ) (program : TreeView) (now : Moment) → Spells text (root_tree program) → Checked program → ComesTo program now →
+    ensures { (text : List ℕ) (program : TreeView) (now : Moment) → Spells text (root_tree program) → Checked program →
+        ComesTo program now →
         IsWhole program now }
 {}

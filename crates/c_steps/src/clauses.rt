@@ -26,7 +26,8 @@ pub(crate) struct FoundPart {
 #[tactic(auto, unfolding(c_model::specs::Clauses::clauses_among))]
 fn next_clause(code: &Code, construct: u32, place: u32) -> Option<FoundPart>
     requires { construct < length code.now.trees }
-    ensures clauses { clauses_from (tree_at code.now.trees construct) place ≡ with_clause code.now.trees (tree_at code.now.trees construct) result }
+    ensures clauses { clauses_from (tree_at code.now.trees construct) place ≡
+        with_clause code.now.trees (tree_at code.now.trees construct) result }
     ensures there { IsFound code.now.trees result }
 {
     let mut next = place;
@@ -44,7 +45,8 @@ fn next_clause(code: &Code, construct: u32, place: u32) -> Option<FoundPart>
 #[tactic(auto, unfolding(c_model::specs::Clauses::statements_among))]
 fn next_statement(code: &Code, construct: u32, place: u32) -> Option<FoundPart>
     requires { construct < length code.now.trees }
-    ensures statements { statements_from (tree_at code.now.trees construct) place ≡ with_statement code.now.trees (tree_at code.now.trees construct) result }
+    ensures statements { statements_from (tree_at code.now.trees construct) place ≡
+        with_statement code.now.trees (tree_at code.now.trees construct) result }
     ensures there { IsFound code.now.trees result }
     ensures ahead { IfSome result (λ found. place < found.next) }
 {
@@ -70,7 +72,8 @@ fn is_head(kind: NodeKind) -> bool
 #[tactic(auto, unfolding(c_model::specs::Clauses::expression_among, c_check::specs::Tasks::from_place))]
 pub(crate) fn requested_threads(code: &Code, construct: u32) -> Option<Option<u32>>
     requires { construct < length code.now.trees }
-    ensures clause { option_map (part_at code.now.trees) result ≡ clauses.requested_threads (tree_at code.now.trees construct) }
+    ensures clause { option_map (part_at code.now.trees) result ≡
+        clauses.requested_threads (tree_at code.now.trees construct) }
     ensures there { IfSome result (IsPart code.now.trees) }
 {
     let mut place = 0;
@@ -87,7 +90,8 @@ pub(crate) fn requested_threads(code: &Code, construct: u32) -> Option<Option<u3
 #[tactic(auto, unfolding(c_model::specs::Clauses::expression_among, c_check::specs::Tasks::from_place))]
 pub(crate) fn condition(code: &Code, construct: u32) -> Option<Option<u32>>
     requires { construct < length code.now.trees }
-    ensures clause { option_map (part_at code.now.trees) result ≡ clauses.condition_of (tree_at code.now.trees construct) }
+    ensures clause { option_map (part_at code.now.trees) result ≡
+        clauses.condition_of (tree_at code.now.trees construct) }
     ensures there { IfSome result (IsPart code.now.trees) }
 {
     let mut place = 0;
@@ -186,7 +190,8 @@ pub(crate) fn section_count(code: &Code, construct: u32) -> u32
 #[tactic(auto, using(crate::proofs::Sections::nth_section))]
 pub(crate) fn section(code: &Code, construct: u32, number: u32) -> Option<u32>
     requires { construct < length code.now.trees }
-    ensures statement { part_at code.now.trees result ≡ slice_index_or (clauses.sections_of (tree_at code.now.trees construct)) number nothing }
+    ensures statement { part_at code.now.trees result ≡
+        slice_index_or (clauses.sections_of (tree_at code.now.trees construct)) number nothing }
     ensures there { IsPart code.now.trees result }
 {
     section_statement(code, nth_statement(code, construct, number))
@@ -196,7 +201,8 @@ pub(crate) fn section(code: &Code, construct: u32, number: u32) -> Option<u32>
 #[tactic(auto, unfolding(c_check::specs::Tasks::from_place))]
 fn nth_statement(code: &Code, construct: u32, number: u32) -> Option<u32>
     requires { construct < length code.now.trees }
-    ensures statement { part_at code.now.trees result ≡ slice_index_or (clauses.statements_among (parts (tree_at code.now.trees construct))) number nothing }
+    ensures statement { part_at code.now.trees result ≡
+        slice_index_or (clauses.statements_among (parts (tree_at code.now.trees construct))) number nothing }
     ensures there { IsPart code.now.trees result }
 {
     let (mut left, mut place) = (number, 0);
@@ -214,7 +220,8 @@ impl Code {
     /// The place of a section as tools are told it, counted from 0: its directive's, or its statement's where it has none. 0 past the last.
     pub fn section_place(&self, construct: u32, number: u32) -> u64
         requires { construct < length self.now.trees }
-        ensures { result ≡ place_of (slice_index_or (clauses.statements_among (parts (tree_at self.now.trees construct))) number nothing) }
+        ensures { result ≡ place_of (slice_index_or
+            (clauses.statements_among (parts (tree_at self.now.trees construct))) number nothing) }
     {
         match nth_statement(self, construct, number) {
             Some(part) => self.place(part),
@@ -226,7 +233,8 @@ impl Code {
 /// What a section executes. The first one may be a statement without a `section` before it.
 fn section_statement(code: &Code, part: Option<u32>) -> Option<u32>
     requires { IsPart code.now.trees part }
-    ensures statement { part_at code.now.trees result ≡ clauses.section_statement (kind_of (part_at code.now.trees part)) (part_at code.now.trees part) }
+    ensures statement { part_at code.now.trees result ≡
+        clauses.section_statement (kind_of (part_at code.now.trees part)) (part_at code.now.trees part) }
     ensures there { IsPart code.now.trees result }
 {
     match code.kind(part) {

@@ -51,7 +51,8 @@ impl Model for Code {
 
     ghost view = { λ code. code.program };
 
-    ghost invariant = { λ code. IsPrepared code.program code.file code.functions code.slots.items code.width code.step_names };
+    ghost invariant = { λ code. IsPrepared code.program code.file code.functions code.slots.items code.width
+        code.step_names };
 }
 
 impl Code {
@@ -190,7 +191,8 @@ impl Code {
     #[inline(always)]
     pub(crate) fn part(&self, whole: Option<u32>, place: u32) -> Option<u32>
         requires { IsPart self.now.trees whole }
-        ensures parts { parts_from (part_at self.now.trees whole) place ≡ with_part self.now.trees (part_at self.now.trees whole) place result }
+        ensures parts { parts_from (part_at self.now.trees whole) place ≡
+            with_part self.now.trees (part_at self.now.trees whole) place result }
         ensures there { IfSome result (λ child. child < length self.now.trees) }
         ensures is_part { IsPart self.now.trees result }
         ensures fits { IfSome result (λ child. place + 1 < 4294967295) }

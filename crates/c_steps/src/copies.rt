@@ -27,7 +27,8 @@ pub(crate) fn room_behind_listed(
     room: usize,
 ) -> Option<usize>
     requires { construct < length code.now.trees }
-    ensures { result ≡ room_behind (listed_cells (around_of scope.now) (listed_variables (tree_at code.now.trees construct))) room }
+    ensures { result ≡ room_behind (listed_cells (around_of scope.now)
+        (listed_variables (tree_at code.now.trees construct))) room }
 {
     let (mut left, mut place) = (room, first_listed());
     while let Some(found) = next_listed(code, construct, place) {
@@ -60,7 +61,8 @@ pub(crate) fn room_behind_slots(scope: &Scope, slots: &[u32], room: usize) -> Op
 /// The room for cells that the copy of a variable leaves that a task copies by rule.
 #[tactic(auto, using(crate::proofs::Counting::numbers_made))]
 fn room_behind_slot(scope: &Scope, slot: u32, room: usize) -> Option<usize>
-    ensures { result ≡ room_behind (copy_cells (around_of scope.now) (entry_at_slot (around_of scope.now).env slot) First) room }
+    ensures { result ≡ room_behind (copy_cells (around_of scope.now)
+        (entry_at_slot (around_of scope.now).env slot) First) room }
 {
     room.checked_sub(cells_made(scope.cells.len(), scope.entry_at_slot(slot)))
 }
@@ -68,7 +70,8 @@ fn room_behind_slot(scope: &Scope, slot: u32, room: usize) -> Option<usize>
 /// How many cells a construct's copy of a variable has.
 #[tactic(auto, using(crate::proofs::Counting::numbers_made))]
 fn copy_size(scope: &Scope, listed: ListedName) -> usize
-    ensures { result ≡ copy_cells (around_of scope.now) (entry_of (around_of scope.now).env listed.name) (copying_of listed.copying) }
+    ensures { result ≡ copy_cells (around_of scope.now) (entry_of (around_of scope.now).env listed.name)
+        (copying_of listed.copying) }
 {
     let entry = scope.entry(listed.name);
     match listed.copying {
@@ -89,9 +92,12 @@ fn cells_made(count: usize, entry: Entry) -> usize
 /// A construct's copy of a variable is made, where so many cells were there before its copies. Tells the copy's entry.
 pub(crate) fn make_copy(cells: &mut Cells, count: usize, entry: Entry, copying: Copying) -> Entry
     requires before { count ≤ length cells.old.cells }
-    requires room { length cells.old.cells + length (copied_numbers (copying_of copying) (take count cells.old.cells) entry) ≤ CELL_LIMIT }
-    ensures cells { cells.new ≡ with_numbers (copied_numbers (copying_of copying) (take count cells.old.cells) entry) cells.old }
-    ensures entry { result ≡ new_entry cells.old.cells entry.name entry.slot (copied_numbers (copying_of copying) (take count cells.old.cells) entry) }
+    requires room { length cells.old.cells + length
+        (copied_numbers (copying_of copying) (take count cells.old.cells) entry) ≤ CELL_LIMIT }
+    ensures cells { cells.new ≡ with_numbers (copied_numbers (copying_of copying) (take count cells.old.cells) entry)
+        cells.old }
+    ensures entry { result ≡ new_entry cells.old.cells entry.name entry.slot
+        (copied_numbers (copying_of copying) (take count cells.old.cells) entry) }
     ensures is_entry { IsEntry result }
 {
     let first = cells.count() as u32;
@@ -107,8 +113,10 @@ pub(crate) fn make_copy(cells: &mut Cells, count: usize, entry: Entry, copying: 
 /// New cells hold what a construct's copy of a variable holds at first. Tells how many they are.
 fn fill_copy(cells: &mut Cells, count: usize, entry: Entry, copying: Copying) -> usize
     requires before { count ≤ length cells.old.cells }
-    requires room { length cells.old.cells + length (copied_numbers (copying_of copying) (take count cells.old.cells) entry) ≤ CELL_LIMIT }
-    ensures cells { cells.new ≡ with_numbers (copied_numbers (copying_of copying) (take count cells.old.cells) entry) cells.old }
+    requires room { length cells.old.cells + length
+        (copied_numbers (copying_of copying) (take count cells.old.cells) entry) ≤ CELL_LIMIT }
+    ensures cells { cells.new ≡ with_numbers (copied_numbers (copying_of copying) (take count cells.old.cells) entry)
+        cells.old }
     ensures size { result ≡ length (copied_numbers (copying_of copying) (take count cells.old.cells) entry) }
 {
     match copying {

@@ -71,7 +71,8 @@ impl FileNames {
     }
 
     /// A part of the file declares its variables or locks, if it is a declaration of those.
-    #[tactic(auto, unfolding(c_model::specs::Program::variables_among, c_model::specs::Parts::flat_declarations, c_model::specs::Cells::with_declarators))]
+    #[tactic(auto, unfolding(c_model::specs::Program::variables_among, c_model::specs::Parts::flat_declarations,
+        c_model::specs::Cells::with_declarators))]
     fn declare_part(&mut self, program: &Program, part: u32) -> Result<(), AllocError>
         requires { part < length program.now.trees }
         ensures { OnOk result (self.new ≡ declared_by program.now self.old (tree_at program.now.trees part ∷ [])) }
@@ -86,7 +87,8 @@ impl FileNames {
     #[tactic(auto, unfolding(c_model::specs::Cells::with_declarators, c_check::specs::Tasks::from_place))]
     fn declare_all(&mut self, program: &Program, declaration: u32) -> Result<(), AllocError>
         requires { declaration < length program.now.trees }
-        ensures { OnOk result (self.new ≡ with_declarators program.now self.old (parts (tree_at program.now.trees declaration))) }
+        ensures { OnOk result (self.new ≡
+            with_declarators program.now self.old (parts (tree_at program.now.trees declaration))) }
     {
         let mut place = 0;
         while let Some(declarator) = next_part(program.tree(), Some(declaration), place) {

@@ -26,7 +26,8 @@ impl Model for Functions {
 
 impl Functions {
     /// The functions of a program. Of two with one name the first counts.
-    #[tactic(auto, using(crate::proofs::FirstFunctions::first_at_start, crate::proofs::FirstFunctions::first_at_end, crate::proofs::FirstFunctions::first_behind))]
+    #[tactic(auto, using(crate::proofs::FirstFunctions::first_at_start, crate::proofs::FirstFunctions::first_at_end,
+        crate::proofs::FirstFunctions::first_behind))]
     pub(crate) fn new(alloc: Global, tree: &Tree) -> Result<Functions, AllocError>
         ensures { IfOk result (AreFunctions tree.now) }
     {
@@ -55,7 +56,9 @@ impl Functions {
     /// A part of the file counts for its name, if it is the first function with it.
     fn add_part(&mut self, tree: &Tree, part: u32) -> Result<(), AllocError>
         requires { part < length tree.now.trees }
-        ensures { OnOk result ((name : ℕ) → slice_index_or self.new name None ≡ option_or (slice_index_or self.old name None) (named_part name (tree_at tree.now.trees part) part)) }
+        ensures { OnOk result ((name : ℕ) →
+            slice_index_or self.new name None ≡
+            option_or (slice_index_or self.old name None) (named_part name (tree_at tree.now.trees part) part)) }
     {
         match tree.kind(part) {
             NodeKind::Function(_) => {
@@ -68,7 +71,9 @@ impl Functions {
 
     /// A function counts for a name, if none does yet.
     fn add(&mut self, name: u32, function: u32) -> Result<(), AllocError>
-        ensures { OnOk result ((other : ℕ) → slice_index_or self.new other None ≡ option_or (slice_index_or self.old other None) (if name == other then Some function else None)) }
+        ensures { OnOk result ((other : ℕ) →
+            slice_index_or self.new other None ≡ option_or (slice_index_or self.old other None) (if name == other
+            then Some function else None)) }
     {
         self.reach(name as usize)?;
         self.keep_first(name as usize, function);
@@ -93,7 +98,8 @@ impl Functions {
     /// A function stands at this number, if none does yet.
     fn keep_first(&mut self, name: usize, function: u32)
         requires { name < length self.old }
-        ensures { (other : ℕ) → slice_index_or self.new other None ≡ option_or (slice_index_or self.old other None) (if name == other then Some function else None) }
+        ensures { (other : ℕ) → slice_index_or self.new other None ≡
+            option_or (slice_index_or self.old other None) (if name == other then Some function else None) }
     {
         if self.by_name[name].is_none() {
             self.by_name[name] = Some(function);

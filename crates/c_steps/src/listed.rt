@@ -55,7 +55,8 @@ pub(crate) fn first_listed() -> ListedPlace
 /// The next variable that a construct lists, from a place on.
 pub(crate) fn next_listed(code: &Code, construct: u32, from: ListedPlace) -> Option<FoundName>
     requires { construct < length code.now.trees }
-    ensures { listed_from (tree_at code.now.trees construct) from ≡ with_found (tree_at code.now.trees construct) result }
+    ensures { listed_from (tree_at code.now.trees construct) from ≡
+        with_found (tree_at code.now.trees construct) result }
 {
     let mut place = from;
     while let Some(found) = next_name(code.tree(), construct, place) {
@@ -94,7 +95,8 @@ pub(crate) fn next_name(tree: &Tree, construct: u32, from: ListedPlace) -> Optio
 #[tactic(auto, unfolding(c_model::specs::Clauses::listed_among))]
 fn name_listed_by(tree: &Tree, part: u32, count: u32) -> Option<ListedName>
     requires { part < length tree.now.trees }
-    ensures names { listed_in count (tree_at tree.now.trees part) ≡ with_name_of_part count (tree_at tree.now.trees part) result }
+    ensures names { listed_in count (tree_at tree.now.trees part) ≡
+        with_name_of_part count (tree_at tree.now.trees part) result }
     ensures fits { IfSome result (λ listed. count + 1 < 4294967295) }
 {
     match kind_of_part(tree, Some(part)) {
@@ -106,7 +108,9 @@ fn name_listed_by(tree: &Tree, part: u32, count: u32) -> Option<ListedName>
 /// The name that a clause lists behind so many, if it gives a construct variables of its own.
 fn name_of_clause(tree: &Tree, clause: Option<u32>, count: u32) -> Option<ListedName>
     requires { IsPart tree.now.trees clause }
-    ensures names { listed_by (kind_of (part_at tree.now.trees clause)) (without_first count (part_at tree.now.trees clause)) ≡ with_name_of_clause count (part_at tree.now.trees clause) result }
+    ensures names { listed_by (kind_of (part_at tree.now.trees clause))
+        (without_first count (part_at tree.now.trees clause)) ≡
+        with_name_of_clause count (part_at tree.now.trees clause) result }
     ensures fits { IfSome result (λ listed. count + 1 < 4294967295) }
 {
     let copying = copying_by(kind_of_part(tree, clause))?;

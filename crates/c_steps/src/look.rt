@@ -29,7 +29,8 @@ pub(crate) enum Look {
 }
 
 /// What a frame on top says of what stands next.
-#[tactic(auto, using(crate::proofs::Looking::shows_one, crate::proofs::Looking::shows_reduction, crate::proofs::Looking::caller_nothing))]
+#[tactic(auto, using(crate::proofs::Looking::shows_one, crate::proofs::Looking::shows_reduction,
+    crate::proofs::Looking::caller_nothing))]
 #[inline(always)]
 pub(crate) fn look_at(code: &Code, frame: &Frame) -> Look
     requires { IsFrame code.now frame.now }
@@ -66,7 +67,8 @@ pub(crate) fn look_at(code: &Code, frame: &Frame) -> Look
 }
 
 /// What the parts of a block say that are left.
-#[tactic(auto, using(crate::proofs::Looking::shows_part, crate::proofs::Looking::instead_next, crate::proofs::Looking::instead_leave))]
+#[tactic(auto, using(crate::proofs::Looking::shows_part, crate::proofs::Looking::instead_next,
+    crate::proofs::Looking::instead_leave))]
 #[inline(always)]
 fn look_at_parts(code: &Code, block: u32, place: u32, at: u32, names: usize) -> Look
     requires { block < length code.now.trees }
@@ -130,8 +132,12 @@ fn item_of_part(code: &Code, node: u32) -> Item
 #[inline(always)]
 pub(crate) fn declarator(code: &Code, part: u32, at: u32) -> Option<u32>
     requires { part < length code.now.trees }
-    ensures found { IfSome result (λ node. declarators_from (kind_of (tree_at code.now.trees part)) (tree_at code.now.trees part) at ≡ tree_at code.now.trees node ∷ declarators_from (kind_of (tree_at code.now.trees part)) (tree_at code.now.trees part) (at + 1)) }
-    ensures none { IfNone result (declarators_from (kind_of (tree_at code.now.trees part)) (tree_at code.now.trees part) at ≡ []) }
+    ensures found { IfSome result (λ node.
+        declarators_from (kind_of (tree_at code.now.trees part)) (tree_at code.now.trees part) at ≡
+        tree_at code.now.trees node ∷ declarators_from (kind_of (tree_at code.now.trees part))
+        (tree_at code.now.trees part) (at + 1)) }
+    ensures none { IfNone result (declarators_from (kind_of (tree_at code.now.trees part))
+        (tree_at code.now.trees part) at ≡ []) }
     ensures node { IfSome result (λ node. node < length code.now.trees) }
     ensures fits { IfSome result (λ node. at < 4294967295) }
 {

@@ -54,7 +54,8 @@ fn nodes_of(found: SharedLoop) -> LoopNodes
     ensures parts { (trees : List Part) → parts_at trees result ≡ loop_at trees found }
     ensures comparison { result.comparison ≡ found.comparison }
     ensures step { result.step ≡ found.step }
-    ensures there { (trees : List Part) (construct : ℕ) → IsBefore construct found → construct < length trees → AreParts trees result }
+    ensures there { (trees : List Part) (construct : ℕ) → IsBefore construct found → construct < length trees →
+        AreParts trees result }
 {
     LoopNodes {
         variable: Some(found.variable),

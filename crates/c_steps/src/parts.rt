@@ -61,11 +61,13 @@ pub(crate) fn number_of_part(tree: &Tree, part: Option<u32>) -> i32
 }
 
 /// The child of a part at a place, where the parts from there on are what is left of the whole.
-#[tactic(auto, using(crate::proofs::Rests::part_here, crate::proofs::Rests::part_none, crate::proofs::Rests::part_missing))]
+#[tactic(auto, using(crate::proofs::Rests::part_here, crate::proofs::Rests::part_none,
+    crate::proofs::Rests::part_missing))]
 #[inline(always)]
 pub(crate) fn next_part(tree: &Tree, whole: Option<u32>, place: u32) -> Option<u32>
     requires { IsPart tree.now.trees whole }
-    ensures parts { parts_from (part_at tree.now.trees whole) place ≡ with_part tree.now.trees (part_at tree.now.trees whole) place result }
+    ensures parts { parts_from (part_at tree.now.trees whole) place ≡
+        with_part tree.now.trees (part_at tree.now.trees whole) place result }
     ensures there { IfSome result (λ child. child < length tree.now.trees) }
     ensures is_part { IsPart tree.now.trees result }
     ensures fits { IfSome result (λ child. place + 1 < 4294967295) }

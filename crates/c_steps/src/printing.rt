@@ -100,7 +100,8 @@ fn append_byte(
     requires room { TEXT_LIMIT ≤ vec_capacity text.old }
     requires few { length text.old.items ≤ TEXT_LIMIT }
     ensures text { (bytes : List ℕ) →
-        let whole = text.old.items ++ text_left progress.before (byte ∷ bytes) (numbers_behind scope.now node progress.place) in
+        let whole = text.old.items ++ text_left progress.before (byte ∷ bytes)
+        (numbers_behind scope.now node progress.place) in
         MatchOption result (TEXT_LIMIT < length whole) (λ next.
         text.new.items ++ text_left next.before bytes (numbers_behind scope.now node next.place) ≡ whole) }
     ensures values { IfSome result (λ next. HaveValues scope.now node next.place) }
@@ -162,7 +163,8 @@ fn append_number(scope: &Scope<'_>, node: u32, place: u32, text: &mut Vec<u8>) -
 }
 
 /// The number at a place, if there is one.
-#[tactic(auto, using(crate::proofs::PrintingNumbers::no_number, crate::proofs::PrintingNumbers::next_number, crate::proofs::PrintingNumbers::next_values))]
+#[tactic(auto, using(crate::proofs::PrintingNumbers::no_number, crate::proofs::PrintingNumbers::next_number,
+    crate::proofs::PrintingNumbers::next_values))]
 fn number_at(scope: &Scope<'_>, node: u32, place: u32) -> Option<i32>
     requires node { node < length scope.now.tree.now.trees }
     requires view { HasNumbers scope.now.view }

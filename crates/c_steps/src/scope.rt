@@ -94,11 +94,13 @@ impl<'a> Scope<'a> {
 
     /// The first trap of the children of a node, from left to right up to the first that is absent.
     #[inline(always)]
-    #[tactic(auto, using(crate::proofs::ValuesAll::all_trap, crate::proofs::ValuesAll::all_next, crate::proofs::ValuesAll::all_without))]
+    #[tactic(auto, using(crate::proofs::ValuesAll::all_trap, crate::proofs::ValuesAll::all_next,
+        crate::proofs::ValuesAll::all_without))]
     pub(crate) fn check_all(&self, node: u32) -> Result<(), u8>
         requires node { node < length self.now.tree.now.trees }
         requires view { HasNumbers self.now.view }
-        ensures { result ≡ without_values (all_values (scope_of self.now) (parts (tree_at self.now.tree.now.trees node))) }
+        ensures { result ≡ without_values
+            (all_values (scope_of self.now) (parts (tree_at self.now.tree.now.trees node))) }
     {
         let mut place = 0;
         while let Some(child) = self.tree.child(node, place) {
@@ -161,7 +163,8 @@ impl<'a> Scope<'a> {
     pub(crate) fn quick_value(&self, part: Option<u32>) -> Option<i32>
         requires part { IsPart self.now.tree.now.trees part }
         requires view { HasNumbers self.now.view }
-        ensures { IfSome result (λ number. value (scope_of self.now) (part_at self.now.tree.now.trees part) ≡ Ok number) }
+        ensures { IfSome result (λ number. value (scope_of self.now) (part_at self.now.tree.now.trees part) ≡
+            Ok number) }
     {
         match part {
             Some(node) => self.quick_node(node, QUICK_DEPTH),
@@ -174,7 +177,8 @@ impl<'a> Scope<'a> {
     pub(crate) fn quick_place(&self, place: Option<u32>) -> Option<usize>
         requires place { IsPart self.now.tree.now.trees place }
         requires view { HasNumbers self.now.view }
-        ensures { IfSome result (λ cell. cell_of (scope_of self.now) (part_at self.now.tree.now.trees place) ≡ Ok cell) }
+        ensures { IfSome result (λ cell. cell_of (scope_of self.now) (part_at self.now.tree.now.trees place) ≡
+            Ok cell) }
     {
         match place {
             Some(node) => self.quick_cell(node, QUICK_DEPTH),
@@ -188,7 +192,8 @@ impl<'a> Scope<'a> {
     fn quick_node(&self, node: u32, depth: u32) -> Option<i32>
         requires node { node < length self.now.tree.now.trees }
         requires view { HasNumbers self.now.view }
-        ensures { IfSome result (λ number. value (scope_of self.now) (tree_at self.now.tree.now.trees node) ≡ Ok number) }
+        ensures { IfSome result (λ number. value (scope_of self.now) (tree_at self.now.tree.now.trees node) ≡
+            Ok number) }
     {
         match self.tree.kind(node) {
             NodeKind::Number => Some(self.tree.number(node)),
@@ -276,7 +281,8 @@ impl<'a> Scope<'a> {
     fn quick_binary(&self, operator: BinaryOp, node: u32, depth: u32) -> Option<i32>
         requires node { node < length self.now.tree.now.trees }
         requires view { HasNumbers self.now.view }
-        ensures { IfSome result (λ number. binary_value operator (operand_at self.now node 0) (operand_at self.now node 1) ≡ Ok number) }
+        ensures { IfSome result (λ number.
+            binary_value operator (operand_at self.now node 0) (operand_at self.now node 1) ≡ Ok number) }
     {
         let depth = depth.checked_sub(1)?;
         let left = self.quick_operand(node, 0, depth)?;
@@ -337,7 +343,8 @@ impl<'a> Scope<'a> {
 
     /// The number of an operator. Its left operands are a chain, which may be as long as the text.
     #[cycle(values)]
-    #[tactic(auto, using(crate::proofs::Values::value_is, crate::proofs::LeftOperands::chain_left, crate::proofs::LeftOperands::below_left))]
+    #[tactic(auto, using(crate::proofs::Values::value_is, crate::proofs::LeftOperands::chain_left,
+        crate::proofs::LeftOperands::below_left))]
     fn binary(&self, operator: BinaryOp, node: u32) -> Result<i32, u8>
         requires node { node < length self.now.tree.now.trees }
         requires view { HasNumbers self.now.view }
@@ -357,13 +364,15 @@ impl<'a> Scope<'a> {
     /// The number of a node with a chain of so many operators, by that of the operand below them. The lower half is found before the upper
     /// one, so that calls stand in one another no deeper than the number of operators has binary digits.
     #[cycle(values)]
-    #[tactic(auto, using(crate::proofs::LeftOperands::lower_half, crate::proofs::LeftOperands::upper_half, crate::proofs::LeftOperands::lower_below, crate::proofs::LeftOperands::one_joined))]
+    #[tactic(auto, using(crate::proofs::LeftOperands::lower_half, crate::proofs::LeftOperands::upper_half,
+        crate::proofs::LeftOperands::lower_below, crate::proofs::LeftOperands::one_joined))]
     fn chain_value(&self, node: u32, levels: u32, lowest: Result<i32, u8>) -> Result<i32, u8>
         requires node { node < length self.now.tree.now.trees }
         requires view { HasNumbers self.now.view }
         requires some { 0 < levels }
         requires chain { IsChain levels (tree_at self.now.tree.now.trees node) }
-        requires lowest { lowest ≡ value (scope_of self.now) (left_below levels (tree_at self.now.tree.now.trees node)) }
+        requires lowest { lowest ≡ value (scope_of self.now)
+            (left_below levels (tree_at self.now.tree.now.trees node)) }
         ensures { result ≡ value (scope_of self.now) (tree_at self.now.tree.now.trees node) }
     {
         if levels == 1 {

@@ -33,7 +33,8 @@ impl<T: Copy + Drop> Model for Stack<T> {
 
     ghost view = { λ stack. record { frames = reverse stack.items.items; free = stack.free } };
 
-    ghost invariant = { λ stack. (vec_len stack.items + stack.free ≤ vec_capacity stack.items) × (LEAST_ROOM ≤ vec_len stack.items + stack.free) };
+    ghost invariant = { λ stack. (vec_len stack.items + stack.free ≤ vec_capacity stack.items) ×
+        (LEAST_ROOM ≤ vec_len stack.items + stack.free) };
 }
 
 impl<T: Copy + Drop> Stack<T> {

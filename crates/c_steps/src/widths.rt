@@ -82,7 +82,9 @@ fn number_at(inner: &[usize], node: Option<u32>) -> usize
 /// rule.
 fn own_names(program: &Program, node: u32) -> Result<usize, AllocError>
     requires { node < length program.now.trees }
-    ensures { IfOk result (λ names. names ≡ widths.own_names program.now (kind_of (tree_at program.now.trees node)) (tree_at program.now.trees node)) }
+    ensures { IfOk result (λ names.
+        names ≡ widths.own_names program.now (kind_of (tree_at program.now.trees node))
+        (tree_at program.now.trees node)) }
 {
     let declared = declared_names(program.tree(), node)?;
     let listed = listed_count(program.tree(), node)?;
@@ -94,7 +96,8 @@ fn own_names(program: &Program, node: u32) -> Result<usize, AllocError>
 /// How many names a node declares.
 fn declared_names(tree: &Tree, node: u32) -> Result<usize, AllocError>
     requires { node < length tree.now.trees }
-    ensures { IfOk result (λ names. names ≡ widths.declared_names (kind_of (tree_at tree.now.trees node)) (tree_at tree.now.trees node)) }
+    ensures { IfOk result (λ names.
+        names ≡ widths.declared_names (kind_of (tree_at tree.now.trees node)) (tree_at tree.now.trees node)) }
 {
     match tree.kind(node) {
         NodeKind::Block => declarator_count(tree, node),
@@ -104,10 +107,12 @@ fn declared_names(tree: &Tree, node: u32) -> Result<usize, AllocError>
 }
 
 /// How many declarators a block has.
-#[tactic(auto, using(crate::proofs::InnerNames::declarators_behind), unfolding(c_check::specs::Tasks::from_place, c_model::specs::Parts::flat_declarations))]
+#[tactic(auto, using(crate::proofs::InnerNames::declarators_behind), unfolding(c_check::specs::Tasks::from_place,
+    c_model::specs::Parts::flat_declarations))]
 fn declarator_count(tree: &Tree, block: u32) -> Result<usize, AllocError>
     requires { block < length tree.now.trees }
-    ensures { IfOk result (λ count. count ≡ numbers.declarators_among (flat_declarations (parts (tree_at tree.now.trees block)))) }
+    ensures { IfOk result (λ count.
+        count ≡ numbers.declarators_among (flat_declarations (parts (tree_at tree.now.trees block)))) }
 {
     let (mut count, mut place) = (0usize, 0);
     while let Some(part) = next_part(tree, Some(block), place) {
@@ -121,7 +126,9 @@ fn declarator_count(tree: &Tree, block: u32) -> Result<usize, AllocError>
 /// How many declarators a part of a block stands for.
 fn declarators_of_part(tree: &Tree, part: u32) -> Result<usize, AllocError>
     requires { part < length tree.now.trees }
-    ensures { IfOk result (λ count. count ≡ numbers.declarators_among (declarators_in (kind_of (tree_at tree.now.trees part)) (tree_at tree.now.trees part))) }
+    ensures { IfOk result (λ count.
+        count ≡ numbers.declarators_among (declarators_in (kind_of (tree_at tree.now.trees part))
+        (tree_at tree.now.trees part))) }
 {
     match tree.kind(part) {
         NodeKind::Globals | NodeKind::Locals | NodeKind::Locks => { listed_declarators(tree, part) }
@@ -152,7 +159,8 @@ fn count_of(counts: bool) -> usize
 }
 
 /// The most names that a function may have beside those of the file.
-#[tactic(auto, using(crate::proofs::InnerNames::number_at_is), unfolding(c_check::specs::Tasks::from_place, c_model::specs::Width::most_of_functions))]
+#[tactic(auto, using(crate::proofs::InnerNames::number_at_is), unfolding(c_check::specs::Tasks::from_place,
+    c_model::specs::Width::most_of_functions))]
 pub(crate) fn most_of_functions(program: &Program, inner: &[usize]) -> Result<usize, AllocError>
     requires { inner.now ≡ map (widths.inner_names program.now) program.now.trees }
     ensures { IfOk result (λ most. most ≡ widths.most_of_functions program.now (parts (root_tree program.now))) }

@@ -68,9 +68,11 @@ impl Model for Growth {
     ghost use Rattle.c_syntax.specs.workings.Nodes.{IsBelow};
     ghost use Rattle.c_syntax.specs.workings.Growth.{opened_nodes, AreOpen};
 
-    ghost view = { λ growth. opened_nodes growth.nodes growth.children.items growth.texts.items (growth.inner ∷ reverse growth.outer.items) };
+    ghost view = { λ growth. opened_nodes growth.nodes growth.children.items growth.texts.items (growth.inner ∷
+        reverse growth.outer.items) };
 
-    ghost invariant = { λ growth. AreOpen (growth.inner ∷ reverse growth.outer.items) (length growth.children.items) (length growth.texts.items) × All (IsBelow (length growth.nodes)) growth.children.items };
+    ghost invariant = { λ growth. AreOpen (growth.inner ∷ reverse growth.outer.items) (length growth.children.items)
+        (length growth.texts.items) × All (IsBelow (length growth.nodes)) growth.children.items };
 }
 
 impl Growth {
@@ -230,7 +232,9 @@ fn add_over(
 ) -> Result<u32, AllocError>
     requires first { first < length nodes.old }
     requires children { All (IsBelow (length nodes.old)) children.now }
-    ensures added { IfOk result (λ number. nodes.new ≡ nodes.old ++ tree_node kind (spot_of (tree_at nodes.old first)) 0 0 [] (children_at nodes.old children.now) ∷ []) }
+    ensures added { IfOk result (λ number.
+        nodes.new ≡ nodes.old ++ tree_node kind (spot_of (tree_at nodes.old first)) 0 0 []
+        (children_at nodes.old children.now) ∷ []) }
     ensures number { IfOk result (λ number. number ≡ length nodes.old) }
     ensures err { OnErr result (nodes.new ≡ nodes.old) }
 {

@@ -19,17 +19,20 @@ ghost use Rattle.c_syntax.specs.language.Places.{HasOneConstructAPlace, HasOneNa
 
 /// A program has one tree, whatever the limit of the depth is.
 pub fn one_tree()
-    ensures { (limit : ℕ) (words : List Word) (first second : Tree) → IsProgram limit words first → IsProgram limit words second → first ≡ second }
+    ensures { (limit : ℕ) (words : List Word) (first second : Tree) → IsProgram limit words first →
+        IsProgram limit words second → first ≡ second }
 {}
 
 /// Words have at most one first fault.
 pub fn one_fault()
-    ensures { (words : List Word) (first second : SyntaxFault) → IsFault words first → IsFault words second → first ≡ second }
+    ensures { (words : List Word) (first second : SyntaxFault) → IsFault words first → IsFault words second →
+        first ≡ second }
 {}
 
 /// No words are a program and have a fault.
 pub fn tree_or_fault()
-    ensures { (words : List Word) (tree : Tree) (found : SyntaxFault) → IsProgram depth_limit words tree → IsFault words found → ⊥ }
+    ensures { (words : List Word) (tree : Tree) (found : SyntaxFault) → IsProgram depth_limit words tree →
+        IsFault words found → ⊥ }
 {}
 
 /// Words that end with the end of the text are a program, or have a fault.
@@ -41,15 +44,18 @@ pub fn program_or_fault()
 pub fn one_answer_of_a_text()
     ensures tree_or_fault { (text : List ℕ) (tokens : List Token) → Reads beginning text tokens →
         ((tree : Tree) × Spells text tree) ⊎ ((found : SyntaxFault) × HasSyntaxFault text found) }
-    ensures not_both { (text : List ℕ) (tree : Tree) (found : SyntaxFault) → Spells text tree → HasSyntaxFault text found → ⊥ }
+    ensures not_both { (text : List ℕ) (tree : Tree) (found : SyntaxFault) → Spells text tree →
+        HasSyntaxFault text found → ⊥ }
     ensures one_tree { (text : List ℕ) (first second : Tree) → Spells text first → Spells text second → first ≡ second }
-    ensures one_fault { (text : List ℕ) (first second : SyntaxFault) → HasSyntaxFault text first → HasSyntaxFault text second → first ≡ second }
+    ensures one_fault { (text : List ℕ) (first second : SyntaxFault) → HasSyntaxFault text first →
+        HasSyntaxFault text second → first ≡ second }
 {}
 
 /// The reader's table derives a tree from words exactly where the productions spell it so, whatever the limit of the depth is. So some words more make
 /// the words a program by the one exactly where they do by the other.
 pub fn table_is_the_grammar()
-    ensures spelled { (limit : ℕ) (words : List Word) (tree : Tree) → IsProgram limit words tree ↔ SpellsWithin limit words tree }
+    ensures spelled { (limit : ℕ) (words : List Word) (tree : Tree) → IsProgram limit words tree ↔
+        SpellsWithin limit words tree }
     ensures goes_on { (limit : ℕ) (words : List Word) → GoesOn limit words ↔ CanGoOn limit words }
 {}
 

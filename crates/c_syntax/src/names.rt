@@ -27,8 +27,10 @@ impl<'a> Names<'a> {
     /// The number of a name, which has now appeared.
     pub fn add(&mut self, name: &'a [u8]) -> Result<u32, AllocError>
         requires { hash_map_len self.old.numbers < 2 ^ 32 - 1 }
-        ensures names { OnOk result ((before : List (List ℕ)) → AreNames before self.old → AreNames (with_name before name.now) self.new) }
-        ensures number { IfOk result (λ number. (before : List (List ℕ)) → AreNames before self.old → number ≡ unwrap_or (number_of (with_name before name.now) name.now) 0) }
+        ensures names { OnOk result ((before : List (List ℕ)) → AreNames before self.old →
+            AreNames (with_name before name.now) self.new) }
+        ensures number { IfOk result (λ number. (before : List (List ℕ)) → AreNames before self.old →
+            number ≡ unwrap_or (number_of (with_name before name.now) name.now) 0) }
     {
         if let Some(number) = self.numbers.get(name) {
             return Ok(*number);
@@ -40,7 +42,8 @@ impl<'a> Names<'a> {
 
     /// The number of a name, or 0 where it hasn't appeared.
     pub fn number_of(&self, name: &[u8]) -> u32
-        ensures { (before : List (List ℕ)) → AreNames before self.now → result ≡ unwrap_or (number_of before name.now) 0 }
+        ensures { (before : List (List ℕ)) → AreNames before self.now →
+            result ≡ unwrap_or (number_of before name.now) 0 }
     {
         self.numbers.get(name).copied().unwrap_or(0)
     }

@@ -93,7 +93,9 @@ impl Nodes {
     ) -> Result<u32, AllocError>
         requires number { label.number ≤ 2147483647 }
         requires children { All (IsBelow (length self.old)) children.now }
-        ensures added { IfOk result (λ number. self.new ≡ self.old ++ tree_node label.kind label.spot label.name label.number text.now (children_at self.old children.now) ∷ []) }
+        ensures added { IfOk result (λ number.
+            self.new ≡ self.old ++ tree_node label.kind label.spot label.name label.number text.now
+            (children_at self.old children.now) ∷ []) }
         ensures number { IfOk result (λ number. number ≡ length self.old) }
         ensures err { OnErr result (self.new ≡ self.old) }
     {

@@ -26,7 +26,8 @@ pub fn read_program(alloc: Global, text: &[u8], tokens: &[Token]) -> Result<Tree
     // The words of the text are a program by the productions, and this is its tree.
     ensures tree { IfOk result (λ tree. Spells text.now (root_tree tree)) }
     ensures main { IfOk result (λ tree. tree.main ≡ main_of text.now tokens.now) }
-    ensures end { IfOk result (λ tree. (front : List Token) (last : Token) → tokens.now ≡ front ++ last ∷ [] → tree.end ≡ last.spot) }
+    ensures end { IfOk result (λ tree. (front : List Token) (last : Token) → tokens.now ≡ front ++ last ∷ [] →
+        tree.end ≡ last.spot) }
 
     // The words before the fault can be completed to a program, and with the one at the fault they can't.
     ensures fault { IfErr result (λ fault. fault ≢ SyntaxFault.Memory → HasSyntaxFault text.now fault) }

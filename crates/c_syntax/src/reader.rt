@@ -68,9 +68,11 @@ impl Reader {
     pub fn read(&mut self, source: &[u8], word: Word) -> Result<(), SyntaxFault>
         requires within { IsWithin (length source.now) word }
         requires flat { parentheses_of self.old.at < 2 ^ 64 - 1 }
-        ensures read { OnOk result ((before : List Spelled) → Reaches before (state_of self.old) → Reaches (before ++ word_view source.now word ∷ []) (state_of self.new)) }
+        ensures read { OnOk result ((before : List Spelled) → Reaches before (state_of self.old) →
+            Reaches (before ++ word_view source.now word ∷ []) (state_of self.new)) }
         ensures flat { parentheses_of self.new.at ≤ parentheses_of self.old.at + 1 }
-        ensures fault { IfErr result (λ fault. (before after : List Spelled) → Reaches before (state_of self.old) → MayFault (before ++ word_view source.now word ∷ after) fault) }
+        ensures fault { IfErr result (λ fault. (before after : List Spelled) → Reaches before (state_of self.old) →
+            MayFault (before ++ word_view source.now word ∷ after) fault) }
     {
         while let Some(step) = self.plan.next() {
             match self.does(step, source, word)? {
@@ -85,7 +87,8 @@ impl Reader {
     fn does(&mut self, step: Step, source: &[u8], word: Word) -> Result<Progress, SyntaxFault>
         requires within { IsWithin (length source.now) word }
         requires flat { parentheses_of self.old.at < 2 ^ 64 - 1 }
-        ensures does { Does (word_view source.now word) (with_step step (state_of self.old)) (state_of self.new) result }
+        ensures does { Does (word_view source.now word) (with_step step (state_of self.old))
+            (state_of self.new) result }
         ensures at { HeadsOn self.old.at self.new.at result }
     {
         match step {
@@ -106,7 +109,8 @@ impl Reader {
     /// The next word is this one.
     fn expect(&mut self, term: Term, word: Word) -> Result<Progress, SyntaxFault>
         requires { parentheses_of self.old.at < 2 ^ 64 - 1 }
-        ensures does { (next : Spelled) → IsSeen next word → Does next (with_step (Step.Expect term) (state_of self.old)) (state_of self.new) result }
+        ensures does { (next : Spelled) → IsSeen next word →
+            Does next (with_step (Step.Expect term) (state_of self.old)) (state_of self.new) result }
         ensures at { HeadsOn self.old.at self.new.at result }
     {
         if word.term != term {
@@ -119,7 +123,8 @@ impl Reader {
     /// The next word is this one, and begins something that counts for the depth.
     fn deepen(&mut self, term: Term, word: Word) -> Result<Progress, SyntaxFault>
         requires { parentheses_of self.old.at < 2 ^ 64 - 1 }
-        ensures does { (next : Spelled) → IsSeen next word → Does next (with_step (Step.Deepen term) (state_of self.old)) (state_of self.new) result }
+        ensures does { (next : Spelled) → IsSeen next word →
+            Does next (with_step (Step.Deepen term) (state_of self.old)) (state_of self.new) result }
         ensures at { HeadsOn self.old.at self.new.at result }
     {
         if word.term != term {
@@ -137,7 +142,8 @@ impl Reader {
     fn take(&mut self, which: Class, source: &[u8], word: Word) -> Result<Progress, SyntaxFault>
         requires within { IsWithin (length source.now) word }
         requires flat { parentheses_of self.old.at < 2 ^ 64 - 1 }
-        ensures does { Does (word_view source.now word) (with_step (Step.Take which) (state_of self.old)) (state_of self.new) result }
+        ensures does { Does (word_view source.now word) (with_step (Step.Take which) (state_of self.old))
+            (state_of self.new) result }
         ensures at { HeadsOn self.old.at self.new.at result }
     {
         if !self.at.fits(which, word.term) {
@@ -155,7 +161,8 @@ impl Reader {
     fn keep(&mut self, which: Class, source: &[u8], word: Word) -> Result<(), AllocError>
         requires within { IsWithin (length source.now) word }
         requires fit { fits self.old.at which word.term ≡ true }
-        ensures kept { OnOk result (state_of self.new ≡ record (state_of self.old) { nodes = kept which (word_view source.now word) self.old.growth }) }
+        ensures kept { OnOk result (state_of self.new ≡
+            record (state_of self.old) { nodes = kept which (word_view source.now word) self.old.growth }) }
         ensures at { self.new.at ≡ self.old.at }
     {
         match which {
@@ -175,7 +182,8 @@ impl Reader {
 
     /// The word stands in the head of a directive.
     fn in_head(&mut self, word: Word) -> Result<Progress, SyntaxFault>
-        ensures does { (next : Spelled) → IsSeen next word → Does next (with_step (Step.InHead) (state_of self.old)) (state_of self.new) result }
+        ensures does { (next : Spelled) → IsSeen next word →
+            Does next (with_step (Step.InHead) (state_of self.old)) (state_of self.new) result }
         ensures at { HeadsOn self.old.at self.new.at result }
     {
         if self.at.is_outside() {
@@ -186,7 +194,8 @@ impl Reader {
 
     /// Something of this sort follows: the steps of its rule come next.
     fn begin(&mut self, what: Sort, word: Word) -> Result<Progress, SyntaxFault>
-        ensures does { (next : Spelled) → IsSeen next word → Does next (with_step (Step.Read what) (state_of self.old)) (state_of self.new) result }
+        ensures does { (next : Spelled) → IsSeen next word →
+            Does next (with_step (Step.Read what) (state_of self.old)) (state_of self.new) result }
         ensures at { HeadsOn self.old.at self.new.at result }
     {
         let Some(steps) = choice(what, word.term) else {
@@ -200,7 +209,8 @@ impl Reader {
 
     /// What counted for the depth is over.
     fn rise(&mut self, _word: Word) -> Result<Progress, SyntaxFault>
-        ensures does { (next : Spelled) → IsSeen next _word → Does next (with_step (Step.Rise) (state_of self.old)) (state_of self.new) result }
+        ensures does { (next : Spelled) → IsSeen next _word →
+            Does next (with_step (Step.Rise) (state_of self.old)) (state_of self.new) result }
         ensures at { HeadsOn self.old.at self.new.at result }
     {
         self.depth = self.depth.saturating_sub(1);
@@ -209,7 +219,8 @@ impl Reader {
 
     /// A node begins at the word.
     fn open(&mut self, word: Word) -> Result<Progress, SyntaxFault>
-        ensures does { (next : Spelled) → IsSeen next word → Does next (with_step (Step.Open) (state_of self.old)) (state_of self.new) result }
+        ensures does { (next : Spelled) → IsSeen next word →
+            Does next (with_step (Step.Open) (state_of self.old)) (state_of self.new) result }
         ensures at { HeadsOn self.old.at self.new.at result }
     {
         match self.growth.open(word.spot) {
@@ -220,7 +231,8 @@ impl Reader {
 
     /// The open node is over.
     fn make(&mut self, kind: NodeKind, _word: Word) -> Result<Progress, SyntaxFault>
-        ensures does { (next : Spelled) → IsSeen next _word → Does next (with_step (Step.Make kind) (state_of self.old)) (state_of self.new) result }
+        ensures does { (next : Spelled) → IsSeen next _word →
+            Does next (with_step (Step.Make kind) (state_of self.old)) (state_of self.new) result }
         ensures at { HeadsOn self.old.at self.new.at result }
     {
         match self.growth.make(kind) {
@@ -231,7 +243,8 @@ impl Reader {
 
     /// The open node's last two children become those of a node.
     fn join(&mut self, kind: NodeKind, _word: Word) -> Result<Progress, SyntaxFault>
-        ensures does { (next : Spelled) → IsSeen next _word → Does next (with_step (Step.Join kind) (state_of self.old)) (state_of self.new) result }
+        ensures does { (next : Spelled) → IsSeen next _word →
+            Does next (with_step (Step.Join kind) (state_of self.old)) (state_of self.new) result }
         ensures at { HeadsOn self.old.at self.new.at result }
     {
         match self.growth.join(kind) {
@@ -242,7 +255,8 @@ impl Reader {
 
     /// The open node's last child becomes that of a node.
     fn wrap(&mut self, kind: NodeKind, _word: Word) -> Result<Progress, SyntaxFault>
-        ensures does { (next : Spelled) → IsSeen next _word → Does next (with_step (Step.Wrap kind) (state_of self.old)) (state_of self.new) result }
+        ensures does { (next : Spelled) → IsSeen next _word →
+            Does next (with_step (Step.Wrap kind) (state_of self.old)) (state_of self.new) result }
         ensures at { HeadsOn self.old.at self.new.at result }
     {
         match self.growth.wrap(kind) {
@@ -253,7 +267,8 @@ impl Reader {
 
     /// A child of the open node is absent.
     fn skip(&mut self, _word: Word) -> Result<Progress, SyntaxFault>
-        ensures does { (next : Spelled) → IsSeen next _word → Does next (with_step (Step.Skip) (state_of self.old)) (state_of self.new) result }
+        ensures does { (next : Spelled) → IsSeen next _word →
+            Does next (with_step (Step.Skip) (state_of self.old)) (state_of self.new) result }
         ensures at { HeadsOn self.old.at self.new.at result }
     {
         match self.growth.skip() {

@@ -41,8 +41,11 @@ pub fn words_of(alloc: Global, text: &[u8], tokens: &[Token]) -> Result<Words, A
 fn word_of<'a>(text: &'a [u8], token: Token, names: &mut Names<'a>) -> Result<Word, AllocError>
     requires token { IsTokenOf text.now token }
     requires names { token.kind ≡ TokenKind.Name → AreFewer token.end names.old }
-    ensures names { OnOk result ((before : List (List ℕ)) → AreNames before names.old → AreNames (names_with token.kind before (bytes_of text.now token)) names.new) }
-    ensures word { IfOk result (λ word. (before : List (List ℕ)) → AreNames before names.old → word_view text.now word ≡ word_of (names_with token.kind before (bytes_of text.now token)) token.kind (bytes_of text.now token) token.spot) }
+    ensures names { OnOk result ((before : List (List ℕ)) → AreNames before names.old →
+        AreNames (names_with token.kind before (bytes_of text.now token)) names.new) }
+    ensures word { IfOk result (λ word. (before : List (List ℕ)) → AreNames before names.old →
+        word_view text.now word ≡ word_of (names_with token.kind before (bytes_of text.now token)) token.kind
+        (bytes_of text.now token) token.spot) }
     ensures within { IfOk result (IsWithin (length text.now)) }
 {
     let bytes = &text[token.start as usize..token.end as usize];
@@ -66,7 +69,8 @@ fn quoted(token: Token) -> (u32, u32)
     requires ordered { token.start ≤ token.end }
     requires quoted { token.kind ≡ TokenKind.Text → token.start + 2 ≤ token.end }
     ensures within { (result.0 ≤ result.1) × (result.1 ≤ token.end) }
-    ensures span { (text : List ℕ) → token.end ≤ length text → span text result.0 result.1 ≡ text_of token.kind (bytes_of text token) }
+    ensures span { (text : List ℕ) → token.end ≤ length text →
+        span text result.0 result.1 ≡ text_of token.kind (bytes_of text token) }
 {
     match token.kind {
         TokenKind::Text => (token.start + 1, token.end - 1),

@@ -20,7 +20,8 @@ pub fn reading_is_tokens()
 
 /// A text is read as one list of tokens at most.
 pub fn one_list_of_tokens()
-    ensures { (text : List ℕ) (first second : List Token) → Reads beginning text first → Reads beginning text second → first ≡ second }
+    ensures { (text : List ℕ) (first second : List Token) → Reads beginning text first → Reads beginning text second →
+        first ≡ second }
 {}
 
 /// The fault of a text is that in which its reading ends, and there is no other.
@@ -31,7 +32,10 @@ pub fn faults_end_the_reading()
 
 /// Each text is read as tokens or ends in a fault, none does both, and a text ends in one fault at most.
 pub fn read_or_ended()
-    ensures either { (text : List ℕ) → ((tokens : List Token) × Reads beginning text tokens) ⊎ ((fault : TokenFault) × EndsIn beginning text fault) }
-    ensures not_both { (text : List ℕ) (tokens : List Token) (fault : TokenFault) → Reads beginning text tokens → EndsIn beginning text fault → ⊥ }
-    ensures one_fault { (text : List ℕ) (first second : TokenFault) → EndsIn beginning text first → EndsIn beginning text second → first ≡ second }
+    ensures either { (text : List ℕ) → ((tokens : List Token) × Reads beginning text tokens) ⊎
+        ((fault : TokenFault) × EndsIn beginning text fault) }
+    ensures not_both { (text : List ℕ) (tokens : List Token) (fault : TokenFault) → Reads beginning text tokens →
+        EndsIn beginning text fault → ⊥ }
+    ensures one_fault { (text : List ℕ) (first second : TokenFault) → EndsIn beginning text first →
+        EndsIn beginning text second → first ≡ second }
 {}

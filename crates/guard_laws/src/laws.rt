@@ -27,33 +27,40 @@ pub fn region_ends_name_regions()
     ensures { (run : Run) (history : List Entry) (t r codeptr : ℕ) → 1 ≤ run.threads → run.threads ≤ 16 →
         Checked run.program → IsProgramFormed run.program → Legal run history → enabled (after run history) t ≡ true →
         (turn run (after run history) t).outcome ≡ Happens (ParallelEnd r codeptr) →
-        let W = (turn run (after run history) t).state.world in IsForkedRegion W r × ((region_at W r).head.task ≡ current W t) }
+        let W = (turn run (after run history) t).state.world in IsForkedRegion W r ×
+        ((region_at W r).head.task ≡ current W t) }
 {}
 
 /// This is of a member of a team that has just begun after a legal history. The end of its region stands next in the code of the task that has forked the
 /// region, and its own code is what this code has for a member. So no member begins without its region's code. The run has 1 to 16 threads, and its program breaks no
 /// rule.
 pub fn members_have_code()
-    ensures stands { (run : Run) (history : List Entry) (t r k : ℕ) → 1 ≤ run.threads → run.threads ≤ 16 → Checked run.program →
+    ensures stands { (run : Run) (history : List Entry) (t r k : ℕ) → 1 ≤ run.threads → run.threads ≤ 16 →
+        Checked run.program →
         IsProgramFormed run.program → Legal run history → enabled (after run history) t ≡ true →
         (turn run (after run history) t).outcome ≡ Happens (MemberBegin r k) →
-        let W = (turn run (after run history) t).state.world in has_forked (task_at W (region_at W r).head.task).code.todo ≡ true }
-    ensures code { (run : Run) (history : List Entry) (t r k : ℕ) → 1 ≤ run.threads → run.threads ≤ 16 → Checked run.program →
+        let W = (turn run (after run history) t).state.world in
+        has_forked (task_at W (region_at W r).head.task).code.todo ≡ true }
+    ensures code { (run : Run) (history : List Entry) (t r k : ℕ) → 1 ≤ run.threads → run.threads ≤ 16 →
+        Checked run.program →
         IsProgramFormed run.program → Legal run history → enabled (after run history) t ≡ true →
         (turn run (after run history) t).outcome ≡ Happens (MemberBegin r k) →
-        let W = (turn run (after run history) t).state.world in (task_at W k).code ≡ member_task (task_at W (region_at W r).head.task).code }
+        let W = (turn run (after run history) t).state.world in
+        (task_at W k).code ≡ member_task (task_at W (region_at W r).head.task).code }
 {}
 
 /// Where the next silent step of a thread asks for a chunk or a section, after a legal history and any number of silent steps that the thread makes then, it
 /// is answered what its team deals to it next. So what is dealt fits the loop or the sections that ask, and nothing that the team counts as taken is kept
 /// from the code. The run has 1 to 16 threads, and its program breaks no rule.
 pub fn deals_fit_the_asker()
-    ensures chunk { (run : Run) (history : List Entry) (t steps : ℕ) (construct : Part) → 1 ≤ run.threads → run.threads ≤ 16 →
+    ensures chunk { (run : Run) (history : List Entry) (t steps : ℕ) (construct : Part) → 1 ≤ run.threads →
+        run.threads ≤ 16 →
         Checked run.program → IsProgramFormed run.program → Legal run history →
         let W = (walk run steps 0 (after run history) t).state.world in
         silent run.program (view_of W t) (moment_of W t) ≡ Asks ask.Chunk construct →
         answer_to W t ask.Chunk ≡ answer.Chunk (next_chunk (current_team W t) (current_index W t)) }
-    ensures section { (run : Run) (history : List Entry) (t steps : ℕ) (construct : Part) → 1 ≤ run.threads → run.threads ≤ 16 →
+    ensures section { (run : Run) (history : List Entry) (t steps : ℕ) (construct : Part) → 1 ≤ run.threads →
+        run.threads ≤ 16 →
         Checked run.program → IsProgramFormed run.program → Legal run history →
         let W = (walk run steps 0 (after run history) t).state.world in
         silent run.program (view_of W t) (moment_of W t) ≡ Asks ask.Section construct →

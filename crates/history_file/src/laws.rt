@@ -24,7 +24,8 @@ pub fn one_spelling()
 
 /// Bytes are refused in one way at most.
 pub fn one_refusal()
-    ensures { (bytes : List ℕ) (r s : HistoryReason) (m n : ℕ) → IsHistoryRefused bytes r m → IsHistoryRefused bytes s n →
+    ensures { (bytes : List ℕ) (r s : HistoryReason) (m n : ℕ) → IsHistoryRefused bytes r m →
+        IsHistoryRefused bytes s n →
         (r ≡ s) × (m ≡ n) }
 {}
 
@@ -42,7 +43,8 @@ pub fn longest()
 /// A legal history of 1 to 16 threads, with callbacks that are called always, that ends in a cause, makes a file, which is a certificate of the run. What is
 /// supposed is that the numbers of the entries and of the cause fit their fields, as those of a run do by their types.
 pub fn runs_have_files()
-    ensures { (run : Run) (text : List ℕ) (history : List Entry) (cause : Cause) → 1 ≤ run.threads → run.threads ≤ THREAD_LIMIT →
+    ensures { (run : Run) (text : List ℕ) (history : List Entry) (cause : Cause) → 1 ≤ run.threads →
+        run.threads ≤ THREAD_LIMIT →
         1 ≤ run.steps → run.steps ≤ STEP_LIMIT → AreAlways run.mask → length text ≤ TEXT_LIMIT → Legal run history →
         cause_of run history ≡ Some cause → FitsFile (file_of text run cause history) → FitsCause cause →
         IsHistoryFile (file_of text run cause history) × IsCertificate run (file_of text run cause history) }

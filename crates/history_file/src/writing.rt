@@ -181,9 +181,11 @@ fn put_identity(page: &mut Page, kind: u8, identity: u32)
 /// Writes the page and the end behind it.
 fn write_end<O: Sink>(sink: &mut O, page: &mut Page, file: &HistoryFile) -> Result<(), WriteFault>
     requires { length file.now.history < 2 ^ 32 }
-    ensures whole { OnOk result (Appends (O.held sink.old) (O.held sink.new) (page.old ++ spelling (end_fields file.now))) }
+    ensures whole { OnOk result (Appends (O.held sink.old) (O.held sink.new) (page.old ++
+        spelling (end_fields file.now))) }
     ensures fault { OnErr result (Rose (O.faults sink.old) (O.faults sink.new)) }
-    ensures part { OnErr result (AppendsFront (O.held sink.old) (O.held sink.new) (page.old ++ spelling (end_fields file.now))) }
+    ensures part { OnErr result (AppendsFront (O.held sink.old) (O.held sink.new) (page.old ++
+        spelling (end_fields file.now))) }
     ensures counted { O.faults sink.old ≤ O.faults sink.new }
     ensures steady { OnOk result (O.faults sink.new ≡ O.faults sink.old) }
 {

@@ -16,7 +16,8 @@ use omp_model::Cause;
 /// A legal history of 1 to 16 threads with the callbacks of the profile registered, of a program that breaks no rule, that ends in a cause and leaves no
 /// thread inside a callback, comes to a trace that breaks no rule of the trace checker.
 pub fn runs_are_nested()
-    ensures { (run : Run) (history : List Entry) (cause : Cause) → 1 ≤ run.threads → run.threads ≤ 16 → run.mask ≡ PROFILE_MASK →
+    ensures { (run : Run) (history : List Entry) (cause : Cause) → 1 ≤ run.threads → run.threads ≤ 16 →
+        run.mask ≡ PROFILE_MASK →
         Checked run.program → IsProgramFormed run.program → Legal run history → cause_of run history ≡ Some cause →
         none_pending (after run history) ≡ true →
         let trace = trace_of run cause history in Nested trace.header trace.events trace.end }

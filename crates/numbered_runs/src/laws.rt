@@ -12,5 +12,6 @@ ghost use Rattle.numbered_runs.specs.Alike.{AreAlike};
 /// numbered.
 pub fn numbers_are_free()
     ensures { (run : Run) (other : TreeView) (history : List Entry) → AreAlike run.program other → Legal run history →
-        Legal (record run { program = other }) history × (cause_of (record run { program = other }) history ≡ cause_of run history) }
+        Legal (record run { program = other }) history ×
+        (cause_of (record run { program = other }) history ≡ cause_of run history) }
 {}

@@ -105,7 +105,8 @@ pub(crate) fn begin_explicit(
     requires some { 0 < length blanks.old.items }
     requires created { IsCreation (slice_get (code_of code.now (control_at list.now creator)).todo 0) }
     requires room { HasCells code.now (moment_of code.now (control_at list.now creator) cells.old) }
-    ensures went { moment_of code.now result cells.new ≡ created_by code.now (moment_of code.now (control_at list.now creator) cells.old) }
+    ensures went { moment_of code.now result cells.new ≡
+        created_by code.now (moment_of code.now (control_at list.now creator) cells.old) }
     ensures made { IfSome result (IsMadeFor code.now) }
     ensures blanks { All (IsMadeFor code.now) blanks.new.items }
 {

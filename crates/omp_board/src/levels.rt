@@ -63,7 +63,8 @@ impl Levels {
     /// The levels at the event of the thread. They take no memory.
     pub fn fill(self, board: &Board, thread: u8, event: Event) -> (TaskLevels, RegionLevels)
         ensures tasks { result.0 ≡ snapshots.task_levels board.now.world thread event }
-        ensures regions { result.1 ≡ snapshots.region_levels board.now.world (snapshots.task_levels board.now.world thread event) }
+        ensures regions { result.1 ≡ snapshots.region_levels board.now.world
+            (snapshots.task_levels board.now.world thread event) }
     {
         let Levels {
             mut tasks,
@@ -122,7 +123,8 @@ fn push_stack(
 )
     requires limit { length stack.now ≤ STACK_LIMIT }
     requires room { vec_len levels.old + length stack.now ≤ vec_capacity levels.old }
-    ensures items { levels.new.items ≡ levels.old.items ++ snapshots.levels_from board.now.world thread event owner (reverse stack.now) }
+    ensures items { levels.new.items ≡ levels.old.items ++ snapshots.levels_from board.now.world thread event owner
+        (reverse stack.now) }
     ensures len { vec_len levels.new ≡ vec_len levels.old + length stack.now }
     ensures capacity { vec_capacity levels.old ≤ vec_capacity levels.new }
 {

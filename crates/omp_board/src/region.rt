@@ -44,7 +44,8 @@ impl Region {
     /// What the team answers where the member meets this next.
     #[inline(always)]
     pub fn meeting_answer(&self, member: u8, what: Meeting) -> Result<bool, Mismatch>
-        ensures { result ≡ if has_member (team_of self.now) member then answer_to_meet (team_of self.now) member what else Ok false }
+        ensures { result ≡ if has_member (team_of self.now) member then answer_to_meet (team_of self.now) member what
+            else Ok false }
     {
         match &self.team {
             Some(team) if u32::from(member) < team.size() => team.meeting_answer(
@@ -59,9 +60,11 @@ impl Region {
     pub fn meet(&mut self, member: u8, what: Meeting)
         requires room { HasRoom self.old 1 }
         requires chunk { HasChunk what }
-        requires same { IsTrue (has_member (team_of self.old) member) → IsOk (answer_to_meet (team_of self.old) member what) }
+        requires same { IsTrue (has_member (team_of self.old) member) →
+            IsOk (answer_to_meet (team_of self.old) member what) }
         ensures { seen_region self.new ≡ record (seen_region self.old) {
-          team = if has_member (team_of self.old) member then after_meeting (team_of self.old) member what else team_of self.old;
+          team = if has_member (team_of self.old) member then after_meeting (team_of self.old) member what
+            else team_of self.old;
         } }
     {
         if let Some(team) = &mut self.team {
@@ -74,9 +77,11 @@ impl Region {
     /// The member takes the next chunk of the loop that it met last: its first iteration, counted from 0, and its length. There is none where no
     /// iteration is left for the member.
     pub fn next_chunk(&mut self, member: u8) -> Option<(u64, u64)>
-        ensures answer { result ≡ if has_member (team_of self.old) member then next_chunk (team_of self.old) member else None }
+        ensures answer { result ≡ if has_member (team_of self.old) member then next_chunk (team_of self.old) member
+            else None }
         ensures taken { seen_region self.new ≡ record (seen_region self.old) {
-          team = if has_member (team_of self.old) member then after_chunk (team_of self.old) member else team_of self.old;
+          team = if has_member (team_of self.old) member then after_chunk (team_of self.old) member
+            else team_of self.old;
         } }
         ensures room { room_of self.new ≡ room_of self.old }
     {
@@ -88,9 +93,11 @@ impl Region {
 
     /// The member takes the next section of the construct that it met last: its number, counted from 0. There is none where each was taken.
     pub fn next_section(&mut self, member: u8) -> Option<u32>
-        ensures answer { result ≡ if has_member (team_of self.old) member then next_section (team_of self.old) member else None }
+        ensures answer { result ≡ if has_member (team_of self.old) member then next_section (team_of self.old) member
+            else None }
         ensures taken { seen_region self.new ≡ record (seen_region self.old) {
-          team = if has_member (team_of self.old) member then after_section (team_of self.old) member else team_of self.old;
+          team = if has_member (team_of self.old) member then after_section (team_of self.old) member
+            else team_of self.old;
         } }
         ensures room { room_of self.new ≡ room_of self.old }
     {
@@ -103,7 +110,8 @@ impl Region {
     /// The member begins to wait at the barrier that it met last.
     #[inline(always)]
     pub fn arrive(&mut self, member: u8)
-        ensures begun { seen_region self.new ≡ record (seen_region self.old) { team = with_begun (team_of self.old) member } }
+        ensures begun { seen_region self.new ≡
+            record (seen_region self.old) { team = with_begun (team_of self.old) member } }
         ensures room { room_of self.new ≡ room_of self.old }
     {
         if let Some(team) = &mut self.team {
@@ -115,7 +123,8 @@ impl Region {
 
     /// The member's wait at the barrier that it met last ends.
     pub fn pass(&mut self, member: u8)
-        ensures passed { seen_region self.new ≡ record (seen_region self.old) { team = with_passed (team_of self.old) member } }
+        ensures passed { seen_region self.new ≡
+            record (seen_region self.old) { team = with_passed (team_of self.old) member } }
         ensures room { room_of self.new ≡ room_of self.old }
     {
         if let Some(team) = &mut self.team {

@@ -140,7 +140,8 @@ impl Regions {
 
     /// Whether all members of the region have left it.
     pub fn all_left(&self, region: u32) -> bool
-        ensures { result ≡ list_all (λ (flag : Bool). flag) (take (region_in self.now region).head.size (region_in self.now region).head.left) }
+        ensures { result ≡ list_all (λ (flag : Bool). flag)
+            (take (region_in self.now region).head.size (region_in self.now region).head.left) }
     {
         match self.list.get(region as usize) {
             Some(kept) => all_left(&kept.head),
@@ -163,7 +164,8 @@ impl Regions {
         requires room { 0 < self.old.room.regions }
         requires some { 1 ≤ size }
         requires few { size ≤ TEAM_LIMIT }
-        ensures { self.new ≡ record self.old { regions = self.old.regions ++ fresh_region task size ∷ []; room = record self.old.room { regions = 0 } } }
+        ensures { self.new ≡ record self.old { regions = self.old.regions ++ fresh_region task size ∷ [];
+            room = record self.old.room { regions = 0 } } }
     {
         self.room.regions = 0;
         let mut team = self.fresh.take().unwrap();
@@ -178,7 +180,9 @@ impl Regions {
 
     /// The member with this number has begun, with this implicit task.
     pub fn begin_member(&mut self, region: u32, member: u8, task: u32)
-        ensures { self.new ≡ with_head_in self.old region (record (region_in self.old region).head { members = slice_set (region_in self.old region).head.members member task }) }
+        ensures { self.new ≡ with_head_in self.old region
+            (record (region_in self.old region).head { members = slice_set
+            (region_in self.old region).head.members member task }) }
     {
         let Some(kept) = self.list.get_mut(region as usize) else {
             return;
@@ -188,7 +192,9 @@ impl Regions {
 
     /// The member with this number has left.
     pub fn leave(&mut self, region: u32, member: u8)
-        ensures { self.new ≡ with_head_in self.old region (record (region_in self.old region).head { left = slice_set (region_in self.old region).head.left member true }) }
+        ensures { self.new ≡ with_head_in self.old region
+            (record (region_in self.old region).head { left = slice_set
+            (region_in self.old region).head.left member true }) }
     {
         let Some(kept) = self.list.get_mut(region as usize) else {
             return;
@@ -233,7 +239,8 @@ impl Regions {
         requires room { 0 < self.old.room.meetings }
         requires chunk { HasChunk what }
         requires same { IsOk (meeting_in self.old region member what) }
-        ensures { self.new ≡ record (after_meeting_in self.old region member what) { room = record self.old.room { meetings = 0 } } }
+        ensures { self.new ≡ record (after_meeting_in self.old region member what)
+            { room = record self.old.room { meetings = 0 } } }
     {
         self.room.meetings = 0;
         let Some(kept) = self.list.get_mut(region as usize) else {
@@ -282,7 +289,8 @@ impl Regions {
 
     /// Whether the member's wait at the barrier that it met last may end, while so many explicit tasks of the region are unfinished.
     pub fn may_pass(&self, region: u32, member: u8, unfinished: u32) -> bool
-        ensures { result ≡ (is_member_in self.now region member && may_pass (team_in self.now region) member unfinished) }
+        ensures { result ≡ (is_member_in self.now region member && may_pass
+            (team_in self.now region) member unfinished) }
     {
         match self.list.get(region as usize) {
             Some(kept) => kept.may_pass(member, unfinished),

@@ -63,7 +63,8 @@ fn acquire_state(board: &Board, thread: u8, kind: MutexKind) -> u16
 
 /// The state of a thread that goes back to its current task.
 fn resumed_state(board: &Board, thread: u8) -> u16
-    ensures { result ≡ snapshots.resumed_state board.now.world thread (task_at board.now.world (current board.now.world thread)).code.todo }
+    ensures { result ≡ snapshots.resumed_state board.now.world thread
+        (task_at board.now.world (current board.now.world thread)).code.todo }
 {
     let task = board.current(thread);
     match board.standing(task) {

@@ -90,11 +90,13 @@ impl Model for Tasks {
       program = tasks.code;
       tasks = seen_tasks tasks.code tasks.list.items;
       store = tasks.cells;
-      room = record { task = tasks.room.task; steps = tasks.room.steps; passes = tasks.room.passes; tasks = tasks.room.tasks };
+      room = record { task = tasks.room.task; steps = tasks.room.steps; passes = tasks.room.passes;
+        tasks = tasks.room.tasks };
     } };
 
     ghost invariant = { λ tasks. IsKept tasks.code tasks.list.items (vec_capacity tasks.list) tasks.blanks.items
-        (record { task = tasks.room.task; steps = tasks.room.steps; passes = tasks.room.passes; tasks = tasks.room.tasks }) };
+        (record { task = tasks.room.task; steps = tasks.room.steps; passes = tasks.room.passes;
+        tasks = tasks.room.tasks }) };
 }
 
 impl Tasks {
@@ -218,7 +220,8 @@ impl Tasks {
     #[tactic(auto, unfolding(c_model::specs::Step::items_from_next))]
     #[inline(always)]
     pub fn upcoming_at_once(&self, task: u32) -> Option<Upcoming>
-        ensures { (view : SeenView) → IfSome result (λ coming. upcoming.upcoming_of view (code_in self.now task) ≡ coming) }
+        ensures { (view : SeenView) → IfSome result (λ coming. upcoming.upcoming_of view (code_in self.now task) ≡
+            coming) }
     {
         match self.code_of(task) {
             Some((_, control)) => control.upcoming_at_once(),
@@ -301,7 +304,8 @@ impl Tasks {
     /// The place of a section as tools are told it, counted from 0, of the construct with this node.
     pub fn section_place(&self, construct: u32, section: u32) -> u64
         requires { construct < length self.now.program.trees }
-        ensures { result ≡ place_of (slice_index_or (statements_among (parts (tree_at self.now.program.trees construct))) section nothing) }
+        ensures { result ≡ place_of (slice_index_or
+            (statements_among (parts (tree_at self.now.program.trees construct))) section nothing) }
     {
         self.code.section_place(construct, section)
     }
@@ -311,8 +315,10 @@ impl Tasks {
     pub fn step(&mut self, task: u32, view: View) -> Next
         requires view { HasNumbers view }
         requires room { HasSteps self.old.room task }
-        ensures outcome { outcome_at self.old.program result (moment_in self.new task) ≡ silent self.old.program view (moment_in self.old task) }
-        ensures rest { self.new ≡ record (gone_in self.old task (moment_in self.new task)) { room = room_after result self.old.room } }
+        ensures outcome { outcome_at self.old.program result (moment_in self.new task) ≡
+            silent self.old.program view (moment_in self.old task) }
+        ensures rest { self.new ≡ record
+            (gone_in self.old task (moment_in self.new task)) { room = room_after result self.old.room } }
         ensures still { IsStill result → moment_in self.new task ≡ settled_moment view (moment_in self.old task) }
         ensures fits { FitsProgram self.old.program result }
         ensures named { IsNamedIn self.old.program result (code_in self.new task).todo }
@@ -353,7 +359,8 @@ impl Tasks {
     pub fn give(&mut self, task: u32, answer: Answer)
         requires room { HasSteps self.old.room task }
         requires asked { AnswersFirst (code_in self.old task).todo answer }
-        ensures { self.new ≡ record (gone_in self.old task (settled_after_answer answer (moment_in self.old task))) { room = one_step_less self.old.room } }
+        ensures { self.new ≡ record (gone_in self.old task (settled_after_answer answer (moment_in self.old task)))
+            { room = one_step_less self.old.room } }
     {
         let Some(kept) = self.list.get_mut(task as usize) else {
             return;
@@ -369,7 +376,8 @@ impl Tasks {
     pub fn pass(&mut self, task: u32, point: Point, node: u32, executes: bool)
         requires room { HasPass self.old.room task }
         requires event { IsEventOfNext self.old.program point node (code_in self.old task).todo }
-        ensures { self.new ≡ record (with_code_in self.old task (settled_after_event point executes (code_in self.old task))) { room = one_pass_less self.old.room } }
+        ensures { self.new ≡ record (with_code_in self.old task
+            (settled_after_event point executes (code_in self.old task))) { room = one_pass_less self.old.room } }
     {
         let Some(kept) = self.list.get_mut(task as usize) else {
             return;
@@ -396,7 +404,8 @@ impl Tasks {
         requires room { 0 < self.old.room.tasks }
         requires created { IsCreation (slice_get (code_in self.old creator).todo 0) }
         requires cells { HasCells self.old.program (moment_in self.old creator) }
-        ensures task { self.new.tasks ≡ (with_one_more self.old (created_by self.old.program (moment_in self.old creator)).task).tasks }
+        ensures task { self.new.tasks ≡
+            (with_one_more self.old (created_by self.old.program (moment_in self.old creator)).task).tasks }
         ensures rest { self.new ≡ record self.old {
           tasks = self.new.tasks;
           store = (created_by self.old.program (moment_in self.old creator)).store;

@@ -47,7 +47,8 @@ impl Model for Machine {
 
     ghost coded = { standing_code };
 
-    ghost view = { λ machine. record { run = run_in machine.state.program machine.settings; state = machine.state.state } };
+    ghost view = { λ machine. record { run = run_in machine.state.program machine.settings;
+        state = machine.state.state } };
 
     ghost invariant = { λ machine. IsSound (run_in machine.state.program machine.settings) machine.state.state };
 }
@@ -66,7 +67,9 @@ impl Machine {
         requires few { threads ≤ 16 }
         requires steps { 1 ≤ steps }
         requires bounded { steps ≤ 30000000 }
-        ensures { IfOk result (λ machine. machine ≡ (let run : Run = record { program = program; mask = mask; threads = threads; steps = steps } in record { run = run; state = first run })) }
+        ensures { IfOk result (λ machine.
+            machine ≡ (let run : Run = record { program = program; mask = mask; threads = threads; steps = steps } in
+            record { run = run; state = first run })) }
     {
         let settings = Settings {
             mask,
@@ -147,7 +150,8 @@ impl Machine {
     /// The first enabled thread from `next` on, round and round, with what it comes to.
     pub fn first_ready(&self, next: u8) -> Option<Ready>
         requires { next ≤ self.now.run.threads }
-        ensures thread { option_map (λ (ready : Ready). ready.thread) result ≡ first_enabled self.now.run self.now.state next }
+        ensures thread { option_map (λ (ready : Ready). ready.thread) result ≡
+            first_enabled self.now.run self.now.state next }
         ensures arrival { IfSome result (λ ready. ready.arrival ≡ arrival self.now.state.world ready.thread) }
     {
         match self.ready_among(next, self.settings.threads) {
@@ -158,7 +162,8 @@ impl Machine {
 
     /// The first enabled thread from `from` on, before `end`, with what it comes to.
     fn ready_among(&self, from: u8, end: u8) -> Option<Ready>
-        ensures thread { option_map (λ (ready : Ready). ready.thread) result ≡ enabled_among self.now.state from (end - from) }
+        ensures thread { option_map (λ (ready : Ready). ready.thread) result ≡
+            enabled_among self.now.state from (end - from) }
         ensures arrival { IfSome result (λ ready. ready.arrival ≡ arrival self.now.state.world ready.thread) }
     {
         for thread in from..end {
@@ -196,7 +201,8 @@ impl Machine {
     /// Where it finds no memory, nothing has changed.
     pub fn go(&mut self, thread: u8) -> Result<Went, Memory>
         requires { IsTrue (enabled self.old.state thread) }
-        ensures turn { OnOk result (self.new ≡ record self.old { state = (turn self.old.run self.old.state thread).state }) }
+        ensures turn { OnOk result (self.new ≡
+            record self.old { state = (turn self.old.run self.old.state thread).state }) }
         ensures went { IfOk result (λ went. went ≡ went_of self.old.run self.old.state thread) }
         ensures waits { IfOk result (λ went. IsTrue (is_call went) → IsSome (pending_at self.new.state thread)) }
         ensures err { OnErr result (self.new ≡ self.old) }
@@ -209,7 +215,8 @@ impl Machine {
     pub fn go_ready(&mut self, ready: Ready) -> Result<Went, Memory>
         requires enabled { IsTrue (enabled self.old.state ready.thread) }
         requires arrival { ready.arrival ≡ arrival self.old.state.world ready.thread }
-        ensures turn { OnOk result (self.new ≡ record self.old { state = (turn self.old.run self.old.state ready.thread).state }) }
+        ensures turn { OnOk result (self.new ≡
+            record self.old { state = (turn self.old.run self.old.state ready.thread).state }) }
         ensures went { IfOk result (λ went. went ≡ went_of self.old.run self.old.state ready.thread) }
         ensures waits { IfOk result (λ went. IsTrue (is_call went) → IsSome (pending_at self.new.state ready.thread)) }
         ensures err { OnErr result (self.new ≡ self.old) }

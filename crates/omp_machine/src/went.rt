@@ -28,7 +28,8 @@ pub enum Went {
 /// An event is told where its callback is registered, with what can be inquired during it.
 pub fn told(mask: u64, board: &Board, thread: u8, event: Event, levels: &mut Option<Levels>) -> Went
     requires { IsSome levels.old }
-    ensures { result ≡ told mask (calls.callback_of event) (calls.call_of board.now.world thread event) (snap_of board.now.world thread event) }
+    ensures { result ≡ told mask (calls.callback_of event) (calls.call_of board.now.world thread event)
+        (snap_of board.now.world thread event) }
 {
     if is_registered(mask, callback_of(event)) {
         Went::Told(

@@ -48,7 +48,8 @@ pub fn calls_are_of_their_callbacks()
 pub fn serial_history_is_one()
     ensures one { (run : Run) (history other : List Entry) → WholeSerial run history → WholeSerial run other →
         StoresNothing history → StoresNothing other → history ≡ other }
-    ensures named { (run : Run) (history : List Entry) → WholeSerial run history → StoresNothing history → serial run ≡ history }
+    ensures named { (run : Run) (history : List Entry) → WholeSerial run history → StoresNothing history →
+        serial run ≡ history }
 {}
 
 /// With the callbacks of the profile registered, a million silent steps and 1 to 16 threads, the serial run of the smallest program, whose main returns
@@ -63,7 +64,8 @@ pub fn empty_program_ends()
 /// that threads are to start; the regions that tasks are in or have forked and those that threads are to join, each of which was forked; the tasks that
 /// have encountered a region; and what the events of pending callbacks name. There are as many threads as the run has, and the pool has each task.
 pub fn what_a_run_names_was_made()
-    ensures { (run : Run) (history : List Entry) → 1 ≤ run.threads → Legal run history → IsMadeState run (after run history) }
+    ensures { (run : Run) (history : List Entry) → 1 ≤ run.threads → Legal run history →
+        IsMadeState run (after run history) }
 {}
 
 /// Where an event has just occurred after a legal history, each word of its call is of a thread, region or task that was made, or of none. The words
@@ -72,17 +74,21 @@ pub fn what_a_tool_hears_was_made()
     ensures called { (run : Run) (history : List Entry) (t : ℕ) (event : Event) → 1 ≤ run.threads → Legal run history →
         (turn run (after run history) t).outcome ≡ Happens event →
         let W = (turn run (after run history) t).state.world in IsMadeCall W (call_of W t event) }
-    ensures inquired { (run : Run) (history : List Entry) (t : ℕ) (event : Event) → 1 ≤ run.threads → Legal run history →
+    ensures inquired { (run : Run) (history : List Entry) (t : ℕ) (event : Event) → 1 ≤ run.threads →
+        Legal run history →
         (turn run (after run history) t).outcome ≡ Happens event →
         let W = (turn run (after run history) t).state.world in IsMadeSnapshot W (snap_of W t event) }
-    ensures stored { (run : Run) (history : List Entry) (t : ℕ) (event : Event) (place : WordAt) (found : Target) → 1 ≤ run.threads →
+    ensures stored { (run : Run) (history : List Entry) (t : ℕ) (event : Event) (place : WordAt) (found : Target) →
+        1 ≤ run.threads →
         Legal run history → (turn run (after run history) t).outcome ≡ Happens event →
-        let W = (turn run (after run history) t).state.world in target_of (snap_of W t event) place ≡ Some found → IsMade W found }
+        let W = (turn run (after run history) t).state.world in target_of (snap_of W t event) place ≡ Some found →
+        IsMade W found }
 {}
 
 /// Where an event of which a tool hears has just occurred after a legal history, the stores of its reply may stand next, in turn, whatever the reply.
 pub fn stores_of_replies_may_stand()
-    ensures { (run : Run) (history : List Entry) (t : ℕ) (event : Event) (reply : Reply) → 1 ≤ run.threads → Legal run history →
+    ensures { (run : Run) (history : List Entry) (t : ℕ) (event : Event) (reply : Reply) → 1 ≤ run.threads →
+        Legal run history →
         (turn run (after run history) t).outcome ≡ Happens event → is_registered run.mask (callback_of event) ≡ true →
         let S = (turn run (after run history) t).state in MayStore run S t (stores_of reply (snap_of S.world t event)) }
 {}
@@ -95,7 +101,8 @@ pub fn threads_with_tasks_are_members()
         1 ≤ current (after run history).world t → is_member (after run history).world t ≡ true }
     ensures after_steps { (run : Run) (history : List Entry) (t count : ℕ) → 1 ≤ run.threads → Legal run history →
         let W = (walk run count 0 (after run history) t).state.world in 1 ≤ current W t → is_member W t ≡ true }
-    ensures teams { (run : Run) (history : List Entry) (r : ℕ) → 1 ≤ run.threads → run.threads ≤ TEAM_LIMIT → Legal run history →
+    ensures teams { (run : Run) (history : List Entry) (r : ℕ) → 1 ≤ run.threads → run.threads ≤ TEAM_LIMIT →
+        Legal run history →
         IsRegion (after run history).world r → IsTeam (region_at (after run history).world r) }
 {}
 
@@ -104,9 +111,12 @@ pub fn threads_with_tasks_are_members()
 /// further. So whatever is to start or to finish at the Go of an event beside all code does so, and so does whatever is to become ready or to finish at
 /// a Back: its condition is never one in which the definitions leave it as it is.
 pub fn tasks_are_orderly()
-    ensures after_entries { (run : Run) (history : List Entry) → 1 ≤ run.threads → Legal run history → IsOrderly (after run history) }
-    ensures at_gos { (run : Run) (history : List Entry) (t count : ℕ) (event : Event) → 1 ≤ run.threads → Legal run history →
+    ensures after_entries { (run : Run) (history : List Entry) → 1 ≤ run.threads → Legal run history →
+        IsOrderly (after run history) }
+    ensures at_gos { (run : Run) (history : List Entry) (t count : ℕ) (event : Event) → 1 ≤ run.threads →
+        Legal run history →
         let W = (walk run count 0 (after run history) t).state.world in arrival W t ≡ Meets event → GoActs W t event }
-    ensures at_backs { (run : Run) (history : List Entry) (t : ℕ) (callback : Callback) → 1 ≤ run.threads → Legal run history →
+    ensures at_backs { (run : Run) (history : List Entry) (t : ℕ) (callback : Callback) → 1 ≤ run.threads →
+        Legal run history →
         pending_at (after run history) t ≡ Some callback → BackActs (after run history).world callback.event }
 {}

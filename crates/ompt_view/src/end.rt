@@ -76,7 +76,8 @@ fn line_of_view(viewed: Viewed) -> ArrayString<160>
 
 /// The line that tells a refused trace, with its newline.
 fn line_of_refusal(refusal: Refusal) -> ArrayString<160>
-    ensures { result.bytes ≡ codes "trace refused " ++ decimal (number_of_reason refusal.reason) ++ codes " at " ++ decimal refusal.offset ++ 10 ∷ [] }
+    ensures { result.bytes ≡ codes "trace refused " ++ decimal (number_of_reason refusal.reason) ++ codes " at " ++
+        decimal refusal.offset ++ 10 ∷ [] }
 {
     let mut digits = Buffer::new();
     let mut line = line_with("trace refused ");

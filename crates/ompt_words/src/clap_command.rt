@@ -114,7 +114,8 @@ fn with_runner<'a>(
     example: &'a str,
 ) -> Result<Command<'a>, AllocError>
     requires { (out-Command line).has_globals ≡ false }
-    ensures app { IfOk result (λ command. app_of command ≡ with_subcommand (app_of line.entry) (runner name.entry.now)) }
+    ensures app { IfOk result (λ command.
+        app_of command ≡ with_subcommand (app_of line.entry) (runner name.entry.now)) }
     ensures local { IfOk result (λ command. (out-Command command).has_globals ≡ false) }
 {
     let more = runner(alloc, name, about, example)?;
@@ -130,7 +131,8 @@ fn with_reader<'a>(
     example: &'a str,
 ) -> Result<Command<'a>, AllocError>
     requires { (out-Command line).has_globals ≡ false }
-    ensures app { IfOk result (λ command. app_of command ≡ with_subcommand (app_of line.entry) (reader name.entry.now)) }
+    ensures app { IfOk result (λ command.
+        app_of command ≡ with_subcommand (app_of line.entry) (reader name.entry.now)) }
     ensures local { IfOk result (λ command. (out-Command command).has_globals ≡ false) }
 {
     let more = reader(alloc, name, about, example)?;

@@ -19,7 +19,8 @@ use std::alloc::Global;
 pub fn request_of(alloc: Global, words: &[String]) -> Result<Request, WordsFault>
     ensures read { IfOk result (AreReadAs (map string_bytes words.now)) }
     ensures usage { result ≡ Err WordsFault.Usage → AreWrong (map string_bytes words.now) }
-    ensures shown { (text : String Global) → result ≡ Err (WordsFault.Shown text) → AskForText (map string_bytes words.now) }
+    ensures shown { (text : String Global) → result ≡ Err (WordsFault.Shown text) →
+        AskForText (map string_bytes words.now) }
     ensures exact { (request : Request) → AreReadAs (map string_bytes words.now) request →
         MatchResult result (λ given. given ≡ request) (λ fault. fault ≡ WordsFault.Memory) }
     ensures form { (form : InForm (map string_bytes words.now)) →
@@ -58,8 +59,10 @@ pub fn request_of(alloc: Global, words: &[String]) -> Result<Request, WordsFault
 
 /// The settings of a command that generates its program, in its matches.
 fn generator_settings(matches: &ArgMatches<'_>) -> Settings
-    ensures command { result.command ≡ Command.Generate (number_in 1 400 1 (one_text (found_of matches.now) (codes "blocks"))) }
-    ensures threads { result.threads ≡ number_in 1 16 default_threads (one_text (found_of matches.now) (codes "threads")) }
+    ensures command { result.command ≡
+        Command.Generate (number_in 1 400 1 (one_text (found_of matches.now) (codes "blocks"))) }
+    ensures threads { result.threads ≡
+        number_in 1 16 default_threads (one_text (found_of matches.now) (codes "threads")) }
     ensures steps { result.steps ≡ default_steps }
     ensures serial { result.serial ≡ true }
     ensures some { 1 ≤ result.threads }
@@ -76,8 +79,10 @@ fn generator_settings(matches: &ArgMatches<'_>) -> Settings
 /// The settings of a command that runs a program which it reads, in its matches.
 fn settings_in(command: Command, matches: &ArgMatches<'_>) -> Settings
     ensures command { result.command ≡ command }
-    ensures threads { result.threads ≡ number_in 1 16 default_threads (one_text (found_of matches.now) (codes "threads")) }
-    ensures steps { result.steps ≡ number_in 1 30000000 default_steps (one_text (found_of matches.now) (codes "steps")) }
+    ensures threads { result.threads ≡
+        number_in 1 16 default_threads (one_text (found_of matches.now) (codes "threads")) }
+    ensures steps { result.steps ≡ number_in 1 30000000 default_steps
+        (one_text (found_of matches.now) (codes "steps")) }
     ensures serial { result.serial ≡ flag_in (one_text (found_of matches.now) (codes "serial")) }
     ensures some { 1 ≤ result.threads }
     ensures few { result.threads ≤ 16 }
@@ -139,7 +144,8 @@ fn blocks_in(matches: &ArgMatches<'_>) -> u16
 /// What the matches of `run` say that it writes. A run has one output, so both flags together say none.
 fn output_in(matches: &ArgMatches<'_>) -> Option<RunOutput>
     ensures output { IfSome result (λ output.
-        IsOutput output (flag_in (one_text (found_of matches.now) (codes "history"))) (flag_in (one_text (found_of matches.now) (codes "profile")))) }
+        IsOutput output (flag_in (one_text (found_of matches.now) (codes "history")))
+        (flag_in (one_text (found_of matches.now) (codes "profile")))) }
     ensures history { IsNone result → flag_in (one_text (found_of matches.now) (codes "history")) ≡ true }
     ensures profile { IsNone result → flag_in (one_text (found_of matches.now) (codes "profile")) ≡ true }
 {

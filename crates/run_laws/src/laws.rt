@@ -22,7 +22,8 @@ pub fn histories_are_bounded()
 /// A serial run is a function of what its tools store: two serial histories to the end in which the same is stored after each turn, and so within each callback,
 /// are the same.
 pub fn replies_fix_a_serial_run()
-    ensures { (run : Run) (history other : List Entry) → WholeSerial run history → WholeSerial run other → replies_of history ≡ replies_of other →
+    ensures { (run : Run) (history other : List Entry) → WholeSerial run history → WholeSerial run other →
+        replies_of history ≡ replies_of other →
         history ≡ other }
 {}
 
@@ -40,8 +41,10 @@ pub fn words_are_last_stored()
 /// none where no tool is told of the event. Such are the stores of any replies of the tools. And each serial history to the end ends in a cause. For there to be
 /// a history the run has to have a thread.
 pub fn answers_make_one_serial_run()
-    ensures there_is { (run : Run) (answer : Answering) → 1 ≤ run.threads → MayAnswer run answer → AnsweredRun run answer }
-    ensures one { (run : Run) (answer : Answering) (history other : List Entry) → WholeSerial run history → WholeSerial run other →
+    ensures there_is { (run : Run) (answer : Answering) → 1 ≤ run.threads → MayAnswer run answer →
+        AnsweredRun run answer }
+    ensures one { (run : Run) (answer : Answering) (history other : List Entry) → WholeSerial run history →
+        WholeSerial run other →
         Answers run answer history → Answers run answer other → history ≡ other }
     ensures of_replies { (run : Run) (reply : Replying) → 1 ≤ run.threads → MayAnswer run (stores_told run reply) }
     ensures ended { (run : Run) (history : List Entry) → WholeSerial run history → IsSome (cause_of run history) }

@@ -18,7 +18,9 @@ use omp_model::Cause;
 /// below the limit of traces, each call has only arguments of the format, and each trap and limit has a number of the format. What is supposed is that
 /// the numbers of the records fit their fields, as those of a run do by their types.
 pub fn runs_have_traces()
-    ensures { (run : Run) (history : List Entry) (cause : Cause) → 1 ≤ run.threads → run.threads ≤ 16 → run.mask ≡ PROFILE_MASK →
-        Legal run history → cause_of run history ≡ Some cause → All FitsFields (records_of run history) → FitsCause cause →
+    ensures { (run : Run) (history : List Entry) (cause : Cause) → 1 ≤ run.threads → run.threads ≤ 16 →
+        run.mask ≡ PROFILE_MASK →
+        Legal run history → cause_of run history ≡ Some cause → All FitsFields (records_of run history) →
+        FitsCause cause →
         IsTrace (trace_of run cause history) }
 {}

@@ -47,7 +47,9 @@ impl Blank {
         requires few { threads ≤ 16 }
         requires steps { 1 ≤ steps }
         requires bounded { steps ≤ 30000000 }
-        ensures { IfOk result (λ blank. blank.run ≡ (let run : Run = record { program = program; mask = mask; threads = threads; steps = steps } in run)) }
+        ensures { IfOk result (λ blank.
+            blank.run ≡ (let run : Run = record { program = program; mask = mask; threads = threads; steps = steps } in
+            run)) }
     {
         let (words, seat) = new_table(alloc)?;
         let book = Book::start(alloc, program, mask, threads, steps)?;

@@ -73,7 +73,8 @@ impl Book {
         requires few { threads ≤ 16 }
         requires steps { 1 ≤ steps }
         requires bounded { steps ≤ 30000000 }
-        ensures { IfOk result (λ book. book ≡ (let run : Run = record { program = program; mask = mask; threads = threads; steps = steps } in record { run = run; history = []; ended = false })) }
+        ensures { IfOk result (λ book. book ≡ (let run : Run = record { program = program; mask = mask;
+            threads = threads; steps = steps } in record { run = run; history = []; ended = false })) }
     {
         let machine = Machine::new(alloc, program, mask, threads, steps)?;
         Ok(Book {
@@ -129,7 +130,8 @@ impl Book {
     /// The first enabled thread from `next` on, round and round, with what it comes to.
     pub fn first_ready(&self, next: u8) -> Option<Ready>
         requires { next ≤ self.now.run.threads }
-        ensures thread { option_map (λ (ready : Ready). ready.thread) result ≡ first_enabled self.now.run (state_of self.now) next }
+        ensures thread { option_map (λ (ready : Ready). ready.thread) result ≡
+            first_enabled self.now.run (state_of self.now) next }
         ensures arrival { IfSome result (λ ready. ready.arrival ≡ arrival (state_of self.now).world ready.thread) }
     {
         self.machine.first_ready(next)
@@ -267,7 +269,8 @@ fn put_store(
 )
     requires room { 0 < entries.old.room }
     requires may { MayStore machine.old.run machine.old.state thread (stored_of snapshot.now store) }
-    ensures machine { machine.new ≡ record machine.old { state = put_all machine.old.state thread (stored_of snapshot.now store) } }
+    ensures machine { machine.new ≡
+        record machine.old { state = put_all machine.old.state thread (stored_of snapshot.now store) } }
     ensures entries { entries.new.entries ≡ entries.old.entries ++ puts_at thread (stored_of snapshot.now store) }
     ensures room { entries.old.room ≤ entries.new.room + 1 }
 {

@@ -68,7 +68,8 @@ impl<K: BookName> Desk<K> {
         requires word { 0 < K.table.words }
         ensures ok { IfOk result (λ step. Goes K.run pass.old step pass.new) }
         ensures told { IfOk result (λ step. KeepsStep pass.new step) }
-        ensures owes { IfOk result (λ step. OwesStep (pages_of K.run pass.new.seen pass.new.ended) pass.new.thread step) }
+        ensures owes { IfOk result (λ step.
+            OwesStep (pages_of K.run pass.new.seen pass.new.ended) pass.new.thread step) }
         ensures memory { OnErr result (Grows pass.old pass.new []) }
         ensures thread { pass.new.thread ≡ pass.old.thread }
         ensures ended { pass.new.ended ≡ pass.old.ended }

@@ -58,7 +58,8 @@ impl<K: BookName> SharedBook<K> {
         requires table { blank.table ≡ K.table }
         requires run { blank.run ≡ K.run }
         ensures count { IfOk result (λ made. length made.1.items ≡ K.run.threads) }
-        ensures passes { IfOk result (λ made. (k : ℕ) (d : Sight) → k < K.run.threads → get_or made.1.items k d ≡ fresh_pass k) }
+        ensures passes { IfOk result (λ made. (k : ℕ) (d : Sight) → k < K.run.threads →
+            get_or made.1.items k d ≡ fresh_pass k) }
     {
         let Blank {
             words,
@@ -76,10 +77,12 @@ impl<K: BookName> SharedBook<K> {
     /// A pass that has ended the run for want of memory is told so, and has no hold. That another one has ended it is told as `Ended(Memory)`
     /// too. Where there is no memory the hold has no entry.
     pub fn go(&self, rt: &impl Wait, pass: &mut Pass<K>) -> Result<Step, Memory>
-        ensures over { pass.old.ended ≡ true → (pass.new ≡ pass.old) × IsOk result × IfOk result (λ step. step ≡ Step.Ended Cause.Memory) }
+        ensures over { pass.old.ended ≡ true → (pass.new ≡ pass.old) × IsOk result ×
+            IfOk result (λ step. step ≡ Step.Ended Cause.Memory) }
         ensures ok { pass.old.ended ≡ false → IfOk result (λ step. Goes K.run pass.old step pass.new) }
         ensures told { IfOk result (λ step. KeepsStep pass.new step) }
-        ensures owes { IfOk result (λ step. OwesStep (pages_of K.run pass.new.seen pass.new.ended) pass.new.thread step) }
+        ensures owes { IfOk result (λ step.
+            OwesStep (pages_of K.run pass.new.seen pass.new.ended) pass.new.thread step) }
         ensures memory { OnErr result (Grows pass.old pass.new []) }
         ensures thread { pass.new.thread ≡ pass.old.thread }
         ensures ended { pass.new.ended ≡ pass.old.ended }
@@ -120,10 +123,14 @@ impl<K: BookName> SharedBook<K> {
         snapshot: Snapshot,
     ) -> Result<Step, Memory>
         requires { OwesAnswer (pages_of K.run pass.old.seen pass.old.ended) pass.old.thread snapshot }
-        ensures ok { IfOk result (λ step. Answers pass.old (event_reply pass.old.thread (stores_of reply.now snapshot)) (λ answered. Goes K.run answered step pass.new)) }
+        ensures ok { IfOk result (λ step.
+            Answers pass.old (event_reply pass.old.thread (stores_of reply.now snapshot)) (λ answered.
+            Goes K.run answered step pass.new)) }
         ensures told { IfOk result (λ step. KeepsStep pass.new step) }
-        ensures owes { IfOk result (λ step. OwesStep (pages_of K.run pass.new.seen pass.new.ended) pass.new.thread step) }
-        ensures memory { OnErr result (Answers pass.old (event_reply pass.old.thread (stores_of reply.now snapshot)) (λ answered. Grows answered pass.new [])) }
+        ensures owes { IfOk result (λ step.
+            OwesStep (pages_of K.run pass.new.seen pass.new.ended) pass.new.thread step) }
+        ensures memory { OnErr result (Answers pass.old (event_reply pass.old.thread (stores_of reply.now snapshot))
+            (λ answered. Grows answered pass.new [])) }
         ensures thread { pass.new.thread ≡ pass.old.thread }
         ensures ended { pass.new.ended ≡ pass.old.ended }
     {
@@ -218,7 +225,8 @@ impl<K: BookName> SharedBook<K> {
         requires order { (k : ℕ) (d : Sight) → k < K.run.threads → (get_or passes.items k d).thread ≡ k }
         ensures closed { IsClosed K.run passes.items result.history }
         ensures text { result.text.items ≡ (after K.run result.history).world.store.text }
-        ensures cause { result.cause ≡ (if any_ended passes.items then Some Cause.Memory else cause_of K.run result.history) }
+        ensures cause { result.cause ≡ (if any_ended passes.items then Some Cause.Memory
+            else cause_of K.run result.history) }
     {
         let SharedBook { words, desk, .. } = self;
         let mut desk = desk.into_inner();
@@ -254,7 +262,8 @@ fn make_passes<K: BookName>(
     ensures seat { seat.new.table_id ≡ count.now.table_id }
     ensures view { OnOk result (seat.new.me ≡ (OfBook [] threads None, [])) }
     ensures count { IfOk result (λ passes. length passes.items ≡ threads) }
-    ensures passes { IfOk result (λ passes. (k : ℕ) (d : Sight) → k < threads → get_or passes.items k d ≡ fresh_pass k) }
+    ensures passes { IfOk result (λ passes. (k : ℕ) (d : Sight) → k < threads →
+        get_or passes.items k d ≡ fresh_pass k) }
 {
     let mut passes = Vec::new(alloc);
     for thread in 0..threads {

@@ -28,15 +28,20 @@ ghost use Rattle.team_calls.specs.Called.{calls_of, size_of, team_of};
 /// are what these calls leave, and so those of what each member has met, in the standard's words. The run has 1 to 16 threads. Its
 /// program breaks no rule and has the form of a tree of a text.
 pub fn members_call_in_order()
-    ensures made { (run : Run) (history : List Entry) (r : ℕ) → 1 ≤ run.threads → run.threads ≤ 16 → Checked run.program →
+    ensures made { (run : Run) (history : List Entry) (r : ℕ) → 1 ≤ run.threads → run.threads ≤ 16 →
+        Checked run.program →
         IsProgramFormed run.program → Legal run history → AreMade (size_of run history r) (calls_of run history r) }
-    ensures in_time { (run : Run) (history : List Entry) (r : ℕ) → 1 ≤ run.threads → run.threads ≤ 16 → Checked run.program →
+    ensures in_time { (run : Run) (history : List Entry) (r : ℕ) → 1 ≤ run.threads → run.threads ≤ 16 →
+        Checked run.program →
         IsProgramFormed run.program → Legal run history →
         IsTrue (all_end_in_time (fresh_team (size_of run history r)) (calls_of run history r)) }
-    ensures counters { (run : Run) (history : List Entry) (r : ℕ) → 1 ≤ run.threads → run.threads ≤ 16 → Checked run.program →
+    ensures counters { (run : Run) (history : List Entry) (r : ℕ) → 1 ≤ run.threads → run.threads ≤ 16 →
+        Checked run.program →
         IsProgramFormed run.program → Legal run history →
-        (region_at (after run history).world r).team ≡ counters_after_calls (fresh_counters (size_of run history r) 0) (calls_of run history r) }
-    ensures counted { (run : Run) (history : List Entry) (r : ℕ) → 1 ≤ run.threads → run.threads ≤ 16 → Checked run.program →
+        (region_at (after run history).world r).team ≡ counters_after_calls (fresh_counters (size_of run history r) 0)
+        (calls_of run history r) }
+    ensures counted { (run : Run) (history : List Entry) (r : ℕ) → 1 ≤ run.threads → run.threads ≤ 16 →
+        Checked run.program →
         IsProgramFormed run.program → Legal run history →
         IsCounted (team_of run history r) (region_at (after run history).world r).team }
 {}
@@ -45,7 +50,8 @@ pub fn members_call_in_order()
 /// met something else as its n-th, so each such call is taken. The n-th that two members have met is the same. The run has 1 to 16
 /// threads. Its program breaks no rule and has the form of a tree of a text.
 pub fn members_meet_the_same()
-    ensures agree { (run : Run) (history : List Entry) (r : ℕ) → 1 ≤ run.threads → run.threads ≤ 16 → Checked run.program →
+    ensures agree { (run : Run) (history : List Entry) (r : ℕ) → 1 ≤ run.threads → run.threads ≤ 16 →
+        Checked run.program →
         IsProgramFormed run.program → Legal run history →
         IsTrue (all_agree (fresh_team (size_of run history r)) (calls_of run history r)) }
     ensures same { (run : Run) (history : List Entry) (r number member other : ℕ) → 1 ≤ run.threads → run.threads ≤ 16 →
@@ -60,15 +66,18 @@ pub fn members_meet_the_same()
 /// region is unfinished, or some member has passed it. So the event in which such a wait ends occurs in these cases alone. The run has
 /// 1 to 16 threads. Its program breaks no rule and has the form of a tree of a text.
 pub fn waits_end_in_a_run()
-    ensures may { (run : Run) (history : List Entry) (t : ℕ) (tree : Part) (which : SyncKind) (items : List Item) → 1 ≤ run.threads →
+    ensures may { (run : Run) (history : List Entry) (t : ℕ) (tree : Part) (which : SyncKind) (items : List Item) →
+        1 ≤ run.threads →
         run.threads ≤ 16 → Checked run.program → IsProgramFormed run.program → Legal run history →
         let W = (after run history).world in
         1 ≤ current W t → (code_of W t).todo ≡ Sync tree which WaitEnd ∷ items → IsTrue (is_barrier which) →
         let r = current_region W t in
         may_end W t which ≡ may_pass (team_of run history r) (current_index W t) (unfinished W.pool.tasks r) }
-    ensures ends { (run : Run) (history : List Entry) (t codeptr : ℕ) (which : SyncKind) → 1 ≤ run.threads → run.threads ≤ 16 →
+    ensures ends { (run : Run) (history : List Entry) (t codeptr : ℕ) (which : SyncKind) → 1 ≤ run.threads →
+        run.threads ≤ 16 →
         Checked run.program → IsProgramFormed run.program → Legal run history → enabled (after run history) t ≡ true →
-        (turn run (after run history) t).outcome ≡ Happens (SyncEvent which WaitEnd codeptr) → IsTrue (is_barrier which) →
+        (turn run (after run history) t).outcome ≡ Happens (SyncEvent which WaitEnd codeptr) →
+        IsTrue (is_barrier which) →
         let W = (after run history).world in let r = current_region W t in
         IsTrue (may_pass (team_of run history r) (current_index W t) (unfinished W.pool.tasks r)) }
 {}

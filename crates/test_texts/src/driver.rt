@@ -214,7 +214,8 @@ impl Driver {
         node: u32,
     ) -> Result<Option<End>, RowFault>
         requires made { IsMadeFor self.old control }
-        requires event { IsEventOfNext self.old (event.ParallelBegin codeptr requested) node (task_at self.old control).todo }
+        requires event { IsEventOfNext self.old (event.ParallelBegin codeptr requested) node
+            (task_at self.old control).todo }
         requires passes { 0 < control.passes }
     {
         let point = Point::ParallelBegin { codeptr, requested };
@@ -272,7 +273,8 @@ fn create(
     requires event { IsEventOfNext code.now point node (task_at code.now control.old).todo }
     requires passes { 0 < control.old.passes }
     requires created { IsCreation (slice_get (task_at code.now control.old).todo 0) }
-    requires room { length (with_task_cells code.now (bound_in code.now control.old cells.old) (created_construct (task_at code.now control.old).todo)).cells ≤ CELL_LIMIT }
+    requires room { length (with_task_cells code.now (bound_in code.now control.old cells.old)
+        (created_construct (task_at code.now control.old).todo)).cells ≤ CELL_LIMIT }
     ensures made { IsMadeFor code.now control.new }
     ensures task { IfOk result (IsMadeFor code.now) }
 {

@@ -18,7 +18,8 @@ pub trait GuestTool: Drop + Send {
     fn initialize(&mut self, registrar: &mut Registrar) -> u32
         // Nothing is registered yet.
         requires { registrar.old ≡ 0 }
-        ensures started { (h : Record) → stands_for self.old h → stands_for self.new (initialized h result registrar.new) };
+        ensures started { (h : Record) → stands_for self.old h →
+            stands_for self.new (initialized h result registrar.new) };
 
     /// Tells the tool of an event: its position in the history, its thread, and its callback with the arguments. The
     /// snapshot has what can be inquired meanwhile, and the reply what the tool stores.

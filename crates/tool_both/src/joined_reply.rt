@@ -15,7 +15,8 @@ pub const NOTHING: Reply = Reply {
 
 /// The stores of both replies, without each whose word is stored again later, and of these the last three.
 pub fn joined(first: Reply, second: Reply, snapshot: &Snapshot) -> Reply
-    ensures { stores_of result snapshot.now ≡ both_stores (stores_of first snapshot.now) (stores_of second snapshot.now) }
+    ensures { stores_of result snapshot.now ≡
+        both_stores (stores_of first snapshot.now) (stores_of second snapshot.now) }
 {
     let later = with_all_before(NOTHING, second, snapshot);
     with_all_before(later, first, snapshot)

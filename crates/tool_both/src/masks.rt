@@ -34,9 +34,11 @@ impl Masks {
     /// Calls `initialize` once on each tool, the first one first, each with a registrar of its own. It takes no memory of its own.
     pub fn ask<A: ToolPart, B: ToolPart>(first: &mut A, second: &mut B) -> Masks
         ensures first { (registered : ℕ) × (result.first ≡ mask_of result.first_answer registered)
-            × ((h : Record) → A.stands_for first.old h → A.stands_for first.new (initialized h result.first_answer registered)) }
+            × ((h : Record) → A.stands_for first.old h →
+            A.stands_for first.new (initialized h result.first_answer registered)) }
         ensures second { (registered : ℕ) × (result.second ≡ mask_of result.second_answer registered)
-            × ((h : Record) → B.stands_for second.old h → B.stands_for second.new (initialized h result.second_answer registered)) }
+            × ((h : Record) → B.stands_for second.old h →
+            B.stands_for second.new (initialized h result.second_answer registered)) }
         ensures always { AreAlways result.first × AreAlways result.second }
         ensures kept { A.same first.old first.new × B.same second.old second.new }
     {

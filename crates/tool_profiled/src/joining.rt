@@ -76,8 +76,10 @@ fn join_rest<P: ToolPart>(
     joined: &mut Vec<Profiled<P>>,
 ) -> Result<(), AllocError>
     requires always { AreAlways masks.first × AreAlways masks.second }
-    ensures parts { OnOk result (map part_in joined.new.items ≡ map part_in joined.old.items ++ reverse waiting.old.items) }
-    ensures fresh { OnOk result (All (IsFresh P.stands_for masks) joined.old.items → All (IsFresh P.stands_for masks) joined.new.items) }
+    ensures parts { OnOk result (map part_in joined.new.items ≡ map part_in joined.old.items ++
+        reverse waiting.old.items) }
+    ensures fresh { OnOk result (All (IsFresh P.stands_for masks) joined.old.items →
+        All (IsFresh P.stands_for masks) joined.new.items) }
 {
     while let Some(part) = waiting.pop() {
         joined.push(Both::new(Asked(part), Profile::new(), masks))?;

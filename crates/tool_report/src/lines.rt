@@ -12,7 +12,8 @@ use std::alloc::Global;
 
 /// A line for each record of these listers, in the order of their positions.
 pub fn lines_text(alloc: Global, parts: &[Lister]) -> Result<Vec<u8>, Memory>
-    ensures { IfOk result (λ text. (events : List EventRecord) → AreShared events parts.now → text.items ≡ lines_of events) }
+    ensures { IfOk result (λ text. (events : List EventRecord) → AreShared events parts.now →
+        text.items ≡ lines_of events) }
 {
     let events = merge(alloc, parts)?;
     text_of(alloc, events.as_slice())

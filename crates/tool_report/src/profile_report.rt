@@ -41,7 +41,8 @@ const NAMES: [&str; 17] = [
 /// The report of what these profiles counted: a line for each callback of the profile, by its number, one for all of them, and one for each
 /// thread that had a call. Part t is that of thread t. A number of calls past the greatest is answered as want of memory.
 pub fn profile_text(alloc: Global, parts: &[Profile]) -> Result<Vec<u8>, Memory>
-    ensures { IfOk result (λ text. (events : List EventRecord) → AreKept counts_of events parts.now → text.items ≡ profile_of events) }
+    ensures { IfOk result (λ text. (events : List EventRecord) → AreKept counts_of events parts.now →
+        text.items ≡ profile_of events) }
 {
     let mut text = Vec::new(alloc);
     for place in 0..NAMES.len() {
@@ -79,7 +80,8 @@ fn count_line(alloc: Global, name: &str, count: u64) -> Result<String, Memory>
 /// A thread, and the number of its calls: nothing where there are none.
 fn thread_line(alloc: Global, thread: usize, count: u64) -> Result<String, Memory>
     ensures { IfOk result (λ line. string_bytes line ≡
-        (if count == 0 then [] else codes "thread" ++ right_in 12 (decimal thread) ++ right_in 10 (decimal count) ++ 10 ∷ [])) }
+        (if count == 0 then [] else codes "thread" ++ right_in 12 (decimal thread) ++ right_in 10 (decimal count) ++
+        10 ∷ [])) }
 {
     if count == 0 {
         return Ok(String::new(alloc));

@@ -66,7 +66,8 @@ fn column_end(columns: u8, span: u64, column: u8) -> u64
 /// One more than the greatest position of an event, and 0 where there is none.
 fn span_of(parts: &[Timeline]) -> u64
     ensures few { result ≤ 4294967296 }
-    ensures some { (thread : ℕ) (d : List Moment) → thread < length parts.now → 1 ≤ length (slice_index_or parts.now thread d) → 1 ≤ result }
+    ensures some { (thread : ℕ) (d : List Moment) → thread < length parts.now →
+        1 ≤ length (slice_index_or parts.now thread d) → 1 ≤ result }
     ensures span { (events : List EventRecord) → AreKept moments_of events parts.now → result ≡ span_of events }
 {
     let mut span = 0_u64;
@@ -124,7 +125,8 @@ fn push_letters(
 /// The letter of the last of the first so many moments, and a dot where there is none.
 fn letter_before(moments: &[Moment], past: usize) -> u8
     requires { past ≤ length moments.now }
-    ensures { (events : List EventRecord) → moments.now ≡ moments_of events → result ≡ letter_of_last (take past events) }
+    ensures { (events : List EventRecord) → moments.now ≡ moments_of events →
+        result ≡ letter_of_last (take past events) }
 {
     if past == 0 {
         b'.'

@@ -45,8 +45,10 @@ impl ChainBuilder {
         charged: Option<u32>,
         nodes: &[TaskNode],
     ) -> Result<(), AllocError>
-        ensures { OnOk result ((past : List EventOf) → HoldsChains self.old past → charged ≡ charged_task past event.now →
-            HoldsNodes nodes.now (event.now ∷ past) (event.now ∷ past) → Unbroken past → first_broken past event.now ≡ None →
+        ensures { OnOk result ((past : List EventOf) → HoldsChains self.old past →
+            charged ≡ charged_task past event.now →
+            HoldsNodes nodes.now (event.now ∷ past) (event.now ∷ past) → Unbroken past →
+            first_broken past event.now ≡ None →
             HoldsChains self.new (event.now ∷ past)) }
     {
         self.charge(event, charged, nodes)?;
@@ -70,8 +72,10 @@ impl ChainBuilder {
         nodes: &[TaskNode],
     ) -> Result<(), AllocError>
         ensures tasks { self.new.tasks ≡ self.old.tasks }
-        ensures reaches { OnOk result ((past : List EventOf) → HoldsChains self.old past → charged ≡ charged_task past event.now →
-            HoldsNodes nodes.now (event.now ∷ past) (event.now ∷ past) → Unbroken past → first_broken past event.now ≡ None →
+        ensures reaches { OnOk result ((past : List EventOf) → HoldsChains self.old past →
+            charged ≡ charged_task past event.now →
+            HoldsNodes nodes.now (event.now ∷ past) (event.now ∷ past) → Unbroken past →
+            first_broken past event.now ≡ None →
             HoldsReaches self.new.reaches (event.now ∷ past)) }
     {
         let Some(task) = charged else {

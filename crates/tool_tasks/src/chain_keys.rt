@@ -89,7 +89,8 @@ pub(crate) fn given_keys(
     event: &EventRecord,
     nodes: &[TaskNode],
 ) -> (Option<Key>, Option<Key>, Option<Key>)
-    ensures { (past : List EventOf) → HoldsTasks tasks.now past → HoldsNodes nodes.now (event.now ∷ past) (event.now ∷ past) →
+    ensures { (past : List EventOf) → HoldsTasks tasks.now past →
+        HoldsNodes nodes.now (event.now ∷ past) (event.now ∷ past) →
         Unbroken past → first_broken past event.now ≡ None → result ≡ given_by past event.now event.now.call }
 {
     match &event.call {
@@ -151,8 +152,10 @@ fn completion_given(
     task: u32,
     nodes: &[TaskNode],
 ) -> (Option<Key>, Option<Key>, Option<Key>)
-    ensures { (past : List EventOf) (event : EventOf) → HoldsTasks tasks.now past → HoldsNodes nodes.now (event ∷ past) (event ∷ past) →
-        Unbroken (event ∷ past) → origin_of task (event ∷ past) ≡ origin_of task past → result ≡ given_by_completion past event task }
+    ensures { (past : List EventOf) (event : EventOf) → HoldsTasks tasks.now past →
+        HoldsNodes nodes.now (event ∷ past) (event ∷ past) →
+        Unbroken (event ∷ past) → origin_of task (event ∷ past) ≡ origin_of task past →
+        result ≡ given_by_completion past event task }
 {
     let region = ended_given(tasks, task);
     match node_at(nodes, task) {
@@ -178,7 +181,8 @@ fn ended_given(tasks: &ChainTasks, task: u32) -> Option<Key>
 /// The key that the completion of a task gives to its parent, if it was undeferred.
 fn parent_given(node: &TaskNode, nodes: &[TaskNode]) -> Option<Key>
     ensures { (past : List EventOf) → HoldsNodes nodes.now past past → Unbroken past →
-        result ≡ (if node.now.flags == EXPLICIT_UNDEFERRED then Some (Next node.now.parent (charges_of node.now.parent past)) else None) }
+        result ≡ (if node.now.flags == EXPLICIT_UNDEFERRED
+        then Some (Next node.now.parent (charges_of node.now.parent past)) else None) }
 {
     if node.flags == EXPLICIT_UNDEFERRED {
         Some(Key::Next(node.parent, events_of(nodes, node.parent)))

@@ -80,7 +80,8 @@ impl ChainTasks {
 
     /// Learns of the next event.
     pub fn learn(&mut self, event: &EventRecord) -> Result<(), AllocError>
-        ensures { OnOk result ((past : List EventOf) → HoldsTasks self.old past → HoldsTasks self.new (event.now ∷ past)) }
+        ensures { OnOk result ((past : List EventOf) → HoldsTasks self.old past →
+            HoldsTasks self.new (event.now ∷ past)) }
     {
         self.make(event)?;
         self.wait(event)?;
@@ -91,8 +92,10 @@ impl ChainTasks {
     fn make(&mut self, event: &EventRecord) -> Result<(), AllocError>
         ensures begun { self.new.begun ≡ self.old.begun }
         ensures ended { self.new.ended ≡ self.old.ended }
-        ensures regions { OnOk result ((past : List EventOf) → HoldsRegionsOf self.old.regions past → HoldsRegionsOf self.new.regions (event.now ∷ past)) }
-        ensures joined { OnOk result ((past : List EventOf) → HoldsJoined self.old.joined past → HoldsJoined self.new.joined (event.now ∷ past)) }
+        ensures regions { OnOk result ((past : List EventOf) → HoldsRegionsOf self.old.regions past →
+            HoldsRegionsOf self.new.regions (event.now ∷ past)) }
+        ensures joined { OnOk result ((past : List EventOf) → HoldsJoined self.old.joined past →
+            HoldsJoined self.new.joined (event.now ∷ past)) }
     {
         match making_by(&event.call) {
             Making::Implicit(task, region, _) => {
@@ -113,8 +116,10 @@ impl ChainTasks {
     fn wait(&mut self, event: &EventRecord) -> Result<(), AllocError>
         ensures regions { self.new.regions ≡ self.old.regions }
         ensures joined { self.new.joined ≡ self.old.joined }
-        ensures begun { OnOk result ((past : List EventOf) → HoldsBegun self.old.begun past → HoldsBegun self.new.begun (event.now ∷ past)) }
-        ensures ended { OnOk result ((past : List EventOf) → HoldsEnded self.old.ended past → HoldsEnded self.new.ended (event.now ∷ past)) }
+        ensures begun { OnOk result ((past : List EventOf) → HoldsBegun self.old.begun past →
+            HoldsBegun self.new.begun (event.now ∷ past)) }
+        ensures ended { OnOk result ((past : List EventOf) → HoldsEnded self.old.ended past →
+            HoldsEnded self.new.ended (event.now ∷ past)) }
     {
         let Call::SyncRegionWait {
             kind,

@@ -41,7 +41,8 @@ pub struct TaskNode {
 impl TaskNode {
     /// A task that was just made.
     pub(crate) fn made(identity: u32, parent: u32, flags: u32) -> TaskNode
-        ensures { result ≡ record { identity = identity; flags = flags; events = 0; parent = parent; first_child = 0; next_sibling = 0 } }
+        ensures { result ≡ record { identity = identity; flags = flags; events = 0; parent = parent; first_child = 0;
+            next_sibling = 0 } }
     {
         TaskNode {
             identity,
@@ -99,7 +100,8 @@ impl Forest {
     /// A forest of these tasks, whose links are set.
     pub(crate) fn linked(mut nodes: Vec<TaskNode>, work: u32, chains: Chains) -> Forest
         ensures { (past : List EventOf) → Unbroken past → HoldsNodes nodes.items past past → work ≡ work_of past →
-            chains.longest.length ≡ span_of past → IsWalk chains.links.items past chains.longest → HoldsForest result past }
+            chains.longest.length ≡ span_of past → IsWalk chains.links.items past chains.longest →
+            HoldsForest result past }
     {
         link_all(&mut nodes);
         Forest {
@@ -118,8 +120,10 @@ impl Forest {
 
     /// The positions of the events of a longest chain, each of which leads to the next.
     pub fn chain(&self, alloc: Global) -> Result<Vec<u32>, AllocError>
-        ensures chain { IfOk result (λ chain. (events : List EventOf) → IsForest self.now events → IsChain events chain.items) }
-        ensures longest { IfOk result (λ chain. (events : List EventOf) → IsForest self.now events → IsSpan events (length chain.items)) }
+        ensures chain { IfOk result (λ chain. (events : List EventOf) → IsForest self.now events →
+            IsChain events chain.items) }
+        ensures longest { IfOk result (λ chain. (events : List EventOf) → IsForest self.now events →
+            IsSpan events (length chain.items)) }
     {
         let mut chain = Vec::new(alloc);
         walk_back(
@@ -133,7 +137,8 @@ impl Forest {
 
     /// The lines with how many tasks there are, the work and the span, then a line for each task, its children behind it.
     pub fn text(&self, alloc: Global) -> Result<Vec<u8>, AllocError>
-        ensures { IfOk result (λ text. (events : List EventOf) → IsForest self.now events → IsForestText events text.items) }
+        ensures { IfOk result (λ text. (events : List EventOf) → IsForest self.now events →
+            IsForestText events text.items) }
     {
         let nodes = self.nodes.as_slice();
         let mut text = number_lines(alloc, nodes.len(), self.work, self.span())?;

@@ -47,8 +47,10 @@ impl ForestBuilder {
 
     /// Learns of the next event of a nested trace.
     pub fn learn(&mut self, event: &EventRecord) -> Result<Option<u32>, AllocError>
-        ensures charged { IfOk result (λ task. (past : List EventOf) → Builds self.old past → task ≡ charged_task past event.now) }
-        ensures learned { OnOk result ((past : List EventOf) → Builds self.old past → Unbroken past → first_broken past event.now ≡ None →
+        ensures charged { IfOk result (λ task. (past : List EventOf) → Builds self.old past →
+            task ≡ charged_task past event.now) }
+        ensures learned { OnOk result ((past : List EventOf) → Builds self.old past → Unbroken past →
+            first_broken past event.now ≡ None →
             Builds self.new (event.now ∷ past)) }
     {
         self.make(event)?;
@@ -64,9 +66,12 @@ impl ForestBuilder {
     fn make(&mut self, event: &EventRecord) -> Result<(), AllocError>
         ensures stacks { self.new.stacks ≡ self.old.stacks }
         ensures work { self.new.work ≡ self.old.work }
-        ensures regions { OnOk result ((past : List EventOf) → HoldsRegions self.old.regions past → HoldsRegions self.new.regions (event.now ∷ past)) }
-        ensures nodes { OnOk result ((past : List EventOf) → HoldsRegions self.old.regions past → HoldsNodes self.old.nodes.items past past →
-            Unbroken past → first_broken past event.now ≡ None → HoldsNodes self.new.nodes.items (event.now ∷ past) past) }
+        ensures regions { OnOk result ((past : List EventOf) → HoldsRegions self.old.regions past →
+            HoldsRegions self.new.regions (event.now ∷ past)) }
+        ensures nodes { OnOk result ((past : List EventOf) → HoldsRegions self.old.regions past →
+            HoldsNodes self.old.nodes.items past past →
+            Unbroken past → first_broken past event.now ≡ None →
+            HoldsNodes self.new.nodes.items (event.now ∷ past) past) }
     {
         match making_by(&event.call) {
             Making::Region(region, task) => {

@@ -7,5 +7,6 @@ ghost use Rattle.tool_tasks.specs.Leads.{leads};
 
 /// One event leads to a later one, by the eight cases, exactly where it gives a key that the later one takes.
 pub fn leads_by_keys()
-    ensures { (before past : List EventRecord) (event later : EventRecord) → leads before event past later ≡ leads_by_keys before event past later }
+    ensures { (before past : List EventRecord) (event later : EventRecord) →
+        leads before event past later ≡ leads_by_keys before event past later }
 {}

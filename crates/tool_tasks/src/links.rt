@@ -21,7 +21,8 @@ pub(crate) fn link_all(nodes: &mut [TaskNode])
 /// Puts a task before the children that its parent has so far.
 fn link(nodes: &mut [TaskNode], place: usize)
     requires { place < length nodes.old }
-    ensures { (past : List EventOf) → Unbroken past → HoldsLinks nodes.old past (place + 1) → HoldsLinks nodes.new past place }
+    ensures { (past : List EventOf) → Unbroken past → HoldsLinks nodes.old past (place + 1) →
+        HoldsLinks nodes.new past place }
 {
     let node = nodes[place];
     let Some(above) = node.parent.checked_sub(1) else {
@@ -38,7 +39,8 @@ fn link(nodes: &mut [TaskNode], place: usize)
 /// Sets the next sibling of the task at this place.
 fn set_sibling(nodes: &mut [TaskNode], place: usize, sibling: u32)
     requires { place < length nodes.old }
-    ensures { (other : ℕ) → slice_get nodes.new other ≡ with_sibling (other == place) sibling (slice_get nodes.old other) }
+    ensures { (other : ℕ) → slice_get nodes.new other ≡
+        with_sibling (other == place) sibling (slice_get nodes.old other) }
 {
     nodes[place].next_sibling = sibling;
 }

@@ -86,7 +86,8 @@ impl Reaches {
         taken: (Option<Key>, Option<Key>),
     ) -> Result<Reach, AllocError>
         ensures length { IfOk result (λ reach. reach.length
-            ≡ max (max (length_for self.old.bests next) (length_for self.old.bests taken.0)) (length_for self.old.bests taken.1) + 1) }
+            ≡ max (max (length_for self.old.bests next) (length_for self.old.bests taken.0))
+            (length_for self.old.bests taken.1) + 1) }
         ensures adds { IfOk result (λ reach. Adds self.old self.new seq next taken reach) }
         ensures greatest { IfOk result (λ reach. self.new.greatest.length ≡ max self.old.greatest.length reach.length) }
         ensures bests { self.new.bests ≡ self.old.bests }

@@ -43,8 +43,10 @@ impl Stacks {
 
     /// Takes the next event, and says which task it is charged to.
     pub fn take(&mut self, event: &EventRecord) -> Result<Option<u32>, AllocError>
-        ensures charged { IfOk result (λ task. (past : List EventOf) → HoldsStacks self.old past → task ≡ charged_task past event.now) }
-        ensures taken { OnOk result ((past : List EventOf) → HoldsStacks self.old past → HoldsStacks self.new (event.now ∷ past)) }
+        ensures charged { IfOk result (λ task. (past : List EventOf) → HoldsStacks self.old past →
+            task ≡ charged_task past event.now) }
+        ensures taken { OnOk result ((past : List EventOf) → HoldsStacks self.old past →
+            HoldsStacks self.new (event.now ∷ past)) }
     {
         match stack_step(&event.call) {
             StackStep::Push(task) => {
@@ -79,9 +81,11 @@ impl Stacks {
 
     /// A thread leaves the task on top.
     fn pop(&mut self, thread: u8) -> Option<u32>
-        ensures task { result ≡ option_map (λ frame. frame.task) (frame_at self.old.frames.items (get_or self.old.tops thread 0)) }
+        ensures task { result ≡ option_map (λ frame.
+            frame.task) (frame_at self.old.frames.items (get_or self.old.tops thread 0)) }
         ensures frames { self.new.frames ≡ self.old.frames }
-        ensures tops { self.new.tops ≡ tops_below self.old.tops thread (frame_at self.old.frames.items (get_or self.old.tops thread 0)) }
+        ensures tops { self.new.tops ≡ tops_below self.old.tops thread
+            (frame_at self.old.frames.items (get_or self.old.tops thread 0)) }
     {
         let frame = self.top(thread)?;
         self.tops[thread as usize] = frame.below;

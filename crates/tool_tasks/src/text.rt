@@ -53,7 +53,8 @@ fn visit(
     text: &mut Vec<u8>,
 ) -> Result<(), AllocError>
     ensures text { OnOk result (text.new.items ≡ text.old.items ++ task_line node.now) }
-    ensures pending { OnOk result (pending.new.items ≡ (pending.old.items ++ later task node.now.next_sibling) ++ later task node.now.first_child) }
+    ensures pending { OnOk result (pending.new.items ≡ (pending.old.items ++ later task node.now.next_sibling) ++
+        later task node.now.first_child) }
 {
     let line = task_line(alloc, node)?;
     text.extend_from_slice(line.as_bytes())?;

@@ -53,8 +53,10 @@ impl Checker {
         ensures last { OnOk result (last_of self.new ≡ Some event.now.seq) }
         ensures stays { OnErr result (last_of self.new ≡ last_of self.old) }
         ensures checks { OnOk result ((header : HeaderOf) (events : List EventRecord) → Checks self.old header events →
-            IfSome (last_of self.old) (λ last. last < event.now.seq) → Checks self.new header (events ++ event.now ∷ [])) }
-        ensures unchanged { OnErr result ((header : HeaderOf) (events : List EventRecord) → Checks self.old header events →
+            IfSome (last_of self.old) (λ last. last < event.now.seq) →
+            Checks self.new header (events ++ event.now ∷ [])) }
+        ensures unchanged { OnErr result ((header : HeaderOf) (events : List EventRecord) →
+            Checks self.old header events →
             Checks self.new header events) }
     {
         if self.breach.is_none() {
@@ -106,8 +108,10 @@ impl Checker {
     #[tactic(auto, using(crate::proofs::Verdicts::keeps_nothing))]
     pub fn kept(&self) -> usize
         ensures sum { result ≡ min (entries_of self.now) 18446744073709551615 }
-        ensures few { (header : HeaderOf) (events : List EventRecord) → Checks self.now header events → result ≤ open_of (reverse events) }
-        ensures none { (header : HeaderOf) (events : List EventRecord) → Checks self.now header events → BreaksOne header events → result ≡ 0 }
+        ensures few { (header : HeaderOf) (events : List EventRecord) → Checks self.now header events →
+            result ≤ open_of (reverse events) }
+        ensures none { (header : HeaderOf) (events : List EventRecord) → Checks self.now header events →
+            BreaksOne header events → result ≡ 0 }
     {
         self.kept.length()
     }

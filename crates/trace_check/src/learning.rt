@@ -24,9 +24,11 @@ use std::alloc::AllocError;
 impl Kept {
     /// Learns of an event that breaks no rule. Where it finds no memory, or a count would pass the greatest value, all is known as before.
     pub fn learn(&mut self, event: &EventRecord) -> Result<(), AllocError>
-        ensures learned { OnOk result ((past : List EventRecord) → IsKnown self.old past → Unbroken past → first_broken past event.now ≡ None →
+        ensures learned { OnOk result ((past : List EventRecord) → IsKnown self.old past → Unbroken past →
+            first_broken past event.now ≡ None →
             IsKnown self.new (event.now ∷ past)) }
-        ensures unchanged { OnErr result ((past : List EventRecord) → IsKnown self.old past → Unbroken past → IsKnown self.new past) }
+        ensures unchanged { OnErr result ((past : List EventRecord) → IsKnown self.old past → Unbroken past →
+            IsKnown self.new past) }
     {
         let Some(thread) = self.threads.get(&event.thread).copied() else {
             self.threads.insert(event.thread, Thread::begun())?;
@@ -51,9 +53,11 @@ impl Kept {
     ) -> Result<(), AllocError>
         requires known { get nat_cmp self.old.threads event.now.thread ≡ Some thread }
         requires opens { change_of event.now.call ≡ Opens bracket }
-        ensures learned { OnOk result ((past : List EventRecord) → IsKnown self.old past → Unbroken past → first_broken past event.now ≡ None →
+        ensures learned { OnOk result ((past : List EventRecord) → IsKnown self.old past → Unbroken past →
+            first_broken past event.now ≡ None →
             IsKnown self.new (event.now ∷ past)) }
-        ensures unchanged { OnErr result ((past : List EventRecord) → IsKnown self.old past → Unbroken past → IsKnown self.new past) }
+        ensures unchanged { OnErr result ((past : List EventRecord) → IsKnown self.old past → Unbroken past →
+            IsKnown self.new past) }
     {
         let depth = thread.depth.checked_add(1).ok_or(AllocError)?;
         let key = bracket_key(event.thread, thread.depth);
@@ -79,9 +83,11 @@ impl Kept {
     fn stay(&mut self, event: &EventRecord, thread: Thread) -> Result<(), AllocError>
         requires known { get nat_cmp self.old.threads event.now.thread ≡ Some thread }
         requires stays { change_of event.now.call ≡ Stays }
-        ensures learned { OnOk result ((past : List EventRecord) → IsKnown self.old past → Unbroken past → first_broken past event.now ≡ None →
+        ensures learned { OnOk result ((past : List EventRecord) → IsKnown self.old past → Unbroken past →
+            first_broken past event.now ≡ None →
             IsKnown self.new (event.now ∷ past)) }
-        ensures unchanged { OnErr result ((past : List EventRecord) → IsKnown self.old past → Unbroken past → IsKnown self.new past) }
+        ensures unchanged { OnErr result ((past : List EventRecord) → IsKnown self.old past → Unbroken past →
+            IsKnown self.new past) }
     {
         self.note(event, thread.current)?;
         put_thread(&mut self.threads, event.thread, thread.after(&event.call));
@@ -156,7 +162,8 @@ impl Kept {
     fn begin_region(&mut self, region: u32) -> Result<(), AllocError>
         ensures threads { self.new.threads ≡ self.old.threads }
         ensures brackets { self.new.brackets ≡ self.old.brackets }
-        ensures learned { OnOk result ((event : EventRecord) → region_begun event.call ≡ Some region → Learns self.old self.new event) }
+        ensures learned { OnOk result ((event : EventRecord) → region_begun event.call ≡ Some region →
+            Learns self.old self.new event) }
         ensures unchanged { OnErr result (LearnsNothing self.old self.new) }
     {
         let begun = Region {
@@ -174,7 +181,8 @@ impl Kept {
         ensures threads { self.new.threads ≡ self.old.threads }
         ensures brackets { self.new.brackets ≡ self.old.brackets }
         ensures learned { OnOk result ((event : EventRecord) →
-            join_of event.call ≡ Some (record { region = seat.region; task = task; actual = actual; index = seat.index }) →
+            join_of event.call ≡ Some (record { region = seat.region; task = task; actual = actual;
+            index = seat.index }) →
             Learns self.old self.new event) }
         ensures unchanged { OnErr result (LearnsNothing self.old self.new) }
     {
@@ -220,7 +228,8 @@ impl Kept {
     fn begin_wait(&mut self, current: Option<Current>) -> Result<(), AllocError>
         ensures threads { self.new.threads ≡ self.old.threads }
         ensures brackets { self.new.brackets ≡ self.old.brackets }
-        ensures learned { OnOk result ((event : EventRecord) → is_some (waiter event.call) ≡ true → LearnsOf current self.old self.new event) }
+        ensures learned { OnOk result ((event : EventRecord) → is_some (waiter event.call) ≡ true →
+            LearnsOf current self.old self.new event) }
         ensures unchanged { OnErr result (LearnsNothing self.old self.new) }
     {
         let Some(current) = current else {
@@ -243,7 +252,8 @@ impl Kept {
         ensures threads { self.new.threads ≡ self.old.threads }
         ensures brackets { self.new.brackets ≡ self.old.brackets }
         ensures learned { OnOk result ((event : EventRecord) → (before : ℕ) →
-            creation_of event.call ≡ Some (record { creator = before; task = task }) → LearnsOf creator self.old self.new event) }
+            creation_of event.call ≡ Some (record { creator = before; task = task }) →
+            LearnsOf creator self.old self.new event) }
         ensures unchanged { OnErr result (LearnsNothing self.old self.new) }
     {
         let Some(creator) = creator else {

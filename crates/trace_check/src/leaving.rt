@@ -21,7 +21,8 @@ impl Kept {
     pub fn close(&mut self, event: &EventRecord, thread: Thread)
         requires known { get nat_cmp self.old.threads event.now.thread ≡ Some thread }
         requires closes { is_closing (change_of event.now.call) ≡ true }
-        ensures learned { (past : List EventRecord) → IsKnown self.old past → Unbroken past → first_broken past event.now ≡ None →
+        ensures learned { (past : List EventRecord) → IsKnown self.old past → Unbroken past →
+            first_broken past event.now ≡ None →
             IsKnown self.new (event.now ∷ past) }
     {
         let depth = thread.depth.saturating_sub(1);
@@ -62,7 +63,8 @@ impl Kept {
     fn end_region(&mut self, region: u32)
         ensures threads { self.new.threads ≡ self.old.threads }
         ensures brackets { self.new.brackets ≡ self.old.brackets }
-        ensures learned { (event : EventRecord) → region_ended event.call ≡ Some region → Learns self.old self.new event }
+        ensures learned { (event : EventRecord) → region_ended event.call ≡ Some region →
+            Learns self.old self.new event }
     {
         let Some(ended) = self.regions.remove(&region) else {
             return;
@@ -79,7 +81,8 @@ impl Kept {
     fn leave_team(&mut self, current: Option<Current>)
         ensures threads { self.new.threads ≡ self.old.threads }
         ensures brackets { self.new.brackets ≡ self.old.brackets }
-        ensures learned { (event : EventRecord) → is_some (left_task event.call) ≡ true → LearnsOf current self.old self.new event }
+        ensures learned { (event : EventRecord) → is_some (left_task event.call) ≡ true →
+            LearnsOf current self.old self.new event }
     {
         let Some(current) = current else {
             return;
@@ -104,7 +107,8 @@ impl Kept {
     fn complete(&mut self, task: u32)
         ensures threads { self.new.threads ≡ self.old.threads }
         ensures brackets { self.new.brackets ≡ self.old.brackets }
-        ensures learned { (event : EventRecord) → task_completed event.call ≡ Some task → Learns self.old self.new event }
+        ensures learned { (event : EventRecord) → task_completed event.call ≡ Some task →
+            Learns self.old self.new event }
     {
         if let Some(created) = self.created.remove(&task) {
             let children = self.children_of(created.creator);
@@ -116,7 +120,8 @@ impl Kept {
     fn pass(&mut self, current: Option<Current>)
         ensures threads { self.new.threads ≡ self.old.threads }
         ensures brackets { self.new.brackets ≡ self.old.brackets }
-        ensures learned { (event : EventRecord) → passes_barrier event.call ≡ true → LearnsOf current self.old self.new event }
+        ensures learned { (event : EventRecord) → passes_barrier event.call ≡ true →
+            LearnsOf current self.old self.new event }
     {
         let Some(
             Current {

@@ -18,7 +18,8 @@ use ompt_calls::{Call, EventRecord};
 impl Kept {
     /// The first rule on events that this one breaks, after those that are known.
     pub fn first_broken(&self, event: &EventRecord) -> Option<u8>
-        ensures { (past : List EventRecord) → IsKnown self.now past → Unbroken past → result ≡ first_broken past event.now }
+        ensures { (past : List EventRecord) → IsKnown self.now past → Unbroken past →
+            result ≡ first_broken past event.now }
     {
         let thread = self.threads.get(&event.thread).copied();
         let call = &event.call;
@@ -53,7 +54,8 @@ impl Kept {
 
     /// Rule 4: a region is the next one, and its encountering task is the thread's current one.
     fn keeps_regions(&self, number: u8, thread: Option<Thread>, call: &Call) -> bool
-        ensures { (past : List EventRecord) → IsKnown self.now past → thread ≡ thread_known number past → result ≡ keeps_regions past number call.now }
+        ensures { (past : List EventRecord) → IsKnown self.now past → thread ≡ thread_known number past →
+            result ≡ keeps_regions past number call.now }
     {
         match call {
             Call::ParallelBegin { task, region, .. } => {
@@ -66,7 +68,8 @@ impl Kept {
 
     /// Rule 6: begins and ends match as brackets, what a task enters is entered by the current task, and a thread ends with none open.
     fn keeps_brackets(&self, number: u8, thread: Option<Thread>, call: &Call) -> bool
-        ensures { (past : List EventRecord) → IsKnown self.now past → thread ≡ thread_known number past → result ≡ keeps_brackets past number call.now }
+        ensures { (past : List EventRecord) → IsKnown self.now past → thread ≡ thread_known number past →
+            result ≡ keeps_brackets past number call.now }
     {
         let changes = match change_of(call) {
             Change::Opens(bracket) => may_open(number, thread, bracket),
@@ -95,7 +98,8 @@ impl Kept {
 
     /// Rule 10: a created task is the next one, and its creator is the thread's current task.
     fn keeps_creations(&self, number: u8, thread: Option<Thread>, call: &Call) -> bool
-        ensures { (past : List EventRecord) → IsKnown self.now past → thread ≡ thread_known number past → result ≡ keeps_creations past number call.now }
+        ensures { (past : List EventRecord) → IsKnown self.now past → thread ≡ thread_known number past →
+            result ≡ keeps_creations past number call.now }
     {
         match call {
             Call::TaskCreate { task, fresh, .. } => {
@@ -108,7 +112,8 @@ impl Kept {
 
     /// Rule 11: a thread goes to a task that was created and hasn't started.
     fn keeps_starts(&self, call: &Call) -> bool
-        ensures { (past : List EventRecord) → IsKnown self.now past → Unbroken past → result ≡ keeps_starts past call.now }
+        ensures { (past : List EventRecord) → IsKnown self.now past → Unbroken past →
+            result ≡ keeps_starts past call.now }
     {
         match call {
             Call::TaskSchedule { status, next, .. } if *status == SWITCH => {
@@ -124,7 +129,8 @@ impl Kept {
     /// Rule 14: a dispatch stands directly in a work of its region and task, a chunk in a loop and a section in sections, and a chunk ends
     /// within the loop.
     fn keeps_dispatches(&self, number: u8, thread: Option<Thread>, call: &Call) -> bool
-        ensures { (past : List EventRecord) → IsKnown self.now past → thread ≡ thread_known number past → result ≡ keeps_dispatches past number call.now }
+        ensures { (past : List EventRecord) → IsKnown self.now past → thread ≡ thread_known number past →
+            result ≡ keeps_dispatches past number call.now }
     {
         match call {
             Call::Dispatch {
@@ -150,7 +156,8 @@ impl Kept {
 
     /// The innermost bracket that is open on the thread.
     fn innermost(&self, number: u8, thread: Option<Thread>) -> Option<Bracket>
-        ensures { (past : List EventRecord) → IsKnown self.now past → thread ≡ thread_known number past → result ≡ innermost_in (opened number past) }
+        ensures { (past : List EventRecord) → IsKnown self.now past → thread ≡ thread_known number past →
+            result ≡ innermost_in (opened number past) }
     {
         let Some(thread) = thread else {
             return None;
@@ -167,7 +174,8 @@ impl Kept {
 
 /// Rule 2: `thread_begin` is the first event of its thread and stands nowhere else, and nothing follows `thread_end`.
 fn keeps_threads(thread: Option<Thread>, event: &EventRecord) -> bool
-    ensures { (past : List EventRecord) → thread ≡ thread_known event.now.thread past → result ≡ keeps_threads past event.now }
+    ensures { (past : List EventRecord) → thread ≡ thread_known event.now.thread past →
+        result ≡ keeps_threads past event.now }
 {
     match thread {
         None => is_begin(&event.call),
@@ -200,7 +208,8 @@ fn kind_of_thread(number: u8) -> u32
 
 /// Rule 8: directly before it acquires something its thread asks for it.
 fn keeps_asking(number: u8, thread: Option<Thread>, call: &Call) -> bool
-    ensures { (past : List EventRecord) → thread ≡ thread_known number past → result ≡ keeps_asking past number call.now }
+    ensures { (past : List EventRecord) → thread ≡ thread_known number past →
+        result ≡ keeps_asking past number call.now }
 {
     match call {
         Call::MutexAcquired { kind, wait_id, .. } => match thread {
@@ -232,7 +241,8 @@ fn may_open(number: u8, thread: Option<Thread>, bracket: Bracket) -> bool
 
 /// Whether the thread runs this task.
 pub(crate) fn is_current(number: u8, thread: Option<Thread>, task: u32) -> bool
-    ensures { (past : List EventRecord) → thread ≡ thread_known number past → result ≡ is_just task (current number past) }
+    ensures { (past : List EventRecord) → thread ≡ thread_known number past →
+        result ≡ is_just task (current number past) }
 {
     match thread {
         Some(
@@ -247,7 +257,8 @@ pub(crate) fn is_current(number: u8, thread: Option<Thread>, task: u32) -> bool
 
 /// Whether no bracket is open on the thread.
 fn has_none_open(number: u8, thread: Option<Thread>) -> bool
-    ensures { (past : List EventRecord) → thread ≡ thread_known number past → result ≡ (length (opened number past) == 0) }
+    ensures { (past : List EventRecord) → thread ≡ thread_known number past →
+        result ≡ (length (opened number past) == 0) }
 {
     match thread {
         Some(thread) => thread.depth == 0,

@@ -25,7 +25,8 @@ impl Kept {
     /// Rule 5: the second event of thread 0 is the begin of the initial task, which stands nowhere else, and an implicit task joins an open
     /// region.
     pub fn keeps_tasks(&self, number: u8, thread: Option<Thread>, call: &Call) -> bool
-        ensures { (past : List EventRecord) → IsKnown self.now past → Unbroken past → thread ≡ thread_known number past →
+        ensures { (past : List EventRecord) → IsKnown self.now past → Unbroken past →
+            thread ≡ thread_known number past →
             result ≡ keeps_tasks past number call.now }
     {
         let begins = if number == 0 && had_one_event(thread) {
@@ -39,7 +40,8 @@ impl Kept {
     /// Whether the begin of an implicit task is of an open region, is the next task, and has an index below its team's size, which is that of
     /// the others, that none of them had.
     fn may_join(&self, call: &Call) -> bool
-        ensures { (past : List EventRecord) → IsKnown self.now past → Unbroken past → result ≡ may_join past (join_of call.now) }
+        ensures { (past : List EventRecord) → IsKnown self.now past → Unbroken past →
+            result ≡ may_join past (join_of call.now) }
     {
         match call {
             Call::ImplicitTask {
@@ -63,7 +65,8 @@ impl Kept {
     /// Whether this task may join a team of this size at this place.
     fn may_sit(&self, seat: Seat, task: u32, actual: u32) -> bool
         ensures { (past : List EventRecord) → IsKnown self.now past → Unbroken past →
-            result ≡ may_join past (Some (record { region = seat.region; task = task; actual = actual; index = seat.index })) }
+            result ≡ may_join past (Some (record { region = seat.region; task = task; actual = actual;
+            index = seat.index })) }
     {
         let Some(open) = self.regions.get(&seat.region) else {
             return false;
@@ -85,7 +88,8 @@ impl Kept {
     /// Rule 7: at its end a region had as many implicit tasks as its team's size, one at least, and each has its end. Where the region isn't
     /// open its end breaks rule 6.
     pub fn keeps_teams(&self, call: &Call) -> bool
-        ensures { (past : List EventRecord) → (t : ℕ) → IsKnown self.now past → Unbroken past → keeps_brackets past t call.now ≡ true →
+        ensures { (past : List EventRecord) → (t : ℕ) → IsKnown self.now past → Unbroken past →
+            keeps_brackets past t call.now ≡ true →
             result ≡ keeps_teams past call.now }
     {
         match call {
@@ -104,7 +108,9 @@ impl Kept {
 
     /// Whether each index below this one has had its implicit task in the region, and that has its end.
     fn have_left(&self, region: u32, actual: u32) -> bool
-        ensures each { result ≡ list_all (λ (index : ℕ). has_left_in (get nat_cmp self.now.members (region * 4294967296 + index))) (range_with_len 0 actual) }
+        ensures each { result ≡ list_all
+            (λ (index : ℕ). has_left_in (get nat_cmp self.now.members (region * 4294967296 + index)))
+            (range_with_len 0 actual) }
         ensures fits { actual < 4294967296 }
     {
         (0..actual).all(|index| self.has_left(member_key(region, index)))
@@ -124,7 +130,8 @@ impl Kept {
     /// task; at the end of a taskwait each task that the task created is complete. Where the task isn't the thread's current one the end
     /// breaks rule 6.
     pub fn keeps_waits(&self, thread: Option<Thread>, call: &Call) -> bool
-        ensures { (past : List EventRecord) → (t : ℕ) → IsKnown self.now past → Unbroken past → thread ≡ thread_known t past →
+        ensures { (past : List EventRecord) → (t : ℕ) → IsKnown self.now past → Unbroken past →
+            thread ≡ thread_known t past →
             keeps_brackets past t call.now ≡ true → result ≡ keeps_waits past call.now }
     {
         match call {
@@ -140,8 +147,10 @@ impl Kept {
 
     /// Whether the task that a thread runs may end a wait of this kind.
     fn may_end_wait(&self, current: Current, kind: u32) -> bool
-        ensures { (past : List EventRecord) → (t : ℕ) → IsKnown self.now past → Unbroken past → running (joins past) (opened t past) ≡ Some current →
-            result ≡ ((not (is_barrier kind) || may_pass past current.task) && (not (kind == TASKWAIT) || has_no_child past current.task)) }
+        ensures { (past : List EventRecord) → (t : ℕ) → IsKnown self.now past → Unbroken past →
+            running (joins past) (opened t past) ≡ Some current →
+            result ≡ ((not (is_barrier kind) || may_pass past current.task) &&
+            (not (kind == TASKWAIT) || has_no_child past current.task)) }
     {
         if is_barrier(kind) && !self.may_pass(current) {
             return false;
@@ -154,7 +163,8 @@ impl Kept {
 
     /// Whether each task that this one created is complete.
     fn has_no_child(&self, current: Current) -> bool
-        ensures { (past : List EventRecord) → (t : ℕ) → IsKnown self.now past → Unbroken past → running (joins past) (opened t past) ≡ Some current →
+        ensures { (past : List EventRecord) → (t : ℕ) → IsKnown self.now past → Unbroken past →
+            running (joins past) (opened t past) ≡ Some current →
             result ≡ has_no_child past current.task }
     {
         self.children_of(current) == 0
@@ -162,7 +172,8 @@ impl Kept {
 
     /// Whether the task that a thread runs may pass the barrier that it waits at.
     fn may_pass(&self, current: Current) -> bool
-        ensures { (past : List EventRecord) → (t : ℕ) → IsKnown self.now past → Unbroken past → running (joins past) (opened t past) ≡ Some current →
+        ensures { (past : List EventRecord) → (t : ℕ) → IsKnown self.now past → Unbroken past →
+            running (joins past) (opened t past) ≡ Some current →
             result ≡ may_pass past current.task }
     {
         if current.task == INITIAL_TASK {
@@ -179,7 +190,8 @@ impl Kept {
 
     /// Whether each index of the open region has begun, with at least so many waits at barriers.
     fn have_waited(&self, region: u32, waits: u64) -> bool
-        ensures { (past : List EventRecord) → (actual : ℕ) → IsKnown self.now past → Unbroken past → is_open_region region past ≡ true →
+        ensures { (past : List EventRecord) → (actual : ℕ) → IsKnown self.now past → Unbroken past →
+            is_open_region region past ≡ true →
             team_size (joins_of region past) ≡ Some actual → result ≡ have_waited past region actual waits }
     {
         let Some(open) = self.regions.get(&region) else {
@@ -196,7 +208,9 @@ impl Kept {
 
     /// The same, index by index.
     fn each_has_waited(&self, region: u32, actual: u32, waits: u64) -> bool
-        ensures each { result ≡ list_all (λ (index : ℕ). has_waited_in waits (get nat_cmp self.now.members (region * 4294967296 + index))) (range_with_len 0 actual) }
+        ensures each { result ≡ list_all
+            (λ (index : ℕ). has_waited_in waits (get nat_cmp self.now.members (region * 4294967296 + index)))
+            (range_with_len 0 actual) }
         ensures fits { actual < 4294967296 }
     {
         (0..actual).all(|index| self.has_waited(member_key(region, index), waits))
@@ -215,7 +229,8 @@ impl Kept {
     /// How many of the tasks that this one created aren't complete.
     pub fn children_of(&self, current: Current) -> u64
         ensures kept { result ≡ children_kept self.now current }
-        ensures counted { (past : List EventRecord) → (t : ℕ) → KnownThings self.now past → Unbroken past → running (joins past) (opened t past) ≡ Some current →
+        ensures counted { (past : List EventRecord) → (t : ℕ) → KnownThings self.now past → Unbroken past →
+            running (joins past) (opened t past) ≡ Some current →
             result ≡ children_of current.task past }
     {
         if current.task == INITIAL_TASK {
@@ -239,7 +254,8 @@ pub(crate) const INITIAL_TASK: u32 = 1;
 
 /// The task that the thread runs.
 fn current_of(thread: Option<Thread>) -> Option<Current>
-    ensures { (past : List EventRecord) → (t : ℕ) → thread ≡ thread_known t past → result ≡ running (joins past) (opened t past) }
+    ensures { (past : List EventRecord) → (t : ℕ) → thread ≡ thread_known t past →
+        result ≡ running (joins past) (opened t past) }
 {
     match thread {
         Some(thread) => thread.current,

@@ -37,7 +37,8 @@ impl Told {
     /// Whether the trace that was told whole is nested, and else its first breach.
     pub fn verdict(&self) -> Result<(), Breach>
         ensures { (trace : Trace) → KnowsItems self.now (items_of trace) →
-            MatchResult result (λ _. Nested trace.header trace.events trace.end) (IsFirstBreach trace.header trace.events trace.end) }
+            MatchResult result (λ _. Nested trace.header trace.events trace.end)
+            (IsFirstBreach trace.header trace.events trace.end) }
     {
         match (&self.checker, &self.end) {
             (Some(checker), Some(end)) => checker.verdict(end),

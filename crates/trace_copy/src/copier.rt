@@ -31,7 +31,8 @@ impl<O: Sink> Taker for Copier<'_, O> {
         × HasPut start.form start.end now.end (O.held start.out.now) (O.held now.out.now) items };
 
     ghost stopped = { λ start now items next stop. (now.out.ghost_name ≡ start.out.ghost_name)
-        × StopsAt start.form stop (O.faults start.out.now) (O.faults now.out.now) (O.held start.out.now) (O.held now.out.now) items next };
+        × StopsAt start.form stop (O.faults start.out.now) (O.faults now.out.now) (O.held start.out.now)
+        (O.held now.out.now) items next };
 
     fn take(&mut self, item: &Item) -> Result<(), Copied> {
         put_item(self.alloc, self.form, item, self.out)?;

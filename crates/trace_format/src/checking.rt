@@ -66,7 +66,8 @@ fn has_profile_alone(mask: u64) -> bool
 
 /// Whether dispatch is in the mask only where it can be: in a trace of the second version that was recorded so.
 fn may_have_dispatch(header: &Header) -> bool
-    ensures { IsTrue result ↔ (is_registered header.now.mask DISPATCH ≡ true → (header.now.version ≡ VERSION) × (header.now.origin ≡ RECORDED)) }
+    ensures { IsTrue result ↔ (is_registered header.now.mask DISPATCH ≡ true → (header.now.version ≡ VERSION) ×
+        (header.now.origin ≡ RECORDED)) }
 {
     !is_registered(header.mask, DISPATCH)
         || (header.version == VERSION && header.origin == RECORDED)

@@ -26,11 +26,13 @@ pub fn one_refusal()
 
 /// Bytes that are a trace are refused nowhere, and don't end too early.
 pub fn never_refused()
-    ensures { (trace : Trace) (bytes : List ℕ) (refusal : Refusal) → Writes trace bytes → (IsRefused bytes refusal → ⊥) × (IsTruncated bytes refusal → ⊥) }
+    ensures { (trace : Trace) (bytes : List ℕ) (refusal : Refusal) → Writes trace bytes →
+        (IsRefused bytes refusal → ⊥) × (IsTruncated bytes refusal → ⊥) }
 {}
 
 /// What was migrated is a trace of the second version, and migrating it again changes nothing.
 pub fn migrated_once()
-    ensures { (trace : Trace) → IsTrace trace → IsTrace (migrated_trace trace) × ((migrated_trace trace).header.version ≡ VERSION)
+    ensures { (trace : Trace) → IsTrace trace → IsTrace (migrated_trace trace) ×
+        ((migrated_trace trace).header.version ≡ VERSION)
         × (migrated_trace (migrated_trace trace) ≡ migrated_trace trace) }
 {}

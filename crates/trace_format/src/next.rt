@@ -91,7 +91,8 @@ fn end_field(count: u32, place: u8, bytes: &[u8]) -> Option<Coming>
 /// The field of an event that comes next.
 fn event_field(least: u32, threads: u8, number: u32, place: u8, bytes: &[u8]) -> Option<Coming>
     requires some { 1 ≤ place }
-    requires third { slice_get (kinds_of number) (place - 5) ≡ Some Kind.Iterations → 5 ≤ place → 40 ≤ length bytes.now }
+    requires third { slice_get (kinds_of number) (place - 5) ≡ Some Kind.Iterations → 5 ≤ place →
+        40 ≤ length bytes.now }
     ensures { result ≡ event_coming least threads number place bytes.now }
 {
     let (field, test) = match place {

@@ -57,7 +57,8 @@ impl Model for Reader {
       refusal = reader.refusal;
     } };
 
-    ghost invariant = { λ reader. reader.refusal ≡ None → Holds (stage_in reader.kept) reader.room reader.begun_at reader.place reader.taken };
+    ghost invariant = { λ reader. reader.refusal ≡ None →
+        Holds (stage_in reader.kept) reader.room reader.begun_at reader.place reader.taken };
 }
 
 impl Reader {
@@ -95,7 +96,8 @@ impl Reader {
             HasTaken self.new (bytes ++ take taken.used piece.now) (items ++ given taken.item)) }
         ensures open { IfOk result (λ taken. self.new.refusal ≡ None) }
         ensures refused { IfErr result (λ refusal. self.new.refusal ≡ Some refusal) }
-        ensures kept { (refusal : Refusal) → self.old.refusal ≡ Some refusal → (result ≡ Err refusal) × (self.new ≡ self.old) }
+        ensures kept { (refusal : Refusal) → self.old.refusal ≡ Some refusal → (result ≡ Err refusal) ×
+            (self.new ≡ self.old) }
         ensures up_to { IfErr result (λ refusal. (bytes : List ℕ) (items : List Item) → HasTaken self.old bytes items →
             (used : ℕ) × (used ≤ length piece.now) × HasTaken self.new (bytes ++ take used piece.now) items) }
     {
@@ -182,9 +184,11 @@ impl Reader {
     /// The end of the bytes. They are refused where a field was, and where the end mark hasn't come. No memory is taken.
     pub fn end(&self) -> Result<(), Refusal>
         ensures kept { (refusal : Refusal) → self.now.refusal ≡ Some refusal → result ≡ Err refusal }
-        ensures whole { self.now.refusal ≡ None → IfOk result (λ done. (bytes : List ℕ) (items : List Item) → HasTaken self.now bytes items →
+        ensures whole { self.now.refusal ≡ None → IfOk result (λ done. (bytes : List ℕ) (items : List Item) →
+            HasTaken self.now bytes items →
             IsRead bytes items) }
-        ensures truncated { self.now.refusal ≡ None → IfErr result (λ refusal. (bytes : List ℕ) (items : List Item) → HasTaken self.now bytes items →
+        ensures truncated { self.now.refusal ≡ None → IfErr result (λ refusal. (bytes : List ℕ) (items : List Item) →
+            HasTaken self.now bytes items →
             IsTruncated bytes refusal) }
     {
         if let Some(refusal) = self.refusal {

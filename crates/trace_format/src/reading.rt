@@ -20,7 +20,8 @@ const PIECE: usize = 4096;
 /// Reads a trace to its end, and hands each item on to the taker as soon as it is whole.
 pub fn read_items<S: Source, T: Taker>(source: &mut S, taker: &mut T) -> ReadEnd<T::Stop>
     requires none { T.took taker.old taker.old [] }
-    ensures read { HasReadItems result (S.left source.old) (S.left source.new) (T.took taker.old taker.new) (T.stopped taker.old taker.new) }
+    ensures read { HasReadItems result (S.left source.old) (S.left source.new) (T.took taker.old taker.new)
+        (T.stopped taker.old taker.new) }
     // A fault was counted, and no count rose without one.
     ensures failed { result ≡ ReadEndOf.ReadFault → Rose (S.faults source.old) (S.faults source.new) }
     ensures steady { result ≢ ReadEndOf.ReadFault → S.faults source.new ≡ S.faults source.old }
@@ -55,7 +56,8 @@ fn take_piece<T: Taker>(
     ensures open { OnOk result (reader.new.refusal ≡ None) }
     ensures whole { OnOk result ((start : T) (bytes : List ℕ) → HandsOn reader.old bytes (T.took start taker.old) →
         HandsOn reader.new (bytes ++ piece.now) (T.took start taker.new)) }
-    ensures cut { (end : ReadEndOf T.Stop) → result ≡ Err end → (start : T) (bytes : List ℕ) → HandsOn reader.old bytes (T.took start taker.old) →
+    ensures cut { (end : ReadEndOf T.Stop) → result ≡ Err end → (start : T) (bytes : List ℕ) →
+        HandsOn reader.old bytes (T.took start taker.old) →
         IsCutShort end (bytes ++ piece.now) (T.took start taker.new) (T.stopped start taker.new) }
 {
     let mut used = 0;
@@ -74,10 +76,13 @@ fn take_piece<T: Taker>(
 
 /// Hands an item on, where one is whole.
 fn hand_on<T: Taker>(taker: &mut T, item: &Item) -> Result<(), T::Stop>
-    ensures took { OnOk result ((start : T) (items : List ItemOf) → T.took start taker.old items → AreFirst (items ++ given item.now) →
+    ensures took { OnOk result ((start : T) (items : List ItemOf) → T.took start taker.old items →
+        AreFirst (items ++ given item.now) →
         T.took start taker.new (items ++ given item.now)) }
-    ensures stopped { (stop : T.Stop) → result ≡ Err stop → (given item.now ≡ item.now ∷ []) × ((start : T) (items : List ItemOf) →
-        T.took start taker.old items → AreFirst (items ++ item.now ∷ []) → T.stopped start taker.new items item.now stop) }
+    ensures stopped { (stop : T.Stop) → result ≡ Err stop → (given item.now ≡ item.now ∷ []) ×
+        ((start : T) (items : List ItemOf) →
+        T.took start taker.old items → AreFirst (items ++ item.now ∷ []) →
+        T.stopped start taker.new items item.now stop) }
 {
     match item {
         Item::More => Ok(()),

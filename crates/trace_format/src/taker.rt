@@ -19,8 +19,10 @@ pub trait Taker {
 
     /// Takes the next item of a trace. It is the header, an event or the end mark. After an error no more items come.
     fn take(&mut self, item: &Item) -> Result<(), Self::Stop>
-        ensures took { OnOk result ((start : Self) (items : List ItemOf) → took start self.old items → AreFirst (items ++ item.now ∷ []) →
+        ensures took { OnOk result ((start : Self) (items : List ItemOf) → took start self.old items →
+            AreFirst (items ++ item.now ∷ []) →
             took start self.new (items ++ item.now ∷ [])) }
-        ensures stopped { (stop : Self.Stop) → result ≡ Err stop → (start : Self) (items : List ItemOf) → took start self.old items →
+        ensures stopped { (stop : Self.Stop) → result ≡ Err stop → (start : Self) (items : List ItemOf) →
+            took start self.old items →
             AreFirst (items ++ item.now ∷ []) → stopped start self.new items item.now stop };
 }

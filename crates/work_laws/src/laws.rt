@@ -36,7 +36,8 @@ ghost use Rattle.work_laws.specs.Told.{HaveEnded, meeting_of, told_of};
 /// were told as the construct has. Meetings are counted from 0. The run has 1 to 16 threads. Its program breaks no rule and has the
 /// form of a tree of a text.
 pub fn each_iteration_once_in_a_run()
-    ensures iterations { (run : Run) (history : List Entry) (r n at count iteration : ℕ) (start step : ℤ) (how : Schedule) →
+    ensures iterations { (run : Run) (history : List Entry) (r n at count iteration : ℕ) (start step : ℤ)
+        (how : Schedule) →
         1 ≤ run.threads → run.threads ≤ 16 → Checked run.program → IsProgramFormed run.program → Legal run history →
         let team = (region_at (after run history).world r).team in
         let told = told_of run history r n in
@@ -53,8 +54,10 @@ pub fn each_iteration_once_in_a_run()
 /// The sections that were told are those of the construct, each once, in the order of the text. The run has 1 to 16 threads. Its
 /// program breaks no rule, has the form of a tree of a text, and has no two constructs at one place.
 pub fn each_section_once_in_a_run()
-    ensures { (run : Run) (history : List Entry) (r n : ℕ) (construct : Part) → 1 ≤ run.threads → run.threads ≤ 16 → Checked run.program →
-        IsProgramFormed run.program → Legal run history → HaveOwnPlaces run.program → IsConstructOf run.program construct →
+    ensures { (run : Run) (history : List Entry) (r n : ℕ) (construct : Part) → 1 ≤ run.threads → run.threads ≤ 16 →
+        Checked run.program →
+        IsProgramFormed run.program → Legal run history → HaveOwnPlaces run.program →
+        IsConstructOf run.program construct →
         let team = (region_at (after run history).world r).team in
         let told = told_of run history r n in
         meeting_of team n ≡ sections_met construct → HaveEnded team told → told.sections ≡ section_places construct }
@@ -62,7 +65,8 @@ pub fn each_section_once_in_a_run()
 
 /// In a program whose text has at most 65,536 bytes no two constructs have one place.
 pub fn each_construct_has_its_own_place()
-    ensures { (text : List ℕ) (program : TreeView) → length text ≤ 65536 → Spells text (root_tree program) → HaveOwnPlaces program }
+    ensures { (text : List ℕ) (program : TreeView) → length text ≤ 65536 → Spells text (root_tree program) →
+        HaveOwnPlaces program }
 {}
 
 /// The next silent step of a thread asks for a section, after a legal history and any number of silent steps that the thread
@@ -87,6 +91,7 @@ pub fn chunks_have_a_size()
     ensures { (run : Run) (history : List Entry) (t steps codeptr count : ℕ) (start step : ℤ) (how : Written)
         (construct : Part) → Checked run.program → IsProgramFormed run.program →
         let W = (walk run steps 0 (after run history) t).state.world in
-        silent run.program (view_of W t) (told W t) ≡ Occurs (WorkBegin codeptr (LoopWork start count step how)) construct →
+        silent run.program (view_of W t) (told W t) ≡
+        Occurs (WorkBegin codeptr (LoopWork start count step how)) construct →
         dealt_by how ≡ as_written how }
 {}

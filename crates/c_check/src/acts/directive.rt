@@ -26,7 +26,8 @@ pub fn shares_loop(directive: Directive) -> bool
 /// The name of the variable of the loop that a directive shares out, if it does and the loop has one.
 pub fn shared_loop_name(tree: &Tree, directive: Directive, node: u32) -> Option<u32>
     requires { node < length tree.now.trees }
-    ensures { result ≡ (if statements.shares_loop directive then loop_name_of (statements.statement_of (children_of (tree_at tree.now.trees node))) else None) }
+    ensures { result ≡ (if statements.shares_loop directive
+        then loop_name_of (statements.statement_of (children_of (tree_at tree.now.trees node))) else None) }
 {
     if !shares_loop(directive) {
         return None;
@@ -45,7 +46,9 @@ pub fn has_odd_loop(
     node: u32,
 ) -> Result<bool, AllocError>
     requires { node < length tree.now.trees }
-    ensures { IfOk result (λ odd. odd ≡ (statements.shares_loop directive && not (is_of_form (statements.statement_of (children_of (tree_at tree.now.trees node)))))) }
+    ensures { IfOk result (λ odd. odd ≡
+        (statements.shares_loop directive && not
+        (is_of_form (statements.statement_of (children_of (tree_at tree.now.trees node)))))) }
 {
     if !shares_loop(directive) {
         return Ok(false);
@@ -69,7 +72,8 @@ pub fn role_with(name: Option<u32>) -> Role
 /// The statement of a construct, if there is one.
 pub fn statement_of(tree: &Tree, node: u32) -> Option<u32>
     requires { node < length tree.now.trees }
-    ensures statement { unwrap_or (option_map (tree_at tree.now.trees) result) nothing ≡ statements.statement_of (children_of (tree_at tree.now.trees node)) }
+    ensures statement { unwrap_or (option_map (tree_at tree.now.trees) result) nothing ≡
+        statements.statement_of (children_of (tree_at tree.now.trees node)) }
     ensures there { IfSome result (λ statement. statement < node) }
 {
     let mut place = 0;

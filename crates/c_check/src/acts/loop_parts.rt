@@ -32,7 +32,8 @@ pub struct SharedLoop {
 /// The parts of the loop that a construct shares out, if it does and the loop's head is of the form.
 pub fn shared_loop(tree: &Tree, construct: u32) -> Option<SharedLoop>
     requires { construct < length tree.now.trees }
-    ensures parts { IfSome result (λ found. loop_parts (tree_at tree.now.trees construct) ≡ Some (loop_at tree.now.trees found)) }
+    ensures parts { IfSome result (λ found.
+        loop_parts (tree_at tree.now.trees construct) ≡ Some (loop_at tree.now.trees found)) }
     ensures none { IfNone result (loop_parts (tree_at tree.now.trees construct) ≡ None) }
     ensures before { IfSome result (λ found. IsBefore construct found) }
 {

@@ -24,7 +24,8 @@ pub fn loop_name(tree: &Tree, statement: u32) -> Option<u32>
 /// The name of what the first part of a loop assigns or declares, without an index.
 fn assigned_by(tree: &Tree, first: u32) -> Option<u32>
     requires { first < length tree.now.trees }
-    ensures { result ≡ loops.assigned_by (kind_of (tree_at tree.now.trees first)) (loops.child_at (tree_at tree.now.trees first) 0) }
+    ensures { result ≡ loops.assigned_by (kind_of (tree_at tree.now.trees first))
+        (loops.child_at (tree_at tree.now.trees first) 0) }
 {
     match tree.kind(first) {
         NodeKind::Init => Some(name_at(tree, first, 0)),
@@ -102,7 +103,9 @@ fn is_apart_from_start(
     statement: u32,
 ) -> Result<bool, AllocError>
     requires { statement < length tree.now.trees }
-    ensures { IfOk result (λ holds. holds ≡ (loops.may_have_name (kind_of (loops.child_at (tree_at tree.now.trees statement) 0)) || not (loops.stands_in name (loops.child_at (loops.child_at (tree_at tree.now.trees statement) 0) 1)))) }
+    ensures { IfOk result (λ holds.
+        holds ≡ (loops.may_have_name (kind_of (loops.child_at (tree_at tree.now.trees statement) 0)) || not
+        (loops.stands_in name (loops.child_at (loops.child_at (tree_at tree.now.trees statement) 0) 1)))) }
 {
     let Some(first) = tree.child(statement, 0) else {
         return Ok(true);
@@ -119,7 +122,8 @@ fn is_apart_from_end(
     statement: u32,
 ) -> Result<bool, AllocError>
     requires { statement < length tree.now.trees }
-    ensures { IfOk result (λ holds. holds ≡ not (loops.stands_in name (loops.child_at (loops.child_at (tree_at tree.now.trees statement) 1) 1))) }
+    ensures { IfOk result (λ holds.
+        holds ≡ not (loops.stands_in name (loops.child_at (loops.child_at (tree_at tree.now.trees statement) 1) 1))) }
 {
     let Some(second) = tree.child(statement, 1) else {
         return Ok(true);
@@ -131,7 +135,9 @@ fn is_apart_from_end(
 fn go_one_way(tree: &Tree, second: u32, third: u32) -> bool
     requires second { second < length tree.now.trees }
     requires third { third < length tree.now.trees }
-    ensures { result ≡ (loops.goes_up (kind_of (tree_at tree.now.trees second)) && loops.is_step_up (tree_at tree.now.trees third) || loops.goes_down (kind_of (tree_at tree.now.trees second)) && loops.is_step_down (tree_at tree.now.trees third)) }
+    ensures { result ≡ (loops.goes_up (kind_of (tree_at tree.now.trees second)) && loops.is_step_up
+        (tree_at tree.now.trees third) || loops.goes_down
+        (kind_of (tree_at tree.now.trees second)) && loops.is_step_down (tree_at tree.now.trees third)) }
 {
     match tree.kind(second) {
         NodeKind::Binary(BinaryOp::Less | BinaryOp::LessEqual) => adds(tree, third),
@@ -206,7 +212,8 @@ fn stands_at(
     place: u32,
 ) -> Result<bool, AllocError>
     requires { node < length tree.now.trees }
-    ensures { IfOk result (λ stands. stands ≡ loops.stands_in name (loops.child_at (tree_at tree.now.trees node) place)) }
+    ensures { IfOk result (λ stands.
+        stands ≡ loops.stands_in name (loops.child_at (tree_at tree.now.trees node) place)) }
 {
     match tree.child(node, place) {
         Some(child) => stands_in(alloc, tree, name, child),
@@ -241,7 +248,8 @@ fn stands_in(alloc: Global, tree: &Tree, name: u32, expression: u32) -> Result<b
 /// Whether a node is a place with this name.
 fn is_named(tree: &Tree, name: u32, node: u32) -> bool
     requires { node < length tree.now.trees }
-    ensures { result ≡ (loops.is_place (kind_of (tree_at tree.now.trees node)) && name_of (tree_at tree.now.trees node) == name) }
+    ensures { result ≡ (loops.is_place (kind_of (tree_at tree.now.trees node)) && name_of
+        (tree_at tree.now.trees node) == name) }
 {
     matches!(tree.kind(node), NodeKind::Place) && tree.name(node) == name
 }

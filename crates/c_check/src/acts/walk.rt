@@ -58,7 +58,9 @@ pub struct Walk {
 impl Walk {
     /// The walk through a program from its beginning. An error means that memory ran out.
     pub fn new(alloc: Global, tree: &Tree) -> Result<Walk, AllocError>
-        ensures left { IfOk result (λ walk. left_of tree.now.trees walk ≡ texts.acts (Role.Plain) (root_tree tree.now) ++ Act.Finish tree.now.end ∷ []) }
+        ensures left { IfOk result (λ walk.
+            left_of tree.now.trees walk ≡ texts.acts (Role.Plain) (root_tree tree.now) ++ Act.Finish tree.now.end ∷
+            []) }
         ensures there { IfOk result (λ walk. AreThere tree.now.trees walk) }
     {
         let mut tasks = Vec::new(alloc);
@@ -71,7 +73,9 @@ impl Walk {
     /// may be lost then.
     pub fn next(&mut self, alloc: Global, tree: &Tree) -> Result<Option<Act>, AllocError>
         requires { AreThere tree.now.trees self.old }
-        ensures next { IfOk result (λ act. MatchOption act ((left_of tree.now.trees self.old ≡ []) × (left_of tree.now.trees self.new ≡ [])) (λ one. left_of tree.now.trees self.old ≡ one ∷ left_of tree.now.trees self.new)) }
+        ensures next { IfOk result (λ act. MatchOption act ((left_of tree.now.trees self.old ≡ []) ×
+            (left_of tree.now.trees self.new ≡ [])) (λ one.
+            left_of tree.now.trees self.old ≡ one ∷ left_of tree.now.trees self.new)) }
         ensures there { OnOk result (AreThere tree.now.trees self.new) }
     {
         while let Some(task) = self.tasks.pop() {
@@ -87,7 +91,8 @@ impl Walk {
     fn begin(&mut self, alloc: Global, tree: &Tree, task: Task) -> Result<(), AllocError>
         requires task { IsThere tree.now.trees task }
         requires there { AreThere tree.now.trees self.old }
-        ensures { OnOk result (Puts tree.now.trees (told_by tree.now.trees task) (weight_in tree.now.trees task) self.old self.new) }
+        ensures { OnOk result (Puts tree.now.trees (told_by tree.now.trees task)
+            (weight_in tree.now.trees task) self.old self.new) }
     {
         match task {
             Task::Tell(act) => self.then(Task::Tell(act)),
@@ -102,7 +107,8 @@ impl Walk {
 
     /// A task that comes before all others.
     fn then(&mut self, task: Task) -> Result<(), AllocError>
-        ensures { OnOk result ((trees : List Spelled) → IsThere trees task → AreThere trees self.old → Puts trees (told_by trees task) (weight_by trees task) self.old self.new) }
+        ensures { OnOk result ((trees : List Spelled) → IsThere trees task → AreThere trees self.old →
+            Puts trees (told_by trees task) (weight_by trees task) self.old self.new) }
     {
         self.tasks.push(task)?;
         Ok(())
@@ -112,7 +118,8 @@ impl Walk {
     fn visit(&mut self, alloc: Global, tree: &Tree, role: Role, node: u32) -> Result<(), AllocError>
         requires node { node < length tree.now.trees }
         requires there { AreThere tree.now.trees self.old }
-        ensures { OnOk result (Puts tree.now.trees (texts.acts role (tree_at tree.now.trees node)) (weight_below (tree_at tree.now.trees node)) self.old self.new) }
+        ensures { OnOk result (Puts tree.now.trees (texts.acts role (tree_at tree.now.trees node))
+            (weight_below (tree_at tree.now.trees node)) self.old self.new) }
     {
         let (name, spot) = (tree.name(node), tree.spot(node));
         match tree.kind(node) {
@@ -149,14 +156,16 @@ impl Walk {
 
     /// A name is declared.
     fn declare(&mut self, name: u32, spot: Spot, thing: Thing) -> Result<(), AllocError>
-        ensures { OnOk result ((trees : List Spelled) → AreThere trees self.old → Puts trees (Act.Declare name spot thing ∷ []) 0 self.old self.new) }
+        ensures { OnOk result ((trees : List Spelled) → AreThere trees self.old →
+            Puts trees (Act.Declare name spot thing ∷ []) 0 self.old self.new) }
     {
         self.then(Task::Tell(Act::Declare { name, spot, thing }))
     }
 
     /// A directive without a statement.
     fn standalone(&mut self, standalone: Standalone, spot: Spot) -> Result<(), AllocError>
-        ensures { OnOk result ((trees : List Spelled) → AreThere trees self.old → Puts trees (standalone_acts standalone spot) 0 self.old self.new) }
+        ensures { OnOk result ((trees : List Spelled) → AreThere trees self.old →
+            Puts trees (standalone_acts standalone spot) 0 self.old self.new) }
     {
         match standalone {
             Standalone::Barrier => self.then(Task::Tell(Act::Barrier { spot })),
@@ -166,7 +175,9 @@ impl Walk {
 
     /// A scope, with the children of a node in it.
     fn block(&mut self, node: u32) -> Result<(), AllocError>
-        ensures { OnOk result ((trees : List Spelled) → node < length trees → AreThere trees self.old → Puts trees (Act.Open ∷ texts.each (Role.Plain) (children_of (tree_at trees node)) ++ Act.Close ∷ []) (weight_below (tree_at trees node)) self.old self.new) }
+        ensures { OnOk result ((trees : List Spelled) → node < length trees → AreThere trees self.old →
+            Puts trees (Act.Open ∷ texts.each (Role.Plain) (children_of (tree_at trees node)) ++ Act.Close ∷ [])
+            (weight_below (tree_at trees node)) self.old self.new) }
     {
         self.then(Task::Tell(Act::Close))?;
         self.then(Task::Each(Role::Plain, node, 0))?;
@@ -177,7 +188,8 @@ impl Walk {
     fn function(&mut self, tree: &Tree, returns: Returns, node: u32) -> Result<(), AllocError>
         requires node { node < length tree.now.trees }
         requires there { AreThere tree.now.trees self.old }
-        ensures { OnOk result (Puts tree.now.trees (texts.function returns (children_of (tree_at tree.now.trees node))) (weight_below (tree_at tree.now.trees node)) self.old self.new) }
+        ensures { OnOk result (Puts tree.now.trees (texts.function returns (children_of (tree_at tree.now.trees node)))
+            (weight_below (tree_at tree.now.trees node)) self.old self.new) }
     {
         let Some(name) = tree.child(node, 0) else {
             return Ok(());
@@ -204,7 +216,9 @@ impl Walk {
     fn parts(&mut self, tree: &Tree, role: Role, node: u32) -> Result<(), AllocError>
         requires node { node < length tree.now.trees }
         requires there { AreThere tree.now.trees self.old }
-        ensures { OnOk result (Puts tree.now.trees (Act.Open ∷ texts.first_part (statements.looped role) (children_of (tree_at tree.now.trees node)) ++ Act.Close ∷ []) (weight_below (tree_at tree.now.trees node)) self.old self.new) }
+        ensures { OnOk result (Puts tree.now.trees (Act.Open ∷
+            texts.first_part (statements.looped role) (children_of (tree_at tree.now.trees node)) ++ Act.Close ∷ [])
+            (weight_below (tree_at tree.now.trees node)) self.old self.new) }
     {
         self.then(Task::Tell(Act::Close))?;
         self.then(Task::Each(Role::Plain, node, 3))?;
@@ -217,7 +231,8 @@ impl Walk {
 
     /// The body of a loop that a directive shares out begins, if it is that of one.
     fn looped(&mut self, role: Role) -> Result<(), AllocError>
-        ensures { OnOk result ((trees : List Spelled) → AreThere trees self.old → Puts trees (statements.looped role) 0 self.old self.new) }
+        ensures { OnOk result ((trees : List Spelled) → AreThere trees self.old →
+            Puts trees (statements.looped role) 0 self.old self.new) }
     {
         match role {
             Role::Looped(name) => self.then(Task::Tell(Act::Loop { name })),
@@ -229,7 +244,8 @@ impl Walk {
     fn part(&mut self, tree: &Tree, node: u32, place: u32) -> Result<(), AllocError>
         requires node { node < length tree.now.trees }
         requires there { AreThere tree.now.trees self.old }
-        ensures { OnOk result (Puts tree.now.trees (part_of (child_of (tree_at tree.now.trees node) place)) (weight_if (child_of (tree_at tree.now.trees node) place)) self.old self.new) }
+        ensures { OnOk result (Puts tree.now.trees (part_of (child_of (tree_at tree.now.trees node) place))
+            (weight_if (child_of (tree_at tree.now.trees node) place)) self.old self.new) }
     {
         match tree.child(node, place) {
             Some(part) => self.then(Task::Visit(Role::Plain, part)),
@@ -241,7 +257,8 @@ impl Walk {
     fn init(&mut self, tree: &Tree, node: u32) -> Result<(), AllocError>
         requires node { node < length tree.now.trees }
         requires there { AreThere tree.now.trees self.old }
-        ensures { OnOk result (Puts tree.now.trees (texts.init (children_of (tree_at tree.now.trees node))) (weight_below (tree_at tree.now.trees node)) self.old self.new) }
+        ensures { OnOk result (Puts tree.now.trees (texts.init (children_of (tree_at tree.now.trees node)))
+            (weight_below (tree_at tree.now.trees node)) self.old self.new) }
     {
         let Some(name) = tree.child(node, 0) else {
             return Ok(());
@@ -254,7 +271,10 @@ impl Walk {
     fn return_(&mut self, tree: &Tree, node: u32, spot: Spot) -> Result<(), AllocError>
         requires node { node < length tree.now.trees }
         requires there { AreThere tree.now.trees self.old }
-        ensures { OnOk result (Puts tree.now.trees (texts.each (Role.Used) (children_of (tree_at tree.now.trees node)) ++ Act.Return spot (usages.returned_of (children_of (tree_at tree.now.trees node))) ∷ []) (weight_below (tree_at tree.now.trees node)) self.old self.new) }
+        ensures { OnOk result (Puts tree.now.trees
+            (texts.each (Role.Used) (children_of (tree_at tree.now.trees node)) ++
+            Act.Return spot (usages.returned_of (children_of (tree_at tree.now.trees node))) ∷ [])
+            (weight_below (tree_at tree.now.trees node)) self.old self.new) }
     {
         let returned = returned_of(tree, node);
         self.then(Task::Tell(Act::Return { spot, returned }))?;
@@ -265,7 +285,8 @@ impl Walk {
     fn print(&mut self, tree: &Tree, node: u32, spot: Spot) -> Result<(), AllocError>
         requires node { node < length tree.now.trees }
         requires there { AreThere tree.now.trees self.old }
-        ensures { OnOk result (Puts tree.now.trees (texts.each (Role.Plain) (children_of (tree_at tree.now.trees node)) ++ Act.Print spot (printed.as_many (printed.numbers_in (text_of (tree_at tree.now.trees node))) (lists.child_count (children_of (tree_at tree.now.trees node)))) ∷ []) (weight_below (tree_at tree.now.trees node)) self.old self.new) }
+        ensures { OnOk result (Puts tree.now.trees
+            (texts.each (Role.Plain) (children_of (tree_at tree.now.trees node)) ++ Act.Print spot (printed.as_many (printed.numbers_in (text_of (tree_at tree.now.trees node))) (lists.child_count (children_of (tree_at tree.now.trees node)))) ∷ []) (weight_below (tree_at tree.now.trees node)) self.old self.new) }
     {
         let printed = as_many(numbers_in(tree.text(node)), count(tree, node)?);
         self.then(Task::Tell(Act::Print { spot, printed }))?;
@@ -276,7 +297,8 @@ impl Walk {
     fn target(&mut self, tree: &Tree, role: Role, node: u32) -> Result<(), AllocError>
         requires node { node < length tree.now.trees }
         requires there { AreThere tree.now.trees self.old }
-        ensures { OnOk result (Puts tree.now.trees (texts.target role (children_of (tree_at tree.now.trees node))) (weight_below (tree_at tree.now.trees node)) self.old self.new) }
+        ensures { OnOk result (Puts tree.now.trees (texts.target role (children_of (tree_at tree.now.trees node)))
+            (weight_below (tree_at tree.now.trees node)) self.old self.new) }
     {
         let Some(place) = tree.child(node, 0) else {
             return Ok(());
@@ -289,7 +311,8 @@ impl Walk {
     fn place(&mut self, tree: &Tree, role: Role, node: u32) -> Result<(), AllocError>
         requires node { node < length tree.now.trees }
         requires there { AreThere tree.now.trees self.old }
-        ensures { OnOk result (Puts tree.now.trees (Act.Use (name_of (tree_at tree.now.trees node)) (spot_of (tree_at tree.now.trees node)) (usages.place_usage (children_of (tree_at tree.now.trees node))) ∷ usages.assigned role (usages.place_usage (children_of (tree_at tree.now.trees node))) (name_of (tree_at tree.now.trees node)) ++ texts.each (Role.Plain) (children_of (tree_at tree.now.trees node))) (weight_below (tree_at tree.now.trees node)) self.old self.new) }
+        ensures { OnOk result (Puts tree.now.trees (Act.Use (name_of (tree_at tree.now.trees node))
+            (spot_of (tree_at tree.now.trees node)) (usages.place_usage (children_of (tree_at tree.now.trees node))) ∷ usages.assigned role (usages.place_usage (children_of (tree_at tree.now.trees node))) (name_of (tree_at tree.now.trees node)) ++ texts.each (Role.Plain) (children_of (tree_at tree.now.trees node))) (weight_below (tree_at tree.now.trees node)) self.old self.new) }
     {
         let (name, spot) = (tree.name(node), tree.spot(node));
         let usage = place_usage(tree, node);
@@ -300,7 +323,8 @@ impl Walk {
 
     /// A variable is assigned, if it is what an assignment sets.
     fn assigned(&mut self, role: Role, usage: Usage, name: u32) -> Result<(), AllocError>
-        ensures { OnOk result ((trees : List Spelled) → AreThere trees self.old → Puts trees (usages.assigned role usage name) 0 self.old self.new) }
+        ensures { OnOk result ((trees : List Spelled) → AreThere trees self.old →
+            Puts trees (usages.assigned role usage name) 0 self.old self.new) }
     {
         match (role, usage) {
             (Role::Target, Usage::Plain) => self.then(Task::Tell(Act::Assign { name })),
@@ -312,7 +336,9 @@ impl Walk {
     fn call(&mut self, tree: &Tree, role: Role, node: u32) -> Result<(), AllocError>
         requires node { node < length tree.now.trees }
         requires there { AreThere tree.now.trees self.old }
-        ensures { OnOk result (Puts tree.now.trees (Act.Use (name_of (tree_at tree.now.trees node)) (spot_of (tree_at tree.now.trees node)) (Usage.Called (lists.child_count (children_of (tree_at tree.now.trees node))) (usages.call_value role)) ∷ texts.each (Role.Plain) (children_of (tree_at tree.now.trees node))) (weight_below (tree_at tree.now.trees node)) self.old self.new) }
+        ensures { OnOk result (Puts tree.now.trees (Act.Use (name_of (tree_at tree.now.trees node))
+            (spot_of (tree_at tree.now.trees node))
+            (Usage.Called (lists.child_count (children_of (tree_at tree.now.trees node))) (usages.call_value role)) ∷ texts.each (Role.Plain) (children_of (tree_at tree.now.trees node))) (weight_below (tree_at tree.now.trees node)) self.old self.new) }
     {
         let usage = Usage::Called(count(tree, node)?, value_of(role));
         let (name, spot) = (tree.name(node), tree.spot(node));
@@ -330,7 +356,8 @@ impl Walk {
     ) -> Result<(), AllocError>
         requires node { node < length tree.now.trees }
         requires there { AreThere tree.now.trees self.old }
-        ensures { OnOk result (Puts tree.now.trees (texts.outside_acts (children_of (tree_at tree.now.trees node)) ++ Act.Enter (spot_of (tree_at tree.now.trees node)) directive (statements.name_of_critical (children_of (tree_at tree.now.trees node))) ∷ clauses.inside_acts (children_of (tree_at tree.now.trees node)) ++ statements.odd_loop directive (children_of (tree_at tree.now.trees node)) ++ texts.statements (statements.statement_role directive (children_of (tree_at tree.now.trees node))) (children_of (tree_at tree.now.trees node)) ++ Act.Leave ∷ []) (weight_below (tree_at tree.now.trees node)) self.old self.new) }
+        ensures { OnOk result (Puts tree.now.trees (texts.outside_acts (children_of (tree_at tree.now.trees node)) ++
+            Act.Enter (spot_of (tree_at tree.now.trees node)) directive (statements.name_of_critical (children_of (tree_at tree.now.trees node))) ∷ clauses.inside_acts (children_of (tree_at tree.now.trees node)) ++ statements.odd_loop directive (children_of (tree_at tree.now.trees node)) ++ texts.statements (statements.statement_role directive (children_of (tree_at tree.now.trees node))) (children_of (tree_at tree.now.trees node)) ++ Act.Leave ∷ []) (weight_below (tree_at tree.now.trees node)) self.old self.new) }
     {
         let name = shared_loop_name(tree, directive, node);
         let odd = has_odd_loop(alloc, tree, directive, node)?;
@@ -348,7 +375,8 @@ impl Walk {
 
     /// The statement of a construct isn't a loop of the form, if it should be and isn't.
     fn odd_loop(&mut self, odd: bool) -> Result<(), AllocError>
-        ensures { OnOk result ((trees : List Spelled) → AreThere trees self.old → Puts trees (if odd then Act.OddLoop ∷ [] else []) 0 self.old self.new) }
+        ensures { OnOk result ((trees : List Spelled) → AreThere trees self.old →
+            Puts trees (if odd then Act.OddLoop ∷ [] else []) 0 self.old self.new) }
     {
         if odd {
             self.then(Task::Tell(Act::OddLoop))
@@ -361,7 +389,8 @@ impl Walk {
     fn each(&mut self, tree: &Tree, role: Role, node: u32, place: u32) -> Result<(), AllocError>
         requires node { node < length tree.now.trees }
         requires there { AreThere tree.now.trees self.old }
-        ensures { OnOk result (Puts tree.now.trees (texts.each role (children_left tree.now.trees node place)) (weight_among (children_left tree.now.trees node place)) self.old self.new) }
+        ensures { OnOk result (Puts tree.now.trees (texts.each role (children_left tree.now.trees node place))
+            (weight_among (children_left tree.now.trees node place)) self.old self.new) }
     {
         let Some(child) = tree.child(node, place) else {
             return Ok(());
@@ -374,7 +403,8 @@ impl Walk {
     fn names(&mut self, tree: &Tree, why: Naming, node: u32, place: u32) -> Result<(), AllocError>
         requires node { node < length tree.now.trees }
         requires there { AreThere tree.now.trees self.old }
-        ensures { OnOk result (Puts tree.now.trees (lists.names why (children_left tree.now.trees node place)) (weight_among (children_left tree.now.trees node place)) self.old self.new) }
+        ensures { OnOk result (Puts tree.now.trees (lists.names why (children_left tree.now.trees node place))
+            (weight_among (children_left tree.now.trees node place)) self.old self.new) }
     {
         let Some(child) = tree.child(node, place) else {
             return Ok(());
@@ -387,7 +417,8 @@ impl Walk {
     fn outside(&mut self, tree: &Tree, node: u32, place: u32) -> Result<(), AllocError>
         requires node { node < length tree.now.trees }
         requires there { AreThere tree.now.trees self.old }
-        ensures { OnOk result (Puts tree.now.trees (texts.outside_acts (children_left tree.now.trees node place)) (weight_among (children_left tree.now.trees node place)) self.old self.new) }
+        ensures { OnOk result (Puts tree.now.trees (texts.outside_acts (children_left tree.now.trees node place))
+            (weight_among (children_left tree.now.trees node place)) self.old self.new) }
     {
         let Some(child) = tree.child(node, place) else {
             return Ok(());
@@ -406,7 +437,8 @@ impl Walk {
     fn inside(&mut self, tree: &Tree, node: u32, place: u32) -> Result<(), AllocError>
         requires node { node < length tree.now.trees }
         requires there { AreThere tree.now.trees self.old }
-        ensures { OnOk result (Puts tree.now.trees (clauses.inside_acts (children_left tree.now.trees node place)) (weight_among (children_left tree.now.trees node place)) self.old self.new) }
+        ensures { OnOk result (Puts tree.now.trees (clauses.inside_acts (children_left tree.now.trees node place))
+            (weight_among (children_left tree.now.trees node place)) self.old self.new) }
     {
         let Some(child) = tree.child(node, place) else {
             return Ok(());
@@ -431,7 +463,8 @@ impl Walk {
     ) -> Result<(), AllocError>
         requires node { node < length tree.now.trees }
         requires there { AreThere tree.now.trees self.old }
-        ensures { OnOk result (Puts tree.now.trees (texts.statements role (children_left tree.now.trees node place)) (weight_among (children_left tree.now.trees node place)) self.old self.new) }
+        ensures { OnOk result (Puts tree.now.trees (texts.statements role (children_left tree.now.trees node place))
+            (weight_among (children_left tree.now.trees node place)) self.old self.new) }
     {
         let Some(child) = tree.child(node, place) else {
             return Ok(());
@@ -448,8 +481,10 @@ impl Walk {
 #[tactic(auto, unfolding(crate::specs::Tasks::from_place))]
 fn outside_of(tree: &Tree, clause: u32) -> Option<Task>
     requires { clause < length tree.now.trees }
-    ensures told { told_if tree.now.trees result ≡ outside_by (kind_of (tree_at tree.now.trees clause)) (children_of (tree_at tree.now.trees clause)) }
-    ensures task { IfSome result (λ task. IsThere tree.now.trees task × weight_by tree.now.trees task ≤ weight_among (children_of (tree_at tree.now.trees clause)) + 1) }
+    ensures told { told_if tree.now.trees result ≡ outside_by (kind_of (tree_at tree.now.trees clause))
+        (children_of (tree_at tree.now.trees clause)) }
+    ensures task { IfSome result (λ task. IsThere tree.now.trees task ×
+        weight_by tree.now.trees task ≤ weight_among (children_of (tree_at tree.now.trees clause)) + 1) }
 {
     match tree.kind(clause) {
         NodeKind::NumThreads | NodeKind::IfClause => Some(Task::Each(Role::Plain, clause, 0)),
@@ -465,8 +500,10 @@ fn outside_of(tree: &Tree, clause: u32) -> Option<Task>
 #[tactic(auto, unfolding(crate::specs::Tasks::from_place))]
 fn inside_of(tree: &Tree, clause: u32) -> Option<Task>
     requires { clause < length tree.now.trees }
-    ensures told { told_if tree.now.trees result ≡ clauses.clause_inside (kind_of (tree_at tree.now.trees clause)) (children_of (tree_at tree.now.trees clause)) }
-    ensures task { IfSome result (λ task. IsThere tree.now.trees task × weight_by tree.now.trees task ≤ weight_among (children_of (tree_at tree.now.trees clause)) + 1) }
+    ensures told { told_if tree.now.trees result ≡ clauses.clause_inside (kind_of (tree_at tree.now.trees clause))
+        (children_of (tree_at tree.now.trees clause)) }
+    ensures task { IfSome result (λ task. IsThere tree.now.trees task ×
+        weight_by tree.now.trees task ≤ weight_among (children_of (tree_at tree.now.trees clause)) + 1) }
 {
     let single = match tree.kind(clause) {
         NodeKind::NumThreads => Single::NumThreads,

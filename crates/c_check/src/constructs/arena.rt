@@ -56,7 +56,9 @@ impl Model for Constructs {
 
     ghost use Rattle.c_check.specs.Around.{AreKept, ended_in, numbered};
 
-    ghost view = { λ them. record { newest = them.newest; around = numbered them.older.items (reverse them.around.items); ended = ended_in them.older.items them.ended.items; unlisted = them.unlisted.items; loops = them.loops } };
+    ghost view = { λ them. record { newest = them.newest;
+        around = numbered them.older.items (reverse them.around.items);
+        ended = ended_in them.older.items them.ended.items; unlisted = them.unlisted.items; loops = them.loops } };
 
     ghost invariant = { λ them. AreKept them.older.items (reverse them.around.items) them.ended.items them.spots };
 }
@@ -173,8 +175,10 @@ impl Constructs {
         of_file: bool,
         slot: u32,
     ) -> Result<bool, AllocError>
-        ensures copied { IfOk result (λ copied. copied ≡ is_some_copy (copies_around (open_constructs self.now) of_file slot)) }
-        ensures noted { OnOk result ((before : List TaskCopy) → AreCopies before copies.old → AreCopies (before ++ copies_around (open_constructs self.now) of_file slot) copies.new) }
+        ensures copied { IfOk result (λ copied.
+            copied ≡ is_some_copy (copies_around (open_constructs self.now) of_file slot)) }
+        ensures noted { OnOk result ((before : List TaskCopy) → AreCopies before copies.old →
+            AreCopies (before ++ copies_around (open_constructs self.now) of_file slot) copies.new) }
     {
         let found = note_older(copies, &self.older, &self.around, of_file, slot)?;
         match &self.newest {

@@ -26,7 +26,8 @@ impl<'a> Model for Around<'a> {
 
     ghost Value = { List Construct };
 
-    ghost view = { λ around. with_newest (option_copied around.newest) (numbered around.older.now (reverse around.numbers.now)) };
+    ghost view = { λ around. with_newest (option_copied around.newest)
+        (numbered around.older.now (reverse around.numbers.now)) };
 
     ghost invariant = { λ around. AreBelow (length around.older.now) (reverse around.numbers.now) };
 }
@@ -79,7 +80,8 @@ fn split_numbers<'a>(
     numbers: &'a [usize],
 ) -> Option<(&'a Construct, &'a [usize])>
     requires { AreBelow (length older.now) (reverse numbers.now) }
-    ensures split { MatchOption result (numbers.now ≡ []) (λ parts. numbered older.now (reverse numbers.now) ≡ parts.0.now ∷ numbered older.now (reverse parts.1.now)) }
+    ensures split { MatchOption result (numbers.now ≡ []) (λ parts.
+        numbered older.now (reverse numbers.now) ≡ parts.0.now ∷ numbered older.now (reverse parts.1.now)) }
     ensures below { IfSome result (λ parts. AreBelow (length older.now) (reverse parts.1.now)) }
 {
     let (last, numbers) = numbers.split_last()?;

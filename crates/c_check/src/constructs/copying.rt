@@ -29,9 +29,12 @@ pub fn note_older(
     slot: u32,
 ) -> Result<Found, AllocError>
     requires { AreBelow (length older.now) (reverse numbers.now) }
-    ensures by_rule { IfOk result (λ found. found.by_rule ≡ shared_by_rule (numbered older.now (reverse numbers.now)) of_file slot) }
-    ensures copied { IfOk result (λ found. found.copied ≡ is_some_copy (copies_around (numbered older.now (reverse numbers.now)) of_file slot)) }
-    ensures noted { OnOk result ((before : List TaskCopy) → AreCopies before copies.old → AreCopies (before ++ copies_around (numbered older.now (reverse numbers.now)) of_file slot) copies.new) }
+    ensures by_rule { IfOk result (λ found.
+        found.by_rule ≡ shared_by_rule (numbered older.now (reverse numbers.now)) of_file slot) }
+    ensures copied { IfOk result (λ found.
+        found.copied ≡ is_some_copy (copies_around (numbered older.now (reverse numbers.now)) of_file slot)) }
+    ensures noted { OnOk result ((before : List TaskCopy) → AreCopies before copies.old →
+        AreCopies (before ++ copies_around (numbered older.now (reverse numbers.now)) of_file slot) copies.new) }
 {
     let mut found = Found {
         by_rule: of_file,
@@ -54,8 +57,10 @@ pub fn note_one(
     slot: u32,
 ) -> Result<Found, AllocError>
     ensures by_rule { IfOk result (λ found. found.by_rule ≡ shared_inside construct.now around.by_rule slot) }
-    ensures copied { IfOk result (λ found. found.copied ≡ (around.copied || copies_by_rule construct.now around.by_rule slot)) }
-    ensures noted { OnOk result ((before : List TaskCopy) → AreCopies before copies.old → AreCopies (before ++ copy_by_rule construct.now around.by_rule slot) copies.new) }
+    ensures copied { IfOk result (λ found.
+        found.copied ≡ (around.copied || copies_by_rule construct.now around.by_rule slot)) }
+    ensures noted { OnOk result ((before : List TaskCopy) → AreCopies before copies.old →
+        AreCopies (before ++ copy_by_rule construct.now around.by_rule slot) copies.new) }
 {
     let copied = copies_by_rule(construct, around.by_rule, slot);
     if copied {

@@ -28,7 +28,8 @@ impl Criticals {
 
     /// A critical has this name, or 0.
     pub fn add(&mut self, name: u32) -> Result<(), AllocError>
-        ensures { OnOk result ((names : List ℕ) → AreCriticals names self.old → AreCriticals (with_one names name) self.new) }
+        ensures { OnOk result ((names : List ℕ) → AreCriticals names self.old →
+            AreCriticals (with_one names name) self.new) }
     {
         if self.numbers.contains_key(&name) {
             return Ok(());

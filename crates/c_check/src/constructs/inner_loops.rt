@@ -30,7 +30,9 @@ impl Model for InnerLoops {
 
     ghost view = { λ loops. loops.all.items };
 
-    ghost invariant = { λ loops. (slot : ℕ) (construct : Spot) → contains same_triple loops.places (slot, construct.line, construct.column) ≡ is_loop_inside loops.all.items slot construct };
+    ghost invariant = { λ loops. (slot : ℕ) (construct : Spot) →
+        contains same_triple loops.places (slot, construct.line, construct.column) ≡
+        is_loop_inside loops.all.items slot construct };
 }
 
 impl InnerLoops {

@@ -65,7 +65,8 @@ impl Mentions {
 
 /// A variable is listed by this clause, if none listed it before.
 fn keep_first(clauses: &mut HashMap<u32, DataClause>, one: Mention) -> Result<(), AllocError>
-    ensures kept { OnOk result ((slot : ℕ) → get nat_eq clauses.new slot ≡ option_or (get nat_eq clauses.old slot) (mention (one ∷ []) slot)) }
+    ensures kept { OnOk result ((slot : ℕ) →
+        get nat_eq clauses.new slot ≡ option_or (get nat_eq clauses.old slot) (mention (one ∷ []) slot)) }
     ensures err { OnErr result ((slot : ℕ) → get nat_eq clauses.new slot ≡ get nat_eq clauses.old slot) }
 {
     if !clauses.contains_key(&one.slot) {

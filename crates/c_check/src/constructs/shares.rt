@@ -42,7 +42,8 @@ fn sharing_here(
     of_file: bool,
     slot: u32,
 ) -> Option<Sharing>
-    ensures { unwrap_or result (sharing_at outer.entry of_file slot) ≡ sharing_at (construct.now ∷ outer.entry) of_file slot }
+    ensures { unwrap_or result (sharing_at outer.entry of_file slot) ≡
+        sharing_at (construct.now ∷ outer.entry) of_file slot }
 {
     if let Some(own) = own_sharing(construct, slot) {
         return Some(own);

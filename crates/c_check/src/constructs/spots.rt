@@ -31,7 +31,8 @@ impl Model for Spots {
 
     ghost view = { λ spots. spots.all.items };
 
-    ghost invariant = { λ spots. (place : ℕ × ℕ) → get same_pair spots.numbers place ≡ number_of_place 0 spots.all.items place };
+    ghost invariant = { λ spots. (place : ℕ × ℕ) →
+        get same_pair spots.numbers place ≡ number_of_place 0 spots.all.items place };
 }
 
 impl Spots {
@@ -71,7 +72,9 @@ fn keep_first(
     place: (u32, u32),
     number: usize,
 ) -> Result<(), AllocError>
-    ensures kept { OnOk result ((other : ℕ × ℕ) → get same_pair numbers.new other ≡ option_or (get same_pair numbers.old other) (if same_pair place other then Some number else None)) }
+    ensures kept { OnOk result ((other : ℕ × ℕ) →
+        get same_pair numbers.new other ≡ option_or (get same_pair numbers.old other) (if same_pair place other
+        then Some number else None)) }
     ensures err { OnErr result ((other : ℕ × ℕ) → get same_pair numbers.new other ≡ get same_pair numbers.old other) }
 {
     if !numbers.contains_key(&place) {

@@ -35,7 +35,8 @@ impl TaskCopies {
 
     /// A task has a copy.
     pub fn add(&mut self, task: Spot, slot: u32) -> Result<(), AllocError>
-        ensures { OnOk result ((copies : List TaskCopy) → AreCopies copies self.old → AreCopies (copies ++ record { task = task; slot = slot } ∷ []) self.new) }
+        ensures { OnOk result ((copies : List TaskCopy) → AreCopies copies self.old →
+            AreCopies (copies ++ record { task = task; slot = slot } ∷ []) self.new) }
     {
         if self.known.contains(&(task.line, task.column, slot)) {
             return Ok(());
@@ -66,7 +67,8 @@ fn take_slots(
     place: (u32, u32),
 ) -> Vec<u32>
     ensures items { result.items ≡ unwrap_or (option_map vec_items (get same_pair slots.old place)) [] }
-    ensures others { (other : ℕ × ℕ) → get same_pair slots.new other ≡ (if same_pair place other then None else get same_pair slots.old other) }
+    ensures others { (other : ℕ × ℕ) →
+        get same_pair slots.new other ≡ (if same_pair place other then None else get same_pair slots.old other) }
 {
     match slots.remove(&place) {
         Some(slots) => slots,

@@ -116,7 +116,8 @@ impl Checker {
 
     /// A name is declared, with a slot.
     fn add(&mut self, name: u32, spot: Spot, thing: Thing) -> Result<(), AllocError>
-        ensures stands { OnOk result ((here : Here) → Stands self.old here → Stands self.new (declared here name spot thing)) }
+        ensures stands { OnOk result ((here : Here) → Stands self.old here →
+            Stands self.new (declared here name spot thing)) }
         ensures found { OnOk result (self.new.found ≡ self.old.found) }
     {
         if self.names.level() == 0 {

@@ -43,9 +43,11 @@ impl Model for Declarations {
 
     ghost use Rattle.c_check.specs.Visible.{AreVisible, declared_in};
 
-    ghost view = { λ names. record { visible = declared_in (reverse names.visible.items); all = names.all.items; level = names.level } };
+    ghost view = { λ names. record { visible = declared_in (reverse names.visible.items); all = names.all.items;
+        level = names.level } };
 
-    ghost invariant = { λ names. AreVisible names.all.items (get nat_eq names.innermost) (reverse names.visible.items) };
+    ghost invariant = { λ names. AreVisible names.all.items (get nat_eq names.innermost)
+        (reverse names.visible.items) };
 }
 
 impl Declarations {
@@ -163,7 +165,8 @@ fn set_slot(
     name: u32,
     slot: Option<u32>,
 ) -> Result<(), AllocError>
-    ensures set { OnOk result ((other : ℕ) → get nat_eq innermost.new other ≡ update nat_eq (get nat_eq innermost.old) name slot other) }
+    ensures set { OnOk result ((other : ℕ) →
+        get nat_eq innermost.new other ≡ update nat_eq (get nat_eq innermost.old) name slot other) }
     ensures err { OnErr result ((other : ℕ) → get nat_eq innermost.new other ≡ get nat_eq innermost.old other) }
 {
     match slot {

@@ -29,7 +29,8 @@ impl Slots {
 
     /// A name that stands there has this slot.
     pub fn add(&mut self, spot: Spot, slot: u32) -> Result<(), AllocError>
-        ensures { OnOk result ((named : List Named) → AreSlots named self.old → AreSlots (with_named named spot slot) self.new) }
+        ensures { OnOk result ((named : List Named) → AreSlots named self.old →
+            AreSlots (with_named named spot slot) self.new) }
     {
         let place = (spot.line, spot.column);
         if let Some(_) = self.slots.get(&place) {

@@ -31,7 +31,8 @@ impl Control {
         requires made { IsMadeFor code.now self.old }
         requires view { HasNumbers view }
         requires spare { 0 < self.old.spare }
-        ensures step { outcome_at code.now result (moment_at code.now self.new cells.new) ≡ silent code.now view (moment_at code.now self.old cells.old) }
+        ensures step { outcome_at code.now result (moment_at code.now self.new cells.new) ≡
+            silent code.now view (moment_at code.now self.old cells.old) }
         ensures kept { IsKept code.now view result self.old cells.old self.new cells.new }
         ensures numbers { FitsProgram code.now result }
         ensures named { IsNamed code.now result self.new }
@@ -45,7 +46,8 @@ impl Control {
 
     /// The code has ended, with the value of the last call, or 0.
     fn ended(&self) -> Next
-        ensures step { (program : TreeView) (now : Moment) → outcome_at program result now ≡ Ends (unwrap_or self.now.returned (pos 0)) }
+        ensures step { (program : TreeView) (now : Moment) →
+            outcome_at program result now ≡ Ends (unwrap_or self.now.returned (pos 0)) }
         ensures unchanged { IsUnchanging result }
         ensures numbers { (program : TreeView) → FitsProgram program result }
         ensures named { (program : TreeView) (held : Held) → IsNamed program result held }
@@ -63,7 +65,8 @@ impl Control {
         requires item { IsItem code.now item }
         requires view { HasNumbers view }
         requires step_names { self.old.step_names ≡ step_names code.now }
-        ensures step { outcome_at code.now result (moment_at code.now self.new cells.new) ≡ step_of (item_at code.now item) (here_at code.now view self.old cells.old) }
+        ensures step { outcome_at code.now result (moment_at code.now self.new cells.new) ≡
+            step_of (item_at code.now item) (here_at code.now view self.old cells.old) }
         ensures settled { IsSettled result self.old cells.old self.new cells.new }
         ensures numbers { FitsProgram code.now result }
         ensures frames { AreFrames code.now self.new.frames }

@@ -41,7 +41,8 @@ impl Control {
         requires node { node < length code.now.trees }
         requires view { HasNumbers view }
         requires step_names { self.old.step_names ≡ step_names code.now }
-        ensures step { outcome_at code.now result (moment_at code.now self.new cells.new) ≡ calls.begin_called (here_at code.now view self.old cells.old) (tree_at code.now.trees node) }
+        ensures step { outcome_at code.now result (moment_at code.now self.new cells.new) ≡
+            calls.begin_called (here_at code.now view self.old cells.old) (tree_at code.now.trees node) }
         ensures settled { IsSettled result self.old cells.old self.new cells.new }
         ensures numbers { FitsProgram code.now result }
         ensures frames { AreFrames code.now self.new.frames }
@@ -62,7 +63,8 @@ impl Control {
         requires node { node < length code.now.trees }
         requires view { HasNumbers view }
         requires step_names { self.old.step_names ≡ step_names code.now }
-        ensures step { outcome_at code.now result (moment_at code.now self.new cells.new) ≡ calls.begin_set_call (here_at code.now view self.old cells.old) (tree_at code.now.trees node) }
+        ensures step { outcome_at code.now result (moment_at code.now self.new cells.new) ≡
+            calls.begin_set_call (here_at code.now view self.old cells.old) (tree_at code.now.trees node) }
         ensures settled { IsSettled result self.old cells.old self.new cells.new }
         ensures numbers { FitsProgram code.now result }
         ensures frames { AreFrames code.now self.new.frames }
@@ -90,7 +92,8 @@ impl Control {
         requires node { (node < length code.now.trees) × IsEntry entry }
         requires view { HasNumbers view }
         requires step_names { self.old.step_names ≡ step_names code.now }
-        ensures step { outcome_at code.now result (moment_at code.now self.new cells.new) ≡ calls.begin_initialise (here_at code.now view self.old cells.old) (tree_at code.now.trees node) entry }
+        ensures step { outcome_at code.now result (moment_at code.now self.new cells.new) ≡
+            calls.begin_initialise (here_at code.now view self.old cells.old) (tree_at code.now.trees node) entry }
         ensures settled { IsSettled result self.old cells.old self.new cells.new }
         ensures numbers { FitsProgram code.now result }
         ensures frames { AreFrames code.now self.new.frames }
@@ -118,7 +121,8 @@ impl Control {
         requires node { node < length code.now.trees }
         requires view { HasNumbers view }
         requires step_names { self.old.step_names ≡ step_names code.now }
-        ensures step { outcome_at code.now result (moment_at code.now self.new cells.new) ≡ calls.begin_return (here_at code.now view self.old cells.old) (tree_at code.now.trees node) }
+        ensures step { outcome_at code.now result (moment_at code.now self.new cells.new) ≡
+            calls.begin_return (here_at code.now view self.old cells.old) (tree_at code.now.trees node) }
         ensures settled { IsSettled result self.old cells.old self.new cells.new }
         ensures numbers { FitsProgram code.now result }
         ensures frames { AreFrames code.now self.new.frames }
@@ -154,7 +158,9 @@ impl Control {
         requires call { IsPart code.now.trees call × IfSome declared IsEntry }
         requires view { HasNumbers view }
         requires step_names { self.old.step_names ≡ step_names code.now }
-        ensures step { outcome_at code.now result (moment_at code.now self.new cells.new) ≡ calls.begin_right (kind_of (part_at code.now.trees call)) (here_at code.now view self.old cells.old) (part_at code.now.trees call) (env_with declared (env_at code.now self.old)) to }
+        ensures step { outcome_at code.now result (moment_at code.now self.new cells.new) ≡
+            calls.begin_right (kind_of (part_at code.now.trees call)) (here_at code.now view self.old cells.old)
+            (part_at code.now.trees call) (env_with declared (env_at code.now self.old)) to }
         ensures settled { IsSettled result self.old cells.old self.new cells.new }
         ensures numbers { FitsProgram code.now result }
         ensures frames { AreFrames code.now self.new.frames }
@@ -172,7 +178,8 @@ impl Control {
     #[inline(never)]
     fn begin_test(&self, code: &Code, cells: &Cells, view: View, call: u32, to: Target) -> Next
         requires { call < length code.now.trees }
-        ensures step { outcome_at code.now result (moment_at code.now self.now cells.now) ≡ calls.begin_test (here_at code.now view self.now cells.now) (tree_at code.now.trees call) to }
+        ensures step { outcome_at code.now result (moment_at code.now self.now cells.now) ≡
+            calls.begin_test (here_at code.now view self.now cells.now) (tree_at code.now.trees call) to }
         ensures unchanged { IsSettled result self.now cells.now self.now cells.now }
         ensures numbers { FitsProgram code.now result }
     {
@@ -188,7 +195,8 @@ impl Control {
     /// The wait identifier of the lock that a call names.
     fn lock_id(&self, code: &Code, call: u32) -> u32
         requires { call < length code.now.trees }
-        ensures { result ≡ LOCK_UNIT + (entry_of (env_at code.now self.now) (name_of (child_at (tree_at code.now.trees call) 0))).first }
+        ensures { result ≡ LOCK_UNIT + (entry_of (env_at code.now self.now)
+            (name_of (child_at (tree_at code.now.trees call) 0))).first }
     {
         let name = code.name(code.child(Some(call), 0));
         LOCK_UNIT + self.entry(code, name).first
@@ -210,7 +218,9 @@ impl Control {
         requires call { IsPart code.now.trees call × IfSome declared IsEntry }
         requires view { HasNumbers view }
         requires step_names { self.old.step_names ≡ step_names code.now }
-        ensures step { outcome_at code.now result (moment_at code.now self.new cells.new) ≡ calls.begin_call (here_at code.now view self.old cells.old) (part_at code.now.trees call) (env_with declared (env_at code.now self.old)) to }
+        ensures step { outcome_at code.now result (moment_at code.now self.new cells.new) ≡
+            calls.begin_call (here_at code.now view self.old cells.old) (part_at code.now.trees call)
+            (env_with declared (env_at code.now self.old)) to }
         ensures settled { IsSettled result self.old cells.old self.new cells.new }
         ensures numbers { FitsProgram code.now result }
         ensures frames { AreFrames code.now self.new.frames }
@@ -233,7 +243,9 @@ impl Control {
         requires call { IsPart code.now.trees call }
         requires view { HasNumbers view }
         requires step_names { self.old.step_names ≡ step_names code.now }
-        ensures { IsAttempt code.now (calls.begin_right (kind_of (part_at code.now.trees call)) (here_at code.now view self.old cells.old) (part_at code.now.trees call) (env_at code.now self.old) to) result self.old cells.old self.new cells.new }
+        ensures { IsAttempt code.now (calls.begin_right (kind_of (part_at code.now.trees call))
+            (here_at code.now view self.old cells.old) (part_at code.now.trees call) (env_at code.now self.old) to)
+            result self.old cells.old self.new cells.new }
     {
         match code.kind(call) {
             NodeKind::TestLock => false,
@@ -256,7 +268,9 @@ impl Control {
         requires call { IsPart code.now.trees call × IfSome declared IsEntry }
         requires view { HasNumbers view }
         requires step_names { self.old.step_names ≡ step_names code.now }
-        ensures step { outcome_at code.now (next_of_call result) (moment_at code.now self.new cells.new) ≡ calls.begin_call (here_at code.now view self.old cells.old) (part_at code.now.trees call) (env_with declared (env_at code.now self.old)) to }
+        ensures step { outcome_at code.now (next_of_call result) (moment_at code.now self.new cells.new) ≡
+            calls.begin_call (here_at code.now view self.old cells.old) (part_at code.now.trees call)
+            (env_with declared (env_at code.now self.old)) to }
         ensures settled { IsSettled (next_of_call result) self.old cells.old self.new cells.new }
         ensures frames { AreFrames code.now self.new.frames }
     {
@@ -288,7 +302,8 @@ impl Control {
     ) -> Result<(), u8>
         requires call { IsPart code.now.trees call }
         requires view { HasNumbers view }
-        ensures { result ≡ without_values (all_values (scope_in code.now view self.now cells.now) (parts (part_at code.now.trees call))) }
+        ensures { result ≡ without_values (all_values (scope_in code.now view self.now cells.now)
+            (parts (part_at code.now.trees call))) }
     {
         match call {
             Some(node) => self.scope(code, cells.items(), view).check_all(node),
@@ -307,7 +322,8 @@ impl Control {
         number: i32,
     ) -> Next
         requires { IsStepping code.now self.old }
-        ensures step { outcome_at code.now result (moment_at code.now self.new cells.new) ≡ calls.returns (here_at code.now view self.old cells.old) number }
+        ensures step { outcome_at code.now result (moment_at code.now self.new cells.new) ≡
+            calls.returns (here_at code.now view self.old cells.old) number }
         ensures settled { IsSettled result self.old cells.old self.new cells.new }
         ensures numbers { FitsProgram code.now result }
         ensures frames { AreFrames code.now self.new.frames }
@@ -320,8 +336,10 @@ impl Control {
     /// The call that was opened last is closed, if one is open, and its value goes to its target.
     fn give_back(&mut self, cells: &mut Cells, number: i32)
         requires { 0 < self.old.frames_now }
-        ensures held { self.new ≡ record (given_back (last_call self.old.frames) number (closed self.old)) { returned = Some number } }
-        ensures cells { cells.new ≡ record cells.old { cells = cells_given (last_call self.old.frames) number cells.old.cells } }
+        ensures held { self.new ≡ record
+            (given_back (last_call self.old.frames) number (closed self.old)) { returned = Some number } }
+        ensures cells { cells.new ≡ record cells.old { cells = cells_given
+            (last_call self.old.frames) number cells.old.cells } }
     {
         if let Some(to) = self.close() {
             self.deliver(cells, to, number);
@@ -352,7 +370,8 @@ impl Control {
         to: Target,
     ) -> Next
         requires { IsStepping code.now self.old }
-        ensures step { outcome_at code.now result (moment_at code.now self.new cells.new) ≡ calls.ends_test (here_at code.now view self.old cells.old) to }
+        ensures step { outcome_at code.now result (moment_at code.now self.new cells.new) ≡
+            calls.ends_test (here_at code.now view self.old cells.old) to }
         ensures settled { IsSettled result self.old cells.old self.new cells.new }
         ensures numbers { FitsProgram code.now result }
         ensures frames { AreFrames code.now self.new.frames }
@@ -373,7 +392,8 @@ impl Control {
         node: u32,
     ) -> Next
         requires { node < length code.now.trees }
-        ensures step { outcome_at code.now result (moment_at code.now self.now cells.now) ≡ calls.begin_lock_call which (here_at code.now view self.now cells.now) (tree_at code.now.trees node) }
+        ensures step { outcome_at code.now result (moment_at code.now self.now cells.now) ≡
+            calls.begin_lock_call which (here_at code.now view self.now cells.now) (tree_at code.now.trees node) }
         ensures unchanged { IsSettled result self.now cells.now self.now cells.now }
         ensures numbers { FitsProgram code.now result }
     {

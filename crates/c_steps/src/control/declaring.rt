@@ -35,7 +35,9 @@ impl Control {
         requires declarator { is_declarator (kind_of (tree_at code.now.trees node)) ≡ true }
         requires view { HasNumbers view }
         requires step_names { self.old.step_names ≡ step_names code.now }
-        ensures step { outcome_at code.now result (moment_at code.now self.new cells.new) ≡ statements.declares (kind_of (tree_at code.now.trees node)) (here_at code.now view self.old cells.old) (tree_at code.now.trees node) }
+        ensures step { outcome_at code.now result (moment_at code.now self.new cells.new) ≡
+            statements.declares (kind_of (tree_at code.now.trees node)) (here_at code.now view self.old cells.old)
+            (tree_at code.now.trees node) }
         ensures settled { IsSettled result self.old cells.old self.new cells.new }
         ensures numbers { FitsProgram code.now result }
         ensures frames { AreFrames code.now self.new.frames }
@@ -57,7 +59,9 @@ impl Control {
         requires node { node < length code.now.trees }
         requires view { HasNumbers view }
         requires step_names { self.old.step_names ≡ step_names code.now }
-        ensures step { outcome_at code.now result (moment_at code.now self.new cells.new) ≡ statements.begin_local_set (kind_of (child_at (tree_at code.now.trees node) 0)) (here_at code.now view self.old cells.old) (tree_at code.now.trees node) }
+        ensures step { outcome_at code.now result (moment_at code.now self.new cells.new) ≡
+            statements.begin_local_set (kind_of (child_at (tree_at code.now.trees node) 0))
+            (here_at code.now view self.old cells.old) (tree_at code.now.trees node) }
         ensures settled { IsSettled result self.old cells.old self.new cells.new }
         ensures numbers { FitsProgram code.now result }
         ensures frames { AreFrames code.now self.new.frames }
@@ -74,7 +78,8 @@ impl Control {
     fn set_to_call(&mut self, code: &Code, cells: &mut Cells, view: View, node: u32) -> Next
         requires ready { IsStepping code.now self.old }
         requires node { node < length code.now.trees }
-        ensures step { outcome_at code.now result (moment_at code.now self.new cells.new) ≡ statements.begin_set_to_call (here_at code.now view self.old cells.old) (tree_at code.now.trees node) }
+        ensures step { outcome_at code.now result (moment_at code.now self.new cells.new) ≡
+            statements.begin_set_to_call (here_at code.now view self.old cells.old) (tree_at code.now.trees node) }
         ensures settled { IsSettled result self.old cells.old self.new cells.new }
         ensures numbers { FitsProgram code.now result }
         ensures frames { AreFrames code.now self.new.frames }
@@ -105,7 +110,9 @@ impl Control {
         requires then { IfSome then (IsItem code.now) }
         requires view { HasNumbers view }
         requires step_names { self.old.step_names ≡ step_names code.now }
-        ensures step { outcome_at code.now result (moment_at code.now self.new cells.new) ≡ statements.begin_set_to_value (here_at code.now view self.old cells.old) (tree_at code.now.trees name) (part_at code.now.trees expression) (items_if code.now then) }
+        ensures step { outcome_at code.now result (moment_at code.now self.new cells.new) ≡
+            statements.begin_set_to_value (here_at code.now view self.old cells.old) (tree_at code.now.trees name)
+            (part_at code.now.trees expression) (items_if code.now then) }
         ensures settled { IsSettled result self.old cells.old self.new cells.new }
         ensures numbers { FitsProgram code.now result }
         ensures frames { AreFrames code.now self.new.frames }
@@ -117,7 +124,8 @@ impl Control {
     }
 
     /// A name comes into scope with a new cell that holds a number.
-    #[tactic(auto, using(crate::proofs::Stepping::todo_if, crate::proofs::Stepping::calls_if, crate::proofs::Stepping::are_if))]
+    #[tactic(auto, using(crate::proofs::Stepping::todo_if, crate::proofs::Stepping::calls_if,
+        crate::proofs::Stepping::are_if))]
     fn bind_number(
         &mut self,
         code: &Code,
@@ -133,7 +141,9 @@ impl Control {
         requires step_names { self.old.step_names ≡ step_names code.now }
         ensures step { let here = here_at code.now view self.old cells.old in
             let tree = tree_at code.now.trees name in
-            outcome_at code.now result (moment_at code.now self.new cells.new) ≡ binds here (with_cells (bound_of here) (name_of tree) (slot_of_name code.now tree) (number ∷ [])) (items_if code.now then) }
+            outcome_at code.now result (moment_at code.now self.new cells.new) ≡
+            binds here (with_cells (bound_of here) (name_of tree) (slot_of_name code.now tree) (number ∷ []))
+            (items_if code.now then) }
         ensures settled { IsSettled result self.old cells.old self.new cells.new }
         ensures numbers { FitsProgram code.now result }
         ensures frames { AreFrames code.now self.new.frames }
@@ -164,7 +174,9 @@ impl Control {
         requires step_names { self.old.step_names ≡ step_names code.now }
         ensures step { let here = here_at code.now view self.old cells.old in
             let tree = tree_at code.now.trees node in
-            outcome_at code.now result (moment_at code.now self.new cells.new) ≡ binds here (with_cells (bound_of here) (name_of tree) (slot_of_name code.now tree) (replicate count (pos 0))) [] }
+            outcome_at code.now result (moment_at code.now self.new cells.new) ≡
+            binds here (with_cells (bound_of here) (name_of tree) (slot_of_name code.now tree)
+            (replicate count (pos 0))) [] }
         ensures settled { IsSettled result self.old cells.old self.new cells.new }
         ensures numbers { FitsProgram code.now result }
         ensures frames { AreFrames code.now self.new.frames }
@@ -184,7 +196,8 @@ impl Control {
 fn new_entry(code: &Code, cells: &Cells, node: u32, size: u32) -> Entry
     requires node { node < length code.now.trees }
     requires room { length cells.now.cells + size ≤ CELL_LIMIT }
-    ensures entry { result ≡ record { name = name_of (tree_at code.now.trees node); first = length cells.now.cells; size = size; slot = slot_of_name code.now (tree_at code.now.trees node) } }
+    ensures entry { result ≡ record { name = name_of (tree_at code.now.trees node); first = length cells.now.cells;
+        size = size; slot = slot_of_name code.now (tree_at code.now.trees node) } }
     ensures is_entry { IsEntry result }
 {
     Entry {

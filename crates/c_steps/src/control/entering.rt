@@ -56,9 +56,12 @@ impl Control {
         requires values { HaveNoTrap (scope_in code.now view self.old cells.old) (part_at code.now.trees call) 0 }
         requires few { open_calls self.old.frames < CALL_LIMIT }
         requires room { length cells.old.cells + length (parameters_of (part_at code.now.trees function)) ≤ CELL_LIMIT }
-        ensures step { moment_at code.now self.new cells.new ≡ moment_entered (here_at code.now view self.old cells.old) (part_at code.now.trees function)
+        ensures step { moment_at code.now self.new cells.new ≡ moment_entered (here_at code.now view self.old cells.old)
+            (part_at code.now.trees function)
             (open_call (here_at code.now view self.old cells.old) (env_with declared (env_at code.now self.old)) to)
-            (bound_in (here_at code.now view self.old cells.old) (part_at code.now.trees function) (values_in (all_values (scope_in code.now view self.old cells.old) (parts (part_at code.now.trees call))))) }
+            (bound_in (here_at code.now view self.old cells.old) (part_at code.now.trees function)
+            (values_in (all_values (scope_in code.now view self.old cells.old)
+            (parts (part_at code.now.trees call))))) }
         ensures settled { IsAfterStep self.old self.new }
         ensures frames { AreFrames code.now self.new.frames }
     {
@@ -99,7 +102,8 @@ impl Control {
     }
 
     /// The parameters come into scope, with the numbers of the arguments.
-    #[tactic(auto, using(crate::proofs::Parameters::under_way_first, crate::proofs::Parameters::under_way_next, crate::proofs::Parameters::under_way_last, crate::proofs::Parameters::values_left))]
+    #[tactic(auto, using(crate::proofs::Parameters::under_way_first, crate::proofs::Parameters::under_way_next,
+        crate::proofs::Parameters::under_way_last, crate::proofs::Parameters::values_left))]
     fn bind_parameters(
         &mut self,
         code: &Code,
@@ -114,11 +118,14 @@ impl Control {
         requires view { HasNumbers view }
         requires caller { IsCaller caller self.old cells.old }
         requires base { self.old.base ≤ length self.old.names }
-        requires values { HaveNoTrap (caller_scope code.now view caller self.old cells.old) (part_at code.now.trees call) 0 }
+        requires values { HaveNoTrap (caller_scope code.now view caller self.old cells.old)
+            (part_at code.now.trees call) 0 }
         requires names { length (parts (part_at code.now.trees parameters)) ≤ self.old.names_now }
         requires room { length cells.old.cells + length (parts (part_at code.now.trees parameters)) ≤ CELL_LIMIT }
-        ensures bound { bound_at code.now self.new cells.new ≡ with_parameters code.now (bound_at code.now self.old cells.old) (parts (part_at code.now.trees parameters))
-            (values_in (arguments_from (caller_scope code.now view caller self.old cells.old) (part_at code.now.trees call) 0)) }
+        ensures bound { bound_at code.now self.new cells.new ≡
+            with_parameters code.now (bound_at code.now self.old cells.old) (parts (part_at code.now.trees parameters))
+            (values_in (arguments_from (caller_scope code.now view caller self.old cells.old)
+            (part_at code.now.trees call) 0)) }
         ensures more { HasMore self.old self.new cells.old cells.new }
     {
         let (mut place, mut argument) = (0, 0);
@@ -144,11 +151,13 @@ impl Control {
         requires parameter { parameter < length code.now.trees }
         requires view { HasNumbers view }
         requires caller { IsCaller caller self.old cells.old }
-        requires values { HaveNoTrap (caller_scope code.now view caller self.old cells.old) (part_at code.now.trees call) place }
+        requires values { HaveNoTrap (caller_scope code.now view caller self.old cells.old)
+            (part_at code.now.trees call) place }
         requires base { self.old.base ≤ length self.old.names }
         requires names { 0 < self.old.names_now }
         requires room { length cells.old.cells < CELL_LIMIT }
-        ensures { BindsParameter code.now view caller (part_at code.now.trees call) (tree_at code.now.trees parameter) place result self.old self.new cells.old cells.new }
+        ensures { BindsParameter code.now view caller (part_at code.now.trees call)
+            (tree_at code.now.trees parameter) place result self.old self.new cells.old cells.new }
     {
         let argument = self.argument(code, cells, view, caller, call, place);
         let entry = Entry {
@@ -175,8 +184,10 @@ impl Control {
         requires call { IsPart code.now.trees call }
         requires view { HasNumbers view }
         requires caller { IsCaller caller self.now cells.now }
-        requires values { HaveNoTrap (caller_scope code.now view caller self.now cells.now) (part_at code.now.trees call) place }
-        ensures { IsNextArgument (caller_scope code.now view caller self.now cells.now) (part_at code.now.trees call) place result }
+        requires values { HaveNoTrap (caller_scope code.now view caller self.now cells.now)
+            (part_at code.now.trees call) place }
+        ensures { IsNextArgument (caller_scope code.now view caller self.now cells.now)
+            (part_at code.now.trees call) place result }
     {
         self.caller_scope(code, cells, view, caller)
             .argument(call, place)

@@ -83,7 +83,8 @@ impl Control {
     ) -> Result<usize, u8>
         requires place { IsPart code.now.trees place }
         requires view { HasNumbers view }
-        ensures cell { result ≡ values.cell_of (scope_in code.now view self.now cells.now) (part_at code.now.trees place) }
+        ensures cell { result ≡ values.cell_of (scope_in code.now view self.now cells.now)
+            (part_at code.now.trees place) }
         ensures within { IfOk result (λ cell. cell ≤ CELL_LIMIT) }
     {
         self.scope(code, cells.items(), view).place_cell(place)

@@ -40,7 +40,9 @@ impl Control {
         requires ready { IsStepping code.now self.old }
         requires node { node < length code.now.trees }
         requires view { HasNumbers view }
-        ensures step { outcome_at code.now result (moment_at code.now self.new cells.now) ≡ steps.begin_inside (kind_of (tree_at code.now.trees node)) (here_at code.now view self.old cells.now) (tree_at code.now.trees node) }
+        ensures step { outcome_at code.now result (moment_at code.now self.new cells.now) ≡
+            steps.begin_inside (kind_of (tree_at code.now.trees node)) (here_at code.now view self.old cells.now)
+            (tree_at code.now.trees node) }
         ensures settled { IsSettled result self.old cells.now self.new cells.now }
         ensures frames { AreFrames code.now self.new.frames }
         ensures numbers { FitsProgram code.now result }
@@ -64,7 +66,8 @@ impl Control {
     ) -> Next
         requires node { node < length code.now.trees }
         requires view { HasNumbers view }
-        ensures step { outcome_at code.now result (moment_at code.now self.now cells.now) ≡ steps.begin_construct directive (here_at code.now view self.now cells.now) (tree_at code.now.trees node) }
+        ensures step { outcome_at code.now result (moment_at code.now self.now cells.now) ≡
+            steps.begin_construct directive (here_at code.now view self.now cells.now) (tree_at code.now.trees node) }
         ensures unchanged { IsSettled result self.now cells.now self.now cells.now }
         ensures numbers { FitsProgram code.now result }
     {
@@ -85,7 +88,8 @@ impl Control {
     fn begin_parallel(&self, code: &Code, cells: &Cells, view: View, node: u32) -> Next
         requires node { node < length code.now.trees }
         requires view { HasNumbers view }
-        ensures step { outcome_at code.now result (moment_at code.now self.now cells.now) ≡ constructs.begin_parallel (here_at code.now view self.now cells.now) (tree_at code.now.trees node) }
+        ensures step { outcome_at code.now result (moment_at code.now self.now cells.now) ≡
+            constructs.begin_parallel (here_at code.now view self.now cells.now) (tree_at code.now.trees node) }
         ensures unchanged { IsSettled result self.now cells.now self.now cells.now }
         ensures numbers { FitsProgram code.now result }
     {
@@ -102,7 +106,8 @@ impl Control {
     fn begin_task(&self, code: &Code, cells: &Cells, view: View, node: u32) -> Next
         requires node { node < length code.now.trees }
         requires view { HasNumbers view }
-        ensures step { outcome_at code.now result (moment_at code.now self.now cells.now) ≡ constructs.begin_task (here_at code.now view self.now cells.now) (tree_at code.now.trees node) }
+        ensures step { outcome_at code.now result (moment_at code.now self.now cells.now) ≡
+            constructs.begin_task (here_at code.now view self.now cells.now) (tree_at code.now.trees node) }
         ensures unchanged { IsSettled result self.now cells.now self.now cells.now }
         ensures numbers { FitsProgram code.now result }
     {
@@ -118,7 +123,8 @@ impl Control {
     /// A task is made whose `if` clause gives this number, if there is room for its cells.
     fn create(&self, code: &Code, cells: &Cells, view: View, node: u32, number: i32) -> Next
         requires node { node < length code.now.trees }
-        ensures step { outcome_at code.now result (moment_at code.now self.now cells.now) ≡ constructs.creates (here_at code.now view self.now cells.now) (tree_at code.now.trees node) number }
+        ensures step { outcome_at code.now result (moment_at code.now self.now cells.now) ≡
+            constructs.creates (here_at code.now view self.now cells.now) (tree_at code.now.trees node) number }
         ensures unchanged { IsSettled result self.now cells.now self.now cells.now }
         ensures numbers { FitsProgram code.now result }
     {
@@ -140,7 +146,8 @@ impl Control {
     pub(super) fn begin_loop(&self, code: &Code, cells: &Cells, view: View, node: u32) -> Next
         requires node { node < length code.now.trees }
         requires view { HasNumbers view }
-        ensures step { outcome_at code.now result (moment_at code.now self.now cells.now) ≡ constructs.begin_loop (here_at code.now view self.now cells.now) (tree_at code.now.trees node) }
+        ensures step { outcome_at code.now result (moment_at code.now self.now cells.now) ≡
+            constructs.begin_loop (here_at code.now view self.now cells.now) (tree_at code.now.trees node) }
         ensures unchanged { IsSettled result self.now cells.now self.now cells.now }
         ensures numbers { FitsProgram code.now result }
     {
@@ -158,7 +165,9 @@ impl Control {
 /// A region is forked, for which so many threads are requested.
 fn fork(code: &Code, node: u32, requested: i32) -> Next
     requires { node < length code.now.trees }
-    ensures step { (now : Moment) → outcome_at code.now result now ≡ Occurs (ParallelBegin (place_of (tree_at code.now.trees node)) requested) (tree_at code.now.trees node) }
+    ensures step { (now : Moment) →
+        outcome_at code.now result now ≡ Occurs (ParallelBegin (place_of (tree_at code.now.trees node)) requested)
+        (tree_at code.now.trees node) }
     ensures unchanged { IsUnchanging result }
     ensures numbers { FitsProgram code.now result }
 {
@@ -171,7 +180,8 @@ fn share_loop(code: &Code, node: u32, parts: LoopNodes, start: i32, end: i32) ->
     requires node { node < length code.now.trees }
     requires parts { parts_at code.now.trees parts ≡ loop_of (tree_at code.now.trees node) }
     requires goes_on { GoesOn parts.comparison parts.step }
-    ensures step { (now : Moment) → outcome_at code.now result now ≡ constructs.loop_work (tree_at code.now.trees node) start end }
+    ensures step { (now : Moment) →
+        outcome_at code.now result now ≡ constructs.loop_work (tree_at code.now.trees node) start end }
     ensures unchanged { IsUnchanging result }
     ensures numbers { FitsProgram code.now result }
 {
@@ -196,7 +206,8 @@ fn loop_work(start: i32, count: u64, step: i32, schedule: Schedule) -> Work
 /// Sections that are shared out begin.
 pub(super) fn begin_sections(code: &Code, node: u32) -> Next
     requires { node < length code.now.trees }
-    ensures step { (now : Moment) → outcome_at code.now result now ≡ constructs.begin_sections (tree_at code.now.trees node) }
+    ensures step { (now : Moment) →
+        outcome_at code.now result now ≡ constructs.begin_sections (tree_at code.now.trees node) }
     ensures unchanged { IsUnchanging result }
     ensures numbers { FitsProgram code.now result }
 {
@@ -208,7 +219,8 @@ pub(super) fn begin_sections(code: &Code, node: u32) -> Next
 /// A statement for one member begins.
 fn begin_single(code: &Code, node: u32) -> Next
     requires { node < length code.now.trees }
-    ensures step { (now : Moment) → outcome_at code.now result now ≡ constructs.begin_single (tree_at code.now.trees node) }
+    ensures step { (now : Moment) →
+        outcome_at code.now result now ≡ constructs.begin_single (tree_at code.now.trees node) }
     ensures unchanged { IsUnchanging result }
     ensures numbers { FitsProgram code.now result }
 {
@@ -220,7 +232,8 @@ fn begin_single(code: &Code, node: u32) -> Next
 /// A statement for member 0 begins.
 fn begin_masked(code: &Code, node: u32) -> Next
     requires { node < length code.now.trees }
-    ensures step { (now : Moment) → outcome_at code.now result now ≡ constructs.begin_masked (tree_at code.now.trees node) }
+    ensures step { (now : Moment) →
+        outcome_at code.now result now ≡ constructs.begin_masked (tree_at code.now.trees node) }
     ensures unchanged { IsUnchanging result }
     ensures numbers { FitsProgram code.now result }
 {
@@ -231,7 +244,10 @@ fn begin_masked(code: &Code, node: u32) -> Next
 /// A critical is asked for.
 fn begin_critical(code: &Code, node: u32) -> Next
     requires { node < length code.now.trees }
-    ensures step { (now : Moment) → outcome_at code.now result now ≡ Occurs (MutexAcquire (place_of (tree_at code.now.trees node)) (critical_number code.now (tree_at code.now.trees node)) critical nowhere) (tree_at code.now.trees node) }
+    ensures step { (now : Moment) →
+        outcome_at code.now result now ≡
+        Occurs (MutexAcquire (place_of (tree_at code.now.trees node))
+        (critical_number code.now (tree_at code.now.trees node)) critical nowhere) (tree_at code.now.trees node) }
     ensures unchanged { IsUnchanging result }
     ensures numbers { FitsProgram code.now result }
 {
@@ -248,7 +264,8 @@ fn begin_critical(code: &Code, node: u32) -> Next
 #[inline(never)]
 pub(super) fn begin_standalone(code: &Code, which: Standalone, node: u32) -> Next
     requires { node < length code.now.trees }
-    ensures step { (now : Moment) → outcome_at code.now result now ≡ steps.begin_standalone which (tree_at code.now.trees node) }
+    ensures step { (now : Moment) →
+        outcome_at code.now result now ≡ steps.begin_standalone which (tree_at code.now.trees node) }
     ensures unchanged { IsUnchanging result }
     ensures numbers { FitsProgram code.now result }
 {
@@ -262,7 +279,8 @@ pub(super) fn begin_standalone(code: &Code, which: Standalone, node: u32) -> Nex
 #[inline(never)]
 pub(super) fn synchronise(code: &Code, node: u32, kind: SyncKind, stage: SyncStage) -> Next
     requires { node < length code.now.trees }
-    ensures step { (now : Moment) → outcome_at code.now result now ≡ constructs.synchronises (tree_at code.now.trees node) kind stage }
+    ensures step { (now : Moment) →
+        outcome_at code.now result now ≡ constructs.synchronises (tree_at code.now.trees node) kind stage }
     ensures unchanged { IsUnchanging result }
     ensures numbers { FitsProgram code.now result }
 {
@@ -281,7 +299,8 @@ pub(super) fn synchronise(code: &Code, node: u32, kind: SyncKind, stage: SyncSta
 #[inline(never)]
 pub(super) fn end_parallel(code: &Code, node: u32) -> Next
     requires { node < length code.now.trees }
-    ensures step { (now : Moment) → outcome_at code.now result now ≡ constructs.end_parallel (tree_at code.now.trees node) }
+    ensures step { (now : Moment) →
+        outcome_at code.now result now ≡ constructs.end_parallel (tree_at code.now.trees node) }
     ensures unchanged { IsUnchanging result }
     ensures numbers { FitsProgram code.now result }
 {
@@ -293,7 +312,8 @@ pub(super) fn end_parallel(code: &Code, node: u32) -> Next
 #[inline(never)]
 pub(super) fn end_masked(code: &Code, node: u32) -> Next
     requires { node < length code.now.trees }
-    ensures step { (now : Moment) → outcome_at code.now result now ≡ constructs.end_masked (tree_at code.now.trees node) }
+    ensures step { (now : Moment) →
+        outcome_at code.now result now ≡ constructs.end_masked (tree_at code.now.trees node) }
     ensures unchanged { IsUnchanging result }
     ensures numbers { FitsProgram code.now result }
 {
@@ -305,7 +325,8 @@ pub(super) fn end_masked(code: &Code, node: u32) -> Next
 #[inline(never)]
 pub(super) fn end_work(code: &Code, node: u32, kind: WorkKind, count: u64) -> Next
     requires { node < length code.now.trees }
-    ensures step { (now : Moment) → outcome_at code.now result now ≡ constructs.end_work (tree_at code.now.trees node) kind count }
+    ensures step { (now : Moment) →
+        outcome_at code.now result now ≡ constructs.end_work (tree_at code.now.trees node) kind count }
     ensures unchanged { IsUnchanging result }
     ensures numbers { FitsProgram code.now result }
 {
@@ -324,7 +345,8 @@ pub(super) fn end_work(code: &Code, node: u32, kind: WorkKind, count: u64) -> Ne
 #[inline(never)]
 pub(super) fn acquire(code: &Code, node: u32, kind: MutexKind, wait_id: u32) -> Next
     requires { node < length code.now.trees }
-    ensures step { (now : Moment) → outcome_at code.now result now ≡ constructs.acquires (tree_at code.now.trees node) kind wait_id }
+    ensures step { (now : Moment) →
+        outcome_at code.now result now ≡ constructs.acquires (tree_at code.now.trees node) kind wait_id }
     ensures unchanged { IsUnchanging result }
     ensures numbers { FitsProgram code.now result }
 {
@@ -343,7 +365,8 @@ pub(super) fn acquire(code: &Code, node: u32, kind: MutexKind, wait_id: u32) -> 
 #[inline(never)]
 pub(super) fn release(code: &Code, node: u32, wait_id: u32) -> Next
     requires { node < length code.now.trees }
-    ensures step { (now : Moment) → outcome_at code.now result now ≡ constructs.releases (tree_at code.now.trees node) wait_id }
+    ensures step { (now : Moment) →
+        outcome_at code.now result now ≡ constructs.releases (tree_at code.now.trees node) wait_id }
     ensures unchanged { IsUnchanging result }
     ensures numbers { FitsProgram code.now result }
 {
@@ -358,7 +381,8 @@ pub(super) fn release(code: &Code, node: u32, wait_id: u32) -> Next
 /// The next chunk of a loop is asked for.
 #[inline(never)]
 pub(super) fn next_chunk(shared: Loop) -> Next
-    ensures step { (program : TreeView) (now : Moment) → outcome_at program result now ≡ constructs.next_chunk (loop_at program shared) }
+    ensures step { (program : TreeView) (now : Moment) →
+        outcome_at program result now ≡ constructs.next_chunk (loop_at program shared) }
     ensures unchanged { IsUnchanging result }
     ensures numbers { (program : TreeView) → FitsProgram program result }
 {
@@ -368,7 +392,8 @@ pub(super) fn next_chunk(shared: Loop) -> Next
 /// The next section of a construct is asked for.
 #[inline(never)]
 pub(super) fn next_section(node: u32) -> Next
-    ensures step { (program : TreeView) (now : Moment) → outcome_at program result now ≡ constructs.next_section (tree_at program.trees node) }
+    ensures step { (program : TreeView) (now : Moment) →
+        outcome_at program result now ≡ constructs.next_section (tree_at program.trees node) }
     ensures unchanged { IsUnchanging result }
     ensures numbers { (program : TreeView) → FitsProgram program result }
 {
@@ -378,7 +403,8 @@ pub(super) fn next_section(node: u32) -> Next
 /// An `omp_test_lock` asks whether its lock is free.
 #[inline(never)]
 pub(super) fn ask_lock(node: u32, wait_id: u32) -> Next
-    ensures step { (program : TreeView) (now : Moment) → outcome_at program result now ≡ Asks (ask.LockFree wait_id) (tree_at program.trees node) }
+    ensures step { (program : TreeView) (now : Moment) →
+        outcome_at program result now ≡ Asks (ask.LockFree wait_id) (tree_at program.trees node) }
     ensures unchanged { IsUnchanging result }
     ensures numbers { (program : TreeView) → FitsProgram program result }
 {

@@ -25,9 +25,12 @@ impl Control {
     pub fn task(&self, code: &Code, cells: &mut Cells, into: &mut Control)
         requires made { IsMadeFor code.now self.now }
         requires created { IsCreation (slice_get (task_at code.now self.now).todo 0) }
-        requires room { length (with_task_cells code.now (bound_in code.now self.now cells.old) (created_construct (task_at code.now self.now).todo)).cells ≤ CELL_LIMIT }
+        requires room { length (with_task_cells code.now (bound_in code.now self.now cells.old)
+            (created_construct (task_at code.now self.now).todo)).cells ≤ CELL_LIMIT }
         requires into { IsMadeFor code.now into.old }
-        ensures went { moment_at code.now into.new cells.new ≡ explicit_task_of code.now (created_construct (task_at code.now self.now).todo) (moment_at code.now self.now cells.old) }
+        ensures went { moment_at code.now into.new cells.new ≡
+            explicit_task_of code.now (created_construct (task_at code.now self.now).todo)
+            (moment_at code.now self.now cells.old) }
         ensures made { IsMadeFor code.now into.new }
     {
         let Some(node) = created_node(self.front(code, MEMBER_0)) else {
@@ -42,9 +45,11 @@ impl Control {
 
 /// The construct of which an explicit task is made, where an item is of one.
 fn created_node(item: Option<Item>) -> Option<u32>
-    ensures construct { (program : TreeView) → IfSome result (λ node. created_of (option_map (item_at program) item) ≡ Some (tree_at program.trees node)) }
+    ensures construct { (program : TreeView) →
+        IfSome result (λ node. created_of (option_map (item_at program) item) ≡ Some (tree_at program.trees node)) }
     ensures none { (program : TreeView) → IfNone result (IsCreation (option_map (item_at program) item) → ⊥) }
-    ensures there { (program : TreeView) → IfSome item (IsItem program) → IfSome result (λ node. node < length program.trees) }
+    ensures there { (program : TreeView) → IfSome item (IsItem program) →
+        IfSome result (λ node. node < length program.trees) }
 {
     match item {
         Some(Item::Start(Some(node))) => Some(node),

@@ -31,12 +31,14 @@ pub(super) const MEMBER_0: View = View {
 impl Control {
     /// Goes on after an answer to what the last advance asked. It ends the silent step that asked, but where a lock is free: then no step
     /// was made, and the event that the lock is owned stands next. One is taken from the room for silent steps. It takes no memory.
-    #[tactic(auto, using(crate::proofs::Giving::answers_none, crate::proofs::Giving::answers_found, crate::proofs::Giving::gave, crate::proofs::Giving::gave_within))]
+    #[tactic(auto, using(crate::proofs::Giving::answers_none, crate::proofs::Giving::answers_found,
+        crate::proofs::Giving::gave, crate::proofs::Giving::gave_within))]
     pub fn give(&mut self, code: &Code, cells: &mut Cells, answer: Answer)
         requires made { IsMadeFor code.now self.old }
         requires asked { AnswersFirst (task_at code.now self.old).todo answer }
         requires spare { 0 < self.old.spare }
-        ensures went { moment_at code.now self.new cells.new ≡ going.settled_after_answer answer (moment_at code.now self.old cells.old) }
+        ensures went { moment_at code.now self.new cells.new ≡
+            going.settled_after_answer answer (moment_at code.now self.old cells.old) }
         ensures spare { self.new.spare + 1 ≡ self.old.spare }
         ensures passes { self.new.passes ≡ self.old.passes }
         ensures made { IsMadeFor code.now self.new }
@@ -53,8 +55,10 @@ impl Control {
         requires ready { IsStepping code.now self.old }
         requires item { IsItem code.now item }
         requires answer { AnswersItem (item_at code.now item) answer }
-        ensures task { task_at code.now self.new ≡ replaced code.now (going.items_answered answer (item_at code.now item)) self.old }
-        ensures cells { cells.new ≡ record cells.old { cells = going.cells_answered answer (item_at code.now item) cells.old.cells } }
+        ensures task { task_at code.now self.new ≡
+            replaced code.now (going.items_answered answer (item_at code.now item)) self.old }
+        ensures cells { cells.new ≡ record cells.old { cells = going.cells_answered answer
+            (item_at code.now item) cells.old.cells } }
         ensures after { IsAfterStep self.old self.new }
         ensures frames { AreFrames code.now self.new.frames }
     {
@@ -71,12 +75,14 @@ impl Control {
     }
 
     /// The iterations of a chunk stand next, or, where none is left, the reductions and the end of the loop.
-    #[tactic(auto, using(crate::proofs::Replacing::step_then, crate::proofs::Replacing::step_ends, crate::proofs::Replacing::chunk_begins), unfolding(c_model::specs::Answers::IsChunkAnswer))]
+    #[tactic(auto, using(crate::proofs::Replacing::step_then, crate::proofs::Replacing::step_ends,
+        crate::proofs::Replacing::chunk_begins), unfolding(c_model::specs::Answers::IsChunkAnswer))]
     fn give_chunk(&mut self, code: &Code, shared: Loop, chunk: Option<(u64, u64)>)
         requires ready { IsStepping code.now self.old }
         requires shared { IsLoop code.now shared }
         requires chunk { IsChunkAnswer shared.count (of_answer.Chunk chunk) }
-        ensures task { task_at code.now self.new ≡ replaced code.now (going.items_of_chunk (loop_at code.now shared) chunk) self.old }
+        ensures task { task_at code.now self.new ≡
+            replaced code.now (going.items_of_chunk (loop_at code.now shared) chunk) self.old }
         ensures after { IsAfterStep self.old self.new }
         ensures frames { AreFrames code.now self.new.frames }
     {
@@ -120,7 +126,9 @@ impl Control {
     fn give_section(&mut self, code: &Code, node: u32, names: usize, section: Option<u32>)
         requires ready { IsStepping code.now self.old }
         requires node { node < length code.now.trees }
-        ensures task { task_at code.now self.new ≡ replaced code.now (going.items_of_section (tree_at code.now.trees node) (with_file code.now names) section) self.old }
+        ensures task { task_at code.now self.new ≡
+            replaced code.now (going.items_of_section (tree_at code.now.trees node) (with_file code.now names) section)
+            self.old }
         ensures after { IsAfterStep self.old self.new }
         ensures frames { AreFrames code.now self.new.frames }
     {
@@ -152,7 +160,8 @@ impl Control {
     )
         requires ready { IsStepping code.now self.old }
         requires node { node < length code.now.trees }
-        ensures task { task_at code.now self.new ≡ replaced code.now (going.items_of_test (tree_at code.now.trees node) id to free) self.old }
+        ensures task { task_at code.now self.new ≡
+            replaced code.now (going.items_of_test (tree_at code.now.trees node) id to free) self.old }
         ensures cells { cells.new ≡ record cells.old { cells = going.cells_of_test to free cells.old.cells } }
         ensures after { IsAfterStep self.old self.new }
         ensures frames { AreFrames code.now self.new.frames }

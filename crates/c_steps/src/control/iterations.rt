@@ -36,7 +36,8 @@ impl Control {
         requires shared { IsLoop code.now shared }
         requires at { at < upto }
         requires upto { upto ≤ shared.count }
-        ensures step { outcome_at code.now result (moment_at code.now self.new cells.new) ≡ constructs.begin_iteration (here_at code.now view self.old cells.old) (loop_at code.now shared) at upto }
+        ensures step { outcome_at code.now result (moment_at code.now self.new cells.new) ≡
+            constructs.begin_iteration (here_at code.now view self.old cells.old) (loop_at code.now shared) at upto }
         ensures settled { IsSettled result self.old cells.old self.new cells.new }
         ensures numbers { FitsProgram code.now result }
         ensures frames { AreFrames code.now self.new.frames }
@@ -65,7 +66,8 @@ impl Control {
         names: usize,
     ) -> Next
         requires { IsStepping code.now self.old }
-        ensures step { outcome_at code.now result (moment_at code.now self.new cells.new) ≡ constructs.combine (here_at code.now view self.old cells.old) operator name (with_file code.now names) }
+        ensures step { outcome_at code.now result (moment_at code.now self.new cells.new) ≡
+            constructs.combine (here_at code.now view self.old cells.old) operator name (with_file code.now names) }
         ensures settled { IsSettled result self.old cells.old self.new cells.new }
         ensures numbers { FitsProgram code.now result }
         ensures frames { AreFrames code.now self.new.frames }
@@ -107,7 +109,8 @@ impl Control {
 /// The iterations behind one number, up to another one; behind the last one the next chunk.
 fn iterations_from(shared: Loop, at: u64, upto: u64) -> Item
     requires upto { upto ≤ shared.count }
-    ensures item { (program : TreeView) → item_at program result ≡ constructs.iterations_from (loop_at program shared) at upto }
+    ensures item { (program : TreeView) →
+        item_at program result ≡ constructs.iterations_from (loop_at program shared) at upto }
     ensures is_item { (program : TreeView) → IsLoop program shared → IsItem program result }
 {
     if at < upto {

@@ -67,7 +67,8 @@ impl Control {
     fn begin_member(&mut self, code: &Code, node: u32, names: usize)
         requires room { 3 < self.old.frames_now }
         requires node { node < length code.now.trees }
-        ensures { IsPutBefore code.now (member_items (tree_at code.now.trees node) (with_file code.now names)) self.old self.new }
+        ensures { IsPutBefore code.now (member_items (tree_at code.now.trees node) (with_file code.now names)) self.old
+            self.new }
     {
         self.then(Item::Sync {
             node,
@@ -85,7 +86,8 @@ impl Control {
     fn begin_region(&mut self, code: &Code, node: u32, names: usize)
         requires room { 2 < self.old.frames_now }
         requires node { node < length code.now.trees }
-        ensures { IsPutBefore code.now (region_items (tree_at code.now.trees node) (with_file code.now names)) self.old self.new }
+        ensures { IsPutBefore code.now (region_items (tree_at code.now.trees node) (with_file code.now names)) self.old
+            self.new }
     {
         let part = statement(code, node);
         let cells = own_cells(code, node);
@@ -101,7 +103,8 @@ impl Control {
 
 /// Whether a directive is a combined one, which has another construct inside.
 fn has_construct_inside(kind: NodeKind) -> bool
-    ensures { (construct : syntax_tree) (names : ℕ) → member_statement kind construct names ≡ member_by result construct names }
+    ensures { (construct : syntax_tree) (names : ℕ) →
+        member_statement kind construct names ≡ member_by result construct names }
 {
     matches!(
         kind,
@@ -111,8 +114,10 @@ fn has_construct_inside(kind: NodeKind) -> bool
 
 /// The construct of a region that was forked, where an item is of one.
 fn forked_node(item: Option<Item>) -> Option<u32>
-    ensures construct { (program : TreeView) → forked_of (option_map (item_at program) item) ≡ option_map (tree_at program.trees) result }
-    ensures there { (program : TreeView) → IfSome item (IsItem program) → IfSome result (λ node. node < length program.trees) }
+    ensures construct { (program : TreeView) →
+        forked_of (option_map (item_at program) item) ≡ option_map (tree_at program.trees) result }
+    ensures there { (program : TreeView) → IfSome item (IsItem program) →
+        IfSome result (λ node. node < length program.trees) }
 {
     match item {
         Some(Item::Forked(node)) => Some(node),

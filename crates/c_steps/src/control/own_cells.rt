@@ -40,7 +40,8 @@ impl Control {
         requires ready { IsStepping code.now self.old }
         requires node { node < length code.now.trees }
         requires names { self.old.step_names ≡ step_names code.now }
-        ensures step { outcome_at code.now result (moment_at code.now self.new cells.new) ≡ constructs.make_cells (here_at code.now view self.old cells.old) (tree_at code.now.trees node) }
+        ensures step { outcome_at code.now result (moment_at code.now self.new cells.new) ≡
+            constructs.make_cells (here_at code.now view self.old cells.old) (tree_at code.now.trees node) }
         ensures settled { IsSettled result self.old cells.old self.new cells.new }
         ensures numbers { FitsProgram code.now result }
         ensures frames { AreFrames code.now self.new.frames }
@@ -56,7 +57,8 @@ impl Control {
     /// Whether there is room for the cells of a construct's own.
     fn has_own_room(&self, code: &Code, cells: &Cells, view: View, node: u32) -> bool
         requires { node < length code.now.trees }
-        ensures { result ≡ not (has_too_many (with_own_cells code.now (bound_in code.now self.now cells.now) (tree_at code.now.trees node)).cells) }
+        ensures { result ≡ not (has_too_many (with_own_cells code.now (bound_in code.now self.now cells.now)
+            (tree_at code.now.trees node)).cells) }
     {
         let scope = self.scope(code, cells.items(), view);
         match room_behind_listed(code, &scope, node, cells.room()) {
@@ -69,7 +71,8 @@ impl Control {
     #[tactic(auto, using(crate::proofs::Counting::task_cells_fit, crate::proofs::Counting::task_cells_pass))]
     pub(super) fn has_task_room(&self, code: &Code, cells: &Cells, view: View, node: u32) -> bool
         requires { node < length code.now.trees }
-        ensures { result ≡ not (has_too_many (with_task_cells code.now (bound_in code.now self.now cells.now) (tree_at code.now.trees node)).cells) }
+        ensures { result ≡ not (has_too_many (with_task_cells code.now (bound_in code.now self.now cells.now)
+            (tree_at code.now.trees node)).cells) }
     {
         let scope = self.scope(code, cells.items(), view);
         match room_behind_listed(code, &scope, node, cells.room()) {
@@ -86,10 +89,13 @@ impl Control {
     #[tactic(auto, using(crate::proofs::OwnNames::range_before))]
     fn make_own(&mut self, code: &Code, cells: &mut Cells, node: u32)
         requires node { node < length code.now.trees }
-        requires room { length (own_made_at code.now self.old cells.old (tree_at code.now.trees node)).cells ≤ CELL_LIMIT }
+        requires room { length (own_made_at code.now self.old cells.old
+            (tree_at code.now.trees node)).cells ≤ CELL_LIMIT }
         requires names { length (listed_variables (tree_at code.now.trees node)) + 1 ≤ self.old.names_now }
-        ensures control { self.new ≡ with_made (own_made_at code.now self.old cells.old (tree_at code.now.trees node)) self.old }
-        ensures cells { cells.new ≡ with_made_cells (own_made_at code.now self.old cells.old (tree_at code.now.trees node)) cells.old }
+        ensures control { self.new ≡ with_made
+            (own_made_at code.now self.old cells.old (tree_at code.now.trees node)) self.old }
+        ensures cells { cells.new ≡ with_made_cells
+            (own_made_at code.now self.old cells.old (tree_at code.now.trees node)) cells.old }
         ensures base { self.old.base ≤ length self.old.names }
     {
         let names = self.names.len();
@@ -103,10 +109,13 @@ impl Control {
     #[tactic(auto, using(crate::proofs::OwnNames::range_before))]
     fn make_listed(&mut self, code: &Code, cells: &mut Cells, node: u32)
         requires node { node < length code.now.trees }
-        requires room { length (listed_made_at code.now self.old cells.old (tree_at code.now.trees node)).cells ≤ CELL_LIMIT }
+        requires room { length (listed_made_at code.now self.old cells.old
+            (tree_at code.now.trees node)).cells ≤ CELL_LIMIT }
         requires names { length (listed_variables (tree_at code.now.trees node)) ≤ self.old.names_now }
-        ensures control { self.new ≡ with_made (listed_made_at code.now self.old cells.old (tree_at code.now.trees node)) self.old }
-        ensures cells { cells.new ≡ with_made_cells (listed_made_at code.now self.old cells.old (tree_at code.now.trees node)) cells.old }
+        ensures control { self.new ≡ with_made
+            (listed_made_at code.now self.old cells.old (tree_at code.now.trees node)) self.old }
+        ensures cells { cells.new ≡ with_made_cells
+            (listed_made_at code.now self.old cells.old (tree_at code.now.trees node)) cells.old }
     {
         let (names, count) = (self.names.len(), cells.count());
         let mut place = first_listed();
@@ -129,9 +138,12 @@ impl Control {
         requires names { names ≤ length self.old.names }
         requires count { count ≤ length cells.old.cells }
         requires free { 0 < self.old.names_now }
-        requires room { length cells.old.cells + length (copy_numbers_at code.now self.old names cells.old count (listed_copy_at code.now self.old names cells.old count (listed_of listed))) ≤ CELL_LIMIT }
-        ensures control { self.new ≡ with_copy_at code.now names cells.old count (listed_copy_at code.now self.old names cells.old count (listed_of listed)) self.old }
-        ensures cells { cells.new ≡ with_numbers (copy_numbers_at code.now self.old names cells.old count (listed_copy_at code.now self.old names cells.old count (listed_of listed))) cells.old }
+        requires room { length cells.old.cells + length (copy_numbers_at code.now self.old names cells.old count
+            (listed_copy_at code.now self.old names cells.old count (listed_of listed))) ≤ CELL_LIMIT }
+        ensures control { self.new ≡ with_copy_at code.now names cells.old count
+            (listed_copy_at code.now self.old names cells.old count (listed_of listed)) self.old }
+        ensures cells { cells.new ≡ with_numbers (copy_numbers_at code.now self.old names cells.old count
+            (listed_copy_at code.now self.old names cells.old count (listed_of listed))) cells.old }
     {
         let entry = self.entry_around(code, names, listed.name);
         let copy = make_copy(cells, count, entry, listed.copying);
@@ -142,10 +154,14 @@ impl Control {
     /// that creates it.
     pub(super) fn make_task_cells(&mut self, code: &Code, cells: &mut Cells, node: u32)
         requires node { node < length code.now.trees }
-        requires room { length (task_made_at code.now self.old cells.old (tree_at code.now.trees node)).cells ≤ CELL_LIMIT }
-        requires names { length (listed_variables (tree_at code.now.trees node)) + length (task_copies code.now (tree_at code.now.trees node)) ≤ self.old.names_now }
-        ensures control { self.new ≡ with_made (task_made_at code.now self.old cells.old (tree_at code.now.trees node)) self.old }
-        ensures cells { cells.new ≡ with_made_cells (task_made_at code.now self.old cells.old (tree_at code.now.trees node)) cells.old }
+        requires room { length (task_made_at code.now self.old cells.old
+            (tree_at code.now.trees node)).cells ≤ CELL_LIMIT }
+        requires names { length (listed_variables (tree_at code.now.trees node)) + length
+            (task_copies code.now (tree_at code.now.trees node)) ≤ self.old.names_now }
+        ensures control { self.new ≡ with_made (task_made_at code.now self.old cells.old (tree_at code.now.trees node))
+            self.old }
+        ensures cells { cells.new ≡ with_made_cells
+            (task_made_at code.now self.old cells.old (tree_at code.now.trees node)) cells.old }
     {
         let (names, count) = (self.names.len(), cells.count());
         self.make_listed(code, cells, node);
@@ -166,8 +182,10 @@ impl Control {
         requires count { count ≤ length cells.old.cells }
         requires free { length slots.now ≤ self.old.names_now }
         requires room { length (slots_made_at code.now self.old names cells.old count slots.now).cells ≤ CELL_LIMIT }
-        ensures control { self.new ≡ with_made (slots_made_at code.now self.old names cells.old count slots.now) self.old }
-        ensures cells { cells.new ≡ with_made_cells (slots_made_at code.now self.old names cells.old count slots.now) cells.old }
+        ensures control { self.new ≡ with_made
+            (slots_made_at code.now self.old names cells.old count slots.now) self.old }
+        ensures cells { cells.new ≡ with_made_cells
+            (slots_made_at code.now self.old names cells.old count slots.now) cells.old }
     {
         for slot in slots {
             self.make_slot(code, cells, names, count, *slot);
@@ -181,9 +199,12 @@ impl Control {
         requires names { names ≤ length self.old.names }
         requires count { count ≤ length cells.old.cells }
         requires free { 0 < self.old.names_now }
-        requires room { length cells.old.cells + length (copy_numbers_at code.now self.old names cells.old count (slot_copy_at code.now self.old names cells.old count slot)) ≤ CELL_LIMIT }
-        ensures control { self.new ≡ with_copy_at code.now names cells.old count (slot_copy_at code.now self.old names cells.old count slot) self.old }
-        ensures cells { cells.new ≡ with_numbers (copy_numbers_at code.now self.old names cells.old count (slot_copy_at code.now self.old names cells.old count slot)) cells.old }
+        requires room { length cells.old.cells + length (copy_numbers_at code.now self.old names cells.old count
+            (slot_copy_at code.now self.old names cells.old count slot)) ≤ CELL_LIMIT }
+        ensures control { self.new ≡ with_copy_at code.now names cells.old count
+            (slot_copy_at code.now self.old names cells.old count slot) self.old }
+        ensures cells { cells.new ≡ with_numbers (copy_numbers_at code.now self.old names cells.old count
+            (slot_copy_at code.now self.old names cells.old count slot)) cells.old }
     {
         let entry = slot_entry(code.file(), &self.names.items()[self.base..names], slot);
         let copy = make_copy(cells, count, entry, Copying::First);
@@ -197,7 +218,10 @@ impl Control {
         requires names { names ≤ length self.old.names }
         requires free { 0 < self.old.names_now }
         requires room { length cells.old.cells < CELL_LIMIT }
-        ensures control { self.new ≡ bound (new_entry cells.old.cells (name_of (loop_of (tree_at code.now.trees node)).variable) (loop_slot code.now (around_at code.now self.old names cells.old 0) (tree_at code.now.trees node)) (pos 0 ∷ [])) self.old }
+        ensures control { self.new ≡ bound
+            (new_entry cells.old.cells (name_of (loop_of (tree_at code.now.trees node)).variable)
+            (loop_slot code.now (around_at code.now self.old names cells.old 0) (tree_at code.now.trees node)) (pos 0 ∷
+            [])) self.old }
         ensures cells { cells.new ≡ with_numbers (pos 0 ∷ []) cells.old }
     {
         let variable = loop_variable(code, node);
@@ -216,7 +240,10 @@ impl Control {
         requires variable { IsPart code.now.trees variable }
         requires own { self.now.base ≤ names }
         requires names { names ≤ length self.now.names }
-        ensures { result ≡ (if is_declared (kind_of (part_at code.now.trees variable)) then slot_of_name code.now (part_at code.now.trees variable) else (entry_of (file_names code.now ++ slice_range self.now.names self.now.base names) (name_of (part_at code.now.trees variable))).slot) }
+        ensures { result ≡ (if is_declared (kind_of (part_at code.now.trees variable))
+            then slot_of_name code.now (part_at code.now.trees variable)
+            else (entry_of (file_names code.now ++ slice_range self.now.names self.now.base names)
+            (name_of (part_at code.now.trees variable))).slot) }
     {
         match variable {
             Some(node) => match code.kind(Some(node)) {

@@ -33,7 +33,8 @@ impl Control {
         requires made { IsMadeFor code.now self.old }
         requires event { IsEventOfNext code.now point node (task_at code.now self.old).todo }
         requires passes { 0 < self.old.passes }
-        ensures went { task_at code.now self.new ≡ going.settled_after_event point executes (task_at code.now self.old) }
+        ensures went { task_at code.now self.new ≡
+            going.settled_after_event point executes (task_at code.now self.old) }
         ensures after { IsAfterEvent self.old self.new }
         ensures made { IsMadeFor code.now self.new }
     {
@@ -48,7 +49,10 @@ impl Control {
         requires ready { IsPassing code.now self.old }
         requires item { IsItem code.now item }
         requires event { IsEventOf code.now point node (item_at code.now item) }
-        ensures task { task_at code.now self.new ≡ record (replaced code.now (going.items_after point executes (length (env_at code.now self.old)) (item_at code.now item)) self.old) { env = going.names_after point (item_at code.now item) (env_at code.now self.old) } }
+        ensures task { task_at code.now self.new ≡
+            record (replaced code.now (going.items_after point executes (length (env_at code.now self.old))
+            (item_at code.now item)) self.old) { env = going.names_after point (item_at code.now item)
+            (env_at code.now self.old) } }
         ensures after { IsAfterEvent self.old self.new }
         ensures frames { AreFrames code.now self.new.frames }
     {
@@ -95,7 +99,9 @@ impl Control {
     fn begin_masked(&mut self, code: &Code, node: u32)
         requires ready { IsPassing code.now self.old }
         requires node { node < length code.now.trees }
-        ensures task { task_at code.now self.new ≡ replaced code.now (Start (construct_statement (tree_at code.now.trees node)) ∷ EndMasked (tree_at code.now.trees node) ∷ []) self.old }
+        ensures task { task_at code.now self.new ≡
+            replaced code.now (Start (construct_statement (tree_at code.now.trees node)) ∷
+            EndMasked (tree_at code.now.trees node) ∷ []) self.old }
         ensures after { IsAfterEvent self.old self.new }
         ensures frames { AreFrames code.now self.new.frames }
     {
@@ -111,7 +117,8 @@ impl Control {
         requires ready { IsPassing code.now self.old }
         requires node { node < length code.now.trees }
         requires work { AreWorkNumbers work }
-        ensures task { task_at code.now self.new ≡ replaced code.now (makes_cells (tree_at code.now.trees node) ++ going.work_items work (tree_at code.now.trees node) (length (env_at code.now self.old)) executes) self.old }
+        ensures task { task_at code.now self.new ≡ replaced code.now (makes_cells (tree_at code.now.trees node) ++
+            going.work_items work (tree_at code.now.trees node) (length (env_at code.now self.old)) executes) self.old }
         ensures after { IsAfterEvent self.old self.new }
         ensures frames { AreFrames code.now self.new.frames }
     {
@@ -128,7 +135,9 @@ impl Control {
     fn end_own_names(&mut self, code: &Code, item: Item, node: u32)
         requires ready { IsPassing code.now self.old }
         requires node { node < length code.now.trees }
-        ensures task { task_at code.now self.new ≡ record (replaced code.now (going.barrier_items (tree_at code.now.trees node)) self.old) { env = names_behind_work code.now item (env_at code.now self.old) } }
+        ensures task { task_at code.now self.new ≡
+            record (replaced code.now (going.barrier_items (tree_at code.now.trees node)) self.old)
+            { env = names_behind_work code.now item (env_at code.now self.old) } }
         ensures after { IsAfterEvent self.old self.new }
         ensures frames { AreFrames code.now self.new.frames }
     {
@@ -148,7 +157,9 @@ impl Control {
         requires ready { IsPassing code.now self.old }
         requires item { IsItem code.now item }
         requires node { node < length code.now.trees }
-        ensures task { task_at code.now self.new ≡ record (replaced code.now (going.mutex_items kind (tree_at code.now.trees node) id to) self.old) { env = names_behind_asking item (env_at code.now self.old) } }
+        ensures task { task_at code.now self.new ≡
+            record (replaced code.now (going.mutex_items kind (tree_at code.now.trees node) id to) self.old)
+            { env = names_behind_asking item (env_at code.now self.old) } }
         ensures after { IsAfterEvent self.old self.new }
         ensures frames { AreFrames code.now self.new.frames }
     {
@@ -163,7 +174,8 @@ impl Control {
     fn ask_alone(&mut self, code: &Code, node: u32, id: u32, kind: MutexKind, to: Target)
         requires ready { IsPassing code.now self.old }
         requires node { node < length code.now.trees }
-        ensures task { task_at code.now self.new ≡ replaced code.now (going.mutex_items kind (tree_at code.now.trees node) id to) self.old }
+        ensures task { task_at code.now self.new ≡
+            replaced code.now (going.mutex_items kind (tree_at code.now.trees node) id to) self.old }
         ensures after { IsAfterEvent self.old self.new }
         ensures frames { AreFrames code.now self.new.frames }
     {
@@ -186,7 +198,9 @@ impl Control {
         requires ready { IsPassing code.now self.old }
         requires entry { IsEntry entry }
         requires node { node < length code.now.trees }
-        ensures task { task_at code.now self.new ≡ record (replaced code.now (going.mutex_items kind (tree_at code.now.trees node) id to) self.old) { env = env_at code.now self.old ++ entry ∷ [] } }
+        ensures task { task_at code.now self.new ≡
+            record (replaced code.now (going.mutex_items kind (tree_at code.now.trees node) id to) self.old)
+            { env = env_at code.now self.old ++ entry ∷ [] } }
         ensures after { IsAfterEvent self.old self.new }
         ensures frames { AreFrames code.now self.new.frames }
     {
@@ -215,7 +229,8 @@ impl Control {
 
 /// The event of a barrier or taskwait behind another one, if there is one.
 fn next_stage(node: u32, kind: SyncKind, stage: SyncStage) -> Option<Item>
-    ensures stage { (program : TreeView) → items_if program result ≡ going.next_stage (tree_at program.trees node) kind stage }
+    ensures stage { (program : TreeView) →
+        items_if program result ≡ going.next_stage (tree_at program.trees node) kind stage }
     ensures item { (program : TreeView) → node < length program.trees → IfSome result (IsItem program) }
 {
     let stage = match stage {
@@ -268,7 +283,8 @@ fn work_stages(
 ) -> (Option<Item>, Item)
     requires node { node < length code.now.trees }
     requires work { AreWorkNumbers work }
-    ensures stages { stages_at code.now result ≡ going.work_items work (tree_at code.now.trees node) (with_file code.now names) executes }
+    ensures stages { stages_at code.now result ≡ going.work_items work (tree_at code.now.trees node)
+        (with_file code.now names) executes }
     ensures first { IfSome result.0 (IsItem code.now) }
     ensures last { IsItem code.now result.1 }
 {
@@ -290,7 +306,8 @@ fn work_stages(
 /// The stages of a `single`: its statement, where the task executes it, and the end of its work.
 fn single_stages(code: &Code, node: u32, names: usize, executes: bool) -> (Option<Item>, Item)
     requires node { node < length code.now.trees }
-    ensures stages { stages_at code.now result ≡ going.single_items (tree_at code.now.trees node) (with_file code.now names) executes }
+    ensures stages { stages_at code.now result ≡ going.single_items (tree_at code.now.trees node)
+        (with_file code.now names) executes }
     ensures first { IfSome result.0 (IsItem code.now) }
     ensures last { IsItem code.now result.1 }
 {
@@ -321,7 +338,8 @@ fn end_of_single(node: u32, kind: WorkKind, names: usize) -> Item
 fn shared(code: &Code, construct: u32, start: i64, step: i64, count: u64, names: usize) -> Loop
     requires node { construct < length code.now.trees }
     requires numbers { AreLoopNumbers start count step }
-    ensures shared { loop_at code.now result ≡ record { construct = tree_at code.now.trees construct; start = start; step = step; count = count; names = with_file code.now names } }
+    ensures shared { loop_at code.now result ≡ record { construct = tree_at code.now.trees construct; start = start;
+        step = step; count = count; names = with_file code.now names } }
     ensures is_loop { IsLoop code.now result }
 {
     let variable = code.name(loop_variable(code, construct));

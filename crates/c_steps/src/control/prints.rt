@@ -34,7 +34,8 @@ impl Control {
         requires ready { IsStepping code.now self.old }
         requires node { node < length code.now.trees }
         requires view { HasNumbers view }
-        ensures step { outcome_at code.now result (moment_at code.now self.new cells.new) ≡ statements.begin_print (here_at code.now view self.old cells.old) (tree_at code.now.trees node) }
+        ensures step { outcome_at code.now result (moment_at code.now self.new cells.new) ≡
+            statements.begin_print (here_at code.now view self.old cells.old) (tree_at code.now.trees node) }
         ensures settled { IsSettled result self.old cells.old self.new cells.new }
         ensures numbers { FitsProgram code.now result }
         ensures frames { AreFrames code.now self.new.frames }
@@ -55,11 +56,16 @@ impl Control {
     fn print(&self, code: &Code, cells: &mut Cells, view: View, node: u32) -> bool
         requires node { node < length code.now.trees }
         requires view { HasNumbers view }
-        requires values { without_values (all_values (scope_in code.now view self.now cells.old) (parts (tree_at code.now.trees node))) ≡ Ok tt }
-        ensures text { let numbers = values_in (all_values (scope_in code.now view self.now cells.old) (parts (tree_at code.now.trees node))) in
-            cells.new ≡ (if result then record cells.old { text = cells.old.text ++ printed_text (text_of (tree_at code.now.trees node)) numbers } else cells.old) }
-        ensures limit { let numbers = values_in (all_values (scope_in code.now view self.now cells.old) (parts (tree_at code.now.trees node))) in
-            nat_lt TEXT_LIMIT (length (cells.old.text ++ printed_text (text_of (tree_at code.now.trees node)) numbers)) ≡ not result }
+        requires values { without_values (all_values (scope_in code.now view self.now cells.old)
+            (parts (tree_at code.now.trees node))) ≡ Ok tt }
+        ensures text { let numbers = values_in (all_values (scope_in code.now view self.now cells.old)
+            (parts (tree_at code.now.trees node))) in
+            cells.new ≡ (if result then record cells.old { text = cells.old.text ++
+            printed_text (text_of (tree_at code.now.trees node)) numbers } else cells.old) }
+        ensures limit { let numbers = values_in (all_values (scope_in code.now view self.now cells.old)
+            (parts (tree_at code.now.trees node))) in
+            nat_lt TEXT_LIMIT (length (cells.old.text ++
+            printed_text (text_of (tree_at code.now.trees node)) numbers)) ≡ not result }
     {
         let scope = self.scope(code, &cells.cells, view);
         print(&scope, node, &mut cells.text)

@@ -47,7 +47,8 @@ impl Control {
         requires ready { IsStepping code.now self.old }
         requires node { node < length code.now.trees }
         requires view { HasNumbers view }
-        ensures { IsAttempt code.now (statements.begin_step (here_at code.now view self.old cells.old) (tree_at code.now.trees node)) result self.old cells.old self.new cells.new }
+        ensures { IsAttempt code.now (statements.begin_step (here_at code.now view self.old cells.old)
+            (tree_at code.now.trees node)) result self.old cells.old self.new cells.new }
     {
         match self.change(code, cells, view, code.child(Some(node), 0)) {
             Some(change) => {
@@ -73,7 +74,8 @@ impl Control {
         requires ready { IsStepping code.now self.old }
         requires node { node < length code.now.trees }
         requires view { HasNumbers view }
-        ensures { IsAttempt code.now (statements.third_for (here_at code.now view self.old cells.old) (tree_at code.now.trees node) (with_file code.now names)) result self.old cells.old self.new cells.new }
+        ensures { IsAttempt code.now (statements.third_for (here_at code.now view self.old cells.old)
+            (tree_at code.now.trees node) (with_file code.now names)) result self.old cells.old self.new cells.new }
     {
         match self.change(code, cells, view, code.child(Some(node), 2)) {
             Some(change) => {
@@ -87,13 +89,15 @@ impl Control {
     }
 
     /// `if`: the branch that is taken stands next.
-    #[tactic(auto, using(crate::proofs::Stepping::todo_if, crate::proofs::Stepping::calls_if, crate::proofs::Stepping::are_if))]
+    #[tactic(auto, using(crate::proofs::Stepping::todo_if, crate::proofs::Stepping::calls_if,
+        crate::proofs::Stepping::are_if))]
     #[inline(always)]
     pub(super) fn try_if(&mut self, code: &Code, cells: &Cells, view: View, node: u32) -> bool
         requires ready { IsStepping code.now self.old }
         requires node { node < length code.now.trees }
         requires view { HasNumbers view }
-        ensures { IsAttempt code.now (statements.begin_if (here_at code.now view self.old cells.now) (tree_at code.now.trees node)) result self.old cells.now self.new cells.now }
+        ensures { IsAttempt code.now (statements.begin_if (here_at code.now view self.old cells.now)
+            (tree_at code.now.trees node)) result self.old cells.now self.new cells.now }
     {
         let condition = code.child(Some(node), 0);
         match self.quick_value(code, cells, view, condition) {
@@ -114,7 +118,8 @@ impl Control {
         requires ready { IsStepping code.now self.old }
         requires node { node < length code.now.trees }
         requires view { HasNumbers view }
-        ensures { IsAttempt code.now (statements.begin_while (here_at code.now view self.old cells.now) (tree_at code.now.trees node)) result self.old cells.now self.new cells.now }
+        ensures { IsAttempt code.now (statements.begin_while (here_at code.now view self.old cells.now)
+            (tree_at code.now.trees node)) result self.old cells.now self.new cells.now }
     {
         let condition = code.child(Some(node), 0);
         match self.quick_value(code, cells, view, condition) {
@@ -134,7 +139,8 @@ impl Control {
     }
 
     /// The test of a plain `for`. Where it is 0 so many names stay in scope.
-    #[tactic(auto, using(crate::proofs::Frames::cut_names, crate::proofs::Frames::take_shorter), unfolding(crate::specs::Items::todo_at, crate::specs::Items::calls_at))]
+    #[tactic(auto, using(crate::proofs::Frames::cut_names, crate::proofs::Frames::take_shorter),
+        unfolding(crate::specs::Items::todo_at, crate::specs::Items::calls_at))]
     #[inline(always)]
     pub(super) fn try_test(
         &mut self,
@@ -147,7 +153,8 @@ impl Control {
         requires ready { IsStepping code.now self.old }
         requires node { node < length code.now.trees }
         requires view { HasNumbers view }
-        ensures { IsAttempt code.now (statements.test_for (here_at code.now view self.old cells.now) (tree_at code.now.trees node) (with_file code.now names)) result self.old cells.now self.new cells.now }
+        ensures { IsAttempt code.now (statements.test_for (here_at code.now view self.old cells.now)
+            (tree_at code.now.trees node) (with_file code.now names)) result self.old cells.now self.new cells.now }
     {
         match self.quick_test(code, cells, view, node) {
             None => false,
@@ -179,7 +186,8 @@ impl Control {
         requires node { node < length code.now.trees }
         requires view { HasNumbers view }
         requires step_names { self.old.step_names ≡ step_names code.now }
-        ensures { IsAttempt code.now (calls.begin_return (here_at code.now view self.old cells.old) (tree_at code.now.trees node)) result self.old cells.old self.new cells.new }
+        ensures { IsAttempt code.now (calls.begin_return (here_at code.now view self.old cells.old)
+            (tree_at code.now.trees node)) result self.old cells.old self.new cells.new }
     {
         let right = code.child(Some(node), 0);
         match code.kind(right) {
@@ -198,7 +206,10 @@ impl Control {
     fn quick_test(&self, code: &Code, cells: &Cells, view: View, node: u32) -> Option<i32>
         requires node { node < length code.now.trees }
         requires view { HasNumbers view }
-        ensures { IfSome result (λ number. (if has_child (tree_at code.now.trees node) 1 then values.value (scope_in code.now view self.now cells.now) (child_at (tree_at code.now.trees node) 1) else Ok (pos 1)) ≡ Ok number) }
+        ensures { IfSome result (λ number.
+            (if has_child (tree_at code.now.trees node) 1
+            then values.value (scope_in code.now view self.now cells.now) (child_at (tree_at code.now.trees node) 1)
+            else Ok (pos 1)) ≡ Ok number) }
     {
         match code.child(Some(node), 1) {
             Some(test) => self.quick_value(code, cells, view, Some(test)),
@@ -211,7 +222,8 @@ impl Control {
     fn quick_value(&self, code: &Code, cells: &Cells, view: View, part: Option<u32>) -> Option<i32>
         requires part { IsPart code.now.trees part }
         requires view { HasNumbers view }
-        ensures { IfSome result (λ number. values.value (scope_in code.now view self.now cells.now) (part_at code.now.trees part) ≡ Ok number) }
+        ensures { IfSome result (λ number.
+            values.value (scope_in code.now view self.now cells.now) (part_at code.now.trees part) ≡ Ok number) }
     {
         self.scope(code, cells.items(), view).quick_value(part)
     }
@@ -221,7 +233,9 @@ impl Control {
     fn change(&self, code: &Code, cells: &Cells, view: View, part: Option<u32>) -> Option<Change>
         requires part { IsPart code.now.trees part }
         requires view { HasNumbers view }
-        ensures { IfSome result (IsChange (statements.makes_step (kind_of (part_at code.now.trees part)) (here_at code.now view self.now cells.now) (part_at code.now.trees part)) (here_at code.now view self.now cells.now)) }
+        ensures { IfSome result (IsChange (statements.makes_step (kind_of (part_at code.now.trees part))
+            (here_at code.now view self.now cells.now) (part_at code.now.trees part))
+            (here_at code.now view self.now cells.now)) }
     {
         let scope = self.scope(code, cells.items(), view);
         match code.kind(part) {

@@ -44,11 +44,14 @@ impl Control {
     }
 
     /// What stands next, when what the task goes past is left out.
-    #[tactic(auto, using(crate::proofs::Standing::top_is_frame, crate::proofs::Standing::over_below, crate::proofs::Standing::nothing_below, crate::proofs::Standing::found_below, crate::proofs::Standing::none_below))]
+    #[tactic(auto, using(crate::proofs::Standing::top_is_frame, crate::proofs::Standing::over_below,
+        crate::proofs::Standing::nothing_below, crate::proofs::Standing::found_below,
+        crate::proofs::Standing::none_below))]
     #[inline(always)]
     pub(super) fn front(&self, code: &Code, view: View) -> Option<Item>
         requires { AreFrames code.now self.now.frames }
-        ensures first { slice_get (steps.items_from_next view (todo_at code.now self.now.frames)) 0 ≡ option_map (item_at code.now) result }
+        ensures first { slice_get (steps.items_from_next view (todo_at code.now self.now.frames)) 0 ≡
+            option_map (item_at code.now) result }
         ensures item { IfSome result (IsItem code.now) }
     {
         let mut below = self.stack.items();

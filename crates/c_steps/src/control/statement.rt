@@ -32,7 +32,9 @@ impl Control {
         requires part { IsPart code.now.trees part }
         requires view { HasNumbers view }
         requires step_names { self.old.step_names ≡ step_names code.now }
-        ensures step { outcome_at code.now result (moment_at code.now self.new cells.new) ≡ steps.begin_statement (kind_of (part_at code.now.trees part)) (here_at code.now view self.old cells.old) (part_at code.now.trees part) }
+        ensures step { outcome_at code.now result (moment_at code.now self.new cells.new) ≡
+            steps.begin_statement (kind_of (part_at code.now.trees part)) (here_at code.now view self.old cells.old)
+            (part_at code.now.trees part) }
         ensures settled { IsSettled result self.old cells.old self.new cells.new }
         ensures numbers { FitsProgram code.now result }
         ensures frames { AreFrames code.now self.new.frames }
@@ -49,7 +51,9 @@ impl Control {
         requires node { node < length code.now.trees }
         requires view { HasNumbers view }
         requires step_names { self.old.step_names ≡ step_names code.now }
-        ensures step { outcome_at code.now result (moment_at code.now self.new cells.new) ≡ steps.begin_statement (kind_of (tree_at code.now.trees node)) (here_at code.now view self.old cells.old) (tree_at code.now.trees node) }
+        ensures step { outcome_at code.now result (moment_at code.now self.new cells.new) ≡
+            steps.begin_statement (kind_of (tree_at code.now.trees node)) (here_at code.now view self.old cells.old)
+            (tree_at code.now.trees node) }
         ensures settled { IsSettled result self.old cells.old self.new cells.new }
         ensures numbers { FitsProgram code.now result }
         ensures frames { AreFrames code.now self.new.frames }

@@ -27,7 +27,8 @@ impl Control {
     /// A statement that does nothing.
     pub(super) fn begin_empty(&mut self, code: &Code, cells: &Cells, view: View) -> Next
         requires { IsStepping code.now self.old }
-        ensures step { outcome_at code.now result (moment_at code.now self.new cells.now) ≡ statements.begin_empty (here_at code.now view self.old cells.now) }
+        ensures step { outcome_at code.now result (moment_at code.now self.new cells.now) ≡
+            statements.begin_empty (here_at code.now view self.old cells.now) }
         ensures settled { IsSettled result self.old cells.now self.new cells.now }
         ensures numbers { FitsProgram code.now result }
         ensures frames { AreFrames code.now self.new.frames }
@@ -37,11 +38,13 @@ impl Control {
     }
 
     /// A block is entered.
-    #[tactic(auto, using(crate::proofs::Frames::entered_block, crate::proofs::Frames::all_names), unfolding(crate::specs::Items::calls_at))]
+    #[tactic(auto, using(crate::proofs::Frames::entered_block, crate::proofs::Frames::all_names),
+        unfolding(crate::specs::Items::calls_at))]
     pub(super) fn begin_block(&mut self, code: &Code, cells: &Cells, view: View, node: u32) -> Next
         requires ready { IsStepping code.now self.old }
         requires node { node < length code.now.trees }
-        ensures step { outcome_at code.now result (moment_at code.now self.new cells.now) ≡ statements.begin_block (here_at code.now view self.old cells.now) (tree_at code.now.trees node) }
+        ensures step { outcome_at code.now result (moment_at code.now self.new cells.now) ≡
+            statements.begin_block (here_at code.now view self.old cells.now) (tree_at code.now.trees node) }
         ensures settled { IsSettled result self.old cells.now self.new cells.now }
         ensures numbers { FitsProgram code.now result }
         ensures frames { AreFrames code.now self.new.frames }
@@ -67,7 +70,8 @@ impl Control {
         names: usize,
     ) -> Next
         requires { IsStepping code.now self.old }
-        ensures step { outcome_at code.now result (moment_at code.now self.new cells.now) ≡ statements.leave_block (here_at code.now view self.old cells.now) (with_file code.now names) }
+        ensures step { outcome_at code.now result (moment_at code.now self.new cells.now) ≡
+            statements.leave_block (here_at code.now view self.old cells.now) (with_file code.now names) }
         ensures settled { IsSettled result self.old cells.now self.new cells.now }
         ensures numbers { FitsProgram code.now result }
         ensures frames { AreFrames code.now self.new.frames }
@@ -78,12 +82,14 @@ impl Control {
     }
 
     /// `if`: the branch that is taken stands next.
-    #[tactic(auto, using(crate::proofs::Stepping::todo_if, crate::proofs::Stepping::calls_if, crate::proofs::Stepping::are_if))]
+    #[tactic(auto, using(crate::proofs::Stepping::todo_if, crate::proofs::Stepping::calls_if,
+        crate::proofs::Stepping::are_if))]
     pub(super) fn begin_if(&mut self, code: &Code, cells: &Cells, view: View, node: u32) -> Next
         requires ready { IsStepping code.now self.old }
         requires node { node < length code.now.trees }
         requires view { HasNumbers view }
-        ensures step { outcome_at code.now result (moment_at code.now self.new cells.now) ≡ statements.begin_if (here_at code.now view self.old cells.now) (tree_at code.now.trees node) }
+        ensures step { outcome_at code.now result (moment_at code.now self.new cells.now) ≡
+            statements.begin_if (here_at code.now view self.old cells.now) (tree_at code.now.trees node) }
         ensures settled { IsSettled result self.old cells.now self.new cells.now }
         ensures numbers { FitsProgram code.now result }
         ensures frames { AreFrames code.now self.new.frames }
@@ -106,7 +112,8 @@ impl Control {
         requires ready { IsStepping code.now self.old }
         requires node { node < length code.now.trees }
         requires view { HasNumbers view }
-        ensures step { outcome_at code.now result (moment_at code.now self.new cells.now) ≡ statements.begin_while (here_at code.now view self.old cells.now) (tree_at code.now.trees node) }
+        ensures step { outcome_at code.now result (moment_at code.now self.new cells.now) ≡
+            statements.begin_while (here_at code.now view self.old cells.now) (tree_at code.now.trees node) }
         ensures settled { IsSettled result self.old cells.now self.new cells.now }
         ensures numbers { FitsProgram code.now result }
         ensures frames { AreFrames code.now self.new.frames }
@@ -129,7 +136,8 @@ impl Control {
     }
 
     /// A plain `for` begins with its first part, which may declare a variable, and then its test stands next.
-    #[tactic(auto, using(crate::proofs::Frames::all_names), unfolding(crate::specs::Items::todo_at, crate::specs::Items::calls_at))]
+    #[tactic(auto, using(crate::proofs::Frames::all_names), unfolding(crate::specs::Items::todo_at,
+        crate::specs::Items::calls_at))]
     #[inline(never)]
     pub(super) fn begin_for(
         &mut self,
@@ -142,7 +150,8 @@ impl Control {
         requires node { node < length code.now.trees }
         requires view { HasNumbers view }
         requires step_names { self.old.step_names ≡ step_names code.now }
-        ensures step { outcome_at code.now result (moment_at code.now self.new cells.new) ≡ statements.begin_for (here_at code.now view self.old cells.old) (tree_at code.now.trees node) }
+        ensures step { outcome_at code.now result (moment_at code.now self.new cells.new) ≡
+            statements.begin_for (here_at code.now view self.old cells.old) (tree_at code.now.trees node) }
         ensures settled { IsSettled result self.old cells.old self.new cells.new }
         ensures numbers { FitsProgram code.now result }
         ensures frames { AreFrames code.now self.new.frames }
@@ -168,7 +177,8 @@ impl Control {
     }
 
     /// The test of a plain `for`. Where it is 0 so many names stay in scope.
-    #[tactic(auto, using(crate::proofs::Frames::cut_names, crate::proofs::Frames::take_shorter), unfolding(crate::specs::Items::todo_at, crate::specs::Items::calls_at))]
+    #[tactic(auto, using(crate::proofs::Frames::cut_names, crate::proofs::Frames::take_shorter),
+        unfolding(crate::specs::Items::todo_at, crate::specs::Items::calls_at))]
     #[inline(never)]
     pub(super) fn test_for(
         &mut self,
@@ -181,7 +191,9 @@ impl Control {
         requires ready { IsStepping code.now self.old }
         requires node { node < length code.now.trees }
         requires view { HasNumbers view }
-        ensures step { outcome_at code.now result (moment_at code.now self.new cells.now) ≡ statements.test_for (here_at code.now view self.old cells.now) (tree_at code.now.trees node) (with_file code.now names) }
+        ensures step { outcome_at code.now result (moment_at code.now self.new cells.now) ≡
+            statements.test_for (here_at code.now view self.old cells.now) (tree_at code.now.trees node)
+            (with_file code.now names) }
         ensures settled { IsSettled result self.old cells.now self.new cells.now }
         ensures numbers { FitsProgram code.now result }
         ensures frames { AreFrames code.now self.new.frames }
@@ -207,7 +219,9 @@ impl Control {
     fn test_value(&self, code: &Code, cells: &Cells, view: View, node: u32) -> Result<i32, u8>
         requires node { node < length code.now.trees }
         requires view { HasNumbers view }
-        ensures { result ≡ (if has_child (tree_at code.now.trees node) 1 then values.value (scope_in code.now view self.now cells.now) (child_at (tree_at code.now.trees node) 1) else Ok (pos 1)) }
+        ensures { result ≡ (if has_child (tree_at code.now.trees node) 1
+            then values.value (scope_in code.now view self.now cells.now) (child_at (tree_at code.now.trees node) 1)
+            else Ok (pos 1)) }
     {
         match code.child(Some(node), 1) {
             Some(test) => self.value(code, cells, view, Some(test)),
@@ -228,7 +242,9 @@ impl Control {
         requires ready { IsStepping code.now self.old }
         requires node { node < length code.now.trees }
         requires view { HasNumbers view }
-        ensures step { outcome_at code.now result (moment_at code.now self.new cells.new) ≡ statements.third_for (here_at code.now view self.old cells.old) (tree_at code.now.trees node) (with_file code.now names) }
+        ensures step { outcome_at code.now result (moment_at code.now self.new cells.new) ≡
+            statements.third_for (here_at code.now view self.old cells.old) (tree_at code.now.trees node)
+            (with_file code.now names) }
         ensures settled { IsSettled result self.old cells.old self.new cells.new }
         ensures numbers { FitsProgram code.now result }
         ensures frames { AreFrames code.now self.new.frames }

@@ -32,7 +32,8 @@ impl Control {
         requires ready { IsStepping code.now self.old }
         requires node { node < length code.now.trees }
         requires view { HasNumbers view }
-        ensures step { outcome_at code.now (next_of result) (moment_at code.now self.new cells.new) ≡ statements.begin_step (here_at code.now view self.old cells.old) (tree_at code.now.trees node) }
+        ensures step { outcome_at code.now (next_of result) (moment_at code.now self.new cells.new) ≡
+            statements.begin_step (here_at code.now view self.old cells.old) (tree_at code.now.trees node) }
         ensures settled { IsSettled (next_of result) self.old cells.old self.new cells.new }
         ensures numbers { FitsProgram code.now (next_of result) }
         ensures frames { AreFrames code.now self.new.frames }
@@ -42,7 +43,8 @@ impl Control {
     }
 
     /// A step that is a statement, or the third part of a loop, behind which an item may stand next.
-    #[tactic(auto, using(crate::proofs::Stepping::todo_if, crate::proofs::Stepping::calls_if, crate::proofs::Stepping::are_if))]
+    #[tactic(auto, using(crate::proofs::Stepping::todo_if, crate::proofs::Stepping::calls_if,
+        crate::proofs::Stepping::are_if))]
     pub(super) fn make_step(
         &mut self,
         code: &Code,
@@ -55,7 +57,9 @@ impl Control {
         requires part { IsPart code.now.trees part }
         requires then { IfSome then (IsItem code.now) }
         requires view { HasNumbers view }
-        ensures step { outcome_at code.now (next_of result) (moment_at code.now self.new cells.new) ≡ statements.makes_step (kind_of (part_at code.now.trees part)) (here_at code.now view self.old cells.old) (part_at code.now.trees part) (items_if code.now then) }
+        ensures step { outcome_at code.now (next_of result) (moment_at code.now self.new cells.new) ≡
+            statements.makes_step (kind_of (part_at code.now.trees part)) (here_at code.now view self.old cells.old)
+            (part_at code.now.trees part) (items_if code.now then) }
         ensures settled { IsSettled (next_of result) self.old cells.old self.new cells.new }
         ensures numbers { FitsProgram code.now (next_of result) }
         ensures frames { AreFrames code.now self.new.frames }
@@ -99,7 +103,9 @@ impl Control {
         requires place { IsPart code.now.trees place }
         requires then { IfSome then (IsItem code.now) }
         requires view { HasNumbers view }
-        ensures step { outcome_at code.now (next_of result) (moment_at code.now self.new cells.new) ≡ statements.assigns (here_at code.now view self.old cells.old) which (part_at code.now.trees place) right (items_if code.now then) }
+        ensures step { outcome_at code.now (next_of result) (moment_at code.now self.new cells.new) ≡
+            statements.assigns (here_at code.now view self.old cells.old) which (part_at code.now.trees place) right
+            (items_if code.now then) }
         ensures settled { IsSettled (next_of result) self.old cells.old self.new cells.new }
         ensures numbers { FitsProgram code.now (next_of result) }
         ensures frames { AreFrames code.now self.new.frames }
@@ -114,7 +120,8 @@ impl Control {
     }
 
     /// A cell gets a number, unless that is a trap.
-    #[tactic(auto, using(crate::proofs::Stepping::todo_if, crate::proofs::Stepping::calls_if, crate::proofs::Stepping::are_if))]
+    #[tactic(auto, using(crate::proofs::Stepping::todo_if, crate::proofs::Stepping::calls_if,
+        crate::proofs::Stepping::are_if))]
     fn set_cell(
         &mut self,
         code: &Code,
@@ -127,7 +134,8 @@ impl Control {
         requires ready { IsStepping code.now self.old }
         requires then { IfSome then (IsItem code.now) }
         ensures step { let here = here_at code.now view self.old cells.old in
-            outcome_at code.now (next_of result) (moment_at code.now self.new cells.new) ≡ with_result number (λ number. sets here cell number (items_if code.now then)) }
+            outcome_at code.now (next_of result) (moment_at code.now self.new cells.new) ≡ with_result number (λ number.
+            sets here cell number (items_if code.now then)) }
         ensures settled { IsSettled (next_of result) self.old cells.old self.new cells.new }
         ensures numbers { FitsProgram code.now (next_of result) }
         ensures frames { AreFrames code.now self.new.frames }

@@ -33,7 +33,8 @@ impl Control {
     /// Makes silent steps of C's own statements one after another, at most so many, and answers how many it made. `advance` tells what stands
     /// next then. It takes no memory.
     #[inline(never)]
-    #[tactic(auto, using(crate::proofs::Repeated::none_made, crate::proofs::Repeated::made_then_not, crate::proofs::Repeated::made_one_more))]
+    #[tactic(auto, using(crate::proofs::Repeated::none_made, crate::proofs::Repeated::made_then_not,
+        crate::proofs::Repeated::made_one_more))]
     pub fn try_steps(&mut self, code: &Code, cells: &mut Cells, view: View, most: u32) -> u32
         requires made { IsMadeFor code.now self.old }
         requires view { HasNumbers view }
@@ -147,7 +148,8 @@ impl Control {
         requires item { IsItem code.now (item_of plain) }
         requires view { HasNumbers view }
         requires step_names { self.old.step_names ≡ step_names code.now }
-        ensures { IsAttempt code.now (step_of (item_at code.now (item_of plain)) (here_at code.now view self.old cells.old)) result self.old cells.old self.new cells.new }
+        ensures { IsAttempt code.now (step_of (item_at code.now (item_of plain))
+            (here_at code.now view self.old cells.old)) result self.old cells.old self.new cells.new }
     {
         match plain {
             Plain::Start(node) => self.try_statement(code, cells, view, node),
@@ -167,7 +169,9 @@ impl Control {
         requires node { node < length code.now.trees }
         requires view { HasNumbers view }
         requires step_names { self.old.step_names ≡ step_names code.now }
-        ensures { IsAttempt code.now (begin_statement (kind_of (tree_at code.now.trees node)) (here_at code.now view self.old cells.old) (tree_at code.now.trees node)) result self.old cells.old self.new cells.new }
+        ensures { IsAttempt code.now (begin_statement (kind_of (tree_at code.now.trees node))
+            (here_at code.now view self.old cells.old) (tree_at code.now.trees node)) result self.old cells.old self.new
+            cells.new }
     {
         match code.kind(Some(node)) {
             NodeKind::Block => self.try_block(code, cells, view, node),
@@ -189,7 +193,8 @@ impl Control {
     fn try_block(&mut self, code: &Code, cells: &mut Cells, view: View, node: u32) -> bool
         requires ready { IsStepping code.now self.old }
         requires node { node < length code.now.trees }
-        ensures { IsAttempt code.now (statements.begin_block (here_at code.now view self.old cells.old) (tree_at code.now.trees node)) result self.old cells.old self.new cells.new }
+        ensures { IsAttempt code.now (statements.begin_block (here_at code.now view self.old cells.old)
+            (tree_at code.now.trees node)) result self.old cells.old self.new cells.new }
     {
         let next = self.begin_block(code, cells, view, node);
         is_quiet(next)
@@ -203,7 +208,8 @@ impl Control {
         requires node { node < length code.now.trees }
         requires view { HasNumbers view }
         requires step_names { self.old.step_names ≡ step_names code.now }
-        ensures { IsAttempt code.now (statements.begin_for (here_at code.now view self.old cells.old) (tree_at code.now.trees node)) result self.old cells.old self.new cells.new }
+        ensures { IsAttempt code.now (statements.begin_for (here_at code.now view self.old cells.old)
+            (tree_at code.now.trees node)) result self.old cells.old self.new cells.new }
     {
         let next = self.begin_for(code, cells, view, node);
         is_quiet(next)
@@ -216,7 +222,8 @@ impl Control {
         requires node { node < length code.now.trees }
         requires view { HasNumbers view }
         requires step_names { self.old.step_names ≡ step_names code.now }
-        ensures { IsAttempt code.now (calls.begin_set_call (here_at code.now view self.old cells.old) (tree_at code.now.trees node)) result self.old cells.old self.new cells.new }
+        ensures { IsAttempt code.now (calls.begin_set_call (here_at code.now view self.old cells.old)
+            (tree_at code.now.trees node)) result self.old cells.old self.new cells.new }
     {
         match self.place_cell(code, cells, view, code.child(Some(node), 0)) {
             Ok(cell) => {
@@ -234,7 +241,8 @@ impl Control {
         requires node { node < length code.now.trees }
         requires view { HasNumbers view }
         requires step_names { self.old.step_names ≡ step_names code.now }
-        ensures { IsAttempt code.now (calls.begin_called (here_at code.now view self.old cells.old) (tree_at code.now.trees node)) result self.old cells.old self.new cells.new }
+        ensures { IsAttempt code.now (calls.begin_called (here_at code.now view self.old cells.old)
+            (tree_at code.now.trees node)) result self.old cells.old self.new cells.new }
     {
         let call = code.child(Some(node), 0);
         self.try_call(code, cells, view, call, Target::Nowhere)
@@ -245,7 +253,8 @@ impl Control {
     #[inline(never)]
     fn try_empty(&mut self, code: &Code, cells: &mut Cells, view: View) -> bool
         requires ready { IsStepping code.now self.old }
-        ensures { IsAttempt code.now (statements.begin_empty (here_at code.now view self.old cells.old)) result self.old cells.old self.new cells.new }
+        ensures { IsAttempt code.now (statements.begin_empty (here_at code.now view self.old cells.old)) result self.old
+            cells.old self.new cells.new }
     {
         let next = self.begin_empty(code, cells, view);
         is_quiet(next)
@@ -260,7 +269,9 @@ impl Control {
         requires declarator { is_declarator (kind_of (tree_at code.now.trees node)) ≡ true }
         requires view { HasNumbers view }
         requires step_names { self.old.step_names ≡ step_names code.now }
-        ensures { IsAttempt code.now (statements.declares (kind_of (tree_at code.now.trees node)) (here_at code.now view self.old cells.old) (tree_at code.now.trees node)) result self.old cells.old self.new cells.new }
+        ensures { IsAttempt code.now (statements.declares (kind_of (tree_at code.now.trees node))
+            (here_at code.now view self.old cells.old) (tree_at code.now.trees node)) result self.old cells.old self.new
+            cells.new }
     {
         let next = self.declare(code, cells, view, node);
         is_quiet(next)
@@ -271,7 +282,8 @@ impl Control {
     #[inline(always)]
     fn try_leave(&mut self, code: &Code, cells: &mut Cells, view: View, names: usize) -> bool
         requires ready { IsStepping code.now self.old }
-        ensures { IsAttempt code.now (statements.leave_block (here_at code.now view self.old cells.old) (with_file code.now names)) result self.old cells.old self.new cells.new }
+        ensures { IsAttempt code.now (statements.leave_block (here_at code.now view self.old cells.old)
+            (with_file code.now names)) result self.old cells.old self.new cells.new }
     {
         let next = self.leave_block(code, cells, view, names);
         is_quiet(next)
@@ -288,7 +300,8 @@ impl Control {
         number: i32,
     ) -> bool
         requires ready { IsStepping code.now self.old }
-        ensures { IsAttempt code.now (calls.returns (here_at code.now view self.old cells.old) number) result self.old cells.old self.new cells.new }
+        ensures { IsAttempt code.now (calls.returns (here_at code.now view self.old cells.old) number) result self.old
+            cells.old self.new cells.new }
     {
         let next = self.returns(code, cells, view, number);
         is_quiet(next)

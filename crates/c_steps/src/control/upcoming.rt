@@ -21,7 +21,8 @@ impl Control {
     /// What comes next, of whatever program it is and whatever a thread sees of its team, where what stands first tells it by itself.
     #[inline(always)]
     pub fn upcoming_at_once(&self) -> Option<Upcoming>
-        ensures { (program : TreeView) (view : SeenView) → IfSome result (λ upcoming. upcoming_of view (task_at program self.now) ≡ upcoming) }
+        ensures { (program : TreeView) (view : SeenView) →
+            IfSome result (λ upcoming. upcoming_of view (task_at program self.now) ≡ upcoming) }
     {
         match self.stack.top() {
             Some(Frame::One(item)) => item_tells(item),

@@ -88,7 +88,8 @@ impl Board {
         requires asks { AnswersFirst (code_of self.old.world thread).todo (answer.Free true) }
         requires room { HasStep self.old.room self.old.world thread }
         ensures { self.new ≡ record self.old {
-          world = gone_to self.old.world (current self.old.world thread) (settled_after_answer (answer.Free true) (moment_of self.old.world thread));
+          world = gone_to self.old.world (current self.old.world thread)
+            (settled_after_answer (answer.Free true) (moment_of self.old.world thread));
           room = record self.old.room { steps = self.old.room.steps - 1 };
         } }
     {
@@ -102,7 +103,8 @@ impl Board {
         requires comes { HasComeTo self.old.program self.old.world thread point node }
         requires made { IsMadeWorld self.old.world }
         requires room { HasGo self.old.room self.old.world thread }
-        ensures going { IsGoingTo self.old.program self.old.world thread (moment_of self.old.world thread) point result self.new.world }
+        ensures going { IsGoingTo self.old.program self.old.world thread
+            (moment_of self.old.world thread) point result self.new.world }
         ensures program { self.new.program ≡ self.old.program }
     {
         let event = self.event_at(thread, point);

@@ -37,7 +37,8 @@ impl Board {
     /// The task gives the lock or critical back.
     pub(super) fn give_back(&mut self, wait_id: u32, task: u32) -> Result<(), LockFault>
         ensures answer { result ≡ answers.answer_to_give self.old.world.locks.locks wait_id task }
-        ensures given { OnOk result (self.new ≡ record self.old { world = changes.owned_by self.old.world wait_id None }) }
+        ensures given { OnOk result (self.new ≡
+            record self.old { world = changes.owned_by self.old.world wait_id None }) }
         ensures fault { OnErr result (self.new ≡ self.old) }
     {
         self.locks.give(wait_id, task)
@@ -47,7 +48,8 @@ impl Board {
     pub(super) fn init(&mut self, wait_id: u32) -> Result<(), LockFault>
         requires { 0 < self.old.room.locks }
         ensures answer { result ≡ answers.answer_to_init self.old.world.locks.locks wait_id }
-        ensures done { OnOk result (self.new ≡ record self.old { world = changes.initialised self.old.world wait_id; room = record self.old.room { locks = self.new.room.locks } }) }
+        ensures done { OnOk result (self.new ≡ record self.old { world = changes.initialised self.old.world wait_id;
+            room = record self.old.room { locks = self.new.room.locks } }) }
         ensures fault { OnErr result (self.new ≡ self.old) }
     {
         self.locks.init(wait_id)

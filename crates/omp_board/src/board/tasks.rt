@@ -50,7 +50,8 @@ impl Board {
         requires parent { MayBeParent self.old.world.pool.tasks parent }
         requires few { IsOk (answer_to_add self.old.world.pool.tasks) }
         ensures { self.new ≡ record self.old {
-          world = changes.task_made self.old.world parent region kind.Implicit (member_code (task_at self.old.world parent).code);
+          world = changes.task_made self.old.world parent region kind.Implicit
+            (member_code (task_at self.old.world parent).code);
           room = record self.old.room { tasks = 0 };
         } }
     {
@@ -66,8 +67,10 @@ impl Board {
         requires few { IsOk (answer_to_add self.old.world.pool.tasks) }
         requires created { IsCreation (slice_get (task_at self.old.world creator).code.todo 0) }
         requires cells { HasCells self.old.program (moment_at self.old.world creator) }
-        ensures { self.new ≡ (let created = created_by self.old.program (moment_at self.old.world creator) in record self.old {
-          world = record (changes.task_made self.old.world creator region (kind_of_task undeferred) created.task) { store = created.store };
+        ensures { self.new ≡ (let created = created_by self.old.program (moment_at self.old.world creator) in
+            record self.old {
+          world = record (changes.task_made self.old.world creator region (kind_of_task undeferred) created.task)
+            { store = created.store };
           room = record self.old.room { tasks = 0 };
         }) }
     {
