@@ -124,8 +124,11 @@ impl Progress {
         ensures machine { OnOk result (self.new.machine ≡ self.old.machine) }
         ensures waiting { OnOk result (self.new.waiting ≡
             slice_set self.old.waiting thread (Some (record { stores = 0; told = Some self.old.seq }))) }
-        ensures calls { OnOk result (self.new.calls.items ≡ self.old.calls.items ++ record { seq = self.old.seq;
-            thread = thread; call = call } ∷ []) }
+        ensures calls { OnOk result (self.new.calls.items ≡ self.old.calls.items ++ record {
+          seq = self.old.seq;
+          thread = thread;
+          call = call;
+        } ∷ []) }
         ensures seq { OnOk result (self.new.seq ≡ self.old.seq) }
     {
         let seq = self.seq;
@@ -137,8 +140,12 @@ impl Progress {
     /// The thread is inside a callback from now on, whose event is told at this position, if at all.
     fn wait(&mut self, thread: u8, told: Option<u32>)
         requires { thread < length self.old.waiting }
-        ensures { self.new ≡ record self.old { waiting = slice_set self.old.waiting thread (Some (record { stores = 0;
-            told = told })) } }
+        ensures { self.new ≡ record self.old {
+          waiting = slice_set self.old.waiting thread (Some (record {
+            stores = 0;
+            told = told;
+          }));
+        } }
     {
         self.waiting[usize::from(thread)] = Some(Waiting { stores: 0, told });
     }

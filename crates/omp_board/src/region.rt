@@ -64,7 +64,7 @@ impl Region {
             IsOk (answer_to_meet (team_of self.old) member what) }
         ensures { seen_region self.new ≡ record (seen_region self.old) {
           team = if has_member (team_of self.old) member then after_meeting (team_of self.old) member what
-            else team_of self.old;
+              else team_of self.old;
         } }
     {
         if let Some(team) = &mut self.team {
@@ -81,7 +81,7 @@ impl Region {
             else None }
         ensures taken { seen_region self.new ≡ record (seen_region self.old) {
           team = if has_member (team_of self.old) member then after_chunk (team_of self.old) member
-            else team_of self.old;
+              else team_of self.old;
         } }
         ensures room { room_of self.new ≡ room_of self.old }
     {
@@ -97,7 +97,7 @@ impl Region {
             else None }
         ensures taken { seen_region self.new ≡ record (seen_region self.old) {
           team = if has_member (team_of self.old) member then after_section (team_of self.old) member
-            else team_of self.old;
+              else team_of self.old;
         } }
         ensures room { room_of self.new ≡ room_of self.old }
     {

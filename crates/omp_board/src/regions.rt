@@ -164,8 +164,10 @@ impl Regions {
         requires room { 0 < self.old.room.regions }
         requires some { 1 ≤ size }
         requires few { size ≤ TEAM_LIMIT }
-        ensures { self.new ≡ record self.old { regions = self.old.regions ++ fresh_region task size ∷ [];
-            room = record self.old.room { regions = 0 } } }
+        ensures { self.new ≡ record self.old {
+          regions = self.old.regions ++ fresh_region task size ∷ [];
+          room = record self.old.room { regions = 0 };
+        } }
     {
         self.room.regions = 0;
         let mut team = self.fresh.take().unwrap();
@@ -181,8 +183,10 @@ impl Regions {
     /// The member with this number has begun, with this implicit task.
     pub fn begin_member(&mut self, region: u32, member: u8, task: u32)
         ensures { self.new ≡ with_head_in self.old region
-            (record (region_in self.old region).head { members = slice_set
-            (region_in self.old region).head.members member task }) }
+            (record (region_in self.old region).head {
+              members = slice_set
+                  (region_in self.old region).head.members member task;
+            }) }
     {
         let Some(kept) = self.list.get_mut(region as usize) else {
             return;
@@ -193,8 +197,10 @@ impl Regions {
     /// The member with this number has left.
     pub fn leave(&mut self, region: u32, member: u8)
         ensures { self.new ≡ with_head_in self.old region
-            (record (region_in self.old region).head { left = slice_set
-            (region_in self.old region).head.left member true }) }
+            (record (region_in self.old region).head {
+              left = slice_set
+                  (region_in self.old region).head.left member true;
+            }) }
     {
         let Some(kept) = self.list.get_mut(region as usize) else {
             return;

@@ -90,13 +90,21 @@ impl Model for Tasks {
       program = tasks.code;
       tasks = seen_tasks tasks.code tasks.list.items;
       store = tasks.cells;
-      room = record { task = tasks.room.task; steps = tasks.room.steps; passes = tasks.room.passes;
-        tasks = tasks.room.tasks };
+      room = record {
+        task = tasks.room.task;
+        steps = tasks.room.steps;
+        passes = tasks.room.passes;
+        tasks = tasks.room.tasks;
+      };
     } };
 
     ghost invariant = { λ tasks. IsKept tasks.code tasks.list.items (vec_capacity tasks.list) tasks.blanks.items
-        (record { task = tasks.room.task; steps = tasks.room.steps; passes = tasks.room.passes;
-        tasks = tasks.room.tasks }) };
+        (record {
+          task = tasks.room.task;
+          steps = tasks.room.steps;
+          passes = tasks.room.passes;
+          tasks = tasks.room.tasks;
+        }) };
 }
 
 impl Tasks {

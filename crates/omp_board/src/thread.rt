@@ -47,8 +47,14 @@ impl Model for Thread {
 impl Thread {
     /// A thread that has come so far, with no task.
     pub fn new(alloc: Global, stage: ThreadStage) -> Result<Thread, AllocError>
-        ensures { IfOk result (λ thread. thread ≡ record { stage = stage; stack = []; invited = 0; undeferred = 0;
-            taken = None; word = 0 }) }
+        ensures { IfOk result (λ thread. thread ≡ record {
+          stage = stage;
+          stack = [];
+          invited = 0;
+          undeferred = 0;
+          taken = None;
+          word = 0;
+        }) }
     {
         let stack = Vec::with_capacity(alloc, STACK_LIMIT)?;
         Ok(Thread {

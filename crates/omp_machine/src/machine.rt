@@ -47,8 +47,10 @@ impl Model for Machine {
 
     ghost coded = { standing_code };
 
-    ghost view = { λ machine. record { run = run_in machine.state.program machine.settings;
-        state = machine.state.state } };
+    ghost view = { λ machine. record {
+      run = run_in machine.state.program machine.settings;
+      state = machine.state.state;
+    } };
 
     ghost invariant = { λ machine. IsSound (run_in machine.state.program machine.settings) machine.state.state };
 }

@@ -240,8 +240,11 @@ impl State {
         requires room { HasEvent self.old.room self.old.state.world thread }
         requires steps { steps_ahead ≤ self.old.room.steps }
         ensures walk { (run : Run) → run.program ≡ self.old.program → run.steps ≡ limit →
-            walk run STEPS_OF_A_TURN 0 self.old.state thread ≡ record { state = self.new.state; made = result.made;
-            stop = result.stop } }
+            walk run STEPS_OF_A_TURN 0 self.old.state thread ≡ record {
+              state = self.new.state;
+              made = result.made;
+              stop = result.stop;
+            } }
         ensures next { IfSome result.next (λ next. next ≡ arrival self.new.state.world thread) }
         ensures room { HasEvent self.new.room self.new.state.world thread }
         ensures counts { SameCounts self.old.state self.new.state }
@@ -288,8 +291,11 @@ impl State {
     /// The end of a walk, after so many steps, where no more may be made in all.
     fn walk_spent(&self, thread: u8, made: u32) -> Walk
         ensures walk { (run : Run) (left : ℕ) → nat_le run.steps self.now.state.steps ≡ true →
-            walk run (suc left) made self.now.state thread ≡ record { state = self.now.state; made = result.made;
-            stop = result.stop } }
+            walk run (suc left) made self.now.state thread ≡ record {
+              state = self.now.state;
+              made = result.made;
+              stop = result.stop;
+            } }
         ensures next { IfSome result.next (λ next. next ≡ arrival self.now.state.world thread) }
     {
         match self.arrival(thread) {
@@ -320,10 +326,14 @@ impl State {
     /// The event has occurred, or met this trap or limit.
     fn happen(&mut self, thread: u8, went: Result<Event, Halt>) -> Outcome
         requires { self.old.state.turns < TURN_LIMIT }
-        ensures happens { IfOk went (λ event. happened self.old.state thread event ≡ record { outcome = result;
-            state = self.new.state }) }
-        ensures halts { IfErr went (λ halt. halted self.old.state halt ≡ record { outcome = result;
-            state = self.new.state }) }
+        ensures happens { IfOk went (λ event. happened self.old.state thread event ≡ record {
+          outcome = result;
+          state = self.new.state;
+        }) }
+        ensures halts { IfErr went (λ halt. halted self.old.state halt ≡ record {
+          outcome = result;
+          state = self.new.state;
+        }) }
         ensures program { self.new.program ≡ self.old.program }
     {
         match went {

@@ -52,8 +52,11 @@ impl Reply {
 
     /// One word is stored, at this place.
     pub fn store(place: WordAt, word: u64) -> Reply
-        ensures reply { result ≡ record { first = Some (record { place = place; word = word }); second = None;
-            third = None } }
+        ensures reply { result ≡ record {
+          first = Some (record { place = place; word = word });
+          second = None;
+          third = None;
+        } }
         ensures stores { (snapshot : Snapshot) → stores_of result snapshot ≡ stored word (target_of snapshot place) }
     {
         Reply {

@@ -73,8 +73,12 @@ impl Book {
         requires few { threads ≤ 16 }
         requires steps { 1 ≤ steps }
         requires bounded { steps ≤ 30000000 }
-        ensures { IfOk result (λ book. book ≡ (let run : Run = record { program = program; mask = mask;
-            threads = threads; steps = steps } in record { run = run; history = []; ended = false })) }
+        ensures { IfOk result (λ book. book ≡ (let run : Run = record {
+          program = program;
+          mask = mask;
+          threads = threads;
+          steps = steps;
+        } in record { run = run; history = []; ended = false })) }
     {
         let machine = Machine::new(alloc, program, mask, threads, steps)?;
         Ok(Book {

@@ -31,8 +31,12 @@ impl<K: BookName> Model for Pass<K> {
 
     ghost Value = { Sight };
 
-    ghost view = { λ pass. record { thread = pass.thread; seen = seen_in (view_in pass.badge.views); ended = pass.ended;
-        told_over = pass.told_over } };
+    ghost view = { λ pass. record {
+      thread = pass.thread;
+      seen = seen_in (view_in pass.badge.views);
+      ended = pass.ended;
+      told_over = pass.told_over;
+    } };
 
     ghost invariant = { λ pass. IsPassOf K.table pass.badge.table_id K.run pass.badge.views pass.thread };
 }

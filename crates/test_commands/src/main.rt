@@ -55,11 +55,11 @@ mod row_fault;
 mod table;
 mod wanted;
 
-use test_rows::{Tally, Verdict};
 use std::io::{self, BufRead, BufReader};
 use std::sync::Wait;
 use std::thread::Threads;
 use table::{Table, ends_row};
+use test_rows::{Tally, Verdict};
 
 fn main(rt: HostRuntime) -> io::Result<()> {
     let mut table = Table::new(rt.alloc());

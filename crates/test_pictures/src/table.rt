@@ -1,10 +1,10 @@
 //! A table, line by line.
 
 use crate::view::came;
-use test_rows::{Tally, Verdict};
 use std::alloc::{AllocError, Global};
 use std::fs::{self, Files};
 use std::io;
+use test_rows::{Tally, Verdict};
 
 /// What the lines of a table said so far.
 #[derive(Drop)]

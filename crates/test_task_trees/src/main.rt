@@ -32,9 +32,9 @@ mod row_fault;
 
 use row::Row;
 use row_fault::RowFault;
-use test_rows::{Tally, Verdict};
 use std::alloc::Global;
 use std::io::{self, BufRead, BufReader};
+use test_rows::{Tally, Verdict};
 
 fn main(rt: HostRuntime) -> io::Result<()> {
     let mut row = None;

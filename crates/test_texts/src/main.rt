@@ -80,9 +80,9 @@ mod shared_work;
 mod table;
 mod tree_line;
 
-use test_rows::{Tally, Verdict};
 use std::io::{self, BufRead, BufReader};
 use table::{Outcome, Table};
+use test_rows::{Tally, Verdict};
 
 fn main(rt: HostRuntime) -> io::Result<()> {
     let mut table = Table::new(rt.alloc());

@@ -70,9 +70,10 @@ impl<A: ToolPart, B: ToolPart> ToolPart for Both<A, B> {
 
     ghost same_itself = { λ both. (A.same_itself both.first, B.same_itself both.second) };
 
-    ghost same_onward = { λ first second third one other.
-        (A.same_onward first.first second.first third.first one.0 other.0,
-        B.same_onward first.second second.second third.second one.1 other.1) };
+    ghost same_onward = { λ first second third one other. (
+      A.same_onward first.first second.first third.first one.0 other.0,
+      B.same_onward first.second second.second third.second one.1 other.1,
+    ) };
 
     fn initialize(&mut self, registrar: &mut Registrar) -> u32 {
         self.masks.register(registrar);

@@ -41,8 +41,14 @@ pub struct TaskNode {
 impl TaskNode {
     /// A task that was just made.
     pub(crate) fn made(identity: u32, parent: u32, flags: u32) -> TaskNode
-        ensures { result ≡ record { identity = identity; flags = flags; events = 0; parent = parent; first_child = 0;
-            next_sibling = 0 } }
+        ensures { result ≡ record {
+          identity = identity;
+          flags = flags;
+          events = 0;
+          parent = parent;
+          first_child = 0;
+          next_sibling = 0;
+        } }
     {
         TaskNode {
             identity,

@@ -181,8 +181,12 @@ impl Kept {
         ensures threads { self.new.threads ≡ self.old.threads }
         ensures brackets { self.new.brackets ≡ self.old.brackets }
         ensures learned { OnOk result ((event : EventRecord) →
-            join_of event.call ≡ Some (record { region = seat.region; task = task; actual = actual;
-            index = seat.index }) →
+            join_of event.call ≡ Some (record {
+              region = seat.region;
+              task = task;
+              actual = actual;
+              index = seat.index;
+            }) →
             Learns self.old self.new event) }
         ensures unchanged { OnErr result (LearnsNothing self.old self.new) }
     {

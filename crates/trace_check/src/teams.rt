@@ -65,8 +65,12 @@ impl Kept {
     /// Whether this task may join a team of this size at this place.
     fn may_sit(&self, seat: Seat, task: u32, actual: u32) -> bool
         ensures { (past : List EventRecord) → IsKnown self.now past → Unbroken past →
-            result ≡ may_join past (Some (record { region = seat.region; task = task; actual = actual;
-            index = seat.index })) }
+            result ≡ may_join past (Some (record {
+              region = seat.region;
+              task = task;
+              actual = actual;
+              index = seat.index;
+            })) }
     {
         let Some(open) = self.regions.get(&seat.region) else {
             return false;

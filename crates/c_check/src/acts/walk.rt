@@ -286,7 +286,10 @@ impl Walk {
         requires node { node < length tree.now.trees }
         requires there { AreThere tree.now.trees self.old }
         ensures { OnOk result (Puts tree.now.trees
-            (texts.each (Role.Plain) (children_of (tree_at tree.now.trees node)) ++ Act.Print spot (printed.as_many (printed.numbers_in (text_of (tree_at tree.now.trees node))) (lists.child_count (children_of (tree_at tree.now.trees node)))) ∷ []) (weight_below (tree_at tree.now.trees node)) self.old self.new) }
+            (texts.each (Role.Plain) (children_of (tree_at tree.now.trees node)) ++
+            Act.Print spot (printed.as_many (printed.numbers_in (text_of (tree_at tree.now.trees node)))
+            (lists.child_count (children_of (tree_at tree.now.trees node)))) ∷ [])
+            (weight_below (tree_at tree.now.trees node)) self.old self.new) }
     {
         let printed = as_many(numbers_in(tree.text(node)), count(tree, node)?);
         self.then(Task::Tell(Act::Print { spot, printed }))?;
@@ -312,7 +315,11 @@ impl Walk {
         requires node { node < length tree.now.trees }
         requires there { AreThere tree.now.trees self.old }
         ensures { OnOk result (Puts tree.now.trees (Act.Use (name_of (tree_at tree.now.trees node))
-            (spot_of (tree_at tree.now.trees node)) (usages.place_usage (children_of (tree_at tree.now.trees node))) ∷ usages.assigned role (usages.place_usage (children_of (tree_at tree.now.trees node))) (name_of (tree_at tree.now.trees node)) ++ texts.each (Role.Plain) (children_of (tree_at tree.now.trees node))) (weight_below (tree_at tree.now.trees node)) self.old self.new) }
+            (spot_of (tree_at tree.now.trees node)) (usages.place_usage (children_of (tree_at tree.now.trees node))) ∷
+            usages.assigned role (usages.place_usage (children_of (tree_at tree.now.trees node)))
+            (name_of (tree_at tree.now.trees node)) ++
+            texts.each (Role.Plain) (children_of (tree_at tree.now.trees node)))
+            (weight_below (tree_at tree.now.trees node)) self.old self.new) }
     {
         let (name, spot) = (tree.name(node), tree.spot(node));
         let usage = place_usage(tree, node);
@@ -338,7 +345,9 @@ impl Walk {
         requires there { AreThere tree.now.trees self.old }
         ensures { OnOk result (Puts tree.now.trees (Act.Use (name_of (tree_at tree.now.trees node))
             (spot_of (tree_at tree.now.trees node))
-            (Usage.Called (lists.child_count (children_of (tree_at tree.now.trees node))) (usages.call_value role)) ∷ texts.each (Role.Plain) (children_of (tree_at tree.now.trees node))) (weight_below (tree_at tree.now.trees node)) self.old self.new) }
+            (Usage.Called (lists.child_count (children_of (tree_at tree.now.trees node))) (usages.call_value role)) ∷
+            texts.each (Role.Plain) (children_of (tree_at tree.now.trees node)))
+            (weight_below (tree_at tree.now.trees node)) self.old self.new) }
     {
         let usage = Usage::Called(count(tree, node)?, value_of(role));
         let (name, spot) = (tree.name(node), tree.spot(node));
@@ -357,7 +366,13 @@ impl Walk {
         requires node { node < length tree.now.trees }
         requires there { AreThere tree.now.trees self.old }
         ensures { OnOk result (Puts tree.now.trees (texts.outside_acts (children_of (tree_at tree.now.trees node)) ++
-            Act.Enter (spot_of (tree_at tree.now.trees node)) directive (statements.name_of_critical (children_of (tree_at tree.now.trees node))) ∷ clauses.inside_acts (children_of (tree_at tree.now.trees node)) ++ statements.odd_loop directive (children_of (tree_at tree.now.trees node)) ++ texts.statements (statements.statement_role directive (children_of (tree_at tree.now.trees node))) (children_of (tree_at tree.now.trees node)) ++ Act.Leave ∷ []) (weight_below (tree_at tree.now.trees node)) self.old self.new) }
+            Act.Enter (spot_of (tree_at tree.now.trees node)) directive
+            (statements.name_of_critical (children_of (tree_at tree.now.trees node))) ∷
+            clauses.inside_acts (children_of (tree_at tree.now.trees node)) ++
+            statements.odd_loop directive (children_of (tree_at tree.now.trees node)) ++
+            texts.statements (statements.statement_role directive (children_of (tree_at tree.now.trees node)))
+            (children_of (tree_at tree.now.trees node)) ++ Act.Leave ∷ [])
+            (weight_below (tree_at tree.now.trees node)) self.old self.new) }
     {
         let name = shared_loop_name(tree, directive, node);
         let odd = has_odd_loop(alloc, tree, directive, node)?;

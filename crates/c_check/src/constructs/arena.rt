@@ -56,9 +56,13 @@ impl Model for Constructs {
 
     ghost use Rattle.c_check.specs.Around.{AreKept, ended_in, numbered};
 
-    ghost view = { λ them. record { newest = them.newest;
-        around = numbered them.older.items (reverse them.around.items);
-        ended = ended_in them.older.items them.ended.items; unlisted = them.unlisted.items; loops = them.loops } };
+    ghost view = { λ them. record {
+      newest = them.newest;
+      around = numbered them.older.items (reverse them.around.items);
+      ended = ended_in them.older.items them.ended.items;
+      unlisted = them.unlisted.items;
+      loops = them.loops;
+    } };
 
     ghost invariant = { λ them. AreKept them.older.items (reverse them.around.items) them.ended.items them.spots };
 }

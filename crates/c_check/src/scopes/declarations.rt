@@ -43,8 +43,11 @@ impl Model for Declarations {
 
     ghost use Rattle.c_check.specs.Visible.{AreVisible, declared_in};
 
-    ghost view = { λ names. record { visible = declared_in (reverse names.visible.items); all = names.all.items;
-        level = names.level } };
+    ghost view = { λ names. record {
+      visible = declared_in (reverse names.visible.items);
+      all = names.all.items;
+      level = names.level;
+    } };
 
     ghost invariant = { λ names. AreVisible names.all.items (get nat_eq names.innermost)
         (reverse names.visible.items) };

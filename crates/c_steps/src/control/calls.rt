@@ -338,8 +338,10 @@ impl Control {
         requires { 0 < self.old.frames_now }
         ensures held { self.new ≡ record
             (given_back (last_call self.old.frames) number (closed self.old)) { returned = Some number } }
-        ensures cells { cells.new ≡ record cells.old { cells = cells_given
-            (last_call self.old.frames) number cells.old.cells } }
+        ensures cells { cells.new ≡ record cells.old {
+          cells = cells_given
+              (last_call self.old.frames) number cells.old.cells;
+        } }
     {
         if let Some(to) = self.close() {
             self.deliver(cells, to, number);

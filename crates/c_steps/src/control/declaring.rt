@@ -124,8 +124,7 @@ impl Control {
     }
 
     /// A name comes into scope with a new cell that holds a number.
-    #[tactic(auto, using(crate::proofs::Stepping::todo_if, crate::proofs::Stepping::calls_if,
-        crate::proofs::Stepping::are_if))]
+    #[tactic(auto, using(crate::proofs::Stepping::todo_if, crate::proofs::Stepping::calls_if, crate::proofs::Stepping::are_if))]
     fn bind_number(
         &mut self,
         code: &Code,
@@ -196,8 +195,12 @@ impl Control {
 fn new_entry(code: &Code, cells: &Cells, node: u32, size: u32) -> Entry
     requires node { node < length code.now.trees }
     requires room { length cells.now.cells + size ≤ CELL_LIMIT }
-    ensures entry { result ≡ record { name = name_of (tree_at code.now.trees node); first = length cells.now.cells;
-        size = size; slot = slot_of_name code.now (tree_at code.now.trees node) } }
+    ensures entry { result ≡ record {
+      name = name_of (tree_at code.now.trees node);
+      first = length cells.now.cells;
+      size = size;
+      slot = slot_of_name code.now (tree_at code.now.trees node);
+    } }
     ensures is_entry { IsEntry result }
 {
     Entry {

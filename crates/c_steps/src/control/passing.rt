@@ -51,8 +51,10 @@ impl Control {
         requires event { IsEventOf code.now point node (item_at code.now item) }
         ensures task { task_at code.now self.new ≡
             record (replaced code.now (going.items_after point executes (length (env_at code.now self.old))
-            (item_at code.now item)) self.old) { env = going.names_after point (item_at code.now item)
-            (env_at code.now self.old) } }
+            (item_at code.now item)) self.old) {
+              env = going.names_after point (item_at code.now item)
+                  (env_at code.now self.old);
+            } }
         ensures after { IsAfterEvent self.old self.new }
         ensures frames { AreFrames code.now self.new.frames }
     {
@@ -338,8 +340,13 @@ fn end_of_single(node: u32, kind: WorkKind, names: usize) -> Item
 fn shared(code: &Code, construct: u32, start: i64, step: i64, count: u64, names: usize) -> Loop
     requires node { construct < length code.now.trees }
     requires numbers { AreLoopNumbers start count step }
-    ensures shared { loop_at code.now result ≡ record { construct = tree_at code.now.trees construct; start = start;
-        step = step; count = count; names = with_file code.now names } }
+    ensures shared { loop_at code.now result ≡ record {
+      construct = tree_at code.now.trees construct;
+      start = start;
+      step = step;
+      count = count;
+      names = with_file code.now names;
+    } }
     ensures is_loop { IsLoop code.now result }
 {
     let variable = code.name(loop_variable(code, construct));

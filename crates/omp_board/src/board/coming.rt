@@ -89,7 +89,7 @@ impl Board {
         requires room { HasStep self.old.room self.old.world thread }
         ensures { self.new ≡ record self.old {
           world = gone_to self.old.world (current self.old.world thread)
-            (settled_after_answer (answer.Free true) (moment_of self.old.world thread));
+              (settled_after_answer (answer.Free true) (moment_of self.old.world thread));
           room = record self.old.room { steps = self.old.room.steps - 1 };
         } }
     {

@@ -48,8 +48,10 @@ impl Board {
     pub(super) fn init(&mut self, wait_id: u32) -> Result<(), LockFault>
         requires { 0 < self.old.room.locks }
         ensures answer { result ≡ answers.answer_to_init self.old.world.locks.locks wait_id }
-        ensures done { OnOk result (self.new ≡ record self.old { world = changes.initialised self.old.world wait_id;
-            room = record self.old.room { locks = self.new.room.locks } }) }
+        ensures done { OnOk result (self.new ≡ record self.old {
+          world = changes.initialised self.old.world wait_id;
+          room = record self.old.room { locks = self.new.room.locks };
+        }) }
         ensures fault { OnErr result (self.new ≡ self.old) }
     {
         self.locks.init(wait_id)

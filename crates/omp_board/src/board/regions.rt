@@ -87,8 +87,10 @@ impl Board {
     /// The thread begins to wait at the barrier that it met last.
     #[inline(always)]
     pub(super) fn arrive(&mut self, thread: u8)
-        ensures { self.new ≡ record self.old { world = changes.begun self.old.world
-            (current_region self.old.world thread) (current_index self.old.world thread) } }
+        ensures { self.new ≡ record self.old {
+          world = changes.begun self.old.world
+              (current_region self.old.world thread) (current_index self.old.world thread);
+        } }
     {
         let (region, member) = self.place_in_team(thread);
         self.regions.arrive(region, member);
@@ -96,8 +98,10 @@ impl Board {
 
     /// The thread's wait at the barrier that it met last ends.
     pub(super) fn pass_barrier(&mut self, thread: u8)
-        ensures { self.new ≡ record self.old { world = changes.passed self.old.world
-            (current_region self.old.world thread) (current_index self.old.world thread) } }
+        ensures { self.new ≡ record self.old {
+          world = changes.passed self.old.world
+              (current_region self.old.world thread) (current_index self.old.world thread);
+        } }
     {
         let (region, member) = self.place_in_team(thread);
         self.regions.pass(region, member);

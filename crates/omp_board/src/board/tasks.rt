@@ -51,7 +51,7 @@ impl Board {
         requires few { IsOk (answer_to_add self.old.world.pool.tasks) }
         ensures { self.new ≡ record self.old {
           world = changes.task_made self.old.world parent region kind.Implicit
-            (member_code (task_at self.old.world parent).code);
+              (member_code (task_at self.old.world parent).code);
           room = record self.old.room { tasks = 0 };
         } }
     {
@@ -69,10 +69,10 @@ impl Board {
         requires cells { HasCells self.old.program (moment_at self.old.world creator) }
         ensures { self.new ≡ (let created = created_by self.old.program (moment_at self.old.world creator) in
             record self.old {
-          world = record (changes.task_made self.old.world creator region (kind_of_task undeferred) created.task)
-            { store = created.store };
-          room = record self.old.room { tasks = 0 };
-        }) }
+              world = record (changes.task_made self.old.world creator region (kind_of_task undeferred) created.task)
+                  { store = created.store };
+              room = record self.old.room { tasks = 0 };
+            }) }
     {
         let kind = if undeferred {
             TaskKind::Undeferred
