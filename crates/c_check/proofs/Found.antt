@@ -36,3 +36,5 @@ module _ (known : Option CheckFault) (broken : Bool) (spot : Spot) where
 
   pub first_of_main : first_of known (map fault.NoMain (where_so broken spot)) ≡ first_of known (if_so broken (fault.NoMain spot))
   first_of_main = one fault.NoMain broken
+
+pub ruleset first_fault_cases = (first_of_append, first_of_nothing, first_of_unknown, first_of_twice, first_of_wrong, first_of_nested, first_of_main)

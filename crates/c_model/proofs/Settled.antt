@@ -47,3 +47,5 @@ settled_creation program view now = ap (λ (items : List Item). explicit_task_of
 pub ended_silent : (program : TreeView) (view : View) (now : Moment) → now.task.todo ≡ [] → silent program view now ≡ Ends (unwrap_or now.task.returned (pos 0))
 unfolding silent items_from_next
 ended_silent program view now empty = ap (λ (items : List Item). step_at (items_from_next view items) program view now) empty
+
+pub ruleset settled_cases = (settled_silent, settled_answer, settled_event, settled_creation)

@@ -41,7 +41,7 @@ pub fn standing_is_told_by_form()
 
 /// A task comes to the same whether or not it has left out what it goes past, goes on the same behind an answer and behind an event, and
 /// creates the same task.
-#[tactic(auto, using(crate::proofs::Settled::settled_silent, crate::proofs::Settled::settled_answer, crate::proofs::Settled::settled_event, crate::proofs::Settled::settled_creation))]
+#[tactic(auto, using(crate::proofs::Settled::settled_cases))]
 pub fn settling_changes_nothing()
     ensures same_step { (program : TreeView) (view : Seen) (now : Moment) →
         silent program view (settled_moment view now) ≡ silent program view now }

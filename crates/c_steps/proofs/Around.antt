@@ -129,3 +129,5 @@ pub none_remains : (such : Around) (frames below : List Frame) → Remains such 
 unfolding frames_have
 none_remains such frames [] so none = so.same
 none_remains such frames (it ∷ below) so none = absurd (omega (arith, none))
+
+pub ruleset around_cases = (task_around, found_here, rest_remains, none_remains, all_remain)

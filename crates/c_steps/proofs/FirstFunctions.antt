@@ -49,3 +49,5 @@ first_behind trees old new part left whole first within same = record {
   named = λ name. rw (same name) (found_behind trees part name left (get_or old name None) ∙ first.named name);
   there = λ name. rw (same name) (part_there trees part name left within (get_or old name None) (first.there name));
 }
+
+pub ruleset first_functions_cases = (first_at_start, first_at_end, first_behind)

@@ -126,3 +126,9 @@ all_names program own = length-append (file_names program) own
 -- each program may bring a name into scope in a step
 pub step_brings : (program : TreeView) (node : ℕ) → node < length program.trees → 0 < step_names program
 step_brings program node within = omega arith
+
+pub ruleset tops_cases = (plain_top, caller_top, no_top)
+
+pub ruleset entered_cases = (entered_block, all_names)
+
+pub ruleset cut_cases = (cut_names, take_shorter)

@@ -75,3 +75,5 @@ made_still program old settled new rest brings room made are within =
       fits = let same : new.room ≡ old.room = room ∙ ap (λ (held : Held). held.room) rest in let fits = made.fits in omega arith;
       is_within = within;
     }
+
+pub ruleset given_answers_cases = (answers_none, answers_found, gave, gave_within)

@@ -84,3 +84,7 @@ one_joined scope tree operator left result chain kind_is left_is is =
 -- a chain begins with an operator
 pub one_operator : (tree : Tree) → IsChain 1 tree → (operator : BinaryOp) × (kind_of tree ≡ node.Binary operator)
 one_operator tree chain = (chain.0.operator, chain.0.kind_is)
+
+pub ruleset left_values_cases = (chain_left, below_left)
+
+pub ruleset halves_cases = (lower_half, upper_half, lower_below, one_joined)

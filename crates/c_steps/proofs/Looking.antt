@@ -130,3 +130,7 @@ module _ (program : TreeView) (construct : ℕ) (names : ℕ) where
 pub caller_nothing : (program : TreeView) (base : ℕ) (to : _) (frames : List Frame) → todo_at program (frame.Caller base to ∷ frames) ≡ []
 unfolding todo_at
 caller_nothing program base to frames = refl
+
+pub ruleset shown_cases = (shows_one, shows_reduction, caller_nothing)
+
+pub ruleset instead_cases = (shows_part, instead_next, instead_leave)

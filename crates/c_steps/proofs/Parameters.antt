@@ -149,3 +149,5 @@ module _ (program : TreeView) (view : View) (caller : Caller) (call parameters :
   pub values_left : (now : Held) (after : Store) (place argument : ℕ) → IsUnderWay program view caller call parameters old now before after place argument →
       HaveNoTrap (caller_scope program view caller now after) call argument
   values_left now after place argument way = subst (λ (scope : Scope). HaveNoTrap scope call argument) (sym way.scope) way.values
+
+pub ruleset under_way_cases = (under_way_first, under_way_next, under_way_last, values_left)

@@ -41,3 +41,5 @@ pub next_values : (here : Here) (node place : ℕ) (tree : Tree) → Some tree �
 next_values here node place tree is have =
     let same = behind_with here node place tree is in
     record { ok = rest_values (value (scope_of here) tree) (results_behind here node (place + 1)) (ap without_values (sym same) ∙ have.ok) }
+
+pub ruleset numbers_cases = (no_number, next_number, next_values)

@@ -46,3 +46,5 @@ pub made_one_more : (program : TreeView) (view : View) (count : ℕ) (old new la
 made_one_more program view count old new last before after end steps then =
     let more : count + 1 ≡ suc count = omega arith in
     subst (λ (count : ℕ). HaveStepsMade program view count old before last end) (sym more) (new, after, steps, then)
+
+pub ruleset made_cases = (none_made, made_then_not, made_one_more)

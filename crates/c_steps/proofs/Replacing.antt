@@ -57,3 +57,5 @@ pub chunk_begins : (loop : SharedLoop) (at more : ℕ) → 0 < more → iteratio
 chunk_begins loop at more some =
     let is : nat_lt at (at + more) ≡ true = grind arith in
     rw is refl
+
+pub ruleset replaced_cases = (step_then, step_ends, chunk_begins)

@@ -35,3 +35,5 @@ statement_in (Child tree rest) =
 pub statement_first : (construct : Tree) → statement_of (children_of construct) ≡ get_or (statements_from construct 0) 0 nothing
 unfolding from_place
 statement_first construct = statement_in (children_of construct)
+
+pub ruleset rest_parts_cases = (part_here, part_none, part_missing)

@@ -147,3 +147,5 @@ settled_at_front program view old new found rest so front stays = settled_task_a
 
 pub settled_at_end : (program : TreeView) (view : View) (old new : Held) → new ≡ record old { frames = new.frames } → SettlesTo program view old.frames new.frames → todo_at program new.frames ≡ [] → task_at program new ≡ settled_task view (task_at program old)
 settled_at_end program view old new rest so none = settled_task_at program view old new rest so (settled_none program view old.frames new.frames so none)
+
+pub ruleset settled_tops_cases = (over_top, instead_top, past_top, front_top, nothing_top, none_top, settled_at_front, settled_at_end, settles_none)

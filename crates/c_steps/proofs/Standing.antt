@@ -100,3 +100,5 @@ pub none_below : (program : TreeView) (view : View) (old below : List Frame) →
 unfolding todo_at items_from_next
 none_below program view old [] so none = ap (λ (items : List SeenItem). slice_get items 0) (sym so.same)
 none_below program view old (it ∷ below) so none = absurd (omega (arith, none))
+
+pub ruleset stands_cases = (top_is_frame, over_below, nothing_below, found_below, none_below)

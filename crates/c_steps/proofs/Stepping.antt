@@ -36,3 +36,5 @@ module _ (program : TreeView) where
   pub bound_step : (view : View) (old new : Held) (before after : Store) (then : Option Item) (entry : Entry) (name slot : ℕ) (number : ℤ) → IsStepping program old → old.base ≤ length old.names → has_too_many (before.cells ++ number ∷ []) ≡ false → entry ≡ new_entry before.cells name slot (number ∷ []) → new ≡ then_if then (bound entry (stepping old)) → after ≡ record before { cells = before.cells ++ number ∷ [] } → StepsTo (moment_at program new after) ≡ binds (here_at program view old before) (with_cells (bound_of (here_at program view old before)) name slot (number ∷ [])) (items_if program then)
   bound_step view old new before after then entry name slot number ready within room is_entry is_new is_after =
       rw (is_new, is_after, room, todo_if then (begun old.frames), calls_if (take old.base (old.names ++ entry ∷ [])) then (begun old.frames), bound_env old.base (file_names program) old.names entry within, bound_names old.base old.names entry within, ready.calls (take old.base old.names), is_entry) refl
+
+pub ruleset items_if_cases = (todo_if, calls_if, are_if)

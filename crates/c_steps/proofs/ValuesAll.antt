@@ -61,3 +61,5 @@ trap_values trap (Ok numbers) is = cc
 pub ok_values : (results : Result (List ℤ) ℕ) → Ok tt ≡ without_values results → results ≡ Ok (values_in results)
 ok_values (Err trap) is = cc
 ok_values (Ok numbers) is = refl
+
+pub ruleset all_cases = (all_trap, all_next, all_without)

@@ -212,7 +212,7 @@ impl Control {
     }
 
     /// The call that was opened last is closed, if one is open. Its value goes to what is given.
-    #[tactic(auto, using(crate::proofs::Frames::plain_top, crate::proofs::Frames::caller_top, crate::proofs::Frames::no_top))]
+    #[tactic(auto, using(crate::proofs::Frames::tops_cases))]
     fn close(&mut self) -> Option<Target>
         ensures closed { self.new ≡ closed self.old }
         ensures to { result ≡ option_map (λ call. call.1) (last_call self.old.frames) }

@@ -26,7 +26,7 @@ impl Model for Functions {
 
 impl Functions {
     /// The functions of a program. Of two with one name the first counts.
-    #[tactic(auto, using(crate::proofs::FirstFunctions::first_at_start, crate::proofs::FirstFunctions::first_at_end, crate::proofs::FirstFunctions::first_behind))]
+    #[tactic(auto, using(crate::proofs::FirstFunctions::first_functions_cases))]
     pub(crate) fn new(alloc: Global, tree: &Tree) -> Result<Functions, AllocError>
         ensures { IfOk result (AreFunctions tree.now) }
     {

@@ -29,7 +29,7 @@ pub(crate) enum Look {
 }
 
 /// What a frame on top says of what stands next.
-#[tactic(auto, using(crate::proofs::Looking::shows_one, crate::proofs::Looking::shows_reduction, crate::proofs::Looking::caller_nothing))]
+#[tactic(auto, using(crate::proofs::Looking::shown_cases))]
 #[inline(always)]
 pub(crate) fn look_at(code: &Code, frame: &Frame) -> Look
     requires { IsFrame code.now frame.now }
@@ -66,7 +66,7 @@ pub(crate) fn look_at(code: &Code, frame: &Frame) -> Look
 }
 
 /// What the parts of a block say that are left.
-#[tactic(auto, using(crate::proofs::Looking::shows_part, crate::proofs::Looking::instead_next, crate::proofs::Looking::instead_leave))]
+#[tactic(auto, using(crate::proofs::Looking::instead_cases))]
 #[inline(always)]
 fn look_at_parts(code: &Code, block: u32, place: u32, at: u32, names: usize) -> Look
     requires { block < length code.now.trees }

@@ -61,7 +61,7 @@ pub(crate) fn number_of_part(tree: &Tree, part: Option<u32>) -> i32
 }
 
 /// The child of a part at a place, where the parts from there on are what is left of the whole.
-#[tactic(auto, using(crate::proofs::Rests::part_here, crate::proofs::Rests::part_none, crate::proofs::Rests::part_missing))]
+#[tactic(auto, using(crate::proofs::Rests::rest_parts_cases))]
 #[inline(always)]
 pub(crate) fn next_part(tree: &Tree, whole: Option<u32>, place: u32) -> Option<u32>
     requires { IsPart tree.now.trees whole }

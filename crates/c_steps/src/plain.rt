@@ -37,7 +37,7 @@ pub(crate) enum Part {
 }
 
 /// What the parts of a block say that are left.
-#[tactic(auto, using(crate::proofs::Looking::shows_part, crate::proofs::Looking::instead_next, crate::proofs::Looking::instead_leave))]
+#[tactic(auto, using(crate::proofs::Looking::instead_cases))]
 #[inline(always)]
 pub(crate) fn shown_part(code: &Code, block: u32, place: u32, at: u32) -> Part
     requires { block < length code.now.trees }

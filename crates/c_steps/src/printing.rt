@@ -163,7 +163,7 @@ fn append_number(scope: &Scope<'_>, node: u32, place: u32, text: &mut Vec<u8>) -
 }
 
 /// The number at a place, if there is one.
-#[tactic(auto, using(crate::proofs::PrintingNumbers::no_number, crate::proofs::PrintingNumbers::next_number, crate::proofs::PrintingNumbers::next_values))]
+#[tactic(auto, using(crate::proofs::PrintingNumbers::numbers_cases))]
 fn number_at(scope: &Scope<'_>, node: u32, place: u32) -> Option<i32>
     requires node { node < length scope.now.tree.now.trees }
     requires view { HasNumbers scope.now.view }

@@ -94,7 +94,7 @@ impl<'a> Scope<'a> {
 
     /// The first trap of the children of a node, from left to right up to the first that is absent.
     #[inline(always)]
-    #[tactic(auto, using(crate::proofs::ValuesAll::all_trap, crate::proofs::ValuesAll::all_next, crate::proofs::ValuesAll::all_without))]
+    #[tactic(auto, using(crate::proofs::ValuesAll::all_cases))]
     pub(crate) fn check_all(&self, node: u32) -> Result<(), u8>
         requires node { node < length self.now.tree.now.trees }
         requires view { HasNumbers self.now.view }
@@ -342,7 +342,7 @@ impl<'a> Scope<'a> {
 
     /// The number of an operator. Its left operands are a chain, which may be as long as the text.
     #[cycle(values)]
-    #[tactic(auto, using(crate::proofs::Values::value_is, crate::proofs::LeftOperands::chain_left, crate::proofs::LeftOperands::below_left))]
+    #[tactic(auto, using(crate::proofs::Values::value_is, crate::proofs::LeftOperands::left_values_cases))]
     fn binary(&self, operator: BinaryOp, node: u32) -> Result<i32, u8>
         requires node { node < length self.now.tree.now.trees }
         requires view { HasNumbers self.now.view }
@@ -362,7 +362,7 @@ impl<'a> Scope<'a> {
     /// The number of a node with a chain of so many operators, by that of the operand below them. The lower half is found before the upper
     /// one, so that calls stand in one another no deeper than the number of operators has binary digits.
     #[cycle(values)]
-    #[tactic(auto, using(crate::proofs::LeftOperands::lower_half, crate::proofs::LeftOperands::upper_half, crate::proofs::LeftOperands::lower_below, crate::proofs::LeftOperands::one_joined))]
+    #[tactic(auto, using(crate::proofs::LeftOperands::halves_cases))]
     fn chain_value(&self, node: u32, levels: u32, lowest: Result<i32, u8>) -> Result<i32, u8>
         requires node { node < length self.now.tree.now.trees }
         requires view { HasNumbers self.now.view }

@@ -1,5 +1,5 @@
 //! What a program breaks, act by act.
-#![tactic(auto, using(crate::proofs::Found::first_of_append, crate::proofs::Found::first_of_nothing, crate::proofs::Found::first_of_unknown, crate::proofs::Found::first_of_twice, crate::proofs::Found::first_of_wrong, crate::proofs::Found::first_of_nested, crate::proofs::Found::first_of_main), unfolding(crate::specs::Here::after))]
+#![tactic(auto, using(crate::proofs::Found::first_fault_cases), unfolding(crate::specs::Here::after))]
 
 ghost use Rattle.std.specs.Prelude.{◌≡◌, ◌==◌, ◌+◌, ◌&&◌, nat_lt, None, Some, false, true, OnOk};
 ghost use Rattle.c_check.specs.declared.acts.act.Act.TheVariants as act;

@@ -45,7 +45,7 @@ impl Control {
     }
 
     /// Whether the task is in such a region.
-    #[tactic(auto, using(crate::proofs::Around::task_around, crate::proofs::Around::found_here, crate::proofs::Around::rest_remains, crate::proofs::Around::none_remains, crate::proofs::Around::all_remain))]
+    #[tactic(auto, using(crate::proofs::Around::around_cases))]
     fn is_around(&self, code: &Code, around: Around) -> bool
         ensures { result ≡ has_such (is_such around) (task_at code.now self.now) }
     {

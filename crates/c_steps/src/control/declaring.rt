@@ -124,7 +124,7 @@ impl Control {
     }
 
     /// A name comes into scope with a new cell that holds a number.
-    #[tactic(auto, using(crate::proofs::Stepping::todo_if, crate::proofs::Stepping::calls_if, crate::proofs::Stepping::are_if))]
+    #[tactic(auto, using(crate::proofs::Stepping::items_if_cases))]
     fn bind_number(
         &mut self,
         code: &Code,

@@ -102,7 +102,7 @@ impl Control {
     }
 
     /// The parameters come into scope, with the numbers of the arguments.
-    #[tactic(auto, using(crate::proofs::Parameters::under_way_first, crate::proofs::Parameters::under_way_next, crate::proofs::Parameters::under_way_last, crate::proofs::Parameters::values_left))]
+    #[tactic(auto, using(crate::proofs::Parameters::under_way_cases))]
     fn bind_parameters(
         &mut self,
         code: &Code,

@@ -31,7 +31,7 @@ pub(super) const MEMBER_0: View = View {
 impl Control {
     /// Goes on after an answer to what the last advance asked. It ends the silent step that asked, but where a lock is free: then no step
     /// was made, and the event that the lock is owned stands next. One is taken from the room for silent steps. It takes no memory.
-    #[tactic(auto, using(crate::proofs::Giving::answers_none, crate::proofs::Giving::answers_found, crate::proofs::Giving::gave, crate::proofs::Giving::gave_within))]
+    #[tactic(auto, using(crate::proofs::Giving::given_answers_cases))]
     pub fn give(&mut self, code: &Code, cells: &mut Cells, answer: Answer)
         requires made { IsMadeFor code.now self.old }
         requires asked { AnswersFirst (task_at code.now self.old).todo answer }
@@ -76,7 +76,7 @@ impl Control {
     }
 
     /// The iterations of a chunk stand next, or, where none is left, the reductions and the end of the loop.
-    #[tactic(auto, using(crate::proofs::Replacing::step_then, crate::proofs::Replacing::step_ends, crate::proofs::Replacing::chunk_begins), unfolding(c_model::specs::Answers::IsChunkAnswer))]
+    #[tactic(auto, using(crate::proofs::Replacing::replaced_cases), unfolding(c_model::specs::Answers::IsChunkAnswer))]
     fn give_chunk(&mut self, code: &Code, shared: Loop, chunk: Option<(u64, u64)>)
         requires ready { IsStepping code.now self.old }
         requires shared { IsLoop code.now shared }

@@ -89,7 +89,7 @@ impl Control {
     }
 
     /// `if`: the branch that is taken stands next.
-    #[tactic(auto, using(crate::proofs::Stepping::todo_if, crate::proofs::Stepping::calls_if, crate::proofs::Stepping::are_if))]
+    #[tactic(auto, using(crate::proofs::Stepping::items_if_cases))]
     #[inline(always)]
     pub(super) fn try_if(&mut self, code: &Code, cells: &Cells, view: View, node: u32) -> bool
         requires ready { IsStepping code.now self.old }
@@ -138,7 +138,7 @@ impl Control {
     }
 
     /// The test of a plain `for`. Where it is 0 so many names stay in scope.
-    #[tactic(auto, using(crate::proofs::Frames::cut_names, crate::proofs::Frames::take_shorter), unfolding(crate::specs::Items::todo_at, crate::specs::Items::calls_at))]
+    #[tactic(auto, using(crate::proofs::Frames::cut_cases), unfolding(crate::specs::Items::todo_at, crate::specs::Items::calls_at))]
     #[inline(always)]
     pub(super) fn try_test(
         &mut self,

@@ -15,7 +15,7 @@ use c_syntax::{Directive, NodeKind};
 
 impl Control {
     /// What stands next, when what the task goes past is left out. `None` where nothing is left in the function.
-    #[tactic(auto, using(crate::proofs::Settling::over_top, crate::proofs::Settling::instead_top, crate::proofs::Settling::past_top, crate::proofs::Settling::front_top, crate::proofs::Settling::nothing_top, crate::proofs::Settling::none_top, crate::proofs::Settling::settled_at_front, crate::proofs::Settling::settled_at_end, crate::proofs::Settling::settles_none))]
+    #[tactic(auto, using(crate::proofs::Settling::settled_tops_cases))]
     #[inline(always)]
     pub(crate) fn settle(&mut self, code: &Code, view: View) -> Option<Item>
         requires { AreFrames code.now self.old.frames }

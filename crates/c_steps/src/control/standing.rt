@@ -44,7 +44,7 @@ impl Control {
     }
 
     /// What stands next, when what the task goes past is left out.
-    #[tactic(auto, using(crate::proofs::Standing::top_is_frame, crate::proofs::Standing::over_below, crate::proofs::Standing::nothing_below, crate::proofs::Standing::found_below, crate::proofs::Standing::none_below))]
+    #[tactic(auto, using(crate::proofs::Standing::stands_cases))]
     #[inline(always)]
     pub(super) fn front(&self, code: &Code, view: View) -> Option<Item>
         requires { AreFrames code.now self.now.frames }

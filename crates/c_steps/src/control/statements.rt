@@ -38,7 +38,7 @@ impl Control {
     }
 
     /// A block is entered.
-    #[tactic(auto, using(crate::proofs::Frames::entered_block, crate::proofs::Frames::all_names), unfolding(crate::specs::Items::calls_at))]
+    #[tactic(auto, using(crate::proofs::Frames::entered_cases), unfolding(crate::specs::Items::calls_at))]
     pub(super) fn begin_block(&mut self, code: &Code, cells: &Cells, view: View, node: u32) -> Next
         requires ready { IsStepping code.now self.old }
         requires node { node < length code.now.trees }
@@ -81,7 +81,7 @@ impl Control {
     }
 
     /// `if`: the branch that is taken stands next.
-    #[tactic(auto, using(crate::proofs::Stepping::todo_if, crate::proofs::Stepping::calls_if, crate::proofs::Stepping::are_if))]
+    #[tactic(auto, using(crate::proofs::Stepping::items_if_cases))]
     pub(super) fn begin_if(&mut self, code: &Code, cells: &Cells, view: View, node: u32) -> Next
         requires ready { IsStepping code.now self.old }
         requires node { node < length code.now.trees }
@@ -174,7 +174,7 @@ impl Control {
     }
 
     /// The test of a plain `for`. Where it is 0 so many names stay in scope.
-    #[tactic(auto, using(crate::proofs::Frames::cut_names, crate::proofs::Frames::take_shorter), unfolding(crate::specs::Items::todo_at, crate::specs::Items::calls_at))]
+    #[tactic(auto, using(crate::proofs::Frames::cut_cases), unfolding(crate::specs::Items::todo_at, crate::specs::Items::calls_at))]
     #[inline(never)]
     pub(super) fn test_for(
         &mut self,

@@ -43,7 +43,7 @@ impl Control {
     }
 
     /// A step that is a statement, or the third part of a loop, behind which an item may stand next.
-    #[tactic(auto, using(crate::proofs::Stepping::todo_if, crate::proofs::Stepping::calls_if, crate::proofs::Stepping::are_if))]
+    #[tactic(auto, using(crate::proofs::Stepping::items_if_cases))]
     pub(super) fn make_step(
         &mut self,
         code: &Code,
@@ -119,7 +119,7 @@ impl Control {
     }
 
     /// A cell gets a number, unless that is a trap.
-    #[tactic(auto, using(crate::proofs::Stepping::todo_if, crate::proofs::Stepping::calls_if, crate::proofs::Stepping::are_if))]
+    #[tactic(auto, using(crate::proofs::Stepping::items_if_cases))]
     fn set_cell(
         &mut self,
         code: &Code,

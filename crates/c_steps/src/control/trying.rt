@@ -33,7 +33,7 @@ impl Control {
     /// Makes silent steps of C's own statements one after another, at most so many, and answers how many it made. `advance` tells what stands
     /// next then. It takes no memory.
     #[inline(never)]
-    #[tactic(auto, using(crate::proofs::Repeated::none_made, crate::proofs::Repeated::made_then_not, crate::proofs::Repeated::made_one_more))]
+    #[tactic(auto, using(crate::proofs::Repeated::made_cases))]
     pub fn try_steps(&mut self, code: &Code, cells: &mut Cells, view: View, most: u32) -> u32
         requires made { IsMadeFor code.now self.old }
         requires view { HasNumbers view }
