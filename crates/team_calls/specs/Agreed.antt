@@ -2,18 +2,13 @@
 use Rattle.std.specs.Prelude.{◌&&◌, Bool, true, List, [], ◌∷◌}
 use Rattle.std.specs.Result.{is_ok}
 use Rattle.team_words.specs.Calls.{TeamCall, after_call}
-use Rattle.team_words.specs.Calls.TeamCall.{Arrive, MayPass, Meet, Pass, TakeChunk, TakeSection, WouldMeet}
+use Rattle.team_words.specs.Calls.TeamCall.{Meet}
 use Rattle.team_words.specs.Team.{Team, answer_to_meet}
 
 -- where a member meets something as its n-th, no other has met something else as its n-th
 abbrev pub agrees : Team → TeamCall → Bool
 agrees team (Meet member what) = is_ok (answer_to_meet team member what)
-agrees team (WouldMeet member what) = true
-agrees team (TakeChunk member) = true
-agrees team (TakeSection member) = true
-agrees team (Arrive member) = true
-agrees team (MayPass member unfinished) = true
-agrees team (Pass member) = true
+agrees team other = true
 
 abbrev pub all_agree : Team → List TeamCall → Bool
 all_agree team [] = true
