@@ -2,7 +2,7 @@
 //!
 //! The definitions of a run answer in each state, also in states that no run comes to. A region may end there where none was forked, and a member
 //! may begin where there is no code for it. A team may deal what doesn't fit the loop or sections that ask. Here these cases are shown to be none of a run of
-//! a program that breaks no rule, whichever callbacks are registered.
+//! 1 to 16 threads of a program that breaks no rule and whose tree has the shape of one that a text spells, whichever callbacks are registered.
 //!
 //! Proved, as laws of the definitions:
 //!
