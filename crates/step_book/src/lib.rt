@@ -55,7 +55,6 @@
 //! the calls of a pass of them.
 #![tactic(auto)]
 
-mod bell;
 mod blank;
 mod book;
 mod closed;
@@ -67,9 +66,7 @@ mod pass;
 mod rule;
 mod seats;
 mod shared;
-mod sleepers;
 mod step;
-mod thread_set;
 mod view;
 
 pub use blank::Blank;

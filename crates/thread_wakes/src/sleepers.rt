@@ -1,6 +1,5 @@
 //! Which threads sleep that share a book.
 
-use crate::book::Book;
 use crate::thread_set::ThreadSet;
 
 /// The most threads of a run.
@@ -14,13 +13,13 @@ const FEW: u32 = 3;
 
 /// What is done at the end of a hold, once the lock is given back.
 #[derive(Drop)]
-pub(crate) struct Woken {
+pub struct Woken {
     /// Whether the thread of the hold stays near, if it sleeps.
-    pub stays_near: bool,
+    pub(crate) stays_near: bool,
     /// The threads that wake.
-    pub rung: ThreadSet,
+    pub(crate) rung: ThreadSet,
     /// The threads that are called near.
-    pub called: ThreadSet,
+    pub(crate) called: ThreadSet,
 }
 
 impl Woken {
@@ -34,7 +33,7 @@ impl Woken {
 
 /// What a thread does after a hold.
 #[derive(Clone, Copy, PartialEq, Eq)]
-pub(crate) enum Then {
+pub enum Then {
     /// It calls its tool or visits the book again, or it ends the run.
     GoesOn,
     /// It sleeps: it was told not yet.
@@ -55,7 +54,7 @@ pub(crate) enum Then {
 /// yet. So what comes in quick succession on one thread isn't held up by others that come for the lock, and a callback that takes long still keeps
 /// none of them from going on.
 #[derive(Drop)]
-pub(crate) struct Sleepers {
+pub struct Sleepers {
     /// The threads that were told not yet at their last hold and weren't woken since.
     asleep: ThreadSet,
     /// Those of them that are near.
@@ -88,15 +87,17 @@ impl Sleepers {
     /// The end of a hold of the thread. It answers which threads wake, all where the run is over and else at most one, and which are called near.
     ///
     /// Where then a thread is asleep that may go on, one was woken or is near.
-    pub fn wake(&mut self, book: &Book, thread: u8, next: Then) -> Woken {
+    pub fn wake<F: Fn(u8) -> bool>(&mut self, thread: u8, next: Then, has_turn: F) -> Woken
+        requires { F.IsAlwaysCallable has_turn }
+    {
         let has_looked = self.asleep.has(thread);
         self.note(thread, next);
         match next {
             Then::IsOver => self.wake_all(),
-            Then::GoesOn => self.call_one(book, thread),
-            Then::Polls => self.wake_one(book, thread),
+            Then::GoesOn => self.call_one(thread, &has_turn),
+            Then::Polls => self.wake_one(thread, &has_turn),
             Then::Sleeps => {
-                let woken = self.wake_one(book, thread);
+                let woken = self.wake_one(thread, &has_turn);
                 // One that has looked for itself parks.
                 let stays_near = !has_looked && self.has_room_near();
                 if stays_near {
@@ -133,26 +134,30 @@ impl Sleepers {
     }
 
     /// A thread that is asleep and may go on now is called near, if there is one, unless another one is near or was woken.
-    fn call_one(&mut self, book: &Book, thread: u8) -> Woken {
+    fn call_one<F: Fn(u8) -> bool>(&mut self, thread: u8, has_turn: &F) -> Woken
+        requires { F.IsAlwaysCallable has_turn.now }
+    {
         if !self.woken.is_empty() || !self.near.is_empty() {
             return Woken::NOBODY;
         }
         Woken {
-            called: self.call(book, thread, 1),
+            called: self.call(thread, 1, has_turn),
             ..Woken::NOBODY
         }
     }
 
     /// A thread that is asleep and may go on now wakes, if there is one, unless one that was woken is still on its way. Those that are next after it
     /// are called near. Where nothing has changed since the last look there is none.
-    fn wake_one(&mut self, book: &Book, thread: u8) -> Woken {
+    fn wake_one<F: Fn(u8) -> bool>(&mut self, thread: u8, has_turn: &F) -> Woken
+        requires { F.IsAlwaysCallable has_turn.now }
+    {
         if !self.has_changed {
             return Woken::NOBODY;
         }
         let mut rung = ThreadSet::EMPTY;
         if self.woken.is_empty() {
             self.has_changed = false;
-            rung = self.look(book, thread, ThreadSet::EMPTY, 1);
+            rung = self.look(thread, ThreadSet::EMPTY, 1, has_turn);
             if rung.is_empty() {
                 return Woken::NOBODY;
             }
@@ -163,13 +168,15 @@ impl Sleepers {
         Woken {
             stays_near: false,
             rung,
-            called: self.call(book, thread, self.room),
+            called: self.call(thread, self.room, has_turn),
         }
     }
 
     /// The next threads are called near that are asleep and may go on now, so many with those that are near already. It answers those that weren't.
-    fn call(&mut self, book: &Book, thread: u8, wanted: u32) -> ThreadSet {
-        let called = self.look(book, thread, self.near, wanted).minus(self.near);
+    fn call<F: Fn(u8) -> bool>(&mut self, thread: u8, wanted: u32, has_turn: &F) -> ThreadSet
+        requires { F.IsAlwaysCallable has_turn.now }
+    {
+        let called = self.look(thread, self.near, wanted, has_turn).minus(self.near);
         self.near = self.near.union(called);
         called
     }
@@ -177,14 +184,22 @@ impl Sleepers {
     /// So many of the threads that are asleep and may go on now, downwards from the thread of the hold and round, but thread 0 last. The next one
     /// mostly may go on, since threads meet at barriers. Thread 0 then waits for all others at the end of a region. Those of the set count though
     /// they aren't looked at.
-    fn look(&self, book: &Book, thread: u8, counted: ThreadSet, wanted: u32) -> ThreadSet {
+    fn look<F: Fn(u8) -> bool>(
+        &self,
+        thread: u8,
+        counted: ThreadSet,
+        wanted: u32,
+        has_turn: &F,
+    ) -> ThreadSet
+        requires { F.IsAlwaysCallable has_turn.now }
+    {
         let mut found = ThreadSet::EMPTY;
         let round = (1..thread).rev().chain((thread.max(1)..THREADS).rev());
         for other in round.chain(0..1) {
             if found.len() >= wanted {
                 break;
             }
-            if counted.has(other) || self.asleep.has(other) && book.has_turn(other) {
+            if counted.has(other) || self.asleep.has(other) && has_turn(other) {
                 found = found.with(other);
             }
         }

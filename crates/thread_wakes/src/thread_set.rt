@@ -2,7 +2,7 @@
 
 /// A set of threads of a run, which has 16 at most.
 #[derive(Clone, Copy, PartialEq, Eq)]
-pub(crate) struct ThreadSet(u16);
+pub struct ThreadSet(u16);
 
 impl ThreadSet {
     /// No thread.
