@@ -1,6 +1,11 @@
 //! Which threads sleep that share a book.
 
+ghost use Rattle.std.specs.Prelude.{◌≡◌, ◌≢◌, ℕ, ◌<◌, true};
+ghost use Rattle.thread_wakes.specs.declared.sleepers.Then.{Then};
+ghost use Rattle.thread_wakes.specs.ThreadSets.{IsInEither, KeepsOthers, has_thread};
+
 use crate::thread_set::ThreadSet;
+use std::marker::Model;
 
 /// The most threads of a run.
 const THREADS: u8 = 16;
@@ -11,7 +16,7 @@ const FEW_PROCESSORS: usize = 2;
 /// Where no more threads than these sleep, one that begins to sleep stays near.
 const FEW: u32 = 3;
 
-/// What is done at the end of a hold, once the lock is given back.
+/// What is done at the end of a hold, once the lock is given back. Contracts see the threads that wake.
 #[derive(Drop)]
 pub struct Woken {
     /// Whether the thread of the hold stays near, if it sleeps.
@@ -22,13 +27,25 @@ pub struct Woken {
     pub(crate) called: ThreadSet,
 }
 
+impl Model for Woken {
+    ghost use Rattle.std.specs.Prelude.{ℕ};
+
+    ghost Value = { ℕ };
+
+    ghost view = { λ woken. woken.rung.0 };
+}
+
 impl Woken {
     /// No thread wakes or is near.
-    const NOBODY: Woken = Woken {
-        stays_near: false,
-        rung: ThreadSet::EMPTY,
-        called: ThreadSet::EMPTY,
-    };
+    fn nobody() -> Woken
+        ensures { result ≡ 0 }
+    {
+        Woken {
+            stays_near: false,
+            rung: ThreadSet::EMPTY,
+            called: ThreadSet::EMPTY,
+        }
+    }
 }
 
 /// What a thread does after a hold.
@@ -44,7 +61,7 @@ pub enum Then {
     IsOver,
 }
 
-/// The threads that sleep, or are about to. Nothing is claimed of them. A thread that polls is none of them.
+/// The threads that sleep, or are about to. Contracts see their set. A thread that polls is none of them.
 ///
 /// A thread that sleeps is near or parked. One that is near looks for itself soon, and to wake it earlier costs little. But it takes turns of a
 /// processor meanwhile. On few processors there is room for one near beside the thread that was woken; on more there is room for all.
@@ -67,9 +84,19 @@ pub struct Sleepers {
     has_changed: bool,
 }
 
+impl Model for Sleepers {
+    ghost use Rattle.std.specs.Prelude.{ℕ};
+
+    ghost Value = { ℕ };
+
+    ghost view = { λ sleepers. sleepers.asleep.0 };
+}
+
 impl Sleepers {
     /// No thread sleeps of those that run on so many processors.
-    pub fn new(processors: usize) -> Sleepers {
+    pub fn new(processors: usize) -> Sleepers
+        ensures { result ≡ 0 }
+    {
         Sleepers {
             asleep: ThreadSet::EMPTY,
             near: ThreadSet::EMPTY,
@@ -80,15 +107,21 @@ impl Sleepers {
     }
 
     /// An answer was added. Its thread visits the book next, and only then others are looked for.
-    pub fn answered(&mut self) {
+    pub fn answered(&mut self)
+        ensures { self.new ≡ self.old }
+    {
         self.has_changed = true;
     }
 
-    /// The end of a hold of the thread. It answers which threads wake, all where the run is over and else at most one, and which are called near.
+    /// The end of a hold of the thread, where `has_turn` says which threads may go on. It answers which threads wake, all where the run is over and
+    /// else at most one, and which are called near.
     ///
-    /// Where then a thread is asleep that may go on, one was woken or is near.
+    /// Where then a thread is asleep that may go on, one was woken or is near. No clause says so.
     pub fn wake<F: Fn(u8) -> bool>(&mut self, thread: u8, next: Then, has_turn: F) -> Woken
         requires { F.IsAlwaysCallable has_turn }
+        ensures others { KeepsOthers thread self.old self.new result }
+        ensures sleeps { next ≡ Then.Sleeps → thread < 16 → IsInEither self.new result thread }
+        ensures over { next ≡ Then.IsOver → self.new ≡ 0 }
     {
         let has_looked = self.asleep.has(thread);
         self.note(thread, next);
@@ -112,7 +145,10 @@ impl Sleepers {
     }
 
     /// Notes what the thread does after its hold.
-    fn note(&mut self, thread: u8, next: Then) {
+    fn note(&mut self, thread: u8, next: Then)
+        ensures this { next ≡ Then.Sleeps → thread < 16 → has_thread self.new thread ≡ true }
+        ensures others { (t : ℕ) → t ≢ thread → has_thread self.new t ≡ has_thread self.old t }
+    {
         self.asleep = match next {
             Then::Sleeps => self.asleep.with(thread),
             Then::GoesOn | Then::Polls | Then::IsOver => self.asleep.without(thread),
@@ -123,26 +159,31 @@ impl Sleepers {
     }
 
     /// All threads wake that sleep.
-    fn wake_all(&mut self) -> Woken {
+    fn wake_all(&mut self) -> Woken
+        ensures woken { result ≡ self.old }
+        ensures none { self.new ≡ 0 }
+    {
         let rung = self.asleep;
         self.asleep = ThreadSet::EMPTY;
         self.near = ThreadSet::EMPTY;
         Woken {
             rung,
-            ..Woken::NOBODY
+            ..Woken::nobody()
         }
     }
 
     /// A thread that is asleep and may go on now is called near, if there is one, unless another one is near or was woken.
     fn call_one<F: Fn(u8) -> bool>(&mut self, thread: u8, has_turn: &F) -> Woken
         requires { F.IsAlwaysCallable has_turn.now }
+        ensures woken { result ≡ 0 }
+        ensures asleep { self.new ≡ self.old }
     {
         if !self.woken.is_empty() || !self.near.is_empty() {
-            return Woken::NOBODY;
+            return Woken::nobody();
         }
         Woken {
             called: self.call(thread, 1, has_turn),
-            ..Woken::NOBODY
+            ..Woken::nobody()
         }
     }
 
@@ -150,16 +191,17 @@ impl Sleepers {
     /// are called near. Where nothing has changed since the last look there is none.
     fn wake_one<F: Fn(u8) -> bool>(&mut self, thread: u8, has_turn: &F) -> Woken
         requires { F.IsAlwaysCallable has_turn.now }
+        ensures { (t : ℕ) → has_thread self.old t ≡ true → IsInEither self.new result t }
     {
         if !self.has_changed {
-            return Woken::NOBODY;
+            return Woken::nobody();
         }
         let mut rung = ThreadSet::EMPTY;
         if self.woken.is_empty() {
             self.has_changed = false;
             rung = self.look(thread, ThreadSet::EMPTY, 1, has_turn);
             if rung.is_empty() {
-                return Woken::NOBODY;
+                return Woken::nobody();
             }
             self.asleep = self.asleep.minus(rung);
             self.near = self.near.minus(rung);
@@ -175,8 +217,11 @@ impl Sleepers {
     /// The next threads are called near that are asleep and may go on now, so many with those that are near already. It answers those that weren't.
     fn call<F: Fn(u8) -> bool>(&mut self, thread: u8, wanted: u32, has_turn: &F) -> ThreadSet
         requires { F.IsAlwaysCallable has_turn.now }
+        ensures { self.new ≡ self.old }
     {
-        let called = self.look(thread, self.near, wanted, has_turn).minus(self.near);
+        let called = self
+            .look(thread, self.near, wanted, has_turn)
+            .minus(self.near);
         self.near = self.near.union(called);
         called
     }
