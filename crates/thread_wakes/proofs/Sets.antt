@@ -1,5 +1,5 @@
 -- Sets of threads, by the bits of their numbers.
-use Rattle.std.proofs.Common.{◌≡◌, ◌≢◌, ℕ, ◌<◌, ◌≤◌, ◌-◌, ◌^◌, ◌*◌, suc, zero, min, max, Bool, true, false, not, ◌||◌, ◌&&◌, ◌==◌, bit_or, bit_and, refl, inl, inr, arith}
+use Rattle.std.proofs.Common.{◌≡◌, ◌≢◌, ℕ, ◌<◌, ◌≤◌, ◌-◌, ◌^◌, ◌*◌, suc, zero, min, max, true, false, not, ◌||◌, ◌&&◌, ◌==◌, bit_or, bit_and, refl, inl, inr, arith}
 use Rattle.std.specs.Int.{bit_at}
 use Rattle.std.proofs.lemmas.Bool.{cases_lt}
 use Rattle.std.proofs.lemmas.Bool.Decides.{nat_tests}
