@@ -16,12 +16,12 @@ use crate::closed::Closed;
 use crate::name::BookName;
 use crate::pass::Pass;
 use crate::seats::{BookSeat, SharedCount, add_hold, give_pass, take_pass};
-use crate::sleepers::{Sleepers, Then, Woken};
 use crate::step::Step;
 use omp_machine::Memory;
 use omp_model::Cause;
 use ompt_calls::{Reply, Snapshot};
 use std::marker::{Model, PhantomData};
+use thread_wakes::{Sleepers, Then, Woken};
 
 /// A book with its seat at the table of its name. Contracts see the holds.
 #[derive(Drop)]
@@ -142,7 +142,7 @@ impl<K: BookName> Desk<K> {
         ensures { self.new ≡ self.old }
     {
         let Desk { book, sleepers, .. } = self;
-        sleepers.wake(book, thread, next)
+        sleepers.wake(thread, next, |other| book.has_turn(other))
     }
 
     /// Compares what the pass has seen with all holds.

@@ -26,9 +26,8 @@
 //! has seen all.
 //!
 //! No tool is called under the lock. That a wait for it ends isn't proved. A thread that is told not yet may sleep
-//! ([`SharedBook::sleep`]): the locked book notes who sleeps. A visit that was told not yet wakes one of those that may go on
-//! after it, and one after which the run is over wakes all. Those that are next look for themselves after a while. Nothing is
-//! proved of that.
+//! ([`SharedBook::sleep`]). The locked book notes who sleeps, and each hold but one of an answer alone asks the crate `thread_wakes` who wakes.
+//! No clause of a book says anything of that.
 //!
 //! # The rule
 //!
@@ -55,7 +54,6 @@
 //! the calls of a pass of them.
 #![tactic(auto)]
 
-mod bell;
 mod blank;
 mod book;
 mod closed;
@@ -67,9 +65,7 @@ mod pass;
 mod rule;
 mod seats;
 mod shared;
-mod sleepers;
 mod step;
-mod thread_set;
 mod view;
 
 pub use blank::Blank;

@@ -12,22 +12,20 @@ ghost use Rattle.step_book.specs.declared.view.View.TheVariants.{OfBook};
 ghost use Rattle.step_book.specs.Owing.{OwesAnswer, OwesStep};
 ghost use Rattle.step_book.specs.Sharing.{Answers, Goes, Grows, IsClosed, KeepsStep, Sight, any_ended, fresh_pass, pages_of};
 
-use crate::bell::Bell;
 use crate::blank::Blank;
 use crate::closed::Closed;
 use crate::desk::Desk;
 use crate::name::BookName;
 use crate::pass::Pass;
 use crate::seats::{BookSeat, CountTable, SharedCount, new_pass};
-use crate::sleepers::{Then, Woken};
 use crate::step::Step;
-use crate::thread_set::ThreadSet;
 use omp_machine::Memory;
 use omp_model::Cause;
 use ompt_calls::{Reply, Snapshot};
 use std::alloc::Global;
 use std::marker::PhantomData;
 use std::sync::{Mutex, Wait};
+use thread_wakes::{Bells, Then};
 
 /// The book of this name, behind a lock. Each thread has a [`Pass`] to it.
 ///
@@ -40,8 +38,8 @@ pub struct SharedBook<K: BookName> {
     words: CountTable,
     /// The book with its seat.
     desk: Mutex<Desk<K>>,
-    /// For each thread the bell that wakes it.
-    bells: Vec<Bell>,
+    /// What wakes the threads.
+    bells: Bells,
     ghost named: { words.shared.table_id ≡ K.table },
     ghost some: { 0 < K.table.words },
 }
@@ -67,7 +65,7 @@ impl<K: BookName> SharedBook<K> {
             book,
         } = blank;
         let passes = make_passes(alloc, &words.shared, &mut seat, book.threads())?;
-        let bells = make_bells(alloc, book.threads())?;
+        let bells = Bells::new(alloc, book.threads())?;
         let desk = Mutex::new(Desk::new(book, seat, processors));
         Ok((SharedBook { words, desk, bells }, passes))
     }
@@ -96,7 +94,7 @@ impl<K: BookName> SharedBook<K> {
             let woken = desk.wake(pass.thread(), self.then_of(pass, &result));
             (result, woken)
         };
-        self.ring(pass.thread(), &woken);
+        self.bells.ring(pass.thread(), &woken);
         result
     }
 
@@ -142,7 +140,7 @@ impl<K: BookName> SharedBook<K> {
             let woken = desk.wake(pass.thread(), self.then_of(pass, &result));
             (result, woken)
         };
-        self.ring(pass.thread(), &woken);
+        self.bells.ring(pass.thread(), &woken);
         result
     }
 
@@ -157,64 +155,28 @@ impl<K: BookName> SharedBook<K> {
             desk.end_memory(&self.words.shared, pass);
             desk.wake(pass.thread(), Then::IsOver)
         };
-        self.ring(pass.thread(), &woken);
+        self.bells.ring(pass.thread(), &woken);
     }
 
     /// Sleeps, where the last call of the pass told it not yet, until the thread is woken. It is where it may go on or the run is over, but not at
     /// once where others that may go on are woken first. It may wake earlier, to look for itself. No clause says that it wakes.
     pub fn sleep(&self, rt: &impl Wait, pass: &Pass<K>) {
-        if let Some(bell) = self.bell(pass.thread()) {
-            bell.sleep(rt);
-        }
+        self.bells.sleep(rt, pass.thread());
     }
 
     /// The pass's thread never sleeps from now on: it visits the book again and again. So no other thread counts on it while it does something
     /// else.
     pub fn poll(&self, pass: &Pass<K>) {
-        if let Some(bell) = self.bell(pass.thread()) {
-            bell.poll();
-        }
+        self.bells.poll(pass.thread());
     }
 
     /// What the pass's thread does next whose visit came to this.
     fn then_of(&self, pass: &Pass<K>, came: &Result<Step, Memory>) -> Then {
         match came {
-            Ok(Step::NotYet) => match self.bell(pass.thread()) {
-                Some(bell) if bell.polls() => Then::Polls,
-                _ => Then::Sleeps,
-            },
+            Ok(Step::NotYet) if self.bells.polls(pass.thread()) => Then::Polls,
+            Ok(Step::NotYet) => Then::Sleeps,
             Ok(Step::Ended(_)) => Then::IsOver,
             Ok(Step::Told(..) | Step::Quiet) | Err(_) => Then::GoesOn,
-        }
-    }
-
-    /// The end of a hold of the thread, once the lock is given back: others wake, it is told whether it stays near, and others are called near.
-    fn ring(&self, thread: u8, woken: &Woken) {
-        self.each_bell(woken.rung, |bell| bell.ring());
-        if woken.stays_near {
-            if let Some(bell) = self.bell(thread) {
-                bell.stay();
-            }
-        }
-        self.each_bell(woken.called, |bell| bell.call());
-    }
-
-    /// The thread's bell, if there is such a thread.
-    fn bell(&self, thread: u8) -> Option<&Bell> {
-        self.bells.get(thread as usize)
-    }
-
-    /// Does this to the bell of each of the threads.
-    fn each_bell<A: Fn(&Bell)>(&self, threads: ThreadSet, act: A)
-        requires { A.IsAlwaysCallable act }
-    {
-        if threads.is_empty() {
-            return;
-        }
-        for (thread, bell) in (0u8..).zip(self.bells.iter()) {
-            if threads.has(thread) {
-                act(bell);
-            }
         }
     }
 
@@ -236,15 +198,6 @@ impl<K: BookName> SharedBook<K> {
         let ended = any_ended(&passes);
         desk.close(ended)
     }
-}
-
-/// Makes a bell for each thread.
-fn make_bells(alloc: Global, threads: u8) -> Result<Vec<Bell>, Memory> {
-    let mut bells = Vec::new(alloc);
-    for _thread in 0..threads {
-        bells.push(Bell::new())?;
-    }
-    Ok(bells)
 }
 
 /// Makes a pass for each thread, in order.

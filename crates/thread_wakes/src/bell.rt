@@ -15,7 +15,7 @@ const YIELDS: u32 = 200;
 /// each park and after it. So a ring isn't lost, whether it comes before the sleep, among the yields, or before or during a park. Nor is a call,
 /// which sets `is_near` in the same way: the thread takes it back only where it wakes, and then it visits the book.
 #[derive(Drop)]
-pub(crate) struct Bell {
+pub struct Bell {
     /// Whether the bell was rung, and the thread hasn't taken the ring yet.
     rung: AtomicBool,
     /// Whether the thread is near, where it sleeps.
