@@ -25,7 +25,7 @@ has-minus a b t fits-a fits-b =
     elim (cases_lt t 16) [
       | inl near ↦
           rw (bit_at_and a (2 ^ 16 - 1 - b) t, bit_at_not w16 b t fits-b near)
-            (without-bit (bit_at a t) (bit_at b t) (bit_at-lt a t) (bit_at-lt b t))
+          (without-bit (bit_at a t) (bit_at b t) (bit_at-lt a t) (bit_at-lt b t))
       | inr far ↦
           let zero = bit_at_above a 16 t fits-a far in
           let none : bit_at (bit_and a (2 ^ 16 - 1 - b)) t ≡ 0 = omega (arith, bit_at_and a (2 ^ 16 - 1 - b) t, zero) in
