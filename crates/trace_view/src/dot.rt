@@ -13,6 +13,7 @@ ghost use Rattle.trace_view.specs.Bold.{HasNumbers};
 ghost use Rattle.trace_view.specs.Dot.{IsDot, box_line, edge_line, head_lines, lines_of_tasks, picture_of, stroke_text};
 
 use crate::bold::crossed_tasks;
+use omp_codes::task_flags::{IMPLICIT, INITIAL};
 use std::alloc::{AllocError, Global};
 use std::collections::BTreeSet;
 use std::fmt;
@@ -39,7 +40,8 @@ fn picture(
     bold: &BTreeSet<u32>,
     span: usize,
 ) -> Result<Vec<u8>, AllocError>
-    ensures { IfOk result (λ text. (events : List EventRecord) (numbers : List ℕ) → IsForest forest.now events → HasNumbers bold.now numbers →
+    ensures { IfOk result (λ text. (events : List EventRecord) (numbers : List ℕ) → IsForest forest.now events →
+        HasNumbers bold.now numbers →
         text.items ≡ picture_of (reverse events) numbers span) }
 {
     let mut text = head_lines(alloc, forest.work(), span)?;
@@ -65,7 +67,8 @@ fn put_tasks(
     bold: &BTreeSet<u32>,
     text: &mut Vec<u8>,
 ) -> Result<(), AllocError>
-    ensures { OnOk result ((events : List EventRecord) (numbers : List ℕ) → IsForest forest.now events → HasNumbers bold.now numbers →
+    ensures { OnOk result ((events : List EventRecord) (numbers : List ℕ) → IsForest forest.now events →
+        HasNumbers bold.now numbers →
         text.new.items ≡ text.old.items ++ lines_of_tasks numbers (reverse events) (tasks_from 1 (reverse events))) }
 {
     for identity in 1..u32::MAX {
@@ -84,8 +87,10 @@ fn put_task(
     bold: &BTreeSet<u32>,
     text: &mut Vec<u8>,
 ) -> Result<(), AllocError>
-    ensures { OnOk result (text.new.items ≡ text.old.items ++ (box_line (contains nat_cmp bold.now task.now.identity) task.now
-        ++ edge_line (contains nat_cmp bold.now task.now.parent && contains nat_cmp bold.now task.now.identity) task.now)) }
+    ensures { OnOk result (text.new.items ≡ text.old.items ++
+        (box_line (contains nat_cmp bold.now task.now.identity) task.now
+        ++ edge_line (contains nat_cmp bold.now task.now.parent && contains nat_cmp bold.now task.now.identity)
+        task.now)) }
 {
     let is_bold = bold.contains(&task.identity);
     put_box(alloc, task, Stroke { is_bold }, text)?;
@@ -136,11 +141,18 @@ impl Display for Kind {
     ghost output = { λ kind. Some (kind_text kind.flags) };
 
     fn fmt<W: fmt::Write>(&self, f: &mut Formatter<W>) -> fmt::Result {
-        match self.flags {
-            1 => write!(f, "initial"),
-            2 => write!(f, "implicit"),
-            _ => write!(f, "explicit"),
-        }
+        write!(f, "{}", kind_text(self.flags))
+    }
+}
+
+/// The kind of a task with these flags, in a word.
+fn kind_text(flags: u32) -> &'static str
+    ensures { result.now ≡ kind_text flags }
+{
+    match flags {
+        INITIAL => "initial",
+        IMPLICIT => "implicit",
+        _ => "explicit",
     }
 }
 
@@ -154,10 +166,13 @@ impl Display for Stroke {
     ghost output = { λ stroke. Some (stroke_text stroke.is_bold) };
 
     fn fmt<W: fmt::Write>(&self, f: &mut Formatter<W>) -> fmt::Result {
-        if self.is_bold {
-            write!(f, "bold")
-        } else {
-            write!(f, "solid")
-        }
+        write!(f, "{}", stroke_text(self.is_bold))
     }
+}
+
+/// How it is drawn, in a word.
+fn stroke_text(is_bold: bool) -> &'static str
+    ensures { result.now ≡ stroke_text is_bold }
+{
+    if is_bold { "bold" } else { "solid" }
 }

@@ -1,13 +1,17 @@
 //! The waits of a trace as a table.
 
 ghost use Rattle.std.specs.Prelude.{◌≡◌, ◌++◌, IfOk, List, OnOk, Some};
+ghost use Rattle.std.specs.Option.{option_copied};
 ghost use Rattle.ompt_calls.specs.declared.event.EventRecord.{EventRecord as EventOf};
 ghost use Rattle.trace_check.specs.Nested.{last_seq};
+ghost use Rattle.trace_view.specs.Naming.{name_text};
 ghost use Rattle.trace_view.specs.Waits.{IsWaitTable, cause_text};
 ghost use Rattle.trace_view.specs.WaitTallies.{HasTallies, line_of};
 
+use crate::number_names::{mutex_kind, sync_kind};
 use crate::wait_ends::WaitKey;
 use crate::wait_tallies::{Tally, tallies_of};
+use omp_codes::mutex_kinds::{CRITICAL, LOCK};
 use ompt_calls::{CodePlace, EventRecord};
 use std::alloc::{AllocError, Global};
 use std::collections::BTreeMap;
@@ -86,14 +90,21 @@ impl Display for Cause {
     ghost output = { λ cause. Some (cause_text cause.number) };
 
     fn fmt<W: fmt::Write>(&self, f: &mut Formatter<W>) -> fmt::Result {
-        match self.number {
-            17 => write!(f, "ompt_mutex_lock"),
-            21 => write!(f, "ompt_mutex_critical"),
-            3 => write!(f, "ompt_sync_region_barrier_explicit"),
-            5 => write!(f, "ompt_sync_region_taskwait"),
-            8 => write!(f, "ompt_sync_region_barrier_implicit_workshare"),
-            9 => write!(f, "ompt_sync_region_barrier_implicit_parallel"),
-            number => write!(f, "{number}"),
+        match cause_name(self.number) {
+            Some(name) => write!(f, "{name}"),
+            None => write!(f, "{}", self.number),
         }
+    }
+}
+
+/// The name of what is waited for, if it has one.
+fn cause_name(cause: u64) -> Option<&'static str>
+    ensures { name_text (option_copied result) cause ≡ cause_text cause }
+{
+    match u32::try_from(cause) {
+        Ok(17) => mutex_kind(LOCK),
+        Ok(21) => mutex_kind(CRITICAL),
+        Ok(kind) => sync_kind(kind),
+        Err(_) => None,
     }
 }
