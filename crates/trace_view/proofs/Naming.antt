@@ -14,6 +14,7 @@ use denote.Ref.{Bor}
 use Rattle.ompt_calls.specs.declared.argument.Argument.{Argument}
 use Rattle.ompt_calls.specs.Line.{spaced}
 use Rattle.trace_view.specs.declared.named_call.Naming.{Naming}
+use Rattle.trace_view.specs.Names.{state_text}
 use Rattle.trace_view.specs.Naming.{each_named, named_argument}
 
 abbrev pub pair_text : Bor Naming × Bor Argument → List ℕ
@@ -57,3 +58,15 @@ all_gone namings arguments pairs from to end next first second steps is last =
     sym (append-nil (map pair_text pairs))
     ∙ (ap (λ (texts : List (List ℕ)). map pair_text pairs ++ texts) (sym (ended _ _ (either_empty_from_Zip to end next is last)))
     ∙ (sym (gone pairs from to steps) ∙ ap₂ each_named first second))
+
+-- ---- the line of an event
+
+joined : (a b c d s e : List ℕ) → a ++ (s ++ (b ++ (s ++ (c ++ (s ++ (d ++ e)))))) ≡ ((a ++ s) ++ ((b ++ s) ++ ((c ++ s) ++ d))) ++ e
+joined a b c d s e = simp append_assoc
+
+pub joined_line : (seq thread call : List ℕ) (told state : ℕ) → told ≡ state
+    → seq ++ (codes " " ++ (thread ++ (codes " " ++ (state_text told ++ (codes " " ++ (call ++ 10 ∷ []))))))
+    ≡ spaced (seq ∷ thread ∷ state_text state ∷ call ∷ []) ++ 10 ∷ []
+joined_line seq thread call told state is =
+    joined seq thread (state_text told) call (codes " ") (10 ∷ [])
+    ∙ ap (λ (n : ℕ). spaced (seq ∷ thread ∷ state_text n ∷ call ∷ []) ++ 10 ∷ []) is

@@ -1,6 +1,6 @@
 //! The task tree of a trace for Graphviz.
 
-ghost use Rattle.std.specs.Prelude.{ℕ, ◌≡◌, ◌++◌, ◌&&◌, IfOk, List, OnOk, Some, reverse};
+ghost use Rattle.std.specs.Prelude.{ℕ, ◌≡◌, ◌++◌, ◌&&◌, IfOk, List, OnOk, reverse};
 ghost use Rattle.std.specs.Ordering.{nat_cmp};
 ghost use Rattle.std.specs.BTreeSet.{contains};
 ghost use Rattle.ompt_calls.specs.declared.event.EventRecord.{EventRecord};
@@ -16,8 +16,6 @@ use crate::bold::crossed_tasks;
 use omp_codes::task_flags::{IMPLICIT, INITIAL};
 use std::alloc::{AllocError, Global};
 use std::collections::BTreeSet;
-use std::fmt;
-use std::fmt::{Display, Formatter};
 use tool_tasks::{Forest, TaskNode};
 use trace_format::Trace;
 
@@ -93,21 +91,22 @@ fn put_task(
         task.now)) }
 {
     let is_bold = bold.contains(&task.identity);
-    put_box(alloc, task, Stroke { is_bold }, text)?;
+    put_box(alloc, task, is_bold, text)?;
     let is_bold = bold.contains(&task.parent) && is_bold;
-    put_edge(alloc, task, Stroke { is_bold }, text)
+    put_edge(alloc, task, is_bold, text)
 }
 
 /// Adds the line of a task alone.
 fn put_box(
     alloc: Global,
     task: &TaskNode,
-    stroke: Stroke,
+    is_bold: bool,
     text: &mut Vec<u8>,
 ) -> Result<(), AllocError>
-    ensures { OnOk result (text.new.items ≡ text.old.items ++ box_line stroke.is_bold task.now) }
+    ensures { OnOk result (text.new.items ≡ text.old.items ++ box_line is_bold task.now) }
 {
-    let kind = Kind { flags: task.flags };
+    let kind = kind_text(task.flags);
+    let stroke = stroke_text(is_bold);
     let line = format!(in alloc;
         "{} [label=<{} {kind}<BR/>work {}>, style={stroke}];\n",
         task.identity, task.identity, task.events
@@ -119,33 +118,20 @@ fn put_box(
 fn put_edge(
     alloc: Global,
     task: &TaskNode,
-    stroke: Stroke,
+    is_bold: bool,
     text: &mut Vec<u8>,
 ) -> Result<(), AllocError>
-    ensures { OnOk result (text.new.items ≡ text.old.items ++ edge_line stroke.is_bold task.now) }
+    ensures { OnOk result (text.new.items ≡ text.old.items ++ edge_line is_bold task.now) }
 {
     if task.parent == 0 {
         return Ok(());
     }
+    let stroke = stroke_text(is_bold);
     let line = format!(in alloc; "{} -> {} [style={stroke}];\n", task.parent, task.identity)?;
     text.extend_from_slice(line.as_bytes())
 }
 
 /// The kind of a task with these flags.
-#[derive(Clone, Copy)]
-struct Kind {
-    flags: u32,
-}
-
-impl Display for Kind {
-    ghost output = { λ kind. Some (kind_text kind.flags) };
-
-    fn fmt<W: fmt::Write>(&self, f: &mut Formatter<W>) -> fmt::Result {
-        write!(f, "{}", kind_text(self.flags))
-    }
-}
-
-/// The kind of a task with these flags, in a word.
 fn kind_text(flags: u32) -> &'static str
     ensures { result.now ≡ kind_text flags }
 {
@@ -157,20 +143,6 @@ fn kind_text(flags: u32) -> &'static str
 }
 
 /// How a line is drawn.
-#[derive(Clone, Copy)]
-struct Stroke {
-    is_bold: bool,
-}
-
-impl Display for Stroke {
-    ghost output = { λ stroke. Some (stroke_text stroke.is_bold) };
-
-    fn fmt<W: fmt::Write>(&self, f: &mut Formatter<W>) -> fmt::Result {
-        write!(f, "{}", stroke_text(self.is_bold))
-    }
-}
-
-/// How it is drawn, in a word.
 fn stroke_text(is_bold: bool) -> &'static str
     ensures { result.now ≡ stroke_text is_bold }
 {

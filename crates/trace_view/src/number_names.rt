@@ -101,7 +101,7 @@ fn endpoint(number: u32) -> Option<&'static str>
 }
 
 /// The name of an `ompt_sync_region_t`.
-pub(crate) fn sync_kind(number: u32) -> Option<&'static str>
+fn sync_kind(number: u32) -> Option<&'static str>
     ensures { name_text (option_copied result) number ≡ sync_kind_text number }
 {
     match number {
@@ -116,7 +116,7 @@ pub(crate) fn sync_kind(number: u32) -> Option<&'static str>
 }
 
 /// The name of an `ompt_mutex_t`.
-pub(crate) fn mutex_kind(number: u32) -> Option<&'static str>
+fn mutex_kind(number: u32) -> Option<&'static str>
     ensures { name_text (option_copied result) number ≡ mutex_kind_text number }
 {
     match number {

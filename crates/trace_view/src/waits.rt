@@ -8,10 +8,8 @@ ghost use Rattle.trace_view.specs.Naming.{name_text};
 ghost use Rattle.trace_view.specs.Waits.{IsWaitTable, cause_text};
 ghost use Rattle.trace_view.specs.WaitTallies.{HasTallies, line_of};
 
-use crate::number_names::{mutex_kind, sync_kind};
 use crate::wait_ends::WaitKey;
 use crate::wait_tallies::{Tally, tallies_of};
-use omp_codes::mutex_kinds::{CRITICAL, LOCK};
 use ompt_calls::{CodePlace, EventRecord};
 use std::alloc::{AllocError, Global};
 use std::collections::BTreeMap;
@@ -101,10 +99,13 @@ impl Display for Cause {
 fn cause_name(cause: u64) -> Option<&'static str>
     ensures { name_text (option_copied result) cause ≡ cause_text cause }
 {
-    match u32::try_from(cause) {
-        Ok(17) => mutex_kind(LOCK),
-        Ok(21) => mutex_kind(CRITICAL),
-        Ok(kind) => sync_kind(kind),
-        Err(_) => None,
+    match cause {
+        17 => Some("ompt_mutex_lock"),
+        21 => Some("ompt_mutex_critical"),
+        3 => Some("ompt_sync_region_barrier_explicit"),
+        5 => Some("ompt_sync_region_taskwait"),
+        8 => Some("ompt_sync_region_barrier_implicit_workshare"),
+        9 => Some("ompt_sync_region_barrier_implicit_parallel"),
+        _ => None,
     }
 }
