@@ -13,8 +13,8 @@ use Rattle.trace_format.specs.declared.trace.EndMark.{EndMark}
 use Rattle.trace_format.specs.declared.trace.Trace.{Trace}
 use Rattle.trace_view.specs.Names.{dispatch_kind_text, ending_text, endpoint_text, mutex_kind_text, region_flags_text, state_text, sync_kind_text, task_flags_text, task_status_text, thread_kind_text, work_kind_text}
 
--- The arguments of a callback in the order of the specification (OpenMP 5.2, 19.5.2). A hint, a variant and dependences are 0 in each trace,
--- and are written as numbers, as counts, indices and wait identifiers are.
+-- The arguments of a callback in the order of the specification (OpenMP 5.2, 19.5.2). A hint, a variant and dependences are 0 in
+-- each trace, and are written as numbers, as counts, indices and wait identifiers are.
 abbrev pub named_arguments : Call → List (List ℕ)
 named_arguments (ThreadBegin kind thread) = thread_kind_text kind ∷ word_text thread ∷ []
 named_arguments (ThreadEnd thread) = word_text thread ∷ []
