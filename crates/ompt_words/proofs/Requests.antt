@@ -1,8 +1,8 @@
 -- What is answered where clap has matches: a request, or none where the words hold both outputs of a run.
-use Rattle.std.proofs.Common.{Err, Ok, List, Option, Some, [], ◌≡◌, inr, option_map, refl}
-use Rattle.std.specs.Prelude.{IfOk, IfSome, IsErrAnd, IsNone, MatchResult, None, String, ok_or}
+use Rattle.std.proofs.Common.{Err, Ok, List, Option, Some, [], ◌≡◌, inr, option_map, true}
+use Rattle.std.specs.Prelude.{IfOk, IsErrAnd, MatchOption, MatchResult, None, String, ok_or}
 use Rattle.std.specs.declared.alloc.Global.{Global}
-use Rattle.clap.specs.Walk.{Row, Text, rows_of}
+use Rattle.clap.specs.Walk.{Text, rows_of}
 use Rattle.clap.specs.Simple.{App, is_simple, matches_of, subcommand_of, subcommand_rows_of}
 use Rattle.clap.specs.Matches.{found_of, subcommand_name_of}
 use Rattle.clap.specs.Faults.{fault_of, is_simple_and_free}
@@ -29,17 +29,16 @@ found_in app words m name found is kinds matches is_name is_rows = record {
 }
 
 -- a request that is made of the words, or none where they hold both outputs
-pub record IsMadeOf (words : List Text) (made : Option Request) : Type 0 where
-  pub read : IfSome made (AreReadAs words)
-  pub clash : IsNone made → HoldBoth words
+abbrev pub IsMadeOf : List Text → Option Request → Type 0
+IsMadeOf words made = MatchOption made (HoldBoth words) (AreReadAs words)
 
 -- so the answer keeps each clause
 pub made_read : (words : List Text) (made : Option Request) → IsMadeOf words made → IfOk (ok_or made Usage) (AreReadAs words)
 made_read words None is = tt
-made_read words (Some given) is = is.read
+made_read words (Some given) is = is
 
 pub made_usage : (words : List Text) (made : Option Request) → IsMadeOf words made → ok_or made Usage ≡ Err Usage → AreWrong words
-made_usage words None is same = inr (is.clash refl)
+made_usage words None is same = inr is
 made_usage words (Some given) is same = cc
 
 pub made_shown : (words : List Text) (made : Option Request) (text : String Global) → ok_or made Usage ≡ Err (Shown text) → AskForText words
@@ -48,23 +47,23 @@ made_shown words (Some given) text same = cc
 
 pub made_exact : (words : List Text) (made : Option Request) → IsMadeOf words made → (request : Request) → AreReadAs words request
     → MatchResult (ok_or made Usage) (λ given. given ≡ request) (λ fault. fault ≡ Memory)
-made_exact words None is request read = absurd (both_unread words request (is.clash refl) read)
-made_exact words (Some given) is request read = read_once words given request is.read read
+made_exact words None is request read = absurd (both_unread words request is read)
+made_exact words (Some given) is request read = read_once words given request is read
 
 pub made_form : (words : List Text) (made : Option Request) → IsMadeOf words made → (form : InForm words)
     → MatchResult (ok_or made Usage) (λ given. given ≡ request.Run (own_settings form)) (λ fault. fault ≡ Memory)
-made_form words None is form = absurd (both_formless words (is.clash refl) form)
-made_form words (Some given) is form = own_read words given is.read form
+made_form words None is form = absurd (both_formless words is form)
+made_form words (Some given) is form = own_read words given is form
 
 pub made_read_form : (words : List Text) (made : Option Request) → IsMadeOf words made → (command : ReadCommand) → ReadInForm words command
     → MatchResult (ok_or made Usage) (λ given. given ≡ request.Read command) (λ fault. fault ≡ Memory)
-made_read_form words None is command form = absurd (both_unasked words command (is.clash refl) form)
-made_read_form words (Some given) is command form = own_command words given is.read command form
+made_read_form words None is command form = absurd (both_unasked words command is form)
+made_read_form words (Some given) is command form = own_command words given is command form
 
 pub made_asked : (words : List Text) (made : Option Request) → IsMadeOf words made → AskInForm words → IsErrAnd (ok_or made Usage) IsTextOrMemory
-made_asked words None is asked = absurd (wish_is_fault _ (is.clash refl).name.taken (asked_wish words asked))
-made_asked words (Some given) is asked = absurd (wish_is_fault _ (read_taken words given is.read) (asked_wish words asked))
+made_asked words None is asked = absurd (wish_is_fault _ is.name.taken (asked_wish words asked))
+made_asked words (Some given) is asked = absurd (wish_is_fault _ (read_taken words given is) (asked_wish words asked))
 
 pub made_clash : (words : List Text) (made : Option Request) → IsMadeOf words made → HoldBoth words → IsErrAnd (ok_or made Usage) IsUsageOrMemory
 made_clash words None is both = tt
-made_clash words (Some given) is both = absurd (both_unread words given both is.read)
+made_clash words (Some given) is both = absurd (both_unread words given both is)

@@ -1,6 +1,6 @@
 //! Words, and what they ask for.
 
-ghost use Rattle.std.specs.Prelude.{◌≡◌, ◌≤◌, ℕ, List, true, IfOk, IfSome, IsNone, IsErrAnd, MatchResult, String, codes, string_bytes, map};
+ghost use Rattle.std.specs.Prelude.{◌≡◌, ◌≤◌, ℕ, List, true, IfOk, IfSome, IsNone, IsErrAnd, MatchOption, MatchResult, String, codes, string_bytes, map};
 ghost use Rattle.std.specs.declared.alloc.Global.{Global};
 ghost use Rattle.clap.specs.Words.{found_of, one_text};
 ghost use Rattle.ompt_words.specs.Answers.{AreReadAs, AreWrong, AskForText, HasFound, HoldBoth, IsTextOrMemory, IsUsageOrMemory, flag_in, number_in};
@@ -42,10 +42,8 @@ pub fn request_of(alloc: Global, words: &[String]) -> Result<Request, WordsFault
 
 /// What a command with these matches asks for. It may be `run` with two outputs, which asks for nothing.
 fn request_in(name: &str, matches: &ArgMatches<'_>) -> Option<Request>
-    ensures read { (words : List (List ℕ)) → HasFound words name.now (found_of matches.now) →
-        IfSome result (AreReadAs words) }
-    ensures clash { (words : List (List ℕ)) → HasFound words name.now (found_of matches.now) → IsNone result →
-        HoldBoth words }
+    ensures { (words : List (List ℕ)) → HasFound words name.now (found_of matches.now) →
+        MatchOption result (HoldBoth words) (AreReadAs words) }
 {
     Some(match name {
         "show" => Request::Read(ReadCommand::Show),

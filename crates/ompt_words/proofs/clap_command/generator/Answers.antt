@@ -5,5 +5,5 @@ use Rattle.ompt_words.proofs.clap_command.generator.Goals as goal
 
 pub returns-clause-shape : goal.returns-clause-shape
 returns-clause-shape c =
-    let first = c.with_option-command.ensures.shape (new_shape (codes "gen")) blocks_rule c.bare.ensures.shape c.blocks.ensures.rule in
+    let first = c.with_option-command.ensures.shape (new_shape (codes "gen")) blocks_rule c.bare.ensures.shape c.blocks-2.ensures.rule in
     c.with_option.ensures.shape (with_option (new_shape (codes "gen")) blocks_rule) threads_rule first c.threads.ensures.rule

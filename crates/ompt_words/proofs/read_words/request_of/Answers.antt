@@ -6,7 +6,7 @@ use Rattle.ompt_words.specs.Answers.{IsAnswerTo, IsUsageOrMemory}
 use Rattle.ompt_words.specs.declared.fault.WordsFault.TheVariants.{Shown, Usage}
 use Rattle.ompt_words.proofs.Choices.{asked_wish, form_clean, read_clean, read_taken}
 use Rattle.ompt_words.proofs.Faults.{asking_words, exact, only_memory, same_fault, text_or_memory, wrong_words}
-use Rattle.ompt_words.proofs.Requests.{IsMadeOf, found_in, made_asked, made_clash, made_exact, made_form, made_read, made_read_form, made_shown, made_usage}
+use Rattle.ompt_words.proofs.Requests.{found_in, made_asked, made_clash, made_exact, made_form, made_read, made_read_form, made_shown, made_usage}
 use Rattle.ompt_words.proofs.read_words.request_of.Goals as goal
 
 pub returns-in-Err-clause-usage : goal.returns-in-Err-clause-usage
@@ -49,7 +49,7 @@ returns-clause-read c =
     let words : List (List ℕ) = map string_bytes c.args.words.now in
     let has = found_in (app_of c.in_ok-ompt_command.field-0) words c.in-Ok.matches c.in-Some.name.now (found_of c.in-Some.inner.now)
     c.in_ok-ompt_command.ensures.app c.in-Ok.ensures.kinds c.in-Ok.ensures.matches c.in-Some.ensures.name c.in-Some.ensures.rows in
-    let made : IsMadeOf words c.request_in.result = record { read = c.request_in.ensures.read words has; clash = c.request_in.ensures.clash words has } in
+    let made = c.request_in.ensures words has in
     rw c.ok_or.ensures.value (made_read words c.request_in.result made)
 
 pub returns-clause-usage : goal.returns-clause-usage
@@ -57,7 +57,7 @@ returns-clause-usage c =
     let words : List (List ℕ) = map string_bytes c.args.words.now in
     let has = found_in (app_of c.in_ok-ompt_command.field-0) words c.in-Ok.matches c.in-Some.name.now (found_of c.in-Some.inner.now)
     c.in_ok-ompt_command.ensures.app c.in-Ok.ensures.kinds c.in-Ok.ensures.matches c.in-Some.ensures.name c.in-Some.ensures.rows in
-    let made : IsMadeOf words c.request_in.result = record { read = c.request_in.ensures.read words has; clash = c.request_in.ensures.clash words has } in
+    let made = c.request_in.ensures words has in
     rw c.ok_or.ensures.value (made_usage words c.request_in.result made)
 
 pub returns-clause-shown : goal.returns-clause-shown
@@ -70,7 +70,7 @@ returns-clause-exact c =
     let words : List (List ℕ) = map string_bytes c.args.words.now in
     let has = found_in (app_of c.in_ok-ompt_command.field-0) words c.in-Ok.matches c.in-Some.name.now (found_of c.in-Some.inner.now)
     c.in_ok-ompt_command.ensures.app c.in-Ok.ensures.kinds c.in-Ok.ensures.matches c.in-Some.ensures.name c.in-Some.ensures.rows in
-    let made : IsMadeOf words c.request_in.result = record { read = c.request_in.ensures.read words has; clash = c.request_in.ensures.clash words has } in
+    let made = c.request_in.ensures words has in
     rw c.ok_or.ensures.value (made_exact words c.request_in.result made)
 
 pub returns-clause-form : goal.returns-clause-form
@@ -78,7 +78,7 @@ returns-clause-form c =
     let words : List (List ℕ) = map string_bytes c.args.words.now in
     let has = found_in (app_of c.in_ok-ompt_command.field-0) words c.in-Ok.matches c.in-Some.name.now (found_of c.in-Some.inner.now)
     c.in_ok-ompt_command.ensures.app c.in-Ok.ensures.kinds c.in-Ok.ensures.matches c.in-Some.ensures.name c.in-Some.ensures.rows in
-    let made : IsMadeOf words c.request_in.result = record { read = c.request_in.ensures.read words has; clash = c.request_in.ensures.clash words has } in
+    let made = c.request_in.ensures words has in
     rw c.ok_or.ensures.value (made_form words c.request_in.result made)
 
 pub returns-clause-read_form : goal.returns-clause-read_form
@@ -86,7 +86,7 @@ returns-clause-read_form c =
     let words : List (List ℕ) = map string_bytes c.args.words.now in
     let has = found_in (app_of c.in_ok-ompt_command.field-0) words c.in-Ok.matches c.in-Some.name.now (found_of c.in-Some.inner.now)
     c.in_ok-ompt_command.ensures.app c.in-Ok.ensures.kinds c.in-Ok.ensures.matches c.in-Some.ensures.name c.in-Some.ensures.rows in
-    let made : IsMadeOf words c.request_in.result = record { read = c.request_in.ensures.read words has; clash = c.request_in.ensures.clash words has } in
+    let made = c.request_in.ensures words has in
     rw c.ok_or.ensures.value (made_read_form words c.request_in.result made)
 
 pub returns-clause-asked : goal.returns-clause-asked
@@ -94,7 +94,7 @@ returns-clause-asked c =
     let words : List (List ℕ) = map string_bytes c.args.words.now in
     let has = found_in (app_of c.in_ok-ompt_command.field-0) words c.in-Ok.matches c.in-Some.name.now (found_of c.in-Some.inner.now)
     c.in_ok-ompt_command.ensures.app c.in-Ok.ensures.kinds c.in-Ok.ensures.matches c.in-Some.ensures.name c.in-Some.ensures.rows in
-    let made : IsMadeOf words c.request_in.result = record { read = c.request_in.ensures.read words has; clash = c.request_in.ensures.clash words has } in
+    let made = c.request_in.ensures words has in
     rw c.ok_or.ensures.value (made_asked words c.request_in.result made)
 
 pub returns-clause-clash : goal.returns-clause-clash
@@ -102,5 +102,5 @@ returns-clause-clash c =
     let words : List (List ℕ) = map string_bytes c.args.words.now in
     let has = found_in (app_of c.in_ok-ompt_command.field-0) words c.in-Ok.matches c.in-Some.name.now (found_of c.in-Some.inner.now)
     c.in_ok-ompt_command.ensures.app c.in-Ok.ensures.kinds c.in-Ok.ensures.matches c.in-Some.ensures.name c.in-Some.ensures.rows in
-    let made : IsMadeOf words c.request_in.result = record { read = c.request_in.ensures.read words has; clash = c.request_in.ensures.clash words has } in
+    let made = c.request_in.ensures words has in
     rw c.ok_or.ensures.value (made_clash words c.request_in.result made)
