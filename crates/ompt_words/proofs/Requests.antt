@@ -1,5 +1,5 @@
 -- What is answered where clap has matches: a request, or none where the words hold both outputs of a run.
-use Rattle.std.proofs.Common.{Err, Ok, List, Option, Some, [], ◌≡◌, inr, option_map, true}
+use Rattle.std.proofs.Common.{Err, List, Option, Some, [], ◌≡◌, inr, option_map, true}
 use Rattle.std.specs.Prelude.{IfOk, IsErrAnd, MatchOption, MatchResult, None, String, ok_or}
 use Rattle.std.specs.declared.alloc.Global.{Global}
 use Rattle.clap.specs.Walk.{Text, rows_of}

@@ -5,7 +5,7 @@ ghost use Rattle.clap.specs.Simple.{App, Shape, new_shape, with_subcommand};
 ghost use Rattle.clap.specs.Walk.{Rule};
 ghost use Rattle.clap.specs.Words.{app_of, rule_of, shape_of};
 ghost use Rattle.clap.specs.declared.builder.command.Command.TheViews.{out-Command};
-ghost use Rattle.ompt_words.specs.CommandLine.{generator, ompt, program, reporters, run_command, runner, runners, timeline, trace_readers, with_option};
+ghost use Rattle.ompt_words.specs.CommandLine.{generator, ompt, program, reader, reporters, run_command, runner, runners, timeline, trace_readers, with_option};
 
 use crate::arguments::{blocks, columns, history, profile, serial, steps, threads};
 use crate::help;
@@ -20,20 +20,20 @@ pub(crate) fn ompt_command<'a>(alloc: Global) -> Result<Command<'a>, AllocError>
     ensures app { IfOk result (λ command. app_of command ≡ ompt) }
     ensures local { IfOk result (λ command. (out-Command command).has_globals ≡ false) }
 {
-    let rerun = bare(
+    let line = with_reader(
         alloc,
+        trace_readers(alloc),
         "rerun",
         "Reads a history and says whether it is a legal run that ends as it says",
         help::RERUN,
     );
-    let tasks = bare(
+    with_reader(
         alloc,
+        line,
         "tasks",
         "Reads a trace that is nested and writes its task tree, its work and its span",
         help::TASKS,
-    );
-    let line = with_command(trace_readers(alloc), Ok(rerun));
-    with_command(line, Ok(tasks))
+    )
 }
 
 /// The program with all commands that run a program, and those that read a trace.
@@ -41,27 +41,27 @@ fn trace_readers<'a>(alloc: Global) -> Result<Command<'a>, AllocError>
     ensures app { IfOk result (λ command. app_of command ≡ trace_readers) }
     ensures local { IfOk result (λ command. (out-Command command).has_globals ≡ false) }
 {
-    let show = bare(
+    let line = with_reader(
         alloc,
+        reporters(alloc),
         "show",
         "Reads a trace and writes a line for each event, and one for the end",
         help::SHOW,
     );
-    let migrate = bare(
+    let line = with_reader(
         alloc,
+        line,
         "migrate",
         "Reads a trace and writes it in the second version of the format",
         help::MIGRATE,
     );
-    let check = bare(
+    with_reader(
         alloc,
+        line,
         "check",
         "Reads a trace and says whether it is nested",
         help::CHECK,
-    );
-    let line = with_command(reporters(alloc), Ok(show));
-    let line = with_command(line, Ok(migrate));
-    with_command(line, Ok(check))
+    )
 }
 
 /// The program with all commands that run a program.
@@ -69,13 +69,13 @@ fn reporters<'a>(alloc: Global) -> Result<Command<'a>, AllocError>
     ensures app { IfOk result (λ command. app_of command ≡ reporters) }
     ensures local { IfOk result (λ command. (out-Command command).has_globals ≡ false) }
 {
-    let profile = runner(
+    let line = with_runner(
         alloc,
+        runners(alloc),
         "profile",
         "Runs a program and writes how many calls of each callback there were",
         help::PROFILE,
     );
-    let line = with_command(runners(alloc), profile);
     let line = with_command(line, timeline(alloc));
     with_command(line, generator(alloc))
 }
@@ -85,21 +85,53 @@ fn runners<'a>(alloc: Global) -> Result<Command<'a>, AllocError>
     ensures app { IfOk result (λ command. app_of command ≡ runners) }
     ensures local { IfOk result (λ command. (out-Command command).has_globals ≡ false) }
 {
-    let list = runner(
+    let line = with_command(program(alloc), run_command(alloc));
+    let line = with_runner(
         alloc,
+        line,
         "list",
         "Runs a program and writes a line for each event",
         help::LIST,
     );
-    let record = runner(
+    with_runner(
         alloc,
+        line,
         "record",
         "Runs a program and writes the trace of the run",
         help::RECORD,
-    );
-    let line = with_command(program(alloc), run_command(alloc));
-    let line = with_command(line, list);
-    with_command(line, record)
+    )
+}
+
+/// The command line with one more command that runs a program.
+fn with_runner<'a>(
+    alloc: Global,
+    line: Result<Command<'a>, AllocError>,
+    name: &'a str,
+    about: &'a str,
+    example: &'a str,
+) -> Result<Command<'a>, AllocError>
+    requires { IfOk line (λ command. (out-Command command).has_globals ≡ false) }
+    ensures app { (app : App) → IfOk line.entry (λ command. app_of command ≡ app) →
+        IfOk result (λ command. app_of command ≡ with_subcommand app (runner name.entry.now)) }
+    ensures local { IfOk result (λ command. (out-Command command).has_globals ≡ false) }
+{
+    with_command(line, runner(alloc, name, about, example))
+}
+
+/// The command line with one more command that reads what a run has left.
+fn with_reader<'a>(
+    alloc: Global,
+    line: Result<Command<'a>, AllocError>,
+    name: &'a str,
+    about: &'a str,
+    example: &'a str,
+) -> Result<Command<'a>, AllocError>
+    requires { IfOk line (λ command. (out-Command command).has_globals ≡ false) }
+    ensures app { (app : App) → IfOk line.entry (λ command. app_of command ≡ app) →
+        IfOk result (λ command. app_of command ≡ with_subcommand app (reader name.entry.now)) }
+    ensures local { IfOk result (λ command. (out-Command command).has_globals ≡ false) }
+{
+    with_command(line, Ok(bare(alloc, name, about, example)))
 }
 
 /// The command line with one more command, where there was memory for both.

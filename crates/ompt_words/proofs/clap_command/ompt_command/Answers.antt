@@ -5,5 +5,5 @@ use Rattle.ompt_words.proofs.clap_command.ompt_command.Goals as goal
 
 pub returns-clause-app : goal.returns-clause-app
 returns-clause-app c =
-    let first = c.with_command-line.ensures.app trace_readers (reader (codes "rerun")) c.trace_readers.ensures.app c.bare-rerun.ensures.shape in
-    c.with_command.ensures.app (with_subcommand trace_readers (reader (codes "rerun"))) (reader (codes "tasks")) first c.bare-tasks.ensures.shape
+    let first = c.with_reader-line.ensures.app trace_readers c.trace_readers.ensures.app in
+    c.with_reader.ensures.app (with_subcommand trace_readers (reader (codes "rerun"))) first

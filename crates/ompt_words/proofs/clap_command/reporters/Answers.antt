@@ -5,6 +5,6 @@ use Rattle.ompt_words.proofs.clap_command.reporters.Goals as goal
 
 pub returns-clause-app : goal.returns-clause-app
 returns-clause-app c =
-    let first = c.with_command-line.ensures.app runners (runner (codes "profile")) c.runners.ensures.app c.runner-profile.ensures.shape in
-    let second = c.with_command-line-2.ensures.app (with_subcommand runners (runner (codes "profile"))) timeline first c.timeline.ensures.shape in
+    let first = c.with_runner-line.ensures.app runners c.runners.ensures.app in
+    let second = c.with_command-line.ensures.app (with_subcommand runners (runner (codes "profile"))) timeline first c.timeline.ensures.shape in
     c.with_command.ensures.app (with_subcommand (with_subcommand runners (runner (codes "profile"))) timeline) generator second c.generator.ensures.shape

@@ -6,6 +6,5 @@ use Rattle.ompt_words.proofs.clap_command.runners.Goals as goal
 pub returns-clause-app : goal.returns-clause-app
 returns-clause-app c =
     let first = c.with_command-line.ensures.app program run_command c.program.ensures.app c.run_command.ensures.shape in
-    let second = c.with_command-line-2.ensures.app (with_subcommand program run_command) (runner (codes "list")) first c.runner-list.ensures.shape in
-    c.with_command.ensures.app (with_subcommand (with_subcommand program run_command) (runner (codes "list"))) (runner (codes "record")) second
-    c.runner-record.ensures.shape
+    let second = c.with_runner-line.ensures.app (with_subcommand program run_command) first in
+    c.with_runner.ensures.app (with_subcommand (with_subcommand program run_command) (runner (codes "list"))) second

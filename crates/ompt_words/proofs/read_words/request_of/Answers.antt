@@ -1,4 +1,4 @@
-use Rattle.std.proofs.Common.{◌≡◌, List, [], map, string_bytes, subst, sym, ℕ}
+use Rattle.std.proofs.Common.{List, map, string_bytes, subst, sym, ℕ}
 use Rattle.clap.specs.Kinds.{HasKind}
 use Rattle.clap.specs.Matches.{found_of}
 use Rattle.clap.specs.Words.{app_of, kind_of}
