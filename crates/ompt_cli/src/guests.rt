@@ -20,7 +20,8 @@ pub(crate) fn hand_out_all(
     threads: u8,
     guests: Vec<Box<dyn GuestTool>>,
 ) -> Result<Handing, AllocError>
-    ensures handed { IfOk result (λ handing. HandOut (λ guest. guest.0) guests.items handing.parts.items (reverse handing.waiting.items)) }
+    ensures handed { IfOk result (λ handing.
+        HandOut (λ guest. guest.0) guests.items handing.parts.items (reverse handing.waiting.items)) }
     ensures each { IfOk result (λ handing. length handing.parts.items ≡ threads) }
     ensures room { IfOk result (λ handing. vec_len handing.waiting + threads ≤ vec_capacity handing.waiting) }
 {
@@ -51,7 +52,8 @@ fn hand_out(
     threads: u8,
     waiting: &mut Vec<Box<dyn GuestTool>>,
 ) -> Result<Vec<Handed<GuestPart>>, AllocError>
-    ensures handed { IfOk result (λ parts. HandOut (λ guest. guest.0) (reverse waiting.old.items) parts.items (reverse waiting.new.items)) }
+    ensures handed { IfOk result (λ parts.
+        HandOut (λ guest. guest.0) (reverse waiting.old.items) parts.items (reverse waiting.new.items)) }
     ensures each { IfOk result (λ parts. length parts.items ≡ threads) }
 {
     let mut parts = Vec::new(alloc);

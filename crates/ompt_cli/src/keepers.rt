@@ -36,7 +36,8 @@ pub(crate) trait Keeper: JobPart {
         parts: &[Self],
         printed: &[u8],
     ) -> Result<Vec<u8>, AllocError>
-        ensures { IfOk result (λ text. (events : List EventRecord) → AreKept keep events parts.now → text.items ≡ text_of command events printed.now) };
+        ensures { IfOk result (λ text. (events : List EventRecord) → AreKept keep events parts.now →
+            text.items ≡ text_of command events printed.now) };
 
     ghost stands: { (kept : Self) (h : Record) → KeeperFor keep kept h → Self.stands_for kept h };
 

@@ -47,8 +47,10 @@ pub(crate) fn run_profiled<X: Runner, O: Sink>(
     ensures ran { IfOk result (λ ended. Reports job ended.end ended.report) }
     ensures guests { IfOk result (λ ended.
         GuestsAfter (λ guest h. (GuestTool-box guest).stands_for guest.value h) guests.items ended.report) }
-    ensures written { IfOk result (λ ended. HasWritten ended.end (run_text (Some ended.report)) (O.held out.old) (O.held out.new)) }
-    ensures faults { IfOk result (λ ended. CountsFaults ended.end End.WriteFault (O.faults out.old) (O.faults out.new)) }
+    ensures written { IfOk result (λ ended.
+        HasWritten ended.end (run_text (Some ended.report)) (O.held out.old) (O.held out.new)) }
+    ensures faults { IfOk result (λ ended.
+        CountsFaults ended.end End.WriteFault (O.faults out.old) (O.faults out.new)) }
     ensures untouched { OnErr result (out.new ≡ out.old) }
 {
     let CountedRun {
@@ -67,7 +69,8 @@ fn with_profile(
     printed: Vec<u8>,
     profiles: &[Profile],
 ) -> Result<Vec<u8>, AllocError>
-    ensures { IfOk result (λ text. (events : List EventRecord) → AreKept counts_of events profiles.now → text.items ≡ printed.items ++ profile_of events) }
+    ensures { IfOk result (λ text. (events : List EventRecord) → AreKept counts_of events profiles.now →
+        text.items ≡ printed.items ++ profile_of events) }
 {
     let mut text = printed;
     let counts = profile_text(alloc, profiles)?;
@@ -87,8 +90,10 @@ fn serve_profiled<X: Runner>(
     ensures observes { IfOk result (λ counted. Observes job counted.report) }
     ensures guests { IfOk result (λ counted.
         GuestsAfter (λ guest h. (GuestTool-box guest).stands_for guest.value h) guests.items counted.report) }
-    ensures printed { IfOk result (λ counted. counted.text.items ≡ (after (run_of counted.report) counted.report.history).world.store.text) }
-    ensures counted { IfOk result (λ counted. AreKept counts_of (records_of (run_of counted.report) counted.report.history) counted.profiles.items) }
+    ensures printed { IfOk result (λ counted.
+        counted.text.items ≡ (after (run_of counted.report) counted.report.history).world.store.text) }
+    ensures counted { IfOk result (λ counted.
+        AreKept counts_of (records_of (run_of counted.report) counted.report.history) counted.profiles.items) }
 {
     let Handing { parts, waiting } = hand_out_all(alloc, job.settings.threads, guests)?;
     let Joined { parts, room, .. } = join_all(alloc, parts)?;

@@ -28,7 +28,8 @@ pub(crate) fn read_input<S: Source, O: Sink>(
     ensures end { IsReading result }
     ensures copied { HasRead command result (S.left source.old) (S.left source.new) (O.held out.old) (O.held out.new) }
     ensures memory { command ≡ ReadCommand.Migrate → result ≢ End.Memory }
-    ensures certified { command ≡ ReadCommand.Rerun → (file : SeenFile) → IsSomeAnd (S.left source.old) (WritesHistory file) →
+    ensures certified { command ≡ ReadCommand.Rerun → (file : SeenFile) →
+        IsSomeAnd (S.left source.old) (WritesHistory file) →
         Certifies file → MayCertify result }
     ensures reads { CountsFaults result End.ReadFault (S.faults source.old) (S.faults source.new) }
     ensures writes { CountsFaults result End.WriteFault (O.faults out.old) (O.faults out.new) }

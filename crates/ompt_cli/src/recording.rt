@@ -41,8 +41,10 @@ pub(crate) fn record<X: Runner, O: Sink>(
     ensures ran { IfOk result (λ ended. Reports job ended.end ended.report) }
     ensures guests { IfOk result (λ ended.
         GuestsAfter (λ guest h. (GuestTool-box guest).stands_for guest.value h) guests.items ended.report) }
-    ensures written { IfOk result (λ ended. HasWritten ended.end (run_text (Some ended.report)) (O.held out.old) (O.held out.new)) }
-    ensures faults { IfOk result (λ ended. CountsFaults ended.end End.WriteFault (O.faults out.old) (O.faults out.new)) }
+    ensures written { IfOk result (λ ended.
+        HasWritten ended.end (run_text (Some ended.report)) (O.held out.old) (O.held out.new)) }
+    ensures faults { IfOk result (λ ended.
+        CountsFaults ended.end End.WriteFault (O.faults out.old) (O.faults out.new)) }
     ensures untouched { OnErr result (out.new ≡ out.old) }
 {
     let Observed { report, parts, .. } = run_kept::<X, Recorder>(runner, alloc, job, guests)?;
@@ -62,8 +64,10 @@ fn write_trace_of_run<O: Sink>(
     requires shared { IsSharedFew parts.now }
     ensures end { EndsAs cause result }
     ensures written { (events : List EventRecord) → AreShared events parts.now →
-        HasWritten result (unless_memory cause (spelling (fields_of (trace_with threads PROFILE_MASK cause events)))) (O.held out.old) (O.held out.new) }
-    ensures fits { (events : List EventRecord) → AreShared events parts.now → result ≢ End.WriteFault → result ≢ End.Memory → FitsCause cause × All FitsFields events }
+        HasWritten result (unless_memory cause (spelling (fields_of (trace_with threads PROFILE_MASK cause events))))
+        (O.held out.old) (O.held out.new) }
+    ensures fits { (events : List EventRecord) → AreShared events parts.now → result ≢ End.WriteFault →
+        result ≢ End.Memory → FitsCause cause × All FitsFields events }
     ensures faults { CountsFaults result End.WriteFault (O.faults out.old) (O.faults out.new) }
 {
     if cause == Cause::Memory {
@@ -85,8 +89,10 @@ fn write_recorded<O: Sink>(
     ensures end { EndsAs cause result }
     ensures found { cause ≢ Cause.Memory }
     ensures written { (events : List EventRecord) → AreShared events parts.now →
-        HasWritten result (spelling (fields_of (trace_with threads PROFILE_MASK cause events))) (O.held out.old) (O.held out.new) }
-    ensures fits { (events : List EventRecord) → AreShared events parts.now → result ≢ End.WriteFault → result ≢ End.Memory → FitsCause cause × All FitsFields events }
+        HasWritten result (spelling (fields_of (trace_with threads PROFILE_MASK cause events))) (O.held out.old)
+        (O.held out.new) }
+    ensures fits { (events : List EventRecord) → AreShared events parts.now → result ≢ End.WriteFault →
+        result ≢ End.Memory → FitsCause cause × All FitsFields events }
     ensures faults { CountsFaults result End.WriteFault (O.faults out.old) (O.faults out.new) }
 {
     let Ok(events) = merge(alloc, parts) else {

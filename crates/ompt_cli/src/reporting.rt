@@ -39,8 +39,10 @@ pub(crate) fn report<X: Runner, P: Keeper, O: Sink>(
     ensures ran { IfOk result (λ ended. Reports job ended.end ended.report) }
     ensures guests { IfOk result (λ ended.
         GuestsAfter (λ guest h. (GuestTool-box guest).stands_for guest.value h) guests.items ended.report) }
-    ensures written { IfOk result (λ ended. HasWritten ended.end (run_text (Some ended.report)) (O.held out.old) (O.held out.new)) }
-    ensures faults { IfOk result (λ ended. CountsFaults ended.end End.WriteFault (O.faults out.old) (O.faults out.new)) }
+    ensures written { IfOk result (λ ended.
+        HasWritten ended.end (run_text (Some ended.report)) (O.held out.old) (O.held out.new)) }
+    ensures faults { IfOk result (λ ended.
+        CountsFaults ended.end End.WriteFault (O.faults out.old) (O.faults out.new)) }
     ensures untouched { OnErr result (out.new ≡ out.old) }
 {
     let command = job.settings.command;

@@ -40,8 +40,10 @@ pub(crate) fn run_printed<X: Runner, O: Sink>(
     ensures ran { IfOk result (λ ended. Reports job ended.end ended.report) }
     ensures guests { IfOk result (λ ended.
         GuestsAfter (λ guest h. (GuestTool-box guest).stands_for guest.value h) guests.items ended.report) }
-    ensures written { IfOk result (λ ended. HasWritten ended.end (run_text (Some ended.report)) (O.held out.old) (O.held out.new)) }
-    ensures faults { IfOk result (λ ended. CountsFaults ended.end End.WriteFault (O.faults out.old) (O.faults out.new)) }
+    ensures written { IfOk result (λ ended.
+        HasWritten ended.end (run_text (Some ended.report)) (O.held out.old) (O.held out.new)) }
+    ensures faults { IfOk result (λ ended.
+        CountsFaults ended.end End.WriteFault (O.faults out.old) (O.faults out.new)) }
     ensures untouched { OnErr result (out.new ≡ out.old) }
 {
     let Served { report, text } = serve(runner, alloc, job, guests)?;
@@ -62,8 +64,10 @@ pub(crate) fn run_history<X: Runner, O: Sink>(
     ensures ran { IfOk result (λ ended. Reports job ended.end ended.report) }
     ensures guests { IfOk result (λ ended.
         GuestsAfter (λ guest h. (GuestTool-box guest).stands_for guest.value h) guests.items ended.report) }
-    ensures written { IfOk result (λ ended. HasWritten ended.end (run_text (Some ended.report)) (O.held out.old) (O.held out.new)) }
-    ensures faults { IfOk result (λ ended. CountsFaults ended.end End.WriteFault (O.faults out.old) (O.faults out.new)) }
+    ensures written { IfOk result (λ ended.
+        HasWritten ended.end (run_text (Some ended.report)) (O.held out.old) (O.held out.new)) }
+    ensures faults { IfOk result (λ ended.
+        CountsFaults ended.end End.WriteFault (O.faults out.old) (O.faults out.new)) }
     ensures untouched { OnErr result (out.new ≡ out.old) }
 {
     let text = job.copied_text(alloc)?;
@@ -79,11 +83,13 @@ fn serve<X: Runner>(
     guests: Vec<Box<dyn GuestTool>>,
 ) -> Result<Served, AllocError>
     requires kind { X.may_run runner.now job.settings.serial }
-    requires command { (job.settings.command ≡ Command.Run RunOutput.Printed) ⊎ (job.settings.command ≡ Command.Run RunOutput.History) }
+    requires command { (job.settings.command ≡ Command.Run RunOutput.Printed) ⊎
+        (job.settings.command ≡ Command.Run RunOutput.History) }
     ensures observes { IfOk result (λ served. Observes job served.report) }
     ensures guests { IfOk result (λ served.
         GuestsAfter (λ guest h. (GuestTool-box guest).stands_for guest.value h) guests.items served.report) }
-    ensures printed { IfOk result (λ served. served.text.items ≡ (after (run_of served.report) served.report.history).world.store.text) }
+    ensures printed { IfOk result (λ served.
+        served.text.items ≡ (after (run_of served.report) served.report.history).world.store.text) }
 {
     let Handing { parts, waiting } = hand_out_all(alloc, job.settings.threads, guests)?;
     let Observed {

@@ -137,7 +137,8 @@ pub(crate) trait Runner {
         requires kind { may_run self.now job.settings.serial }
         requires parts { length parts.items ≡ job.settings.threads }
         ensures { IfOk result (HasObserved
-            (HandedFor (λ guest h. (GuestTool-box guest.0).stands_for guest.0.value h)) (SameHanded (λ guest other. guest.0.vtable ≡ other.0.vtable))
+            (HandedFor (λ guest h. (GuestTool-box guest.0).stands_for guest.0.value h)) (SameHanded (λ guest other.
+            guest.0.vtable ≡ other.0.vtable))
             job parts.items) };
 
     /// Runs the job with these parts, which are joined with profiles. The report has no guests.

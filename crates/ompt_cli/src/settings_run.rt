@@ -29,8 +29,10 @@ pub(crate) fn run_settings<X: Runner, S: Source, O: Sink>(
     requires kind { X.may_run runner.now settings.serial }
     requires range { AreInRange settings }
     ensures carried { (words : List (List ℕ)) → AreTakenAs words (request.Run settings) →
-        CarriesOut S.left S.faults O.held O.faults words result.end result.shown result.read result.ran source.old source.new out.old out.new }
-    ensures guests { IfSome result.ran (GuestsAfter (λ guest h. (GuestTool-box guest).stands_for guest.value h) guests.items) }
+        CarriesOut S.left S.faults O.held O.faults words result.end result.shown result.read result.ran source.old
+        source.new out.old out.new }
+    ensures guests { IfSome result.ran (GuestsAfter (λ guest h.
+        (GuestTool-box guest).stands_for guest.value h) guests.items) }
 {
     let loaded = match program_for(alloc, settings.command, source) {
         Ok(loaded) => loaded,

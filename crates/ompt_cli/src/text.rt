@@ -26,7 +26,8 @@ pub(crate) fn program_for<S: Source>(
     source: &mut S,
 ) -> Result<Loaded, End>
     ensures program { IfOk result (λ loaded. Spells loaded.text.items loaded.program) }
-    ensures text { IfOk result (λ loaded. IfSome (text_for command (S.left source.old)) (λ text. text ≡ loaded.text.items)) }
+    ensures text { IfOk result (λ loaded. IfSome (text_for command (S.left source.old)) (λ text.
+        text ≡ loaded.text.items)) }
     ensures before { IfErr result IsBeforeRun }
     ensures refused { (why : Refusal) → result ≡ Err (End.Refused why) →
         IfSome (text_for command (S.left source.old)) (IsRefused why) }

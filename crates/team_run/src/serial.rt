@@ -41,15 +41,18 @@ pub fn run_serial<P: ToolPart>(
     requires parts { length parts.items ≡ threads }
     ensures serial { IfOk result (λ ran. Serial (run_of program threads steps ran) ran.history) }
     ensures parts { IfOk result (λ ran.
-        RunsParts P.stands_for true (run_of program threads steps ran) ran.cause ran.history parts.items ran.parts.items) }
+        RunsParts P.stands_for true (run_of program threads steps ran) ran.cause ran.history parts.items
+        ran.parts.items) }
     ensures same { IfOk result (λ ran. AreSame P.same parts.items ran.parts.items) }
     ensures always { IfOk result (λ ran. AreAlways ran.mask) }
     ensures own { IfOk result (λ ran. HearsOwn (run_of program threads steps ran) ran.history) }
     ensures cause { IfOk result (λ ran. ran.cause ≢ Cause.Memory →
         cause_of (run_of program threads steps ran) ran.history ≡ Some ran.cause) }
     ensures whole { IfOk result (λ ran. ran.cause ≢ Cause.Memory →
-        HearsSilent (run_of program threads steps ran) ran.history → ran.history ≡ serial (run_of program threads steps ran)) }
-    ensures text { IfOk result (λ ran. ran.text.items ≡ (after (run_of program threads steps ran) ran.history).world.store.text) }
+        HearsSilent (run_of program threads steps ran) ran.history →
+        ran.history ≡ serial (run_of program threads steps ran)) }
+    ensures text { IfOk result (λ ran.
+        ran.text.items ≡ (after (run_of program threads steps ran) ran.history).world.store.text) }
     ensures begun { IfOk result (λ ran. ran.cause ≡ Cause.Memory → ran.history ≢ []) }
 {
     let mut parts = parts;

@@ -105,7 +105,8 @@ pub(crate) fn drive_here<R: Wait, K: BookName, P: ToolPart>(
 )
     ensures as_many { length slots.new ≡ length slots.old }
     ensures kept { AreKept (λ t first slot.
-        IsSlot (λ h. h.promise.0.value) (λ h. h.promise.1.value) P.stands_for P.same K.run t first slot.driver) slots.old slots.new }
+        IsSlot (λ h. h.promise.0.value) (λ h.
+        h.promise.1.value) P.stands_for P.same K.run t first slot.driver) slots.old slots.new }
 {
     if count_here(slots) == 1 {
         drive_alone(rt, book, slots);
@@ -122,7 +123,8 @@ fn drive_alone<R: Wait, K: BookName, P: ToolPart>(
 )
     ensures as_many { length slots.new ≡ length slots.old }
     ensures kept { AreKept (λ t first slot.
-        IsSlot (λ h. h.promise.0.value) (λ h. h.promise.1.value) P.stands_for P.same K.run t first slot.driver) slots.old slots.new }
+        IsSlot (λ h. h.promise.0.value) (λ h.
+        h.promise.1.value) P.stands_for P.same K.run t first slot.driver) slots.old slots.new }
 {
     for place in 0..slots.len() {
         drive_slot(rt, book, &mut slots[place]);
@@ -152,7 +154,8 @@ fn drive_in_turn<R: Wait, K: BookName, P: ToolPart>(
 )
     ensures as_many { length slots.new ≡ length slots.old }
     ensures kept { AreKept (λ t first slot.
-        IsSlot (λ h. h.promise.0.value) (λ h. h.promise.1.value) P.stands_for P.same K.run t first slot.driver) slots.old slots.new }
+        IsSlot (λ h. h.promise.0.value) (λ h.
+        h.promise.1.value) P.stands_for P.same K.run t first slot.driver) slots.old slots.new }
 {
     for _ in rt.forever() {
         if !visit_all(rt, book, slots) {
@@ -170,7 +173,8 @@ fn visit_all<R: Wait, K: BookName, P: ToolPart>(
 ) -> bool
     ensures as_many { length slots.new ≡ length slots.old }
     ensures kept { AreKept (λ t first slot.
-        IsSlot (λ h. h.promise.0.value) (λ h. h.promise.1.value) P.stands_for P.same K.run t first slot.driver) slots.old slots.new }
+        IsSlot (λ h. h.promise.0.value) (λ h.
+        h.promise.1.value) P.stands_for P.same K.run t first slot.driver) slots.old slots.new }
 {
     let mut goes_on = false;
     for place in 0..slots.len() {
@@ -210,9 +214,12 @@ pub(crate) fn start_all<'s, E: 's, R: Wait + Sync, K: BookName + 's, P: ToolPart
     requires empty { slots.items ≡ [] }
     requires room { length drivers.items ≤ vec_capacity slots }
     ensures as_many { length result.items ≡ length drivers.items }
-    ensures slots { (parts : List P) → AreFor (λ t first driver. IsDriver P.stands_for P.same K.run t first driver.pass driver.part) parts drivers.items →
+    ensures slots { (parts : List P) →
+        AreFor (λ t first driver. IsDriver P.stands_for P.same K.run t first driver.pass driver.part) parts
+        drivers.items →
         AreFor (λ t first slot.
-        IsSlot (λ h. h.promise.0.value) (λ h. h.promise.1.value) P.stands_for P.same K.run t first slot.driver) parts result.items }
+        IsSlot (λ h. h.promise.0.value) (λ h.
+        h.promise.1.value) P.stands_for P.same K.run t first slot.driver) parts result.items }
 {
     let mut slots = slots;
     for driver in drivers {
@@ -244,7 +251,8 @@ pub(crate) fn finish_all<R: Threads, K: BookName, P: ToolPart>(
     ensures passes { length result.0.items ≡ length slots.items }
     ensures parts { length result.1.items ≡ length slots.items }
     ensures drivers { (first : List P) → AreFor (λ t first slot.
-        IsSlot (λ h. h.promise.0.value) (λ h. h.promise.1.value) P.stands_for P.same K.run t first slot.driver) first slots.items →
+        IsSlot (λ h. h.promise.0.value) (λ h.
+        h.promise.1.value) P.stands_for P.same K.run t first slot.driver) first slots.items →
         AreDrivers P.stands_for P.same K.run first result.0.items result.1.items }
 {
     let mut passes = passes;

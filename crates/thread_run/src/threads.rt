@@ -47,13 +47,15 @@ pub fn run_threads<R: Threads + Wait + Sync, P: ToolPart>(
     requires parts { length parts.items ≡ threads }
     ensures legal { IfOk result (λ ran. Legal (run_of program threads steps ran) ran.history) }
     ensures parts { IfOk result (λ ran.
-        RunsParts P.stands_for false (run_of program threads steps ran) ran.cause ran.history parts.items ran.parts.items) }
+        RunsParts P.stands_for false (run_of program threads steps ran) ran.cause ran.history parts.items
+        ran.parts.items) }
     ensures same { IfOk result (λ ran. AreSame P.same parts.items ran.parts.items) }
     ensures always { IfOk result (λ ran. AreAlways ran.mask) }
     ensures own { IfOk result (λ ran. HearsOwn (run_of program threads steps ran) ran.history) }
     ensures cause { IfOk result (λ ran. ran.cause ≢ Cause.Memory →
         cause_of (run_of program threads steps ran) ran.history ≡ Some ran.cause) }
-    ensures text { IfOk result (λ ran. ran.text.items ≡ (after (run_of program threads steps ran) ran.history).world.store.text) }
+    ensures text { IfOk result (λ ran.
+        ran.text.items ≡ (after (run_of program threads steps ran) ran.history).world.store.text) }
 {
     let mut parts = parts;
     let start = initialize_first(&mut parts);
@@ -107,10 +109,12 @@ fn run_team<R: Threads + Wait + Sync, K: BookName, P: ToolPart>(
     requires few { K.run.threads ≤ 16 }
     requires parts { length parts.items ≡ K.run.threads }
     ensures legal { IfOk result (λ team. Legal K.run team.closed.history) }
-    ensures served { IfOk result (λ team. HaveServed P.stands_for P.same K.run team.closed.cause team.closed.history parts.items team.parts.items) }
+    ensures served { IfOk result (λ team.
+        HaveServed P.stands_for P.same K.run team.closed.cause team.closed.history parts.items team.parts.items) }
     ensures own { IfOk result (λ team. HearsOwn K.run team.closed.history) }
     ensures text { IfOk result (λ team. team.closed.text.items ≡ (after K.run team.closed.history).world.store.text) }
-    ensures cause { IfOk result (λ team. IfSome team.closed.cause (λ cause. cause ≢ Cause.Memory → cause_of K.run team.closed.history ≡ Some cause)) }
+    ensures cause { IfOk result (λ team. IfSome team.closed.cause (λ cause. cause ≢ Cause.Memory →
+        cause_of K.run team.closed.history ≡ Some cause)) }
 {
     let (book, passes) = SharedBook::<K>::start(alloc, blank, processors(rt))?;
     let slots = Vec::with_capacity(alloc, passes.len())?;
@@ -137,8 +141,10 @@ fn pair<K: BookName, P: ToolPart>(
 ) -> Result<Vec<Driver<K, P>>, Memory>
     requires { length passes.items ≡ length parts.items }
     ensures count { IfOk result (λ drivers. length drivers.items ≡ length passes.items) }
-    ensures passes { IfOk result (λ drivers. (k : ℕ) (d : _) (e : Sight) → k < length passes.items → (get_or drivers.items k d).pass ≡ get_or passes.items k e) }
-    ensures parts { IfOk result (λ drivers. (k : ℕ) (d : _) (e : P) → k < length passes.items → (get_or drivers.items k d).part ≡ get_or parts.items k e) }
+    ensures passes { IfOk result (λ drivers. (k : ℕ) (d : _) (e : Sight) → k < length passes.items →
+        (get_or drivers.items k d).pass ≡ get_or passes.items k e) }
+    ensures parts { IfOk result (λ drivers. (k : ℕ) (d : _) (e : P) → k < length passes.items →
+        (get_or drivers.items k d).part ≡ get_or parts.items k e) }
 {
     let mut drivers = Vec::new(alloc);
     let mut parts = parts.into_iter();
@@ -169,7 +175,9 @@ fn run_drivers<R: Threads + Wait + Sync, K: BookName, P: ToolPart>(
     requires parts { length drivers.items ≤ vec_capacity parts }
     ensures passes { length result.0.items ≡ length drivers.items }
     ensures parts { length result.1.items ≡ length drivers.items }
-    ensures drivers { (first : List P) → AreFor (λ t first driver. IsDriver P.stands_for P.same K.run t first driver.pass driver.part) first drivers.items →
+    ensures drivers { (first : List P) →
+        AreFor (λ t first driver. IsDriver P.stands_for P.same K.run t first driver.pass driver.part) first
+        drivers.items →
         AreDrivers P.stands_for P.same K.run first result.0.items result.1.items }
 {
     let stays: Stays = [
@@ -204,7 +212,9 @@ fn run_drivers<R: Threads + Wait + Sync, K: BookName, P: ToolPart>(
             requires parts { length drivers.items ≤ vec_capacity parts }
             ensures passes { length result.0.items ≡ length drivers.items }
             ensures parts { length result.1.items ≡ length drivers.items }
-            ensures drivers { (first : List P) → AreFor (λ t first driver. IsDriver P.stands_for P.same K.run t first driver.pass driver.part) first drivers.items →
+            ensures drivers { (first : List P) →
+                AreFor (λ t first driver. IsDriver P.stands_for P.same K.run t first driver.pass driver.part) first
+                drivers.items →
                 AreDrivers P.stands_for P.same K.run first result.0.items result.1.items }
         {
             let mut slots = start_all(scope, rt, book, stays, drivers, slots);
