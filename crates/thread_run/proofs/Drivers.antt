@@ -192,9 +192,12 @@ module _ {P : Type 0} (stands_for : P → Record → Type 0) (Same : P → P →
     left = λ k below. left-by k (cases_lt k run.threads) below;
     all_heard = λ other k below. heard-by k (cases_lt k run.threads) other below;
     each = λ k d h below stands. each-by k (cases_lt k run.threads) d h below stands;
-    same = record { each = λ k d below.
-        subst (λ part. Same (get_or parts k d) part) (sym (get_or_default others k d p (omega (arith, below, count, back))))
-        (subst (λ part. Same part (get_or others k p)) (sym (get_or_default parts k d p below)) (driver k (omega (arith, below, count))).driven.same_is);
+    same =
+        record {
+          each = λ k d below.
+              subst (λ part. Same (get_or parts k d) part) (sym (get_or_default others k d p (omega (arith, below, count, back))))
+              (subst (λ part. Same part (get_or others k p)) (sym (get_or_default parts k d p below)) (driver k (omega (arith, below, count))).driven.same_is);
+        };
   }
 
 -- what is so of each is so of each that was kept
