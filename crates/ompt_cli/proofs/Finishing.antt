@@ -66,5 +66,5 @@ each-outside (Some callback ∷ rest) k none = cc
 
 pub parts-outside : {P : Type 0} (stands_for : P → Record → Type 0) (serial : Bool) (run : Run) (cause : Cause) (history : List Entry) (parts others : List P) → cause ≢ causes.Memory → RunsParts stands_for serial run cause history parts others → AreOutside run history
 parts-outside stands_for true run cause history parts others found runs =
-    λ k below. each-outside (after run history).pending k (subst (IsUnheard run history) (runs.are_missed.all_heard found) runs.are_missed.is_unheard)
-parts-outside stands_for false run cause history parts others found runs = λ k below. subst (LeftAt run history k) (runs.all_heard found k below) (runs.are_missed k below)
+    λ k below. each-outside (after run history).pending k (subst (IsUnheard run history) (runs.are_unheard.all_heard found) runs.are_unheard.is_unheard)
+parts-outside stands_for false run cause history parts others found runs = λ k below. subst (LeftAt run history k) (runs.all_heard found k below) (runs.are_unheard k below)

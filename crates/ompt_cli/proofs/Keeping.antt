@@ -21,7 +21,7 @@ use Rattle.trace_format.specs.declared.trace.TheConstants.{SEQ_LIMIT}
 use Rattle.team_run.specs.Serving.{RunsParts, served}
 use Rattle.tool_api.specs.Registering.{mask_of}
 use Rattle.team_run.specs.Standing.{AreSilent, HearsOwn, HearsSilent}
-use Rattle.ompt_cli.proofs.Calls.{SameCalls, same-first, same-missed}
+use Rattle.ompt_cli.proofs.Calls.{SameCalls, same-first, same-unheard}
 
 -- positions from one on are from each smaller one on
 from-less : (least more : ℕ) (events : List EventRecord) → least ≤ more → AreFrom more events → AreFrom least events
@@ -111,14 +111,14 @@ module _ {A : Type 0} (keep : List EventRecord → A) (stands : A → Record →
   -- the first part, after its start
   first-part : (d : A) → KeeperFor keep (slice_index_or parts 0 d) (served (initialized nothing_called runs.answer runs.registered) (heard_of run H 0))
   first-part d =
-      same-keeper keep (slice_index_or parts 0 d) _ _ (same-first runs.answer runs.registered (heard_of run H 0) (runs.missed 0) nothing_called)
+      same-keeper keep (slice_index_or parts 0 d) _ _ (same-first runs.answer runs.registered (heard_of run H 0) (runs.unheard 0) nothing_called)
       (out _ _ (runs.first d nothing_called (fresh-at 0 d (omega (arith, some)))))
 
   -- each part kept what its thread heard
   keeps : (k : ℕ) (d : A) → k < threads → KeepsOf keep (slice_index_or parts k d) (heard_of run H k)
   keeps zero d below = keeps-of keep (slice_index_or parts 0 d) (initialized nothing_called runs.answer runs.registered) refl (heard_of run H 0) (first-part d)
   keeps (suc k) d below =
-      keeps-of keep (slice_index_or parts (suc k) d) nothing_called refl (heard_of run H (suc k)) (same-keeper keep (slice_index_or parts (suc k) d) _ _ (same-missed (heard_of run H (suc k)) (runs.missed (suc k)) nothing_called) (out _ _ (runs.each (suc k) (omega arith) (subst (λ n. suc k < n) (sym (length-replicate threads (keep []))) below) d nothing_called (fresh-at (suc k) d below))))
+      keeps-of keep (slice_index_or parts (suc k) d) nothing_called refl (heard_of run H (suc k)) (same-keeper keep (slice_index_or parts (suc k) d) _ _ (same-unheard (heard_of run H (suc k)) (runs.unheard (suc k)) nothing_called) (out _ _ (runs.each (suc k) (omega arith) (subst (λ n. suc k < n) (sym (length-replicate threads (keep []))) below) d nothing_called (fresh-at (suc k) d below))))
 
   -- so nothing was stored
   pub parts-silent : run.threads ≡ threads → HearsSilent run H

@@ -13,7 +13,7 @@ use Rattle.omp_model.specs.Heard.{heard_of}
 use Rattle.team_run.specs.Serving.{Becomes, called_for, record_of_first}
 use Rattle.tool_api.specs.Registering.{mask_of}
 use Rattle.team_run.specs.Standing.{AreSilent}
-use Rattle.team_run.specs.Unheard.{AreMissed}
+use Rattle.team_run.specs.Unheard.{AreUnheard}
 use Rattle.tool_profiled.specs.Hearing.{HasHeard, HasStarted}
 use Rattle.ompt_words.specs.declared.settings.Command.{Command}
 use Rattle.ompt_words.specs.declared.settings.Command.TheVariants.{Run as Running}
@@ -25,7 +25,7 @@ use Rattle.ompt_cli.specs.Commands.{run_of}
 
 -- guest 0 was started, with this answer and these callbacks registered, called for what thread 0 heard, and finished after all
 -- that where it is active; guest t was called for what thread t heard; those past the threads are as they were. Beside that a guest
--- was called once more where its thread missed an event, for which no memory was found, and then the cause says so. Where there is no
+-- was called once more where that call found no memory, and so went unheard, and then the cause says so. Where there is no
 -- guest, nothing is registered, and nothing is stored on a thread without a guest. Each is of the type that was handed in
 pub record GuestsServe {B : Type 0} (stands_for : B → Record → Type 0) (Same : B → B → Type 0) (serial : Bool) (run : Run) (cause : Cause) (history : List Entry) (guests after : List B) : Type 0 where
   pub as_many : length after ≡ length guests
@@ -33,11 +33,11 @@ pub record GuestsServe {B : Type 0} (stands_for : B → Record → Type 0) (Same
   pub registered : ℕ
   pub mask_is : run.mask ≡ mask_of answer registered
   pub nobody : length guests ≡ 0 → answer ≡ 0
-  pub missed : ℕ → Bool
-  pub are_missed : AreMissed serial run cause history missed
-  pub all_heard : cause ≢ causes.Memory → (k : ℕ) → k < run.threads → missed k ≡ false
-  pub first : 0 < length guests → Becomes stands_for guests after 0 (record_of_first answer registered (heard_of run history 0) (missed 0))
-  pub others : (k : ℕ) → 0 < k → k < run.threads → k < length guests → Becomes stands_for guests after k (called_for (heard_of run history k) (missed k))
+  pub unheard : ℕ → Bool
+  pub are_unheard : AreUnheard serial run cause history unheard
+  pub all_heard : cause ≢ causes.Memory → (k : ℕ) → k < run.threads → unheard k ≡ false
+  pub first : 0 < length guests → Becomes stands_for guests after 0 (record_of_first answer registered (heard_of run history 0) (unheard 0))
+  pub others : (k : ℕ) → 0 < k → k < run.threads → k < length guests → Becomes stands_for guests after k (called_for (heard_of run history k) (unheard k))
   pub rest : (k : ℕ) (d : B) → run.threads ≤ k → slice_index_or after k d ≡ slice_index_or guests k d
   pub same_types : (k : ℕ) (d : B) → k < length guests → Same (slice_index_or guests k d) (slice_index_or after k d)
   pub guestless : (k : ℕ) → length guests ≤ k → k < run.threads → AreSilent (heard_of run history k)

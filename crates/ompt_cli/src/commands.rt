@@ -7,7 +7,7 @@ ghost use Rattle.ompt_cli.specs.Reports.{Reports};
 
 use crate::end::End;
 use crate::job::Job;
-use crate::outcome::Ended;
+use crate::outcome::AfterRun;
 use crate::profiling::run_profiled;
 use crate::recording::record;
 use crate::reporting::report;
@@ -26,7 +26,7 @@ pub(crate) fn run_command<X: Runner, O: Sink>(
     job: Job,
     guests: Vec<Box<dyn GuestTool>>,
     out: &mut O,
-) -> Result<Ended, AllocError>
+) -> Result<AfterRun, AllocError>
     requires { X.may_run runner.now job.settings.serial }
     ensures ran { IfOk result (λ ended. Reports job ended.end ended.report) }
     ensures guests { IfOk result (λ ended.

@@ -15,7 +15,7 @@ use crate::end::End;
 use crate::guests::{Handing, hand_out_all, take_back_all};
 use crate::job::Job;
 use crate::observing::Observed;
-use crate::outcome::Ended;
+use crate::outcome::AfterRun;
 use crate::report::Report;
 use crate::runner::Runner;
 use crate::writing::write_made;
@@ -41,7 +41,7 @@ pub(crate) fn run_profiled<X: Runner, O: Sink>(
     job: Job,
     guests: Vec<Box<dyn GuestTool>>,
     out: &mut O,
-) -> Result<Ended, AllocError>
+) -> Result<AfterRun, AllocError>
     requires kind { X.may_run runner.now job.settings.serial }
     requires command { job.settings.command ≡ Command.Run RunOutput.Profile }
     ensures ran { IfOk result (λ ended. Reports job ended.end ended.report) }
@@ -60,7 +60,7 @@ pub(crate) fn run_profiled<X: Runner, O: Sink>(
     } = serve_profiled(runner, alloc, job, guests)?;
     let made = with_profile(alloc, text, &profiles);
     let end = write_made(report.cause, made, out);
-    Ok(Ended { end, report })
+    Ok(AfterRun { end, report })
 }
 
 /// This text, and behind it the report of what these profiles counted.

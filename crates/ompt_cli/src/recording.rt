@@ -15,7 +15,7 @@ ghost use Rattle.trace_format.specs.Fitting.{FitsFields};
 use crate::end::End;
 use crate::job::Job;
 use crate::observing::Observed;
-use crate::outcome::Ended;
+use crate::outcome::AfterRun;
 use crate::reporting::run_kept;
 use crate::runner::Runner;
 use omp_codes::PROFILE_MASK;
@@ -35,7 +35,7 @@ pub(crate) fn record<X: Runner, O: Sink>(
     job: Job,
     guests: Vec<Box<dyn GuestTool>>,
     out: &mut O,
-) -> Result<Ended, AllocError>
+) -> Result<AfterRun, AllocError>
     requires kind { X.may_run runner.now job.settings.serial }
     requires command { job.settings.command ≡ Command.Record }
     ensures ran { IfOk result (λ ended. Reports job ended.end ended.report) }
@@ -49,7 +49,7 @@ pub(crate) fn record<X: Runner, O: Sink>(
 {
     let Observed { report, parts, .. } = run_kept::<X, Recorder>(runner, alloc, job, guests)?;
     let end = write_trace_of_run(alloc, report.threads, report.cause, &parts, out);
-    Ok(Ended { end, report })
+    Ok(AfterRun { end, report })
 }
 
 /// Writes the trace of a run with so many threads that ended in this cause, unless it found no memory. The trace is whole in memory before the first

@@ -14,7 +14,7 @@ use crate::end::End;
 use crate::job::Job;
 use crate::keepers::{Keeper, keepers};
 use crate::observing::Observed;
-use crate::outcome::Ended;
+use crate::outcome::AfterRun;
 use crate::runner::Runner;
 use crate::writing::write_made;
 use ompt_words::Command;
@@ -29,7 +29,7 @@ pub(crate) fn report<X: Runner, P: Keeper, O: Sink>(
     job: Job,
     guests: Vec<Box<dyn GuestTool>>,
     out: &mut O,
-) -> Result<Ended, AllocError>
+) -> Result<AfterRun, AllocError>
     requires kind { X.may_run runner.now job.settings.serial }
     requires guestless { ¬ HasGuests job.settings.command }
     requires unrecorded { job.settings.command ≢ Command.Record }
@@ -53,7 +53,7 @@ pub(crate) fn report<X: Runner, P: Keeper, O: Sink>(
     } = run_kept::<X, P>(runner, alloc, job, guests)?;
     let made = P::text(alloc, command, &parts, &text);
     let end = write_made(report.cause, made, out);
-    Ok(Ended { end, report })
+    Ok(AfterRun { end, report })
 }
 
 /// Runs the job with a part for each thread that keeps what it is told. The guests of the report are these.

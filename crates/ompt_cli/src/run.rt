@@ -11,7 +11,7 @@ use crate::guests::{Handing, hand_out_all, take_back_all};
 use crate::history_writing::write_history_of_run;
 use crate::job::Job;
 use crate::observing::Observed;
-use crate::outcome::Ended;
+use crate::outcome::AfterRun;
 use crate::report::Report;
 use crate::runner::Runner;
 use crate::writing::write_run;
@@ -34,7 +34,7 @@ pub(crate) fn run_printed<X: Runner, O: Sink>(
     job: Job,
     guests: Vec<Box<dyn GuestTool>>,
     out: &mut O,
-) -> Result<Ended, AllocError>
+) -> Result<AfterRun, AllocError>
     requires kind { X.may_run runner.now job.settings.serial }
     requires command { job.settings.command ≡ Command.Run RunOutput.Printed }
     ensures ran { IfOk result (λ ended. Reports job ended.end ended.report) }
@@ -48,7 +48,7 @@ pub(crate) fn run_printed<X: Runner, O: Sink>(
 {
     let Served { report, text } = serve(runner, alloc, job, guests)?;
     let end = write_run(report.cause, &text, out);
-    Ok(Ended { end, report })
+    Ok(AfterRun { end, report })
 }
 
 /// Runs the job, and writes the history of its run. It takes no memory after the run.
@@ -58,7 +58,7 @@ pub(crate) fn run_history<X: Runner, O: Sink>(
     job: Job,
     guests: Vec<Box<dyn GuestTool>>,
     out: &mut O,
-) -> Result<Ended, AllocError>
+) -> Result<AfterRun, AllocError>
     requires kind { X.may_run runner.now job.settings.serial }
     requires command { job.settings.command ≡ Command.Run RunOutput.History }
     ensures ran { IfOk result (λ ended. Reports job ended.end ended.report) }

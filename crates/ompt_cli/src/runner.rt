@@ -17,21 +17,9 @@ use tool_api::{GuestTool, Handed, ToolPart};
 use tool_profiled::Profiled;
 use tool_report::{Profile, Recorder, Timeline};
 
-/// A kind of parts with which jobs are run. What a bound promises of sending isn't handed on through a generic method of a trait, so each kind
-/// makes its runs itself. A run takes the parts out of the list.
+/// A kind of parts with which jobs are run by threads. The parts are sent to the threads, and in a generic method of a trait nothing says that
+/// they may be sent. So each kind makes its own runs. A run takes the parts out of the list.
 pub(crate) trait JobPart: ToolPart {
-    /// Runs a serial job with these parts, as [`observe_alone`] does.
-    fn run_alone(
-        alloc: Global,
-        job: Job,
-        parts: &mut Vec<Self>,
-        guests: Vec<Box<dyn GuestTool>>,
-    ) -> Result<Observed<Self>, AllocError>
-        requires serial { job.settings.serial ≡ true }
-        requires parts { length parts.old.items ≡ job.settings.threads }
-        ensures observed { IfOk result (HasObserved Self.stands_for Self.same job parts.old.items) }
-        ensures guests { IfOk result (λ observed. observed.report.guests ≡ guests) };
-
     /// Runs the job with these parts, as [`observe`] does.
     fn run_by_threads<R: Threads + Wait + Sync>(
         rt: &R,
@@ -47,15 +35,6 @@ pub(crate) trait JobPart: ToolPart {
 }
 
 impl JobPart for Recorder {
-    fn run_alone(
-        alloc: Global,
-        job: Job,
-        parts: &mut Vec<Recorder>,
-        guests: Vec<Box<dyn GuestTool>>,
-    ) -> Result<Observed<Recorder>, AllocError> {
-        observe_alone(alloc, job, mem::replace(parts, Vec::new(alloc)), guests)
-    }
-
     fn run_by_threads<R: Threads + Wait + Sync>(
         rt: &R,
         alloc: Global,
@@ -68,15 +47,6 @@ impl JobPart for Recorder {
 }
 
 impl JobPart for Profile {
-    fn run_alone(
-        alloc: Global,
-        job: Job,
-        parts: &mut Vec<Profile>,
-        guests: Vec<Box<dyn GuestTool>>,
-    ) -> Result<Observed<Profile>, AllocError> {
-        observe_alone(alloc, job, mem::replace(parts, Vec::new(alloc)), guests)
-    }
-
     fn run_by_threads<R: Threads + Wait + Sync>(
         rt: &R,
         alloc: Global,
@@ -89,15 +59,6 @@ impl JobPart for Profile {
 }
 
 impl JobPart for Timeline {
-    fn run_alone(
-        alloc: Global,
-        job: Job,
-        parts: &mut Vec<Timeline>,
-        guests: Vec<Box<dyn GuestTool>>,
-    ) -> Result<Observed<Timeline>, AllocError> {
-        observe_alone(alloc, job, mem::replace(parts, Vec::new(alloc)), guests)
-    }
-
     fn run_by_threads<R: Threads + Wait + Sync>(
         rt: &R,
         alloc: Global,
@@ -109,9 +70,9 @@ impl JobPart for Timeline {
     }
 }
 
-/// What makes runs of jobs: [`Alone`] of serial ones, and [`WithThreads`] of all. It has a method for guests, and one for guests beside profiles.
+/// Runs jobs: [`Alone`] runs serial jobs, and [`WithThreads`] runs all jobs. Guests have a method, and so have guests beside profiles.
 pub(crate) trait Runner {
-    /// Whether it makes runs of jobs that are serial, or of such as aren't.
+    /// Whether it runs jobs that are serial, or jobs that aren't.
     ghost may_run: { Self → Bool → Type 0 };
 
     /// Runs the job with these parts. The guests of the report are these.
@@ -156,7 +117,7 @@ pub(crate) trait Runner {
             job parts.items) };
 }
 
-/// It makes serial runs, and waits for nobody.
+/// It runs serial jobs, and waits for nobody.
 #[derive(Drop)]
 pub(crate) struct Alone;
 
@@ -170,7 +131,7 @@ impl Runner for Alone {
         parts: &mut Vec<P>,
         guests: Vec<Box<dyn GuestTool>>,
     ) -> Result<Observed<P>, AllocError> {
-        P::run_alone(alloc, job, parts, guests)
+        observe_alone(alloc, job, mem::replace(parts, Vec::new(alloc)), guests)
     }
 
     fn run_guests(
@@ -192,7 +153,7 @@ impl Runner for Alone {
     }
 }
 
-/// It makes runs by threads too.
+/// It runs jobs by threads too.
 #[derive(Drop)]
 pub(crate) struct WithThreads<'a, R>(pub &'a R);
 
