@@ -28,7 +28,7 @@ use Rattle.ompt_words.specs.declared.settings.RunOutput.TheVariants as output
 use Rattle.ompt_words.specs.declared.settings.Settings.{Settings}
 use Rattle.ompt_cli.specs.declared.end.Refusal.{Refusal}
 use Rattle.ompt_cli.specs.declared.end.End.{End}
-use Rattle.ompt_cli.specs.declared.end.End.TheVariants.{Ended, Shown, Read, TraceRefused, HistoryRefused, Broken, Illegal, Usage, Refused, ReadFault, WriteFault, Memory}
+use Rattle.ompt_cli.specs.declared.end.End.TheVariants.{Ended, Shown, Usage, Refused, ReadFault, WriteFault, Memory}
 use Rattle.ompt_cli.specs.declared.report.Report.{Report}
 
 -- the program that ran, by its tree and by its text. A guest of the report is a box of a vtable and what lies behind it
@@ -111,14 +111,6 @@ MayRun WriteFault = ⊤
 MayRun Memory = ⊤
 MayRun other = ⊥
 
--- the end of a command whose words ask for no run: they are refused, or a text is shown
-abbrev pub IsUnread : End → Type 0
-IsUnread Shown = ⊤
-IsUnread Usage = ⊤
-IsUnread WriteFault = ⊤
-IsUnread Memory = ⊤
-IsUnread other = ⊥
-
 -- the end of a command whose words ask for a text: it is shown, unless a write or memory fails
 abbrev pub IsShowing : End → Type 0
 IsShowing Shown = ⊤
@@ -126,18 +118,17 @@ IsShowing WriteFault = ⊤
 IsShowing Memory = ⊤
 IsShowing other = ⊥
 
--- the end of a command that reads a trace or a history file
+-- the end of a command whose words ask for no run, and for nothing to be read: they are refused, or a text is shown
+abbrev pub IsUnread : End → Type 0
+IsUnread Usage = ⊤
+IsUnread other = IsShowing other
+
+-- the end of a command that reads a trace or a history file: any but those of a run, of a text that is shown, and of words that are refused
 abbrev pub IsReading : End → Type 0
-IsReading Read = ⊤
-IsReading (Refused why) = ⊤
-IsReading (TraceRefused refusal) = ⊤
-IsReading (HistoryRefused reason offset) = ⊤
-IsReading (Broken breach) = ⊤
-IsReading (Illegal place) = ⊤
-IsReading ReadFault = ⊤
-IsReading WriteFault = ⊤
-IsReading Memory = ⊤
-IsReading other = ⊥
+IsReading (Ended why) = ⊥
+IsReading Shown = ⊥
+IsReading Usage = ⊥
+IsReading other = ⊤
 
 -- the end of a command that comes before its run
 abbrev pub IsBeforeRun : End → Type 0
