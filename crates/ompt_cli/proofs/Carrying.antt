@@ -5,6 +5,8 @@ use Rattle.std.specs.Prelude.{IsSome, string_bytes}
 use Rattle.std.specs.Io.KnownBytes.{Appends, Keeps}
 use Rattle.std.specs.declared.string.String.{String}
 use Rattle.std.specs.declared.alloc.Global.{Global}
+use Rattle.std.specs.declared.dyn_box.DynBox.{DynBox}
+use Rattle.tool_api.specs.Record.{Record}
 use Rattle.omp_model.specs.declared.cause.Cause.{Cause}
 use Rattle.omp_model.specs.declared.cause.Cause.TheVariants as causes
 use Rattle.ompt_words.specs.declared.fault.WordsFault.{WordsFault}
@@ -22,7 +24,7 @@ use Rattle.ompt_cli.specs.declared.end.End.TheVariants as end
 use Rattle.ompt_cli.specs.declared.end.Refusal.{Refusal}
 use Rattle.ompt_cli.specs.declared.job.Job.{Job}
 use Rattle.ompt_cli.specs.declared.report.Report.{Report}
-use Rattle.ompt_cli.specs.Commands.{CountsFaults, EndsAs, HasWritten, IsBeforeRun, IsReading, IsShowing, IsUnread, MayRefuse, MayRun, out_of, program_in, run_of, run_text, settings_in, text_in}
+use Rattle.ompt_cli.specs.Commands.{CountsFaults, EndsAs, HasWritten, IsBeforeRun, IsReading, IsShowing, IsUnread, MayRefuse, MayRun, out_of, program_in, run_of, settings_in, text_in}
 use Rattle.run_laws.proofs.Ended.{whole-ended}
 use Rattle.history_file.specs.declared.file.HistoryFile.{HistoryFile}
 use Rattle.history_file.specs.Validity.{WritesHistory}
@@ -101,11 +103,11 @@ module _ {S O : Type 0} (left : S → Option (List ℕ)) (reads_failed : S → �
         }
 
     -- a program was read and run
-    pub run_carried : {Table : Type 0} {Behind : Table → Type 0} (told : End) (report : Report Table Behind) (job : Job) → Reports job told report → (source source_now : S) (out out_now : O) → job.settings ≡ settings → IfSome (text_for settings.command (left source)) (λ text. text ≡ job.loaded.text.items) → Spells job.loaded.text.items job.loaded.program
+    pub run_carried : {Table : Type 0} {Behind : Table → Type 0} (stands_for : DynBox Table Global Behind → Record → Type 0) (told : End) (report : Report Table Behind) (job : Job) (guests : List (DynBox Table Global Behind)) (source source_now : S) (out out_now : O)
+        → Reports stands_for held writes_failed job guests out out_now told report → job.settings ≡ settings → IfSome (text_for settings.command (left source)) (λ text. text ≡ job.loaded.text.items) → Spells job.loaded.text.items job.loaded.program
         → ((why : Refusal) → IsSomeAnd (text_for settings.command (left source)) (IsRefused why) → ⊥) → ((blocks : ℕ) → settings.command ≡ Generating blocks → source_now ≡ source) → reads_failed source_now ≡ reads_failed source
-        → HasWritten told (run_text (Some report)) (held out) (held out_now) → CountsFaults told end.WriteFault (writes_failed out) (writes_failed out_now)
         → CarriesOut left reads_failed held writes_failed words told None None (Some report) source source_now out out_now
-    run_carried told report job r source source_now out out_now asked sourced spelled unrefused unread steady written faults =
+    run_carried stands_for told report job guests source source_now out out_now r asked sourced spelled unrefused unread steady =
         let is : settings_in report ≡ settings = r.observes.asked ∙ asked in
         let spells : Spells (text_in report) (program_in report) = subst (λ (text : List ℕ). Spells text (program_in report)) (sym r.observes.text_is) (subst (Spells job.loaded.text.items) (sym r.observes.program_is) spelled) in
         let ends : (other : End) → told ≡ other → EndsAs report.cause other = λ other same. subst (EndsAs report.cause) same r.ended in
@@ -140,7 +142,7 @@ module _ {S O : Type 0} (left : S → Option (List ℕ)) (reads_failed : S → �
                 accepted = λ other ask why refused. absurd (unrefused why (text-of other ask (λ text. IsSomeAnd text (IsRefused why)) source refused));
                 runs = λ other ask program. ends-may report.cause told r.ended;
               };
-          written = λ none. written;
+          written = λ none. r.written;
           recorded =
               record {
                 traced = r.traced;
@@ -150,7 +152,7 @@ module _ {S O : Type 0} (left : S → Option (List ℕ)) (reads_failed : S → �
                     record { is_file = (r.certified whole memory filed).is_file; bytes_are = sym (filed-text report filed (ends-found report.cause told r.ended memory)) };
                 certificate = λ whole memory filed. (r.certified whole memory filed).certificate;
               };
-          faults = shows-faults told _ _ _ _ (record { rose = λ same. absurd (ends end.ReadFault same); steady = λ other. steady }) faults;
+          faults = shows-faults told _ _ _ _ (record { rose = λ same. absurd (ends end.ReadFault same); steady = λ other. steady }) r.faults;
           untouched = run-untouched told source source_now out out_now (ends end.Usage) unread;
         }
 

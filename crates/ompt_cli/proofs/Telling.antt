@@ -18,7 +18,7 @@ use Rattle.ompt_cli.specs.declared.report.Report.{Report}
 use Rattle.ompt_cli.specs.declared.end.End.{End}
 use Rattle.ompt_cli.specs.declared.end.End.TheVariants as end
 use Rattle.ompt_cli.specs.declared.end.Refusal.{Refusal}
-use Rattle.ompt_cli.specs.Commands.{CountsFaults, EndsAs, HasGuests, MayRefuse, MayRun, run_of}
+use Rattle.ompt_cli.specs.Commands.{CountsFaults, EndsAs, HasGuests, MayRefuse, MayRun, run_of, text_in, written_by}
 use Rattle.ompt_cli.specs.Guests.{AfterCommand, GuestsAfter, GuestsServe}
 use Rattle.ompt_cli.specs.Reports.{Observes}
 use Rattle.ompt_cli.specs.Top.{ShowsFaults}
@@ -27,6 +27,11 @@ use Rattle.ompt_cli.specs.Top.{ShowsFaults}
 module _ {Table : Type 0} {Behind : Table → Type 0} (job : Job) (report : Report Table Behind) (observes : Observes job report) where
   pub command-is : report.command ≡ job.settings.command
   command-is = ap (λ (settings : Settings). settings.command) observes.asked
+
+  -- what the command writes of the run is what the job's command does
+  pub written-as : (command : Command) → job.settings.command ≡ command
+      → written_by command (text_in report) (run_of report) report.cause report.history ≡ written_by report.command (text_in report) (run_of report) report.cause report.history
+  written-as command is = ap (λ (command : Command). written_by command (text_in report) (run_of report) report.cause report.history) (sym (command-is ∙ is))
 
   pub threads-are : report.threads ≡ job.settings.threads
   threads-are = ap (λ (settings : Settings). settings.threads) observes.asked

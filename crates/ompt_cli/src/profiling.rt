@@ -1,17 +1,16 @@
 //! The command `run` with a profile: the guests are called beside profiles, and what the program prints is followed by the counts.
 
-ghost use Rattle.std.specs.Prelude.{◌≡◌, ◌++◌, IfOk, List, OnErr, Some};
+ghost use Rattle.std.specs.Prelude.{◌≡◌, ◌++◌, IfOk, List, OnErr};
 ghost use Rattle.omp_model.specs.Legal.{after};
 ghost use Rattle.omp_model.specs.Records.{records_of};
 ghost use Rattle.ompt_calls.specs.declared.event.EventRecord.{EventRecord};
 ghost use Rattle.tool_report.specs.Counts.{counts_of};
 ghost use Rattle.tool_report.specs.Order.{AreKept};
 ghost use Rattle.tool_report.specs.Profile.{profile_of};
-ghost use Rattle.ompt_cli.specs.Commands.{CountsFaults, HasWritten, run_of, run_text};
+ghost use Rattle.ompt_cli.specs.Commands.{run_of};
 ghost use Rattle.ompt_cli.specs.Guests.{GuestsAfter};
 ghost use Rattle.ompt_cli.specs.Reports.{Observes, Reports};
 
-use crate::end::End;
 use crate::guests::{Handing, hand_out_all, take_back_all};
 use crate::job::Job;
 use crate::observing::Observed;
@@ -44,13 +43,8 @@ pub(crate) fn run_profiled<X: Runner, O: Sink>(
 ) -> Result<AfterRun, AllocError>
     requires kind { X.may_run runner.now job.settings.serial }
     requires command { job.settings.command ≡ Command.Run RunOutput.Profile }
-    ensures ran { IfOk result (λ ended. Reports job ended.end ended.report) }
-    ensures guests { IfOk result (λ ended.
-        GuestsAfter (λ guest h. (GuestTool-box guest).stands_for guest.value h) guests.items ended.report) }
-    ensures written { IfOk result (λ ended.
-        HasWritten ended.end (run_text (Some ended.report)) (O.held out.old) (O.held out.new)) }
-    ensures faults { IfOk result (λ ended.
-        CountsFaults ended.end End.WriteFault (O.faults out.old) (O.faults out.new)) }
+    ensures ran { IfOk result (λ ended. Reports (λ guest h. (GuestTool-box guest).stands_for guest.value h)
+        O.held O.faults job guests.items out.old out.new ended.end ended.report) }
     ensures untouched { OnErr result (out.new ≡ out.old) }
 {
     let CountedRun {

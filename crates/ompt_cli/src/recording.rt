@@ -1,8 +1,7 @@
 //! The command `record`: it runs the program, and writes the trace of the run.
 
-ghost use Rattle.std.specs.Prelude.{◌≡◌, ◌≢◌, IfOk, List, OnErr, Some};
-ghost use Rattle.ompt_cli.specs.Commands.{CountsFaults, EndsAs, HasWritten, IsSharedFew, run_text, unless_memory};
-ghost use Rattle.ompt_cli.specs.Guests.{GuestsAfter};
+ghost use Rattle.std.specs.Prelude.{◌≡◌, ◌≢◌, IfOk, List, OnErr};
+ghost use Rattle.ompt_cli.specs.Commands.{CountsFaults, EndsAs, HasWritten, IsSharedFew, unless_memory};
 ghost use Rattle.ompt_cli.specs.Reports.{Reports};
 ghost use Rattle.std.specs.List.{All};
 ghost use Rattle.omp_codes.specs.declared.callbacks.TheConstants.{PROFILE_MASK};
@@ -38,13 +37,8 @@ pub(crate) fn record<X: Runner, O: Sink>(
 ) -> Result<AfterRun, AllocError>
     requires kind { X.may_run runner.now job.settings.serial }
     requires command { job.settings.command ≡ Command.Record }
-    ensures ran { IfOk result (λ ended. Reports job ended.end ended.report) }
-    ensures guests { IfOk result (λ ended.
-        GuestsAfter (λ guest h. (GuestTool-box guest).stands_for guest.value h) guests.items ended.report) }
-    ensures written { IfOk result (λ ended.
-        HasWritten ended.end (run_text (Some ended.report)) (O.held out.old) (O.held out.new)) }
-    ensures faults { IfOk result (λ ended.
-        CountsFaults ended.end End.WriteFault (O.faults out.old) (O.faults out.new)) }
+    ensures ran { IfOk result (λ ended. Reports (λ guest h. (GuestTool-box guest).stands_for guest.value h)
+        O.held O.faults job guests.items out.old out.new ended.end ended.report) }
     ensures untouched { OnErr result (out.new ≡ out.old) }
 {
     let Observed { report, parts, .. } = run_kept::<X, Recorder>(runner, alloc, job, guests)?;

@@ -1,16 +1,14 @@
 //! The commands that run a program and report what the parts of their threads kept: `list`, `profile`, `timeline` and `gen`.
 
-ghost use Rattle.std.specs.Prelude.{ℕ, ◌≡◌, ◌≢◌, IfOk, List, OnErr, Some};
+ghost use Rattle.std.specs.Prelude.{ℕ, ◌≡◌, ◌≢◌, IfOk, List, OnErr};
 ghost use Rattle.omp_model.specs.declared.cause.Cause.{Cause};
 ghost use Rattle.omp_model.specs.declared.history.Entry.{Entry};
 ghost use Rattle.omp_model.specs.Legal.{after};
 ghost use Rattle.omp_model.specs.Records.{records_of};
 ghost use Rattle.omp_model.specs.State.{Run};
-ghost use Rattle.ompt_cli.specs.Commands.{CountsFaults, HasGuests, HasWritten, run_text, written_by};
-ghost use Rattle.ompt_cli.specs.Guests.{GuestsAfter};
+ghost use Rattle.ompt_cli.specs.Commands.{HasGuests, written_by};
 ghost use Rattle.ompt_cli.specs.Reports.{HasKept, Reports};
 
-use crate::end::End;
 use crate::job::Job;
 use crate::keepers::{Keeper, keepers};
 use crate::observing::Observed;
@@ -23,7 +21,7 @@ use std::alloc::{AllocError, Global};
 use tool_api::GuestTool;
 
 /// Runs the job, and writes what its command makes of what the parts kept. The guests come back as they were.
-pub(crate) fn report<X: Runner, P: Keeper, O: Sink>(
+pub(crate) fn report_kept<X: Runner, P: Keeper, O: Sink>(
     runner: &X,
     alloc: Global,
     job: Job,
@@ -36,13 +34,8 @@ pub(crate) fn report<X: Runner, P: Keeper, O: Sink>(
     requires text { (text : List ℕ) (run : Run) (cause : Cause) (history : List Entry) →
         written_by job.settings.command text run cause history
         ≡ P.text_of job.settings.command (records_of run history) (after run history).world.store.text }
-    ensures ran { IfOk result (λ ended. Reports job ended.end ended.report) }
-    ensures guests { IfOk result (λ ended.
-        GuestsAfter (λ guest h. (GuestTool-box guest).stands_for guest.value h) guests.items ended.report) }
-    ensures written { IfOk result (λ ended.
-        HasWritten ended.end (run_text (Some ended.report)) (O.held out.old) (O.held out.new)) }
-    ensures faults { IfOk result (λ ended.
-        CountsFaults ended.end End.WriteFault (O.faults out.old) (O.faults out.new)) }
+    ensures ran { IfOk result (λ ended. Reports (λ guest h. (GuestTool-box guest).stands_for guest.value h)
+        O.held O.faults job guests.items out.old out.new ended.end ended.report) }
     ensures untouched { OnErr result (out.new ≡ out.old) }
 {
     let command = job.settings.command;

@@ -1,12 +1,11 @@
 //! The command `run`: it runs the program with the guests as the parts of its threads, and writes what it prints, or the history of its run.
 
-ghost use Rattle.std.specs.Prelude.{◌≡◌, ◌⊎◌, IfOk, OnErr, Some};
+ghost use Rattle.std.specs.Prelude.{◌≡◌, ◌⊎◌, IfOk, OnErr};
 ghost use Rattle.omp_model.specs.Legal.{after};
-ghost use Rattle.ompt_cli.specs.Commands.{CountsFaults, HasWritten, run_of, run_text};
+ghost use Rattle.ompt_cli.specs.Commands.{run_of};
 ghost use Rattle.ompt_cli.specs.Guests.{GuestsAfter};
 ghost use Rattle.ompt_cli.specs.Reports.{Observes, Reports};
 
-use crate::end::End;
 use crate::guests::{Handing, hand_out_all, take_back_all};
 use crate::history_writing::write_history_of_run;
 use crate::job::Job;
@@ -37,13 +36,8 @@ pub(crate) fn run_printed<X: Runner, O: Sink>(
 ) -> Result<AfterRun, AllocError>
     requires kind { X.may_run runner.now job.settings.serial }
     requires command { job.settings.command ≡ Command.Run RunOutput.Printed }
-    ensures ran { IfOk result (λ ended. Reports job ended.end ended.report) }
-    ensures guests { IfOk result (λ ended.
-        GuestsAfter (λ guest h. (GuestTool-box guest).stands_for guest.value h) guests.items ended.report) }
-    ensures written { IfOk result (λ ended.
-        HasWritten ended.end (run_text (Some ended.report)) (O.held out.old) (O.held out.new)) }
-    ensures faults { IfOk result (λ ended.
-        CountsFaults ended.end End.WriteFault (O.faults out.old) (O.faults out.new)) }
+    ensures ran { IfOk result (λ ended. Reports (λ guest h. (GuestTool-box guest).stands_for guest.value h)
+        O.held O.faults job guests.items out.old out.new ended.end ended.report) }
     ensures untouched { OnErr result (out.new ≡ out.old) }
 {
     let Served { report, text } = serve(runner, alloc, job, guests)?;
@@ -61,13 +55,8 @@ pub(crate) fn run_history<X: Runner, O: Sink>(
 ) -> Result<AfterRun, AllocError>
     requires kind { X.may_run runner.now job.settings.serial }
     requires command { job.settings.command ≡ Command.Run RunOutput.History }
-    ensures ran { IfOk result (λ ended. Reports job ended.end ended.report) }
-    ensures guests { IfOk result (λ ended.
-        GuestsAfter (λ guest h. (GuestTool-box guest).stands_for guest.value h) guests.items ended.report) }
-    ensures written { IfOk result (λ ended.
-        HasWritten ended.end (run_text (Some ended.report)) (O.held out.old) (O.held out.new)) }
-    ensures faults { IfOk result (λ ended.
-        CountsFaults ended.end End.WriteFault (O.faults out.old) (O.faults out.new)) }
+    ensures ran { IfOk result (λ ended. Reports (λ guest h. (GuestTool-box guest).stands_for guest.value h)
+        O.held O.faults job guests.items out.old out.new ended.end ended.report) }
     ensures untouched { OnErr result (out.new ≡ out.old) }
 {
     let text = job.copied_text(alloc)?;

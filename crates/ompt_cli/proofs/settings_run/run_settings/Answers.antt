@@ -7,12 +7,11 @@ use Rattle.ompt_cli.proofs.settings_run.run_settings.Goals as goal
 
 pub returns-in-Ok-run_command-clause-carried : goal.returns-in-Ok-run_command-clause-carried
 returns-in-Ok-run_command-clause-carried g c = λ words taken.
-    run_carried g.S.Source.left g.S.Source.faults g.O.Sink.held g.O.Sink.faults words c.args.settings taken c.in-Ok-run_command.ended.end c.in-Ok-run_command.ended.report _ c.in-Ok-run_command.ensures.ran c.args.source.now c.program_for.new.source c.args.out.now c.run_command.new.out
-    refl c.in-Ok.ensures.text c.in-Ok.ensures.program
+    run_carried g.S.Source.left g.S.Source.faults g.O.Sink.held g.O.Sink.faults words c.args.settings taken _ c.in-Ok-run_command.ended.end c.in-Ok-run_command.ended.report _ _ c.args.source.now c.program_for.new.source c.args.out.now c.run_command.new.out
+    c.in-Ok-run_command.ensures.ran refl c.in-Ok.ensures.text c.in-Ok.ensures.program
     (λ why refused. ok-not-refused why c.in-Ok.loaded c.program_for.result c.in-Ok.is (c.program_for.ensures.accepted why refused))
     c.in-Ok.ensures.unread
     (c.program_for.ensures.steady (λ is. let same = sym c.in-Ok.is ∙ is in cc))
-    c.in-Ok-run_command.ensures.written c.in-Ok-run_command.ensures.faults
 
 pub returns-in-Err-run_command-clause-carried : goal.returns-in-Err-run_command-clause-carried
 returns-in-Err-run_command-clause-carried g c = λ words taken.

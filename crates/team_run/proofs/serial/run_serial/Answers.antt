@@ -1,6 +1,5 @@
-use Rattle.std.proofs.Common.{ℕ, ◌≡◌, ◌≢◌, ◌∙◌, List, Option, Some, None, [], true, refl, sym, ap, subst, length, arith}
+use Rattle.std.proofs.Common.{ℕ, ◌≡◌, ◌≢◌, ◌∙◌, Option, Some, None, [], true, refl, sym, ap, subst, length, arith}
 use Rattle.omp_model.specs.declared.cause.Cause.TheVariants as causes
-use Rattle.omp_model.specs.declared.history.Entry.{Entry}
 use Rattle.omp_model.specs.State.{Run, State}
 use Rattle.omp_model.specs.Cause.{cause_in, cause_of}
 use Rattle.omp_model.specs.Serial.{serial}

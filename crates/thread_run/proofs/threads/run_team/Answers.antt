@@ -1,4 +1,4 @@
-use Rattle.std.proofs.Common.{◌∙◌, ◌<◌, length, arith}
+use Rattle.std.proofs.Common.{◌∙◌, arith}
 use Rattle.thread_run.proofs.Drivers.{drivers-first, have-served, some-of}
 use Rattle.thread_run.proofs.threads.run_team.Goals as goal
 
