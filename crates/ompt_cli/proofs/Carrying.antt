@@ -29,6 +29,7 @@ use Rattle.run_laws.proofs.Ended.{whole-ended}
 use Rattle.history_file.specs.declared.file.HistoryFile.{HistoryFile}
 use Rattle.history_file.specs.Validity.{WritesHistory}
 use Rattle.ompt_cli.specs.Histories.{Certifies, MayCertify}
+use Rattle.ompt_cli.specs.Loading.{EndsFor, IsLoaded}
 use Rattle.ompt_cli.specs.Reports.{Reports}
 use Rattle.ompt_cli.specs.Text.{IsProgram, IsRefused, Spells, text_for}
 use Rattle.ompt_cli.specs.Top.{CarriesOut, FollowsWords, IsRunOf, StaysUntouched}
@@ -36,6 +37,7 @@ use Rattle.ompt_cli.specs.Traces.{HasRead}
 use Rattle.ompt_cli.specs.Words.{AreFaulty, AreInRange, AreTakenAs, AskFor, AskForRun, AskToRead}
 use Rattle.ompt_cli.proofs.Finishing.{finished}
 use Rattle.ompt_cli.proofs.NestedRuns.{nested-run}
+use Rattle.ompt_cli.proofs.Reading.{loaded-unrefused}
 use Rattle.ompt_cli.proofs.Telling.{ends-may, few-threads, same-settings, shows-faults, some-threads}
 use Rattle.ompt_cli.proofs.Filing.{filed-text}
 use Rattle.ompt_cli.proofs.Recorded.{ends-found}
@@ -104,12 +106,12 @@ module _ {S O : Type 0} (left : S → Option (List ℕ)) (reads_failed : S → �
 
     -- a program was read and run
     pub run_carried : {Table : Type 0} {Behind : Table → Type 0} (stands_for : DynBox Table Global Behind → Record → Type 0) (told : End) (report : Report Table Behind) (job : Job) (guests : List (DynBox Table Global Behind)) (source source_now : S) (out out_now : O)
-        → Reports stands_for held writes_failed job guests out out_now told report → job.settings ≡ settings → IfSome (text_for settings.command (left source)) (λ text. text ≡ job.loaded.text.items) → Spells job.loaded.text.items job.loaded.program
-        → ((why : Refusal) → IsSomeAnd (text_for settings.command (left source)) (IsRefused why) → ⊥) → ((blocks : ℕ) → settings.command ≡ Generating blocks → source_now ≡ source) → reads_failed source_now ≡ reads_failed source
+        → Reports stands_for held writes_failed job guests out out_now told report → job.settings ≡ settings → IsLoaded (text_for settings.command (left source)) job.loaded
+        → ((blocks : ℕ) → settings.command ≡ Generating blocks → source_now ≡ source) → reads_failed source_now ≡ reads_failed source
         → CarriesOut left reads_failed held writes_failed words told None None (Some report) source source_now out out_now
-    run_carried stands_for told report job guests source source_now out out_now r asked sourced spelled unrefused unread steady =
+    run_carried stands_for told report job guests source source_now out out_now r asked loaded unread steady =
         let is : settings_in report ≡ settings = r.observes.asked ∙ asked in
-        let spells : Spells (text_in report) (program_in report) = subst (λ (text : List ℕ). Spells text (program_in report)) (sym r.observes.text_is) (subst (Spells job.loaded.text.items) (sym r.observes.program_is) spelled) in
+        let spells : Spells (text_in report) (program_in report) = subst (λ (text : List ℕ). Spells text (program_in report)) (sym r.observes.text_is) (subst (Spells job.loaded.text.items) (sym r.observes.program_is) loaded.spelled) in
         let ends : (other : End) → told ≡ other → EndsAs report.cause other = λ other same. subst (EndsAs report.cause) same r.ended in
         record {
           words = run-words told (Some report) (ends end.Usage) (ends end.Shown) (λ why same. sym (ends (end.Ended why) same).0) (ends end.WriteFault);
@@ -119,7 +121,7 @@ module _ {S O : Type 0} (left : S → Option (List ℕ)) (reads_failed : S → �
                 own = λ form. is ∙ same-settings (request.Run settings) settings (own_settings form) refl (taken.form form);
                 text =
                     subst (λ (text : List ℕ). IfSome (text_for report.command (left source)) (λ one. one ≡ text)) (sym r.observes.text_is)
-                    (subst (λ (one : Settings). IfSome (text_for one.command (left source)) (λ text. text ≡ job.loaded.text.items)) (sym is) sourced);
+                    (subst (λ (one : Settings). IfSome (text_for one.command (left source)) (λ text. text ≡ job.loaded.text.items)) (sym is) loaded.same);
                 spelled = spells;
                 mask = λ other. (r.stays other).mask_is;
                 always = r.observes.to.always;
@@ -139,7 +141,7 @@ module _ {S O : Type 0} (left : S → Option (List ℕ)) (reads_failed : S → �
           text =
               record {
                 refused = λ none why same. absurd (ends (end.Refused why) same);
-                accepted = λ other ask why refused. absurd (unrefused why (text-of other ask (λ text. IsSomeAnd text (IsRefused why)) source refused));
+                accepted = λ other ask why refused. absurd (loaded-unrefused _ job.loaded loaded why (text-of other ask (λ text. IsSomeAnd text (IsRefused why)) source refused));
                 runs = λ other ask program. ends-may report.cause told r.ended;
               };
           written = λ none. r.written;
@@ -157,21 +159,20 @@ module _ {S O : Type 0} (left : S → Option (List ℕ)) (reads_failed : S → �
         }
 
     -- no program was read or run
-    pub end_carried : {Table : Type 0} {Behind : Table → Type 0} (told : End) (source source_now : S) (out : O) → IsBeforeRun told → ((why : Refusal) → told ≡ end.Refused why → IfSome (text_for settings.command (left source)) (IsRefused why))
-        → ((why : Refusal) → IsSomeAnd (text_for settings.command (left source)) (IsRefused why) → MayRefuse why told) → (IsSomeAnd (text_for settings.command (left source)) IsProgram → MayRun told)
+    pub end_carried : {Table : Type 0} {Behind : Table → Type 0} (told : End) (source source_now : S) (out : O) → EndsFor (text_for settings.command (left source)) told
         → CountsFaults told end.ReadFault (reads_failed source) (reads_failed source_now) → ((blocks : ℕ) → settings.command ≡ Generating blocks → source_now ≡ source)
         → CarriesOut {Table = Table} {Behind = Behind} left reads_failed held writes_failed words told None None None source source_now out out
-    end_carried told source source_now out before refused accepted runs faults unread =
-        let ends : (other : End) → told ≡ other → IsBeforeRun other = λ other same. subst IsBeforeRun same before in
+    end_carried told source source_now out ended faults unread =
+        let ends : (other : End) → told ≡ other → IsBeforeRun other = λ other same. subst IsBeforeRun same ended.before in
         record {
           words = run-words told None (ends end.Usage) (ends end.Shown) (λ why. ends (end.Ended why)) (ends end.WriteFault);
           ran = tt;
           read = tt;
           text =
               record {
-                refused = λ none why is. (settings, taken.read, refused why is);
-                accepted = λ other ask why so. accepted why (text-of other ask (λ text. IsSomeAnd text (IsRefused why)) source so);
-                runs = λ other ask so. runs (text-of other ask (λ text. IsSomeAnd text IsProgram) source so);
+                refused = λ none why is. (settings, taken.read, ended.refused why is);
+                accepted = λ other ask why so. ended.accepted why (text-of other ask (λ text. IsSomeAnd text (IsRefused why)) source so);
+                runs = λ other ask so. ended.runs (text-of other ask (λ text. IsSomeAnd text IsProgram) source so);
               };
           written = λ none. nothing-written told (held out) (ends end.WriteFault);
           recorded = tt;

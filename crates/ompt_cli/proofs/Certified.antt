@@ -14,8 +14,7 @@ use Rattle.history_file.proofs.Lengths.{written_short}
 use Rattle.ompt_cli.specs.Histories.{lines_of_calls}
 use Rattle.numbered_runs.proofs.Histories.{same_cause, same_legal}
 use Rattle.ompt_cli.specs.Text.{Spells}
-use Rattle.ompt_cli.proofs.Ending.{longer}
-use Rattle.ompt_cli.proofs.Reading.{programs-alike}
+use Rattle.ompt_cli.proofs.Reading.{longer, programs-alike}
 
 -- no file is longer than the longest one may be
 pub never-long : (left rest : Option (List ℕ)) (file : HistoryFile) → IsSomeAnd left (WritesHistory file) → ConsumesMore left rest HISTORY_LIMIT → ⊥

@@ -4,7 +4,6 @@ pub mod Finishing
 pub mod Handing
 pub mod Keeping
 pub mod Observed
-pub mod Ending
 pub mod Reading
 pub mod Telling
 pub mod Recorded

@@ -1,6 +1,6 @@
 -- What is known of a report, in the words of `top`.
 use Rattle.std.proofs.Common.{◌∙◌, ◌≢◌, ◌<◌, ◌≤◌, ◌⊎◌, inl, inr, arith, Bool, ◌≡◌, ℕ, List, refl, sym, subst, ap}
-use Rattle.std.specs.Prelude.{Err, IsErrAnd, Ok, Result}
+use Rattle.std.specs.Prelude.{Err, Result}
 use Rattle.std.specs.declared.alloc.Global.{Global}
 use Rattle.std.specs.declared.dyn_box.DynBox.{DynBox}
 use Rattle.tool_api.specs.Record.{Record}
@@ -85,9 +85,6 @@ ends-may why end.WriteFault ends = tt
 ends-may why end.Memory ends = tt
 ends-may why other ends = absurd ends
 
--- a program that was read has no refusal
-pub ok-not-refused : {P : Type 0} (why : Refusal) (program : P) (result : Result P End) → result ≡ Ok program → IsErrAnd result (MayRefuse why) → ⊥
-ok-not-refused {P} why program result is refused = subst (λ (read : Result P End). IsErrAnd read (MayRefuse why)) is refused
-
+-- an error has one end
 pub err-end : {P : Type 0} (result : Result P End) (told other : End) → result ≡ Err told → result ≡ Err other → told ≡ other
 err-end result told other is wrong = let same = sym is ∙ wrong in cc

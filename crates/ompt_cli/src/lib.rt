@@ -41,7 +41,6 @@ mod history_writing;
 mod job;
 mod keepers;
 mod laws;
-mod loaded;
 mod observing;
 mod outcome;
 mod profiling;

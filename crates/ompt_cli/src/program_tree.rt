@@ -2,7 +2,7 @@
 
 ghost use Rattle.std.specs.Prelude.{◌≡◌};
 
-use crate::loaded::Loaded;
+use crate::job::Loaded;
 use c_check::Program;
 use std::snapshot::Snapshot;
 
