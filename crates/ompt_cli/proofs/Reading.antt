@@ -24,7 +24,7 @@ use Rattle.c_check.specs.declared.fault.CheckFault.{CheckFault}
 use Rattle.ompt_cli.specs.declared.end.Refusal.{Refusal}
 use Rattle.ompt_cli.specs.declared.end.Refusal.TheVariants.{Tokens, Syntax, Rule, TooLong}
 use Rattle.ompt_cli.specs.declared.end.End.{End}
-use Rattle.ompt_cli.specs.declared.end.End.TheVariants.{Memory, ReadFault, Refused}
+use Rattle.ompt_cli.specs.declared.end.End.TheVariants.{Memory, Refused}
 use Rattle.ompt_cli.specs.declared.job.Loaded.{Loaded}
 use Rattle.ompt_cli.specs.Loading.{EndsFor, IsLoaded}
 use Rattle.ompt_cli.specs.Text.{HasTree, IsProgram, IsReadAs, IsRefused, Spells, end_at, end_of, rule_broken}
@@ -140,10 +140,9 @@ ends-refused text why is =
       runs = λ program. absurd (program-not_refused text why program is);
     }
 
--- memory failed, or a read
-pub ends-failed : (text : Option (List ℕ)) (end : End) → (end ≡ Memory) ⊎ (end ≡ ReadFault) → EndsFor text end
-ends-failed text end (inl is) = subst (EndsFor text) (sym is) (record { before = tt; refused = λ why same. absurd cc; accepted = λ why has. tt; runs = λ program. tt })
-ends-failed text end (inr is) = subst (EndsFor text) (sym is) (record { before = tt; refused = λ why same. absurd cc; accepted = λ why has. tt; runs = λ program. tt })
+-- memory failed
+pub ends-memory : (text : Option (List ℕ)) → EndsFor text Memory
+ends-memory text = record { before = tt; refused = λ why same. absurd cc; accepted = λ why has. tt; runs = λ program. tt }
 
 pub longer : (xs given rest : List ℕ) → xs ≡ given ++ rest → length given ≤ length xs
 longer xs given rest same = omega (arith, ap length same, length-append given rest)

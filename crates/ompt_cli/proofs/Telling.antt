@@ -1,5 +1,5 @@
 -- What is known of a report, in the words of `top`.
-use Rattle.std.proofs.Common.{◌∙◌, ◌≢◌, ◌<◌, ◌≤◌, ◌⊎◌, inl, inr, arith, Bool, ◌≡◌, ℕ, List, refl, sym, subst, ap}
+use Rattle.std.proofs.Common.{◌∙◌, ◌≢◌, ◌<◌, ◌≤◌, ◌⊎◌, inl, inr, arith, Bool, ◌≡◌, ℕ, List, refl, sym, ap}
 use Rattle.std.specs.Prelude.{Err, Result}
 use Rattle.std.specs.declared.alloc.Global.{Global}
 use Rattle.std.specs.declared.dyn_box.DynBox.{DynBox}
@@ -17,8 +17,7 @@ use Rattle.ompt_cli.specs.declared.job.Job.{Job}
 use Rattle.ompt_cli.specs.declared.report.Report.{Report}
 use Rattle.ompt_cli.specs.declared.end.End.{End}
 use Rattle.ompt_cli.specs.declared.end.End.TheVariants as end
-use Rattle.ompt_cli.specs.declared.end.Refusal.{Refusal}
-use Rattle.ompt_cli.specs.Commands.{CountsFaults, EndsAs, HasGuests, MayRefuse, MayRun, run_of, text_in, written_by}
+use Rattle.ompt_cli.specs.Commands.{CountsFaults, EndsAs, HasGuests, MayRun, run_of, text_in, written_by}
 use Rattle.ompt_cli.specs.Guests.{AfterCommand, GuestsAfter, GuestsServe}
 use Rattle.ompt_cli.specs.Reports.{Observes}
 use Rattle.ompt_cli.specs.Top.{ShowsFaults}

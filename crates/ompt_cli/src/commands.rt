@@ -1,23 +1,61 @@
-//! The commands that run a program.
+//! The commands that run a program, from their settings.
 
-ghost use Rattle.std.specs.Prelude.{◌≡◌, IfOk, OnErr};
+ghost use Rattle.std.specs.Prelude.{ℕ, ◌≡◌, IfOk, IfSome, List, OnErr};
+ghost use Rattle.ompt_words.specs.declared.settings.Request.TheVariants as request;
+ghost use Rattle.ompt_cli.specs.Guests.{GuestsAfter};
 ghost use Rattle.ompt_cli.specs.Reports.{Reports};
+ghost use Rattle.ompt_cli.specs.Top.{CarriesOut};
+ghost use Rattle.ompt_cli.specs.Words.{AreInRange, AreTakenAs};
 
+use crate::end::End;
 use crate::job::Job;
-use crate::outcome::AfterRun;
+use crate::outcome::{AfterRun, Outcome, without_run};
 use crate::profiling::run_profiled;
 use crate::recording::record;
 use crate::reporting::report_kept;
 use crate::run::{run_history, run_printed};
 use crate::runner::Runner;
-use ompt_words::{Command, RunOutput};
-use run_edges::Sink;
+use crate::text::program_for;
+use ompt_words::{Command, RunOutput, Settings};
+use run_edges::{Sink, Source};
 use std::alloc::{AllocError, Global};
 use tool_api::GuestTool;
 use tool_report::{Profile, Recorder, Timeline};
 
+/// Reads the program, or makes it for `gen`, runs it with these settings, and writes what the command writes.
+pub(crate) fn run_settings<X: Runner, S: Source, O: Sink>(
+    runner: &X,
+    alloc: Global,
+    settings: Settings,
+    source: &mut S,
+    out: &mut O,
+    guests: Vec<Box<dyn GuestTool>>,
+) -> Outcome
+    requires kind { X.may_run runner.now settings.serial }
+    requires range { AreInRange settings }
+    ensures carried { (words : List (List ℕ)) → AreTakenAs words (request.Run settings) →
+        CarriesOut S.left S.faults O.held O.faults words result.end result.shown result.read result.ran source.old
+        source.new out.old out.new }
+    ensures guests { IfSome result.ran (GuestsAfter (λ guest h.
+        (GuestTool-box guest).stands_for guest.value h) guests.items) }
+{
+    let loaded = match program_for(alloc, settings.command, source) {
+        Ok(loaded) => loaded,
+        Err(end) => return without_run(end),
+    };
+    match run_command(runner, alloc, Job { loaded, settings }, guests, out) {
+        Ok(ended) => Outcome {
+            end: ended.end,
+            ran: Some(ended.report),
+            shown: None,
+            read: None,
+        },
+        Err(_) => without_run(End::Memory),
+    }
+}
+
 /// Runs the job, and writes what its command writes of its run. An error says that there was no memory for the run.
-pub(crate) fn run_command<X: Runner, O: Sink>(
+fn run_command<X: Runner, O: Sink>(
     runner: &X,
     alloc: Global,
     job: Job,

@@ -3,9 +3,45 @@
 ghost use Rattle.std.specs.Prelude.{◌≡◌, ◌≤◌, ◌+◌, ◌++◌, ◌∷◌, [], reverse, length, IfOk, vec_len, vec_capacity};
 ghost use Rattle.ompt_cli.specs.Guests.{HandOut, guests_of};
 
-use crate::guest_part::GuestPart;
+use ompt_calls::{Call, Reply, Snapshot};
 use std::alloc::{AllocError, Global};
-use tool_api::{GuestTool, Handed, Quiet};
+use tool_api::{GuestTool, Handed, Memory, Quiet, Registrar, ToolPart};
+
+/// A part that hands each call on to a guest, and stands for what the guest stands for. It is a type of this crate, since
+/// what a function of another crate does with a box isn't seen here: the box that comes back could be any other.
+#[derive(Drop)]
+pub(crate) struct GuestPart(pub Box<dyn GuestTool>);
+
+impl ToolPart for GuestPart {
+    ghost stands_for = { λ guest h. (GuestTool-box guest.0).stands_for guest.0.value h };
+
+    ghost use Rattle.std.specs.Prelude.{◌≡◌};
+    ghost use Rattle.std.proofs.Common.{refl, ◌∙◌};
+
+    ghost same = { λ guest other. guest.0.vtable ≡ other.0.vtable };
+
+    ghost same_itself = { λ guest. refl };
+
+    ghost same_onward = { λ first second third one other. one ∙ other };
+
+    fn initialize(&mut self, registrar: &mut Registrar) -> u32 {
+        self.0.initialize(registrar)
+    }
+
+    fn callback(
+        &mut self,
+        seq: u32,
+        thread: u8,
+        call: &Call,
+        snapshot: &Snapshot,
+    ) -> Result<Reply, Memory> {
+        self.0.callback(seq, thread, call, snapshot)
+    }
+
+    fn finalize(&mut self) {
+        self.0.finalize();
+    }
+}
 
 /// The parts of the threads, and the guests that are left, the next one last. There is room for all the guests to wait again.
 #[derive(Drop)]

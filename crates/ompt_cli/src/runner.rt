@@ -6,7 +6,7 @@ ghost use Rattle.tool_api.specs.Handed.{HandedFor, SameHanded};
 ghost use Rattle.tool_profiled.specs.Joining.{ProfiledFor, SameProfiled};
 ghost use Rattle.ompt_cli.specs.Reports.{HasObserved};
 
-use crate::guest_part::GuestPart;
+use crate::guests::GuestPart;
 use crate::job::Job;
 use crate::observing::{Observed, observe, observe_alone};
 use std::alloc::{AllocError, Global};

@@ -9,12 +9,12 @@ ghost use Rattle.ompt_cli.specs.Top.{CarriesOut, FollowsWords, HasTrace, IsRunOf
 ghost use Rattle.ompt_cli.specs.Traces.{HasReadInput};
 ghost use Rattle.ompt_cli.specs.Words.{AreFaulty, AreInRange, AreTakenAs, texts};
 
+use crate::commands::run_settings;
 use crate::end::End;
 use crate::outcome::{Outcome, without_run};
 use crate::read_commands::read_input;
 use crate::report::{ByThreads, Top};
 use crate::runner::{Alone, WithThreads};
-use crate::settings_run::run_settings;
 use ompt_words::{ReadCommand, Request, WordsFault, request_of};
 use run_edges::{Sink, Source, write_all};
 use std::alloc::Global;

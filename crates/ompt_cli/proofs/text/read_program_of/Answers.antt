@@ -1,4 +1,4 @@
-use Rattle.std.proofs.Common.{Err, IfErr, IfOk, ap, ◌∙◌}
+use Rattle.std.proofs.Common.{Err, ap, ◌∙◌}
 use Rattle.std.proofs.lemmas.Result.{IfOk-weaker, IfErr-weaker}
 use Rattle.ompt_cli.proofs.Reading.{ends-long, ends-read, loaded-read, read-whole}
 use Rattle.ompt_cli.proofs.text.read_program_of.Goals as goal
