@@ -34,12 +34,10 @@ use Rattle.ompt_cli.specs.Text.{IsProgram, IsRefused, Spells, text_for}
 use Rattle.ompt_cli.specs.Top.{CarriesOut, FollowsWords, IsRunOf, StaysUntouched}
 use Rattle.ompt_cli.specs.Traces.{HasRead}
 use Rattle.ompt_cli.specs.Words.{AreFaulty, AreInRange, AreTakenAs, AskFor, AskForRun, AskToRead}
-use Rattle.ompt_cli.proofs.Finishing.{finished}
-use Rattle.ompt_cli.proofs.NestedRuns.{nested-run}
+use Rattle.ompt_cli.proofs.Finishing.{finished, nested-run}
 use Rattle.ompt_cli.proofs.Reading.{loaded-unrefused}
 use Rattle.ompt_cli.proofs.Telling.{ends-may, few-threads, same-settings, shows-faults, some-threads}
-use Rattle.ompt_cli.proofs.Filing.{filed-text}
-use Rattle.ompt_cli.proofs.Recorded.{ends-found}
+use Rattle.ompt_cli.proofs.Filing.{ends-found, filed-text}
 use Rattle.ompt_cli.proofs.Traced.{trace_unbroken, trace_unrefused}
 
 -- nothing is appended where nothing changed, and nothing is written

@@ -42,7 +42,7 @@ use Rattle.team_run.specs.Serving.{Serves, ServesTo, OnlyUnheard, Answers}
 use Rattle.team_run.specs.Unheard.{IsUnheard}
 use Rattle.team_run.proofs.Serving.{serves-told, serves-unheard, hears-front, item-silent, own-told, own-unheard, heard_of-same}
 
-abbrev all_none : List (Option Callback) → Bool
+abbrev pub all_none : List (Option Callback) → Bool
 all_none pending = list_all (λ (callback : Option Callback). is_none callback) pending
 
 -- nobody is inside a callback at first

@@ -7,7 +7,7 @@ use Rattle.tool_report.specs.Order.{AreShared}
 use Rattle.ompt_words.specs.declared.settings.Command.TheVariants.{Record as Recording}
 use Rattle.ompt_cli.specs.Commands.{HasGuests, HasWritten, run_of, unless_memory}
 use Rattle.ompt_cli.proofs.Keeping.{kept-shared}
-use Rattle.ompt_cli.proofs.Recorded.{ends-found, shared-few}
+use Rattle.ompt_cli.proofs.Filing.{ends-found, shared-few}
 use Rattle.ompt_cli.proofs.Telling.{command-is, few-threads, guests-kept, some-threads, written-as}
 use Rattle.ompt_cli.proofs.recording.record.Goals as goal
 

@@ -1,4 +1,4 @@
-use Rattle.ompt_cli.proofs.Recorded.{unless-found}
+use Rattle.ompt_cli.proofs.Filing.{unless-found}
 use Rattle.ompt_cli.proofs.recording.write_trace_of_run.Goals as goal
 
 pub returns-clause-written : goal.returns-clause-written

@@ -1,5 +1,5 @@
 use Rattle.std.proofs.lemmas.Result.{IfOk-weaker}
-use Rattle.ompt_cli.proofs.Observed.{has_kept}
+use Rattle.ompt_cli.proofs.Keeping.{has_kept}
 use Rattle.ompt_cli.proofs.reporting.run_kept.Goals as goal
 
 pub returns-clause-kept : goal.returns-clause-kept
