@@ -8,67 +8,14 @@ ghost use Rattle.ompt_cli.specs.Reports.{HasObserved};
 
 use crate::guests::GuestPart;
 use crate::job::Job;
+use crate::keepers::Keeper;
 use crate::observing::{Observed, observe, observe_alone};
 use std::alloc::{AllocError, Global};
 use std::mem;
 use std::sync::Wait;
 use std::thread::Threads;
-use tool_api::{GuestTool, Handed, ToolPart};
+use tool_api::{GuestTool, Handed};
 use tool_profiled::Profiled;
-use tool_report::{Profile, Recorder, Timeline};
-
-/// A kind of parts with which jobs are run by threads. The parts are sent to the threads, and in a generic method of a trait nothing says that
-/// they may be sent. So each kind makes its own runs. A run takes the parts out of the list.
-pub(crate) trait JobPart: ToolPart {
-    /// Runs the job with these parts, as [`observe`] does.
-    fn run_by_threads<R: Threads + Wait + Sync>(
-        rt: &R,
-        alloc: Global,
-        job: Job,
-        parts: &mut Vec<Self>,
-        guests: Vec<Box<dyn GuestTool>>,
-    ) -> Result<Observed<Self>, AllocError>
-        requires sync { IsSync R.row }
-        requires parts { length parts.old.items ≡ job.settings.threads }
-        ensures observed { IfOk result (HasObserved Self.stands_for Self.same job parts.old.items) }
-        ensures guests { IfOk result (λ observed. observed.report.guests ≡ guests) };
-}
-
-impl JobPart for Recorder {
-    fn run_by_threads<R: Threads + Wait + Sync>(
-        rt: &R,
-        alloc: Global,
-        job: Job,
-        parts: &mut Vec<Recorder>,
-        guests: Vec<Box<dyn GuestTool>>,
-    ) -> Result<Observed<Recorder>, AllocError> {
-        observe(rt, alloc, job, mem::replace(parts, Vec::new(alloc)), guests)
-    }
-}
-
-impl JobPart for Profile {
-    fn run_by_threads<R: Threads + Wait + Sync>(
-        rt: &R,
-        alloc: Global,
-        job: Job,
-        parts: &mut Vec<Profile>,
-        guests: Vec<Box<dyn GuestTool>>,
-    ) -> Result<Observed<Profile>, AllocError> {
-        observe(rt, alloc, job, mem::replace(parts, Vec::new(alloc)), guests)
-    }
-}
-
-impl JobPart for Timeline {
-    fn run_by_threads<R: Threads + Wait + Sync>(
-        rt: &R,
-        alloc: Global,
-        job: Job,
-        parts: &mut Vec<Timeline>,
-        guests: Vec<Box<dyn GuestTool>>,
-    ) -> Result<Observed<Timeline>, AllocError> {
-        observe(rt, alloc, job, mem::replace(parts, Vec::new(alloc)), guests)
-    }
-}
 
 /// Runs jobs: [`Alone`] runs serial jobs, and [`WithThreads`] runs all jobs. Guests have a method, and so have guests beside profiles.
 pub(crate) trait Runner {
@@ -76,7 +23,7 @@ pub(crate) trait Runner {
     ghost may_run: { Self → Bool → Type 0 };
 
     /// Runs the job with these parts. The guests of the report are these.
-    fn run<P: JobPart>(
+    fn run<P: Keeper>(
         &self,
         alloc: Global,
         job: Job,
@@ -98,9 +45,8 @@ pub(crate) trait Runner {
         requires kind { may_run self.now job.settings.serial }
         requires parts { length parts.items ≡ job.settings.threads }
         ensures { IfOk result (HasObserved
-            (HandedFor (λ guest h. (GuestTool-box guest.0).stands_for guest.0.value h)) (SameHanded (λ guest other.
-            guest.0.vtable ≡ other.0.vtable))
-            job parts.items) };
+            (HandedFor (λ guest h. (GuestTool-box guest.0).stands_for guest.0.value h))
+            (SameHanded (λ guest other. guest.0.vtable ≡ other.0.vtable)) job parts.items) };
 
     /// Runs the job with these parts, which are joined with profiles. The report has no guests.
     fn run_joined(
@@ -113,8 +59,7 @@ pub(crate) trait Runner {
         requires parts { length parts.items ≡ job.settings.threads }
         ensures { IfOk result (HasObserved
             (ProfiledFor (HandedFor (λ guest h. (GuestTool-box guest.0).stands_for guest.0.value h)))
-            (SameProfiled (SameHanded (λ guest other. guest.0.vtable ≡ other.0.vtable)))
-            job parts.items) };
+            (SameProfiled (SameHanded (λ guest other. guest.0.vtable ≡ other.0.vtable))) job parts.items) };
 }
 
 /// It runs serial jobs, and waits for nobody.
@@ -124,7 +69,7 @@ pub(crate) struct Alone;
 impl Runner for Alone {
     ghost may_run = { λ _ serial. serial ≡ true };
 
-    fn run<P: JobPart>(
+    fn run<P: Keeper>(
         &self,
         alloc: Global,
         job: Job,
@@ -160,7 +105,7 @@ pub(crate) struct WithThreads<'a, R>(pub &'a R);
 impl<'a, R: Threads + Wait + Sync> Runner for WithThreads<'a, R> {
     ghost may_run = { λ _ _. IsSync R.row };
 
-    fn run<P: JobPart>(
+    fn run<P: Keeper>(
         &self,
         alloc: Global,
         job: Job,
