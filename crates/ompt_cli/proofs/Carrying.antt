@@ -23,7 +23,7 @@ use Rattle.ompt_cli.specs.declared.end.End.{End}
 use Rattle.ompt_cli.specs.declared.end.End.TheVariants as end
 use Rattle.ompt_cli.specs.declared.job.Job.{Job}
 use Rattle.ompt_cli.specs.declared.report.Report.{Report}
-use Rattle.ompt_cli.specs.Commands.{CountsFaults, EndsAs, HasWritten, IsBeforeRun, IsReading, IsShowing, IsUnread, MayRefuse, MayRun, out_of, program_in, run_of, settings_in, text_in}
+use Rattle.ompt_cli.specs.Commands.{CountsFaults, EndsAs, EndsRun, HasWritten, IsBeforeRun, IsReading, IsShowing, IsUnread, MayRefuse, MayRun, out_of, program_in, run_of, settings_in, text_in}
 use Rattle.run_laws.proofs.Ended.{whole-ended}
 use Rattle.history_file.specs.declared.file.HistoryFile.{HistoryFile}
 use Rattle.history_file.specs.Validity.{WritesHistory}
@@ -36,7 +36,7 @@ use Rattle.ompt_cli.specs.Traces.{HasRead}
 use Rattle.ompt_cli.specs.Words.{AreFaulty, AreInRange, AreTakenAs, AskFor, AskForRun, AskToRead}
 use Rattle.ompt_cli.proofs.Finishing.{finished, nested-run}
 use Rattle.ompt_cli.proofs.Reading.{loaded-unrefused}
-use Rattle.ompt_cli.proofs.Telling.{ends-may, few-threads, same-settings, shows-faults, some-threads}
+use Rattle.ompt_cli.proofs.Telling.{before-run, ends-may, few-threads, may-run, same-settings, shows-faults, some-threads}
 use Rattle.ompt_cli.proofs.Filing.{ends-found, filed-text}
 use Rattle.ompt_cli.proofs.Traced.{trace_unbroken, trace_unrefused}
 
@@ -85,14 +85,14 @@ module _ {S O : Type 0} (left : S → Option (List ℕ)) (reads_failed : S → �
           generates = λ other ask blocks is. unread blocks (ap (λ (of : Settings). of.command) (asked-is other ask) ∙ is);
         }
 
-    run-words : {Table : Type 0} {Behind : Table → Type 0} (told : End) (ran : Option (Report Table Behind)) → told ≢ end.Usage → told ≢ end.Shown → ((why : Cause) → told ≡ end.Ended why → IsSomeAnd ran (λ report. report.cause ≡ why)) → (told ≡ end.WriteFault → IsSomeAnd ran (λ report. report.cause ≢ causes.Memory)) → FollowsWords words told None None ran
-    run-words told ran used shown ended written =
+    run-words : {Table : Type 0} {Behind : Table → Type 0} (told : End) (ran : Option (Report Table Behind)) → EndsRun told → ((why : Cause) → told ≡ end.Ended why → IsSomeAnd ran (λ report. report.cause ≡ why)) → (told ≡ end.WriteFault → IsSomeAnd ran (λ report. report.cause ≢ causes.Memory)) → FollowsWords words told None None ran
+    run-words told ran ends ended written =
         record {
-          usage = λ is. absurd (used is);
-          formed = λ ask. (used, shown, refl, refl);
+          usage = λ is. absurd (subst EndsRun is ends);
+          formed = λ ask. (ends, refl, refl);
           other = λ no_run no_read. absurd (no_run asks-run);
           shown_alone = tt;
-          displayed = λ is. absurd (shown is);
+          displayed = λ is. absurd (subst EndsRun is ends);
           help = λ ask. absurd (taken.no_help ask);
           clash = λ both. absurd (taken.not_both both);
           reads = λ command ask. absurd (not-read command ask);
@@ -111,7 +111,7 @@ module _ {S O : Type 0} (left : S → Option (List ℕ)) (reads_failed : S → �
         let spells : Spells (text_in report) (program_in report) = subst (λ (text : List ℕ). Spells text (program_in report)) (sym r.observes.text_is) (subst (Spells job.loaded.text.items) (sym r.observes.program_is) loaded.spelled) in
         let ends : (other : End) → told ≡ other → EndsAs report.cause other = λ other same. subst (EndsAs report.cause) same r.ended in
         record {
-          words = run-words told (Some report) (ends end.Usage) (ends end.Shown) (λ why same. sym (ends (end.Ended why) same).0) (ends end.WriteFault);
+          words = run-words told (Some report) (may-run told (ends-may report.cause told r.ended)) (λ why same. sym (ends (end.Ended why) same).0) (ends end.WriteFault);
           ran =
               record {
                 asked = subst (λ (one : Settings). AreReadAs words (request.Run one)) (sym is) taken.read;
@@ -162,7 +162,7 @@ module _ {S O : Type 0} (left : S → Option (List ℕ)) (reads_failed : S → �
     end_carried told source source_now out ended faults unread =
         let ends : (other : End) → told ≡ other → IsBeforeRun other = λ other same. subst IsBeforeRun same ended.before in
         record {
-          words = run-words told None (ends end.Usage) (ends end.Shown) (λ why. ends (end.Ended why)) (ends end.WriteFault);
+          words = run-words told None (before-run told ended.before) (λ why. ends (end.Ended why)) (ends end.WriteFault);
           ran = tt;
           read = tt;
           text =
@@ -267,7 +267,7 @@ module _ {S O : Type 0} (left : S → Option (List ℕ)) (reads_failed : S → �
           words =
               record {
                 usage = λ is. (faulty.usage (answers.used is), refl, answers.unshown (inl is), refl);
-                formed = λ ask. let is = memory ask in ((λ same. cc), (λ same. cc), answers.unshown (inr (no-memory ask)), refl);
+                formed = λ ask. (subst EndsRun (sym (memory ask)) tt, answers.unshown (inr (no-memory ask)), refl);
                 other = λ no_run no_read. (answers.unread, refl, refl);
                 shown_alone = shows-text None None refl refl shown answers.shows;
                 displayed = λ is. answers.displayed (inl is);

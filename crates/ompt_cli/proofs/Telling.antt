@@ -17,7 +17,7 @@ use Rattle.ompt_cli.specs.declared.job.Job.{Job}
 use Rattle.ompt_cli.specs.declared.report.Report.{Report}
 use Rattle.ompt_cli.specs.declared.end.End.{End}
 use Rattle.ompt_cli.specs.declared.end.End.TheVariants as end
-use Rattle.ompt_cli.specs.Commands.{CountsFaults, EndsAs, HasGuests, MayRun, run_of, text_in, written_by}
+use Rattle.ompt_cli.specs.Commands.{CountsFaults, EndsAs, EndsRun, HasGuests, IsBeforeRun, MayRun, run_of, text_in, written_by}
 use Rattle.ompt_cli.specs.Guests.{AfterCommand, GuestsAfter, GuestsServe}
 use Rattle.ompt_cli.specs.Reports.{Observes}
 use Rattle.ompt_cli.specs.Top.{ShowsFaults}
@@ -76,6 +76,17 @@ lost-read other before now steady rose = absurd (omega (arith, steady (λ is. cc
 pub shows-faults : (told : End) (source source_now out out_now : ℕ) → CountsFaults told end.ReadFault source source_now → CountsFaults told end.WriteFault out out_now → ShowsFaults told source source_now out out_now
 shows-faults told source source_now out out_now reads writes =
     record { read = reads.rose; write = writes.rose; unread = lost-read told source source_now reads.steady; lost = lost-write told out out_now writes.steady }
+
+-- the end of a command that comes before its run, or that a program may have, is one of those for words that ask for a run
+pub before-run : (told : End) → IsBeforeRun told → EndsRun told
+before-run (end.Refused why) before = tt
+before-run end.ReadFault before = tt
+before-run end.Memory before = tt
+before-run other before = absurd before
+
+pub may-run : (told : End) → MayRun told → EndsRun told
+may-run (end.Refused why) may = tt
+may-run other may = may
 
 -- the end of a run is one of those that a program may have
 pub ends-may : (why : Cause) (told : End) → EndsAs why told → MayRun told

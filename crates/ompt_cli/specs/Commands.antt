@@ -111,6 +111,11 @@ MayRun WriteFault = ⊤
 MayRun Memory = ⊤
 MayRun other = ⊥
 
+-- the end of a command whose words ask for a run: its text may be refused too
+abbrev pub EndsRun : End → Type 0
+EndsRun (Refused why) = ⊤
+EndsRun other = MayRun other
+
 -- the end of a command whose words ask for a text: it is shown, unless a write or memory fails
 abbrev pub IsShowing : End → Type 0
 IsShowing Shown = ⊤

@@ -22,7 +22,7 @@ use Rattle.ompt_words.specs.declared.settings.Request.TheVariants as request
 use Rattle.ompt_words.specs.declared.settings.Settings.{Settings}
 use Rattle.ompt_words.specs.declared.settings.ReadCommand.{ReadCommand}
 use Rattle.ompt_words.specs.declared.settings.RunOutput.TheVariants as output
-use Rattle.ompt_cli.specs.Commands.{EndsAs, HasOutput, HasWritten, IsReading, IsShowing, HasGuests, IsUnread, MayRefuse, MayRun, out_of, program_in, run_of, run_text, settings_in, text_in}
+use Rattle.ompt_cli.specs.Commands.{EndsAs, EndsRun, HasOutput, HasWritten, IsReading, IsShowing, HasGuests, IsUnread, MayRefuse, MayRun, out_of, program_in, run_of, run_text, settings_in, text_in}
 use Rattle.ompt_cli.specs.Runs.{AreOutside, IsReturn, IsWhole}
 use Rattle.ompt_cli.specs.Histories.{file_of_report}
 use Rattle.ompt_cli.specs.Text.{IsProgram, IsRefused, Spells, text_for}
@@ -40,7 +40,7 @@ use Rattle.ompt_cli.specs.declared.report.Report.{Report}
 -- that run.
 pub record FollowsWords {Table : Type 0} {Behind : Table → Type 0} (words : List (List ℕ)) (end : End) (shown : Option (String Global)) (read : Option ReadCommand) (ran : Option (Report Table Behind)) : Type 0 where
   pub usage : end ≡ Usage → AreWrong words × IsNone ran × IsNone shown × IsNone read
-  pub formed : AskForRun words → (end ≢ Usage) × (end ≢ Shown) × IsNone shown × IsNone read
+  pub formed : AskForRun words → EndsRun end × IsNone shown × IsNone read
   pub other : ¬ AskForRun words → ((command : ReadCommand) → ¬ AskToRead words command) → IsUnread end × IsNone ran × IsNone read
   pub shown_alone : IfSome shown (λ text. AskForText words × IsShowing end × IsNone ran × IsNone read)
   pub displayed : end ≡ Shown → IsSome shown

@@ -39,7 +39,7 @@ pub fn run_threads<R: Threads + Wait + Sync, P: ToolPart>(
     requires steps { 1 ≤ steps }
     requires bounded { steps ≤ 30000000 }
     requires parts { length parts.items ≡ threads }
-    ensures { IfOk result (λ ran.
+    ensures ran { IfOk result (λ ran.
         IsRan P.stands_for P.same false (run_of program threads steps ran) parts.items ran) }
 {
     let mut parts = parts;

@@ -8,8 +8,8 @@ use Rattle.team_run.proofs.Serving.{runs-parts, same-around}
 use Rattle.thread_run.specs.Drivers.{HaveServed}
 use Rattle.thread_run.proofs.threads.run_threads.Goals as goal
 
-pub returns : goal.returns
-returns g c =
+pub returns-clause-ran : goal.returns-clause-ran
+returns-clause-ran g c =
     let stands_for = g.P.ToolPart.stands_for in
     let Same = g.P.ToolPart.same in
     let start = c.initialize_first-start.result in
