@@ -152,7 +152,10 @@ impl Keeper for Timeline {
         parts: &[Timeline],
         _printed: &[u8],
     ) -> Result<Vec<u8>, AllocError> {
-        timeline_text(alloc, parts, columns_in(command))
+        match command {
+            Command::Timeline(columns) => timeline_text(alloc, parts, columns),
+            _ => timeline_text(alloc, parts, 0),
+        }
     }
 
     fn run_by_threads<R: Threads + Wait + Sync>(
@@ -177,16 +180,6 @@ pub(crate) fn keepers<P: Keeper>(alloc: Global, threads: u8) -> Result<Vec<P>, A
         parts.push(P::fresh(alloc))?;
     }
     Ok(parts)
-}
-
-/// How many columns a timeline is to have.
-fn columns_in(command: Command) -> u8
-    ensures { result ≡ columns_in command }
-{
-    match command {
-        Command::Timeline(columns) => columns,
-        _ => 0,
-    }
 }
 
 /// The summary of a run of the program with so many blocks: these recorders were told of the run, and it printed this text.

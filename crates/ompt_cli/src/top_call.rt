@@ -15,7 +15,7 @@ use crate::outcome::{Outcome, without_run};
 use crate::read_commands::read_input;
 use crate::report::{ByThreads, Top};
 use crate::runner::{Alone, WithThreads};
-use ompt_words::{ReadCommand, Request, WordsFault, request_of};
+use ompt_words::{Request, WordsFault, request_of};
 use run_edges::{Sink, Source, write_all};
 use std::alloc::Global;
 use std::sync::Wait;
@@ -107,7 +107,15 @@ pub fn top_alone<S: Source, O: Sink, E: Sink>(
             let outcome = run_settings(&Alone, alloc, settings, source, out, guests);
             Ok(tell(outcome, err))
         }
-        Ok(Request::Read(command)) => Ok(tell(read_as(alloc, command, source, out), err)),
+        Ok(Request::Read(command)) => {
+            let outcome = Outcome {
+                end: read_input(alloc, command, source, out),
+                ran: None,
+                shown: None,
+                read: Some(command),
+            };
+            Ok(tell(outcome, err))
+        }
         Err(fault) => Ok(tell(without_request(fault, source, out), err)),
     }
 }
@@ -134,26 +142,6 @@ fn top_by_threads<R: Threads + Wait + Sync, S: Source, O: Sink, E: Sink>(
         run_settings(&WithThreads(rt), alloc, settings, source, out, guests),
         err,
     )
-}
-
-/// Reads a trace or a history file from the source, as the words ask.
-fn read_as<S: Source, O: Sink>(
-    alloc: Global,
-    command: ReadCommand,
-    source: &mut S,
-    out: &mut O,
-) -> Outcome
-    ensures carried { (words : List (List ℕ)) → AreTakenAs words (request.Read command) →
-        CarriesOut S.left S.faults O.held O.faults words result.end result.shown result.read result.ran source.old
-        source.new out.old out.new }
-    ensures no_run { IsNone result.ran }
-{
-    Outcome {
-        end: read_input(alloc, command, source, out),
-        ran: None,
-        shown: None,
-        read: Some(command),
-    }
 }
 
 /// Shows the text that the words ask for, or refuses them. Nothing is read.

@@ -11,7 +11,7 @@ use crate::serial_run::SerialRun;
 use c_check::Program;
 use omp_model::Cause;
 use std::alloc::{AllocError, Global};
-use step_book::Closed;
+use step_book::{Book, Closed};
 use tool_api::ToolPart;
 
 /// Runs the program serially, with so many threads, and so many silent steps at most. Part t is called for the events of
@@ -47,7 +47,12 @@ pub fn run_serial<P: ToolPart>(
     let mut parts = parts;
     let start = initialize_first(&mut parts);
     let mask = mask_of(start);
-    let mut run = SerialRun::new(alloc, program, mask, threads, steps, parts)?;
+    let book = Book::start(alloc, program, mask, threads, steps)?;
+    let mut run = SerialRun {
+        book,
+        parts,
+        next: 0,
+    };
     let cause = run.finish();
     if cause == Cause::Memory && run.book.entries().is_empty() {
         return Err(AllocError);
