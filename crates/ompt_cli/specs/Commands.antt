@@ -66,8 +66,9 @@ abbrev pub columns_in : Command → ℕ
 columns_in (Timelining columns) = columns
 columns_in other = 0
 
--- what a command writes of its run of the program of this text, which ended in this cause: a listing a line for each record, a recording the trace, a
--- profile the counts, a timeline the states, `run` what the program printed, the history file, or what was printed and then the counts, and `gen` the summary
+-- what a command writes of its run of the program of this text, which ended in this cause: a listing a line for each record, a recording
+-- the trace, a profile the counts, a timeline the states, `run` what the program printed, the history file, or what was printed and then
+-- the counts, and `gen` the summary
 abbrev pub written_by : Command → List ℕ → Run → Cause → List Entry → List ℕ
 written_by Listing text run cause history = lines_of (records_of run history)
 written_by Recording text run cause history = spelling (fields_of (trace_of run cause history))
@@ -76,7 +77,8 @@ written_by (Timelining columns) text run cause history = timeline_of columns (re
 written_by (Running output.Printed) text run cause history = (after run history).world.store.text
 written_by (Running output.History) text run cause history = history_spelling (history_fields (file_of text run cause history))
 written_by (Running output.Profile) text run cause history = (after run history).world.store.text ++ profile_of (records_of run history)
-written_by (Generating blocks) text run cause history = summary_of (generated blocks) (records_of run history) (after run history).world.store.text
+written_by (Generating blocks) text run cause history =
+    summary_of (generated blocks) (records_of run history) (after run history).world.store.text
 
 -- what a command writes of its run, if there was one
 abbrev pub run_text : {Table : Type 0} {Behind : Table → Type 0} → Option (Report Table Behind) → List ℕ
@@ -149,8 +151,8 @@ EndsAs why WriteFault = why ≢ cause.Memory
 EndsAs why Memory = ⊤
 EndsAs why other = ⊥
 
--- What a command has written of this text, by how it ended: all of it, a front of it where a write failed, and nothing where memory failed. Over what the
--- output holds before and after.
+-- What a command has written of this text, by how it ended: all of it, a front of it where a write failed, and nothing where memory
+-- failed. Over what the output holds before and after.
 pub record HasWritten (end : End) (text : List ℕ) (old new : Option (List ℕ)) : Type 0 where
   pub listed : end ≢ WriteFault → end ≢ Memory → Appends old new text
   pub part : end ≡ WriteFault → AppendsFront old new text

@@ -97,8 +97,8 @@ pub record IsLost (status : ℕ) (end : End) (old new : Option (List ℕ)) (befo
   pub counted : Rose before now
   pub part : AppendsFront old new (line_of_end end)
 
--- The line of the end is told and the status is the end's, unless a write of the line failed. At status 0 there is no line, and nothing is touched. Over
--- what a sink for lines holds, and its count of faults.
+-- The line of the end is told and the status is the end's, unless a write of the line failed. At status 0 there is no line, and nothing
+-- is touched. Over what a sink for lines holds, and its count of faults.
 pub record TellsEnd {E : Type 0} (held : E → Option (List ℕ)) (faults : E → ℕ) (status : ℕ) (end : End) (old new : E) : Type 0 where
   pub told : IsTold status end (held old) (held new) ⊎ IsLost status end (held old) (held new) (faults old) (faults new)
   pub zero : (status ≡ 0) ↔ IsQuiet end
