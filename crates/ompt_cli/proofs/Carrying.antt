@@ -146,7 +146,7 @@ module _ {S O : Type 0} (left : S → Option (List ℕ)) (reads_failed : S → �
               record {
                 traced = r.traced;
                 nested = λ other found.
-                    nested-run (run_of report) report.history report.cause (some-threads job report r.observes) (few-threads job report r.observes) (r.stays other).mask_is (text_in report, spells) r.observes.to.legal (r.observes.to.ends found) (r.observes.to.outside found);
+                    nested-run (run_of report) report.history report.cause (some-threads job report r.observes) (few-threads job report r.observes) (r.stays other).mask_is (text_in report) spells r.observes.to.legal (r.observes.to.ends found) (r.observes.to.outside found);
                 history_file = λ whole memory filed.
                     record { is_file = (r.certified whole memory filed).is_file; bytes_are = sym (filed-text report filed (ends-found report.cause told r.ended memory)) };
                 certificate = λ whole memory filed. (r.certified whole memory filed).certificate;

@@ -23,7 +23,7 @@ use Rattle.team_run.specs.Serving.{RunsParts}
 use Rattle.team_run.specs.Unheard.{IsUnheard, LeftAt}
 use Rattle.team_run.proofs.Visiting.{all_none-at}
 use Rattle.ompt_cli.specs.Runs.{AreOutside, IsReturn, IsWhole}
-use Rattle.ompt_cli.specs.Text.{IsSpelled}
+use Rattle.ompt_cli.specs.Text.{Spells}
 use Rattle.ompt_cli.specs.Traces.{IsNested}
 use Rattle.ompt_cli.proofs.Halting.{not_halted}
 
@@ -83,8 +83,8 @@ outside-none run H some outside =
     let places = (made-after run H some).places in
     all-none (after run H).pending (λ k low. outside k (omega (arith, low, places)))
 
-pub nested-run : (run : Run) (H : List Entry) (cause : Cause) → 1 ≤ run.threads → run.threads ≤ 16 → run.mask ≡ PROFILE_MASK → IsSpelled run.program → Legal run H
+pub nested-run : (run : Run) (H : List Entry) (cause : Cause) → 1 ≤ run.threads → run.threads ≤ 16 → run.mask ≡ PROFILE_MASK → (text : List ℕ) → Spells text run.program → Legal run H
     → cause_of run H ≡ Some cause → AreOutside run H → IsNested (trace_of run cause H)
-nested-run run H cause some few mask (text, spells) legal caused outside =
+nested-run run H cause some few mask text spells legal caused outside =
     nested run H cause some few mask (none-broken run.program spells.keeps) (spelled_is_formed (words_of text spells.read.has.tree_is.tokens) run.program spells.read.has.tree_is.spelled) legal caused
     (outside-none run H some outside)

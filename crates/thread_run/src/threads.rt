@@ -46,7 +46,7 @@ pub fn run_threads<R: Threads + Wait + Sync, P: ToolPart>(
     let start = initialize_first(&mut parts);
     let mask = mask_of(start);
     let blank = Blank::new(alloc, program, mask, threads, steps)?;
-    let Team { closed, mut parts } = run_team::<R, Brand, P>(rt, alloc, blank, parts)?;
+    let (closed, mut parts) = run_team::<R, Brand, P>(rt, alloc, blank, parts)?;
     finalize_first(start, &mut parts);
     let Closed {
         history,
@@ -62,15 +62,6 @@ pub fn run_threads<R: Threads + Wait + Sync, P: ToolPart>(
     })
 }
 
-/// What a team has come to.
-#[derive(Drop)]
-struct Team<P> {
-    /// The book.
-    closed: Closed,
-    /// The parts, by thread.
-    parts: Vec<P>,
-}
-
 /// Why a run ended whose history ended so. A history that hasn't ended is left where there was no memory.
 fn known_cause(cause: Option<Cause>) -> Cause
     ensures { result ≢ Cause.Memory → cause ≡ Some result }
@@ -81,29 +72,26 @@ fn known_cause(cause: Option<Cause>) -> Cause
     }
 }
 
-/// Runs the drivers of all threads over the book of this name until the run is over.
+/// Runs the drivers of all threads over the book of this name until the run is over. It answers what the book has come to, and the parts.
 fn run_team<R: Threads + Wait + Sync, K: BookName, P: ToolPart>(
     rt: &R,
     alloc: Global,
     blank: Blank,
     parts: Vec<P>,
-) -> Result<Team<P>, Memory>
+) -> Result<(Closed, Vec<P>), Memory>
     requires table { blank.table ≡ K.table }
     requires run { blank.run ≡ K.run }
     requires some { 1 ≤ K.run.threads }
     requires few { K.run.threads ≤ 16 }
     requires parts { length parts.items ≡ K.run.threads }
-    ensures { IfOk result (λ team. HaveServed P.stands_for P.same K.run team.closed parts.items team.parts.items) }
+    ensures { IfOk result (λ team. HaveServed P.stands_for P.same K.run team.0 parts.items team.1.items) }
 {
     let (book, passes) = SharedBook::<K>::start(alloc, blank, processors(rt))?;
     let slots = Vec::with_capacity(alloc, passes.len())?;
     let passes_back = Vec::with_capacity(alloc, passes.len())?;
     let parts_back = Vec::with_capacity(alloc, passes.len())?;
     let (passes, parts) = run_drivers(rt, &book, passes, parts, slots, passes_back, parts_back);
-    Ok(Team {
-        closed: book.close(passes),
-        parts,
-    })
+    Ok((book.close(passes), parts))
 }
 
 /// How many processors the threads may run on, or one where that isn't known.
