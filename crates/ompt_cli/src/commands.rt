@@ -18,14 +18,13 @@ use crate::runner::Runner;
 use crate::text::program_for;
 use ompt_words::{Command, RunOutput, Settings};
 use run_edges::{Sink, Source};
-use std::alloc::{AllocError, Global};
+use std::alloc::AllocError;
 use tool_api::GuestTool;
 use tool_report::{Profile, Recorder, Timeline};
 
 /// Reads the program, or makes it for `gen`, runs it with these settings, and writes what the command writes.
 pub(crate) fn run_settings<X: Runner, S: Source, O: Sink>(
     runner: &X,
-    alloc: Global,
     settings: Settings,
     source: &mut S,
     out: &mut O,
@@ -39,11 +38,11 @@ pub(crate) fn run_settings<X: Runner, S: Source, O: Sink>(
     ensures guests { IfSome result.ran (GuestsAfter (λ guest h.
         (GuestTool-box guest).stands_for guest.value h) guests.items) }
 {
-    let loaded = match program_for(alloc, settings.command, source) {
+    let loaded = match program_for(runner.alloc(), settings.command, source) {
         Ok(loaded) => loaded,
         Err(end) => return without_run(end),
     };
-    match run_command(runner, alloc, Job { loaded, settings }, guests, out) {
+    match run_command(runner, Job { loaded, settings }, guests, out) {
         Ok(ended) => Outcome {
             end: ended.end,
             ran: Some(ended.report),
@@ -57,7 +56,6 @@ pub(crate) fn run_settings<X: Runner, S: Source, O: Sink>(
 /// Runs the job, and writes what its command writes of its run. An error says that there was no memory for the run.
 fn run_command<X: Runner, O: Sink>(
     runner: &X,
-    alloc: Global,
     job: Job,
     guests: Vec<Box<dyn GuestTool>>,
     out: &mut O,
@@ -68,14 +66,14 @@ fn run_command<X: Runner, O: Sink>(
     ensures untouched { OnErr result (out.new ≡ out.old) }
 {
     match job.settings.command {
-        Command::Run(RunOutput::Printed) => run_printed(runner, alloc, job, guests, out),
-        Command::Run(RunOutput::History) => run_history(runner, alloc, job, guests, out),
-        Command::Run(RunOutput::Profile) => run_profiled(runner, alloc, job, guests, out),
-        Command::Record => record(runner, alloc, job, guests, out),
-        Command::Profile => report_kept::<X, Profile, O>(runner, alloc, job, guests, out),
-        Command::Timeline(_) => report_kept::<X, Timeline, O>(runner, alloc, job, guests, out),
+        Command::Run(RunOutput::Printed) => run_printed(runner, job, guests, out),
+        Command::Run(RunOutput::History) => run_history(runner, job, guests, out),
+        Command::Run(RunOutput::Profile) => run_profiled(runner, job, guests, out),
+        Command::Record => record(runner, job, guests, out),
+        Command::Profile => report_kept::<X, Profile, O>(runner, job, guests, out),
+        Command::Timeline(_) => report_kept::<X, Timeline, O>(runner, job, guests, out),
         Command::List | Command::Generate(_) => report_kept::<X, Recorder, O>(
-            runner, alloc, job, guests, out,
+            runner, job, guests, out,
         ),
     }
 }

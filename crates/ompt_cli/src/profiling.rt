@@ -36,7 +36,6 @@ struct CountedRun {
 /// Runs the job, and writes what the program printed, and then how many calls of each callback there were. Guest t is the part of thread t beside a profile.
 pub(crate) fn run_profiled<X: Runner, O: Sink>(
     runner: &X,
-    alloc: Global,
     job: Job,
     guests: Vec<Box<dyn GuestTool>>,
     out: &mut O,
@@ -51,8 +50,8 @@ pub(crate) fn run_profiled<X: Runner, O: Sink>(
         report,
         text,
         profiles,
-    } = serve_profiled(runner, alloc, job, guests)?;
-    let made = with_profile(alloc, text, &profiles);
+    } = serve_profiled(runner, job, guests)?;
+    let made = with_profile(runner.alloc(), text, &profiles);
     let end = write_made(report.cause, made, out);
     Ok(AfterRun { end, report })
 }
@@ -75,7 +74,6 @@ fn with_profile(
 /// Runs the job with the guests beside profiles. A run that found no memory for its first entry is none.
 fn serve_profiled<X: Runner>(
     runner: &X,
-    alloc: Global,
     job: Job,
     guests: Vec<Box<dyn GuestTool>>,
 ) -> Result<CountedRun, AllocError>
@@ -89,13 +87,13 @@ fn serve_profiled<X: Runner>(
     ensures counted { IfOk result (λ counted.
         AreKept counts_of (records_of (run_of counted.report) counted.report.history) counted.profiles.items) }
 {
-    let Handing { parts, waiting } = hand_out_all(alloc, job.settings.threads, guests)?;
-    let Joined { parts, room, .. } = join_all(alloc, parts)?;
+    let Handing { parts, waiting } = hand_out_all(runner.alloc(), job.settings.threads, guests)?;
+    let Joined { parts, room, .. } = join_all(runner.alloc(), parts)?;
     let Observed {
         report,
         parts,
         text,
-    } = runner.run_joined(alloc, job, parts)?;
+    } = runner.run_joined(job, parts)?;
     let Parted { parts, profiles } = part_all(room, parts);
     let report = Report {
         guests: take_back_all(parts, waiting),

@@ -30,7 +30,6 @@ use trace_format::write_trace;
 /// Runs the job, and writes the trace of the run. The guests come back as they were.
 pub(crate) fn record<X: Runner, O: Sink>(
     runner: &X,
-    alloc: Global,
     job: Job,
     guests: Vec<Box<dyn GuestTool>>,
     out: &mut O,
@@ -41,8 +40,8 @@ pub(crate) fn record<X: Runner, O: Sink>(
         O.held O.faults job guests.items out.old out.new ended.end ended.report) }
     ensures untouched { OnErr result (out.new ≡ out.old) }
 {
-    let Observed { report, parts, .. } = run_kept::<X, Recorder>(runner, alloc, job, guests)?;
-    let end = write_trace_of_run(alloc, report.threads, report.cause, &parts, out);
+    let Observed { report, parts, .. } = run_kept::<X, Recorder>(runner, job, guests)?;
+    let end = write_trace_of_run(runner.alloc(), report.threads, report.cause, &parts, out);
     Ok(AfterRun { end, report })
 }
 

@@ -17,13 +17,12 @@ use crate::runner::Runner;
 use crate::writing::write_made;
 use ompt_words::Command;
 use run_edges::Sink;
-use std::alloc::{AllocError, Global};
+use std::alloc::AllocError;
 use tool_api::GuestTool;
 
 /// Runs the job, and writes what its command makes of what the parts kept. The guests come back as they were.
 pub(crate) fn report_kept<X: Runner, P: Keeper, O: Sink>(
     runner: &X,
-    alloc: Global,
     job: Job,
     guests: Vec<Box<dyn GuestTool>>,
     out: &mut O,
@@ -43,8 +42,8 @@ pub(crate) fn report_kept<X: Runner, P: Keeper, O: Sink>(
         report,
         parts,
         text,
-    } = run_kept::<X, P>(runner, alloc, job, guests)?;
-    let made = P::text(alloc, command, &parts, &text);
+    } = run_kept::<X, P>(runner, job, guests)?;
+    let made = P::text(runner.alloc(), command, &parts, &text);
     let end = write_made(report.cause, made, out);
     Ok(AfterRun { end, report })
 }
@@ -52,7 +51,6 @@ pub(crate) fn report_kept<X: Runner, P: Keeper, O: Sink>(
 /// Runs the job with a part for each thread that keeps what it is told. The guests of the report are these.
 pub(crate) fn run_kept<X: Runner, P: Keeper>(
     runner: &X,
-    alloc: Global,
     job: Job,
     guests: Vec<Box<dyn GuestTool>>,
 ) -> Result<Observed<P>, AllocError>
@@ -60,6 +58,6 @@ pub(crate) fn run_kept<X: Runner, P: Keeper>(
     ensures kept { IfOk result (HasKept P.keep job) }
     ensures guests { IfOk result (λ observed. observed.report.guests ≡ guests) }
 {
-    let mut parts = keepers::<P>(alloc, job.settings.threads)?;
-    runner.run(alloc, job, &mut parts, guests)
+    let mut parts = keepers::<P>(runner.alloc(), job.settings.threads)?;
+    runner.run(job, &mut parts, guests)
 }

@@ -16,7 +16,7 @@ use crate::runner::Runner;
 use crate::writing::write_run;
 use ompt_words::{Command, RunOutput};
 use run_edges::Sink;
-use std::alloc::{AllocError, Global};
+use std::alloc::AllocError;
 use tool_api::GuestTool;
 
 /// What a run with guests gave: its report, in which the guests are back, and the bytes that the program printed.
@@ -29,7 +29,6 @@ struct Served {
 /// Runs the job, and writes what the program printed. Guest t is the part of thread t; threads past the guests have none.
 pub(crate) fn run_printed<X: Runner, O: Sink>(
     runner: &X,
-    alloc: Global,
     job: Job,
     guests: Vec<Box<dyn GuestTool>>,
     out: &mut O,
@@ -40,7 +39,7 @@ pub(crate) fn run_printed<X: Runner, O: Sink>(
         O.held O.faults job guests.items out.old out.new ended.end ended.report) }
     ensures untouched { OnErr result (out.new ≡ out.old) }
 {
-    let Served { report, text } = serve(runner, alloc, job, guests)?;
+    let Served { report, text } = serve(runner, job, guests)?;
     let end = write_run(report.cause, &text, out);
     Ok(AfterRun { end, report })
 }
@@ -48,7 +47,6 @@ pub(crate) fn run_printed<X: Runner, O: Sink>(
 /// Runs the job, and writes the history of its run. It takes no memory after the run.
 pub(crate) fn run_history<X: Runner, O: Sink>(
     runner: &X,
-    alloc: Global,
     job: Job,
     guests: Vec<Box<dyn GuestTool>>,
     out: &mut O,
@@ -59,15 +57,14 @@ pub(crate) fn run_history<X: Runner, O: Sink>(
         O.held O.faults job guests.items out.old out.new ended.end ended.report) }
     ensures untouched { OnErr result (out.new ≡ out.old) }
 {
-    let text = job.copied_text(alloc)?;
-    let Served { report, .. } = serve(runner, alloc, job, guests)?;
+    let text = job.copied_text(runner.alloc())?;
+    let Served { report, .. } = serve(runner, job, guests)?;
     Ok(write_history_of_run(report, text, out))
 }
 
 /// Runs the job with the guests. A run that found no memory for its first entry is none.
 fn serve<X: Runner>(
     runner: &X,
-    alloc: Global,
     job: Job,
     guests: Vec<Box<dyn GuestTool>>,
 ) -> Result<Served, AllocError>
@@ -80,12 +77,12 @@ fn serve<X: Runner>(
     ensures printed { IfOk result (λ served.
         served.text.items ≡ (after (run_of served.report) served.report.history).world.store.text) }
 {
-    let Handing { parts, waiting } = hand_out_all(alloc, job.settings.threads, guests)?;
+    let Handing { parts, waiting } = hand_out_all(runner.alloc(), job.settings.threads, guests)?;
     let Observed {
         report,
         parts,
         text,
-    } = runner.run_guests(alloc, job, parts)?;
+    } = runner.run_guests(job, parts)?;
     let report = Report {
         guests: take_back_all(parts, waiting),
         ..report

@@ -22,10 +22,12 @@ pub(crate) trait Runner {
     /// Whether it runs jobs that are serial, or jobs that aren't.
     ghost may_run: { Self → Bool → Type 0 };
 
+    /// Where runs take their memory.
+    fn alloc(&self) -> Global;
+
     /// Runs the job with these parts. The guests of the report are these.
     fn run<P: Keeper>(
         &self,
-        alloc: Global,
         job: Job,
         parts: &mut Vec<P>,
         guests: Vec<Box<dyn GuestTool>>,
@@ -38,7 +40,6 @@ pub(crate) trait Runner {
     /// Runs the job with these parts. The report has no guests.
     fn run_guests(
         &self,
-        alloc: Global,
         job: Job,
         parts: Vec<Handed<GuestPart>>,
     ) -> Result<Observed<Handed<GuestPart>>, AllocError>
@@ -51,7 +52,6 @@ pub(crate) trait Runner {
     /// Runs the job with these parts, which are joined with profiles. The report has no guests.
     fn run_joined(
         &self,
-        alloc: Global,
         job: Job,
         parts: Vec<Profiled<Handed<GuestPart>>>,
     ) -> Result<Observed<Profiled<Handed<GuestPart>>>, AllocError>
@@ -64,72 +64,74 @@ pub(crate) trait Runner {
 
 /// It runs serial jobs, and waits for nobody.
 #[derive(Drop)]
-pub(crate) struct Alone;
+pub(crate) struct Alone(pub Global);
 
 impl Runner for Alone {
     ghost may_run = { λ _ serial. serial ≡ true };
 
+    fn alloc(&self) -> Global {
+        self.0
+    }
+
     fn run<P: Keeper>(
         &self,
-        alloc: Global,
         job: Job,
         parts: &mut Vec<P>,
         guests: Vec<Box<dyn GuestTool>>,
     ) -> Result<Observed<P>, AllocError> {
-        observe_alone(alloc, job, mem::replace(parts, Vec::new(alloc)), guests)
+        observe_alone(self.0, job, mem::replace(parts, Vec::new(self.0)), guests)
     }
 
     fn run_guests(
         &self,
-        alloc: Global,
         job: Job,
         parts: Vec<Handed<GuestPart>>,
     ) -> Result<Observed<Handed<GuestPart>>, AllocError> {
-        observe_alone(alloc, job, parts, Vec::new(alloc))
+        observe_alone(self.0, job, parts, Vec::new(self.0))
     }
 
     fn run_joined(
         &self,
-        alloc: Global,
         job: Job,
         parts: Vec<Profiled<Handed<GuestPart>>>,
     ) -> Result<Observed<Profiled<Handed<GuestPart>>>, AllocError> {
-        observe_alone(alloc, job, parts, Vec::new(alloc))
+        observe_alone(self.0, job, parts, Vec::new(self.0))
     }
 }
 
 /// It runs jobs by threads too.
 #[derive(Drop)]
-pub(crate) struct WithThreads<'a, R>(pub &'a R);
+pub(crate) struct WithThreads<'a, R>(pub &'a R, pub Global);
 
 impl<'a, R: Threads + Wait + Sync> Runner for WithThreads<'a, R> {
     ghost may_run = { λ _ _. IsSync R.row };
 
+    fn alloc(&self) -> Global {
+        self.1
+    }
+
     fn run<P: Keeper>(
         &self,
-        alloc: Global,
         job: Job,
         parts: &mut Vec<P>,
         guests: Vec<Box<dyn GuestTool>>,
     ) -> Result<Observed<P>, AllocError> {
-        P::run_by_threads(self.0, alloc, job, parts, guests)
+        P::run_by_threads(self.0, self.1, job, parts, guests)
     }
 
     fn run_guests(
         &self,
-        alloc: Global,
         job: Job,
         parts: Vec<Handed<GuestPart>>,
     ) -> Result<Observed<Handed<GuestPart>>, AllocError> {
-        observe(self.0, alloc, job, parts, Vec::new(alloc))
+        observe(self.0, self.1, job, parts, Vec::new(self.1))
     }
 
     fn run_joined(
         &self,
-        alloc: Global,
         job: Job,
         parts: Vec<Profiled<Handed<GuestPart>>>,
     ) -> Result<Observed<Profiled<Handed<GuestPart>>>, AllocError> {
-        observe(self.0, alloc, job, parts, Vec::new(alloc))
+        observe(self.0, self.1, job, parts, Vec::new(self.1))
     }
 }

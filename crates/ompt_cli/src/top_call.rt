@@ -104,7 +104,7 @@ pub fn top_alone<S: Source, O: Sink, E: Sink>(
             if !settings.serial {
                 return Err(ByThreads { settings, guests });
             }
-            let outcome = run_settings(&Alone, alloc, settings, source, out, guests);
+            let outcome = run_settings(&Alone(alloc), settings, source, out, guests);
             Ok(tell(outcome, err))
         }
         Ok(Request::Read(command)) => {
@@ -139,7 +139,7 @@ fn top_by_threads<R: Threads + Wait + Sync, S: Source, O: Sink, E: Sink>(
 {
     let ByThreads { settings, guests } = asked;
     tell(
-        run_settings(&WithThreads(rt), alloc, settings, source, out, guests),
+        run_settings(&WithThreads(rt, alloc), settings, source, out, guests),
         err,
     )
 }
