@@ -45,8 +45,8 @@ pub(crate) fn record<X: Runner, O: Sink>(
     Ok(AfterRun { end, report })
 }
 
-/// Writes the trace of a run with so many threads that ended in this cause, unless it found no memory. The trace is whole in memory before the first
-/// write. It answers how the command ends.
+/// Writes the trace of a run with so many threads that ended in this cause, unless it found no memory. The trace is whole in memory before
+/// the first write. It answers how the command ends.
 fn write_trace_of_run<O: Sink>(
     alloc: Global,
     threads: u8,
@@ -56,8 +56,8 @@ fn write_trace_of_run<O: Sink>(
 ) -> End
     requires shared { IsSharedFew parts.now }
     ensures end { EndsAs cause result }
-    ensures written { (events : List EventRecord) → AreShared events parts.now →
-        HasWritten result (unless_memory cause (spelling (fields_of (trace_with threads PROFILE_MASK cause events))))
+    ensures written { (events : List EventRecord) → AreShared events parts.now → HasWritten result
+        (unless_memory cause (spelling (fields_of (trace_with threads PROFILE_MASK cause events))))
         (O.held out.old) (O.held out.new) }
     ensures fits { (events : List EventRecord) → AreShared events parts.now → result ≢ End.WriteFault →
         result ≢ End.Memory → FitsCause cause × All FitsFields events }
@@ -66,28 +66,6 @@ fn write_trace_of_run<O: Sink>(
     if cause == Cause::Memory {
         return End::Memory;
     }
-    write_recorded(alloc, threads, cause, parts, out)
-}
-
-/// Writes the trace of a run that found memory.
-fn write_recorded<O: Sink>(
-    alloc: Global,
-    threads: u8,
-    cause: Cause,
-    parts: &[Recorder],
-    out: &mut O,
-) -> End
-    requires found { cause ≢ Cause.Memory }
-    requires shared { IsSharedFew parts.now }
-    ensures end { EndsAs cause result }
-    ensures found { cause ≢ Cause.Memory }
-    ensures written { (events : List EventRecord) → AreShared events parts.now →
-        HasWritten result (spelling (fields_of (trace_with threads PROFILE_MASK cause events))) (O.held out.old)
-        (O.held out.new) }
-    ensures fits { (events : List EventRecord) → AreShared events parts.now → result ≢ End.WriteFault →
-        result ≢ End.Memory → FitsCause cause × All FitsFields events }
-    ensures faults { CountsFaults result End.WriteFault (O.faults out.old) (O.faults out.new) }
-{
     let Ok(events) = merge(alloc, parts) else {
         return End::Memory;
     };

@@ -30,7 +30,7 @@ use Rattle.omp_model.specs.Cause.{none_pending, whole_value, is_stuck, cause_of_
 use Rattle.omp_model.proofs.Turns.{Leaves, leaves-turn, turn-pending, turns-rise, back-turns}
 use Rattle.omp_model.proofs.Replies.{may-store}
 use Rattle.omp_model.proofs.Recording.{HasRun-start, HasRun-after, HasRun-alone, HasRun-event, HasRun-serial, HasRun-pending, heard-alone, heard-event, heard-pending, event_at, first_enabled-below, first_enabled-enabled, first_enabled-none, put_all-turns, StoresNothing-append}
-use Rattle.team_run.specs.Standing.{AreSilent, StandsAt, StopsAt}
+use Rattle.team_run.specs.Standing.{AreSilent, HearsOwn, HearsSilent, StandsAt, StopsAt}
 use Rattle.omp_machine.proofs.Storing.{Inside, inside-put}
 use Rattle.omp_machine.proofs.Telling.{IsTold, IsUntold}
 use Rattle.step_book.specs.Pages.{Pages, state_of, with_entries}
@@ -171,37 +171,34 @@ module _ (run : Run) (S : State) (from : ℕ) (H : List Entry) (t : ℕ) (stands
   untold-heard unregistered =
       heard-event t e [] stands.has_run happens ∙ ap (λ said. heard run H ++ said) (rw unregistered refl) ∙ append-nil (heard run H)
 
-  -- after an event that is heard
+  -- after an event, with these stores
+  stands-event : (stores : List Stored) → length stores ≤ 3 → MayStore run between t stores → IsSome (pending_at (put_all between t stores) t) → HearsOwn run (H ++ event_at t stores)
+      → (HearsSilent run (H ++ event_at t stores) → HearsSilent run H × (stores ≡ [])) → StandsAt run (back (put_all between t stores) t) (t + 1) (H ++ event_at t stores)
+  stands-event stores few may waits own quiet =
+      record {
+        some = stands.some;
+        few = stands.few;
+        within = below run S from H t stands turns;
+        nobody = nobody-back run S t e stores stands.nobody happens waits;
+        has_run = HasRun-event t e stores stands.has_run turns happens few may waits;
+        own = own;
+        silent = λ silent. StoresNothing-append H (event_at t stores) (stands.silent (quiet silent).0) (subst (λ (stores : List Stored). StoresNothing (event_at t stores)) (sym (quiet silent).1) (refl, (refl, tt)));
+      }
+
+  -- one that is heard
   pub stands-told : is_registered run.mask (callback_of e) ≡ true → (stores : List Stored) → length stores ≤ 3 → MayStore run between t stores → StandsAt run (back (put_all between t stores) t) (t + 1) (H ++ event_at t stores)
   stands-told registered stores few may =
       let more = told-heard registered stores in
       let under : t < run.threads = omega (arith, below run S from H t stands turns) in
-      record {
-        some = stands.some;
-        few = stands.few;
-        within = below run S from H t stands turns;
-        nobody = nobody-back run S t e stores stands.nobody happens (inside-still registered stores);
-        has_run = HasRun-event t e stores stands.has_run turns happens few may (inside-still registered stores);
-        own = own-told run H (H ++ event_at t stores) t (item_with stores) refl under more stands.own;
-        silent = λ silent.
-            let none : stores ≡ [] = item-silent run H (H ++ event_at t stores) t (item_with stores) refl more under silent in
-            StoresNothing-append H (event_at t stores) (stands.silent (hears-front run H (H ++ event_at t stores) (item_with stores ∷ []) more silent)) (subst (λ (stores : List Stored). StoresNothing (event_at t stores)) (sym none) (refl, (refl, tt)));
-      }
+      stands-event stores few may (inside-still registered stores) (own-told run H (H ++ event_at t stores) t (item_with stores) refl under more stands.own)
+      (λ silent. (hears-front run H (H ++ event_at t stores) (item_with stores ∷ []) more silent, item-silent run H (H ++ event_at t stores) t (item_with stores) refl more under silent))
 
-  -- after one that isn't
+  -- and one that isn't
   pub stands-untold : is_registered run.mask (callback_of e) ≡ false → StandsAt run (back between t) (t + 1) (H ++ event_at t [])
   stands-untold unregistered =
       let same = untold-heard unregistered in
-      let waits : IsSome (pending_at between t) = rw inside-event refl in
-      record {
-        some = stands.some;
-        few = stands.few;
-        within = below run S from H t stands turns;
-        nobody = nobody-back run S t e [] stands.nobody happens waits;
-        has_run = HasRun-event t e [] stands.has_run turns happens (omega arith) tt waits;
-        own = own-unheard run H (H ++ event_at t []) same stands.own;
-        silent = λ silent. StoresNothing-append H (event_at t []) (stands.silent (λ k under. subst AreSilent (heard_of-same run H (H ++ event_at t []) k same) (silent k under))) (refl, (refl, tt));
-      }
+      stands-event [] (omega arith) tt (rw inside-event refl) (own-unheard run H (H ++ event_at t []) same stands.own)
+      (λ silent. ((λ k under. subst AreSilent (heard_of-same run H (H ++ event_at t []) k same) (silent k under)), refl))
 
 -- at most three stores of a reply take effect
 stored-few : (word : ℕ) (found : Option Target) → length (stored word found) ≤ 1

@@ -82,11 +82,6 @@ fn finish<R: Threads, K: BookName, P: ToolPart>(rt: &R, slot: Slot<K, P>) -> (Pa
     }
 }
 
-/// How many drivers the caller has.
-fn count_here<K: BookName, P: ToolPart>(slots: &[Slot<K, P>]) -> usize {
-    slots.iter().filter(|slot| slot.driver.is_err()).count()
-}
-
 /// Drives the drivers that the caller has, until the run is over. Where it has one alone, that is the first.
 pub(crate) fn drive_here<R: Wait, K: BookName, P: ToolPart>(
     rt: &R,
@@ -96,7 +91,8 @@ pub(crate) fn drive_here<R: Wait, K: BookName, P: ToolPart>(
     ensures as_many { length slots.new ≡ length slots.old }
     ensures kept { AreKept (IsSlot P.stands_for P.same K.run) slots.old slots.new }
 {
-    if count_here(slots) == 1 && !slots.is_empty() {
+    let here = slots.iter().filter(|slot| slot.driver.is_err()).count();
+    if here == 1 && !slots.is_empty() {
         drive_slot(rt, book, &mut slots[0]);
         return;
     }
