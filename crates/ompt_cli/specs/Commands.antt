@@ -56,7 +56,7 @@ abbrev pub HasGuests : Command → Type 0
 HasGuests (Running what) = ⊤
 HasGuests other = ⊥
 
--- what `list` writes of these events, or `gen` of a run of which the program printed this
+-- what a command makes of these events: `list` a line for each, and `gen` the summary of a run whose program printed this
 abbrev pub text_of_events : Command → List EventRecord → List ℕ → List ℕ
 text_of_events (Generating blocks) events printed = summary_of (generated blocks) events printed
 text_of_events other events printed = lines_of events

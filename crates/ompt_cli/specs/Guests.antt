@@ -85,7 +85,7 @@ AfterCommand stands_for Same (Running other) serial run cause history guests aft
     GuestsServe stands_for Same serial run cause history guests after
 AfterCommand stands_for Same other serial run cause history guests after = after ≡ guests
 
--- what the guests of a report stand for, which were these before its run: each is of the type that was handed in
+-- The same of the guests of a report. Before its run they were these, and each is still of the type that was handed in.
 abbrev pub GuestsAfter : {Table : Type 0} {Behind : Table → Type 0} → (DynBox Table Global Behind → Record → Type 0) →
     List (DynBox Table Global Behind) → Report Table Behind → Type 0
 GuestsAfter stands_for guests report =
