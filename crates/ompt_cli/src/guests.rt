@@ -63,7 +63,10 @@ pub(crate) fn hand_out_all(
 {
     let mut waiting = guests;
     waiting.reverse();
-    let parts = hand_out(alloc, threads, &mut waiting)?;
+    let mut parts = Vec::new(alloc);
+    for _thread in 0..threads {
+        parts.push(next_part(&mut waiting))?;
+    }
     waiting.reserve(threads as usize)?;
     Ok(Handing { parts, waiting })
 }
@@ -77,45 +80,20 @@ pub(crate) fn take_back_all(
     ensures { result.items ≡ guests_of (λ guest. guest.0) parts.items ++ reverse waiting.items }
 {
     let (mut parts, mut waiting) = (parts, waiting);
-    take_back(&mut parts, &mut waiting);
+    while let Some(part) = parts.pop() {
+        wait_again(part, &mut waiting);
+    }
     waiting.reverse();
     waiting
 }
 
-/// A part for each thread: the guest that waits next, which is the last one of the list, or none where no more wait.
-fn hand_out(
-    alloc: Global,
-    threads: u8,
-    waiting: &mut Vec<Box<dyn GuestTool>>,
-) -> Result<Vec<Handed<GuestPart>>, AllocError>
-    ensures handed { IfOk result (λ parts.
-        HandOut (λ guest. guest.0) (reverse waiting.old.items) parts.items (reverse waiting.new.items)) }
-    ensures each { IfOk result (λ parts. length parts.items ≡ threads) }
-{
-    let mut parts = Vec::new(alloc);
-    for _thread in 0..threads {
-        parts.push(next_part(waiting))?;
-    }
-    Ok(parts)
-}
-
-/// The part of the next thread.
+/// The part of the next thread: the guest that waits next, which is the last one of the list, or none where no more wait.
 fn next_part(waiting: &mut Vec<Box<dyn GuestTool>>) -> Handed<GuestPart>
     ensures { HandOut (λ guest. guest.0) (reverse waiting.old.items) (result ∷ []) (reverse waiting.new.items) }
 {
     match waiting.pop() {
         Some(guest) => Handed::Guest(GuestPart(guest)),
         None => Handed::Quiet(Quiet),
-    }
-}
-
-/// The guests that these parts hold wait again, the first one last.
-fn take_back(parts: &mut Vec<Handed<GuestPart>>, waiting: &mut Vec<Box<dyn GuestTool>>)
-    requires { vec_len waiting.old + length parts.old.items ≤ vec_capacity waiting.old }
-    ensures { reverse waiting.new.items ≡ guests_of (λ guest. guest.0) parts.old.items ++ reverse waiting.old.items }
-{
-    while let Some(part) = parts.pop() {
-        wait_again(part, waiting);
     }
 }
 
