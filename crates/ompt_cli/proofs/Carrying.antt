@@ -38,7 +38,7 @@ use Rattle.ompt_cli.proofs.Finishing.{finished, nested-run}
 use Rattle.ompt_cli.proofs.Reading.{loaded-unrefused}
 use Rattle.ompt_cli.proofs.Telling.{before-run, ends-may, few-threads, may-run, same-settings, shows-faults, some-threads}
 use Rattle.ompt_cli.proofs.Filing.{ends-found, filed-text}
-use Rattle.ompt_cli.proofs.Traced.{trace_unbroken, trace_unrefused}
+use Rattle.ompt_cli.proofs.Written.{trace_unbroken, trace_unrefused}
 
 -- nothing is appended where nothing changed, and nothing is written
 nothing-appended : (held : Option (List ℕ)) → Appends held held []

@@ -5,7 +5,6 @@ pub mod Handing
 pub mod Keeping
 pub mod Reading
 pub mod Telling
-pub mod Traced
 pub mod Written
 pub mod Filing
 pub mod Carrying
