@@ -1,10 +1,10 @@
--- What the parts stand for once one of them was called.
-use Rattle.std.proofs.Common.{◌≡◌, ℕ, ◌<◌, List, length, slice_index_or, slice_set, refl, sym, subst, ◌∙◌, inl, inr, arith}
-use Rattle.std.proofs.lemmas.List.{get_or_default, get_or-set_same, get_or-set_other, length-set}
+-- What the parts stand for once the part of a thread was called.
+use Rattle.std.proofs.Common.{◌≡◌, ℕ, ◌<◌, List, length, slice_index_or, slice_set, sym, subst, ◌∙◌, inl, inr}
+use Rattle.std.proofs.lemmas.List.{get_or_default, get_or-set_same, get_or-set_other}
 use Rattle.std.proofs.lemmas.Bool.Decides.{eqb_tells}
 use Rattle.ompt_calls.specs.Item.{Item}
 use Rattle.tool_api.specs.Record.{Record, told}
-use Rattle.team_run.specs.Serving.{AreSame, Becomes, ChangesFirst, told_on}
+use Rattle.team_run.specs.Serving.{AreSame, Becomes, told_on}
 
 module _ {P : Type 0} (stands_for : P → Record → Type 0) (parts : List P) (t : ℕ) (found part : P) (is : found ≡ slice_index_or parts t found) (within : t < length parts) where
   -- the part that was found is the thread's, whatever stands for none
@@ -32,15 +32,3 @@ same-at {P} Same itself parts t found part is within same = record { each = each
       | inl equal ↦ rw (← equal.1, get_or-set_same parts t part d within) (subst (λ p. Same p part) (is ∙ get_or_default parts t found d within) same)
       | inr different ↦ rw (get_or-set_other parts t k part d (λ equal. different.1 (sym equal))) (itself (slice_index_or parts k d))
     ]
-
--- the first part has changed
-pub first-changed :
-    {P : Type 0} (stands_for : P → Record → Type 0) (Same : P → P → Type 0) → ((part : P) → Same part part) → (more : Record → Record) (parts : List P) (found part : P) → found ≡ slice_index_or parts 0 found → 0 < length parts
-    → ((h : Record) → stands_for found h → stands_for part (more h)) → Same found part → ChangesFirst stands_for Same more parts (slice_set parts 0 part)
-first-changed {P} stands_for Same itself more parts found part is some becomes same =
-    record {
-      as_many = length-set parts 0 part;
-      same = same-at Same itself parts 0 found part is some same;
-      first = λ d h stands. rw (get_or-set_same parts 0 part d some) (becomes h (found-at stands_for parts 0 found part is some 0 d h refl stands));
-      others_are = λ k d past. get_or-set_other parts 0 k part d (λ same. omega (arith, same, past));
-    }
