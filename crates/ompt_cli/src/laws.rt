@@ -8,5 +8,6 @@ ghost use Rattle.ompt_cli.specs.declared.end.Refusal.{Refusal};
 pub fn each_text_is_judged()
     ensures either { (text : List ℕ) → IsProgram text ⊎ ((why : Refusal) × IsRefused why text) }
     ensures not_both { (text : List ℕ) (why : Refusal) → IsProgram text → IsRefused why text → ⊥ }
-    ensures one_reason { (text : List ℕ) (first second : Refusal) → IsRefused first text → IsRefused second text → first ≡ second }
+    ensures one_reason { (text : List ℕ) (first second : Refusal) → IsRefused first text → IsRefused second text →
+        first ≡ second }
 {}

@@ -28,7 +28,8 @@ use trace_format::EndMark;
 pub(crate) fn rerun_history<S: Source, O: Sink>(alloc: Global, source: &mut S, out: &mut O) -> End
     ensures end { IsReading result }
     ensures rerun { HasRerun result (S.left source.old) (O.held out.old) (O.held out.new) }
-    ensures certified { (file : SeenFile) → IsSomeAnd (S.left source.old) (WritesHistory file) → Certifies file → MayCertify result }
+    ensures certified { (file : SeenFile) → IsSomeAnd (S.left source.old) (WritesHistory file) → Certifies file →
+        MayCertify result }
     ensures reads { CountsFaults result End.ReadFault (S.faults source.old) (S.faults source.new) }
     ensures writes { CountsFaults result End.WriteFault (O.faults out.old) (O.faults out.new) }
 {
@@ -78,7 +79,8 @@ fn judge<O: Sink>(alloc: Global, file: &HistoryFile, out: &mut O) -> End
     requires { IsHistoryFile file.now }
     ensures end { IsReading result }
     ensures faultless { result ≢ End.ReadFault }
-    ensures rerun { (left : Option (List ℕ)) → IfSome left (WritesHistory file.now) → HasRerun result left (O.held out.old) (O.held out.new) }
+    ensures rerun { (left : Option (List ℕ)) → IfSome left (WritesHistory file.now) →
+        HasRerun result left (O.held out.old) (O.held out.new) }
     ensures certified { Certifies file.now → MayCertify result }
     ensures writes { CountsFaults result End.WriteFault (O.faults out.old) (O.faults out.new) }
 {
@@ -93,7 +95,8 @@ fn judge_program<O: Sink>(alloc: Global, program: Program, file: &HistoryFile, o
     requires { IsHistoryFile file.now }
     ensures end { IsReading result }
     ensures faultless { result ≢ End.ReadFault }
-    ensures rerun { (left : Option (List ℕ)) → HasFile left file.now program → HasRerun result left (O.held out.old) (O.held out.new) }
+    ensures rerun { (left : Option (List ℕ)) → HasFile left file.now program →
+        HasRerun result left (O.held out.old) (O.held out.new) }
     ensures certified { IsCertificate (run_of_file program file.now) file.now → MayCertify result }
     ensures writes { CountsFaults result End.WriteFault (O.faults out.old) (O.faults out.new) }
 {

@@ -9,13 +9,13 @@ ghost use Rattle.ompt_cli.specs.Top.{CarriesOut, FollowsWords, HasTrace, IsRunOf
 ghost use Rattle.ompt_cli.specs.Traces.{HasReadInput};
 ghost use Rattle.ompt_cli.specs.Words.{AreFaulty, AreInRange, AreTakenAs, texts};
 
+use crate::commands::run_settings;
 use crate::end::End;
 use crate::outcome::{Outcome, without_run};
 use crate::read_commands::read_input;
 use crate::report::{ByThreads, Top};
 use crate::runner::{Alone, WithThreads};
-use crate::settings_run::run_settings;
-use ompt_words::{ReadCommand, Request, WordsFault, request_of};
+use ompt_words::{Request, WordsFault, request_of};
 use run_edges::{Sink, Source, write_all};
 use std::alloc::Global;
 use std::sync::Wait;
@@ -49,20 +49,24 @@ pub fn top<R: Threads + Wait + Sync, S: Source, O: Sink, E: Sink>(
     ensures ran { IfSome result.ran (IsRunOf (texts words.now) (S.left source.old) result.end) }
     // Guest t was called for what thread t heard, in its order, beside a profile for what the guests registered of that, and for nothing else but a call
     // that found no memory, which ends the run.
-    ensures guests { IfSome result.ran (GuestsAfter (λ guest h. (GuestTool-box guest).stands_for guest.value h) guests.items) }
+    ensures guests { IfSome result.ran (GuestsAfter (λ guest h.
+        (GuestTool-box guest).stands_for guest.value h) guests.items) }
     // Where a trace or a history file was read, the end says what was read and written of it.
     ensures read { IfSome result.read (λ command.
         HasReadInput command result.end (S.left source.old) (S.left source.new) (O.held out.old) (O.held out.new)) }
     // A text that was to run is refused exactly for a reason that it has.
     ensures text { JudgesText (texts words.now) (S.left source.old) result.end result.read }
     // Where neither is read, what is written is the text that was asked for, or what the command writes of its run.
-    ensures written { IsNone result.read → HasWritten result.end (out_of result.shown result.ran) (O.held out.old) (O.held out.new) }
+    ensures written { IsNone result.read →
+        HasWritten result.end (out_of result.shown result.ran) (O.held out.old) (O.held out.new) }
     // A recording is a trace, the trace of each run of the shipped parts is nested, and a history that is written is a certificate.
     ensures recorded { IfSome result.ran (HasTrace result.end) }
     // Each fault of a read or a write was counted, and shows in the end.
-    ensures faults { ShowsFaults result.end (S.faults source.old) (S.faults source.new) (O.faults out.old) (O.faults out.new) }
+    ensures faults { ShowsFaults result.end (S.faults source.old) (S.faults source.new) (O.faults out.old)
+        (O.faults out.new) }
     // Nothing is read that the words don't ask for, and nothing is touched where they are refused.
-    ensures untouched { StaysUntouched (texts words.now) result.end result.shown result.read source.old source.new out.old out.new }
+    ensures untouched { StaysUntouched (texts words.now) result.end result.shown result.read source.old source.new
+        out.old out.new }
 {
     match top_alone(alloc, words, source, out, err, guests) {
         Ok(top) => top,
@@ -83,13 +87,15 @@ pub fn top_alone<S: Source, O: Sink, E: Sink>(
 ) -> Result<Top, ByThreads>
     ensures told { IfOk result (λ top. TellsEnd E.held E.faults top.status top.end err.old err.new) }
     ensures carried { IfOk result (λ top.
-        CarriesOut S.left S.faults O.held O.faults (texts words.now) top.end top.shown top.read top.ran source.old source.new out.old out.new) }
+        CarriesOut S.left S.faults O.held O.faults
+        (texts words.now) top.end top.shown top.read top.ran source.old source.new out.old out.new) }
     ensures guests { IfOk result (λ top.
         IfSome top.ran (GuestsAfter (λ guest h. (GuestTool-box guest).stands_for guest.value h) guests.items)) }
     // The run that it reports is a serial one.
     ensures serial { IfOk result (λ top. IfSome top.ran (λ report. report.serial ≡ true)) }
     // Only words that ask for a run by threads are given back, with the guests, and nothing was touched then.
-    ensures asked { IfErr result (λ asked. AreTakenAs (texts words.now) (request.Run asked.settings) × AreInRange asked.settings × (asked.settings.serial ≡ false)) }
+    ensures asked { IfErr result (λ asked. AreTakenAs (texts words.now) (request.Run asked.settings) ×
+        AreInRange asked.settings × (asked.settings.serial ≡ false)) }
     ensures kept { IfErr result (λ asked. asked.guests ≡ guests) }
     ensures untouched { IfErr result (λ _. (source.new ≡ source.old) × (out.new ≡ out.old) × (err.new ≡ err.old)) }
 {
@@ -98,10 +104,18 @@ pub fn top_alone<S: Source, O: Sink, E: Sink>(
             if !settings.serial {
                 return Err(ByThreads { settings, guests });
             }
-            let outcome = run_settings(&Alone, alloc, settings, source, out, guests);
+            let outcome = run_settings(&Alone(alloc), settings, source, out, guests);
             Ok(tell(outcome, err))
         }
-        Ok(Request::Read(command)) => Ok(tell(read_as(alloc, command, source, out), err)),
+        Ok(Request::Read(command)) => {
+            let outcome = Outcome {
+                end: read_input(alloc, command, source, out),
+                ran: None,
+                shown: None,
+                read: Some(command),
+            };
+            Ok(tell(outcome, err))
+        }
         Err(fault) => Ok(tell(without_request(fault, source, out), err)),
     }
 }
@@ -118,39 +132,23 @@ fn top_by_threads<R: Threads + Wait + Sync, S: Source, O: Sink, E: Sink>(
     requires range { AreInRange asked.settings }
     ensures told { TellsEnd E.held E.faults result.status result.end err.old err.new }
     ensures carried { (words : List (List ℕ)) → AreTakenAs words (request.Run asked.settings) →
-        CarriesOut S.left S.faults O.held O.faults words result.end result.shown result.read result.ran source.old source.new out.old out.new }
-    ensures guests { IfSome result.ran (GuestsAfter (λ guest h. (GuestTool-box guest).stands_for guest.value h) asked.guests.items) }
+        CarriesOut S.left S.faults O.held O.faults words result.end result.shown result.read result.ran source.old
+        source.new out.old out.new }
+    ensures guests { IfSome result.ran (GuestsAfter (λ guest h.
+        (GuestTool-box guest).stands_for guest.value h) asked.guests.items) }
 {
     let ByThreads { settings, guests } = asked;
     tell(
-        run_settings(&WithThreads(rt), alloc, settings, source, out, guests),
+        run_settings(&WithThreads(rt, alloc), settings, source, out, guests),
         err,
     )
-}
-
-/// Reads a trace or a history file from the source, as the words ask.
-fn read_as<S: Source, O: Sink>(
-    alloc: Global,
-    command: ReadCommand,
-    source: &mut S,
-    out: &mut O,
-) -> Outcome
-    ensures carried { (words : List (List ℕ)) → AreTakenAs words (request.Read command) →
-        CarriesOut S.left S.faults O.held O.faults words result.end result.shown result.read result.ran source.old source.new out.old out.new }
-    ensures no_run { IsNone result.ran }
-{
-    Outcome {
-        end: read_input(alloc, command, source, out),
-        ran: None,
-        shown: None,
-        read: Some(command),
-    }
 }
 
 /// Shows the text that the words ask for, or refuses them. Nothing is read.
 fn without_request<S: Source, O: Sink>(fault: WordsFault, _source: &S, out: &mut O) -> Outcome
     ensures carried { (words : List (List ℕ)) → AreFaulty words fault →
-        CarriesOut S.left S.faults O.held O.faults words result.end result.shown result.read result.ran _source.now _source.now out.old out.new }
+        CarriesOut S.left S.faults O.held O.faults words result.end result.shown result.read result.ran _source.now
+        _source.now out.old out.new }
     ensures no_run { IsNone result.ran }
 {
     match fault {

@@ -16,7 +16,8 @@ pub(crate) fn write_made<O: Sink>(
     out: &mut O,
 ) -> End
     ensures end { EndsAs cause result }
-    ensures written { (text : List ℕ) → IfOk made (λ lines. lines.items ≡ text) → HasWritten result (unless_memory cause text) (O.held out.old) (O.held out.new) }
+    ensures written { (text : List ℕ) → IfOk made (λ lines. lines.items ≡ text) →
+        HasWritten result (unless_memory cause text) (O.held out.old) (O.held out.new) }
     ensures faults { CountsFaults result End.WriteFault (O.faults out.old) (O.faults out.new) }
 {
     match made {
@@ -45,7 +46,8 @@ pub(crate) fn write_run<O: Sink>(cause: Cause, text: &[u8], out: &mut O) -> End
 pub(crate) fn write_read<O: Sink>(made: Result<Vec<u8>, AllocError>, out: &mut O) -> End
     ensures end { (result ≡ End.Read) ⊎ ((result ≡ End.WriteFault) ⊎ (result ≡ End.Memory)) }
     ensures memory { IfErr made (λ _. result ≡ End.Memory) }
-    ensures written { (text : List ℕ) → IfOk made (λ lines. lines.items ≡ text) → HasWritten result text (O.held out.old) (O.held out.new) }
+    ensures written { (text : List ℕ) → IfOk made (λ lines. lines.items ≡ text) →
+        HasWritten result text (O.held out.old) (O.held out.new) }
     ensures writes { CountsFaults result End.WriteFault (O.faults out.old) (O.faults out.new) }
 {
     match made {
