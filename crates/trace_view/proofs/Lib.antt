@@ -2,6 +2,7 @@ pub mod Columns
 pub mod Grids
 pub mod ClosedSlices
 pub mod MarkTexts
+pub mod Naming
 pub mod Numbers
 pub mod Onward
 pub mod OpenSlices

@@ -44,11 +44,13 @@ joined : (a phase b thread c seq fields d name e argument f call g : List ℕ)
     ≡ a ++ phase ++ b ++ thread ++ c ++ seq ++ fields ++ d ++ name ++ e ++ argument ++ f ++ call ++ g
 joined a phase b thread c seq fields d name e argument f call g = simp append_assoc
 
-pub joined_mark : (event : EventRecord) (mark : Mark)
-    → ((44 ∷ 10 ∷ codes "{\"ph\":\"") ++ (mark.phase ++ (codes "\",\"pid\":1,\"tid\":" ++ (decimal event.thread
-    ++ (codes ",\"ts\":" ++ (decimal event.seq ++ (mark.fields ++ (codes ",\"name\":\"" ++ (mark.name
+pub joined_mark : (event : EventRecord) (mark : Mark) (phase fields name : List ℕ)
+    → phase ≡ mark.phase → fields ≡ mark.fields → name ≡ mark.name
+    → ((44 ∷ 10 ∷ codes "{\"ph\":\"") ++ (phase ++ (codes "\",\"pid\":1,\"tid\":" ++ (decimal event.thread
+    ++ (codes ",\"ts\":" ++ (decimal event.seq ++ (fields ++ (codes ",\"name\":\"" ++ (name
     ++ (codes "\",\"args\":{" ++ (mark.argument ++ codes "\"call\":\""))))))))))) ++ (named_call event.call ++ codes "\"}}")
     ≡ mark_text event mark
-joined_mark event mark = joined (44 ∷ 10 ∷ codes "{\"ph\":\"") mark.phase (codes "\",\"pid\":1,\"tid\":") (decimal event.thread)
+joined_mark event mark phase fields name of_phase of_fields of_name = rw (of_phase, of_fields, of_name)
+    (joined (44 ∷ 10 ∷ codes "{\"ph\":\"") mark.phase (codes "\",\"pid\":1,\"tid\":") (decimal event.thread)
     (codes ",\"ts\":") (decimal event.seq) mark.fields (codes ",\"name\":\"") mark.name
-    (codes "\",\"args\":{") mark.argument (codes "\"call\":\"") (named_call event.call) (codes "\"}}")
+    (codes "\",\"args\":{") mark.argument (codes "\"call\":\"") (named_call event.call) (codes "\"}}"))

@@ -131,9 +131,10 @@ pub joined_head : (a w b s c d e : List ℕ) → a ++ (w ++ (b ++ (s ++ (c ++ (d
 joined_head a w b s c d e = simp append_assoc
 
 pub joined_box :
-    (i l sp k m w o s p q : List ℕ)
-    → i ++ (l ++ (i ++ (sp ++ (k ++ (m ++ (w ++ (o ++ (s ++ (p ++ q))))))))) ≡ (((((((((i ++ l) ++ i) ++ sp) ++ k) ++ m) ++ w) ++ o) ++ s) ++ p) ++ q
-joined_box i l sp k m w o s p q = simp append_assoc
+    (i l sp told m w o style p q kind stroke : List ℕ) → told ≡ kind → style ≡ stroke
+    → i ++ (l ++ (i ++ (sp ++ (told ++ (m ++ (w ++ (o ++ (style ++ (p ++ q)))))))))
+    ≡ (((((((((i ++ l) ++ i) ++ sp) ++ kind) ++ m) ++ w) ++ o) ++ stroke) ++ p) ++ q
+joined_box i l sp told m w o style p q kind stroke of_kind of_style = rw (of_kind, of_style) (simp append_assoc)
 
 -- what was added to a text, where there was memory for it
 pub extended :

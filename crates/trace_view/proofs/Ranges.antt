@@ -49,9 +49,9 @@ same_for_each f g same (k ∷ rest) = ap₂ (λ (a b : List ℕ). a ++ b) (same 
 pub joined_six : (a b c d e f : List ℕ) → a ++ (b ++ (c ++ (d ++ (e ++ f)))) ≡ ((((a ++ b) ++ c) ++ d) ++ e) ++ f
 joined_six a b c d e f = simp append_assoc
 
-pub joined_ten : (a b c d e f g h i j : List ℕ)
-    → a ++ (b ++ (c ++ (d ++ (e ++ (f ++ (g ++ (h ++ (i ++ j)))))))) ≡ ((((((((a ++ b) ++ c) ++ d) ++ e) ++ f) ++ g) ++ h) ++ i) ++ j
-joined_ten a b c d e f g h i j = simp append_assoc
+pub joined_ten : (a told c d e f g said i j colour name : List ℕ) → told ≡ colour → said ≡ name
+    → a ++ (told ++ (c ++ (d ++ (e ++ (f ++ (g ++ (said ++ (i ++ j)))))))) ≡ ((((((((a ++ colour) ++ c) ++ d) ++ e) ++ f) ++ g) ++ name) ++ i) ++ j
+joined_ten a told c d e f g said i j colour name of_colour of_name = rw (of_colour, of_name) (simp append_assoc)
 
 pub joined_head : (a w s h q b c d : List ℕ) → ((a ++ (w ++ (s ++ (h ++ q)))) ++ (b ++ d)) ++ (c ++ d) ≡ ((((a ++ w) ++ (s ++ h)) ++ (q ++ b)) ++ (d ++ c)) ++ d
 joined_head a w s h q b c d = simp append_assoc

@@ -44,7 +44,12 @@ flows_from task =
 
 abbrev pub flows_to : ℕ → Mark
 flows_to task =
-    record { phase = codes "f"; fields = codes ",\"cat\":\"task\",\"bp\":\"e\",\"id\":" ++ decimal task; name = codes "task"; argument = [] }
+    record {
+      phase = codes "f";
+      fields = codes ",\"cat\":\"task\",\"bp\":\"e\",\"id\":" ++ decimal task;
+      name = codes "task";
+      argument = [];
+    }
 
 -- A slice beside the threads, of a wait identifier that is held, or of a thread that waits for one. Such slices needn't nest in those of
 -- a thread.
@@ -106,8 +111,8 @@ own_marks t other = []
 abbrev pub marks : EventRecord → List Mark
 marks event = slice_marks (change_of event.call) ++ own_marks event.thread event.call
 
--- The object of a mark, behind those before it: the thread is a track, and the position in the history is the time. The process is 1, since viewers
--- take process 0 for the idle one.
+-- The object of a mark, behind those before it: the thread is a track, and the position in the history is the time. The process is 1,
+-- since viewers take process 0 for the idle one.
 abbrev pub mark_text : EventRecord → Mark → List ℕ
 mark_text event mark =
     44 ∷ 10 ∷ codes "{\"ph\":\"" ++ mark.phase ++ codes "\",\"pid\":1,\"tid\":" ++ decimal event.thread

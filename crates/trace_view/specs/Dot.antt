@@ -13,8 +13,8 @@ use Rattle.tool_tasks.specs.Text.{kind_text}
 use Rattle.tool_tasks.specs.Tree.{node_of, tasks_from}
 use Rattle.trace_format.specs.Validity.{is_among}
 
--- The task that a call names as the one whose event it is: the encountering task, the one that begins or ends, or the one to which a thread goes (status 7).
--- The calls of threads, locks and criticals name none.
+-- The task that a call names as the one whose event it is: the encountering task, the one that begins or ends, or the one to which a
+-- thread goes (status 7). The calls of threads, locks and criticals name none.
 abbrev pub named_task : Call → Option ℕ
 named_task (ParallelBegin task frame region requested flags codeptr) = Some task.identity
 named_task (ParallelEnd region task flags codeptr) = Some task.identity
@@ -69,7 +69,8 @@ lines_of_tasks bold past tasks = flat_map (λ (task : ℕ). task_lines bold (nod
 -- how a picture begins
 abbrev pub head_lines : ℕ → ℕ → List ℕ
 head_lines work span =
-    codes "digraph tasks {" ++ 10 ∷ codes "label=<work " ++ decimal work ++ codes ", span " ++ decimal span ++ codes ">;" ++ 10 ∷ codes "node [shape=box];" ++ 10 ∷ []
+    codes "digraph tasks {" ++ 10 ∷ codes "label=<work " ++ decimal work ++ codes ", span " ++ decimal span ++ codes ">;"
+    ++ 10 ∷ codes "node [shape=box];" ++ 10 ∷ []
 
 -- the picture of these events, the newest first, where these tasks are bold
 abbrev pub picture_of : List EventRecord → List ℕ → ℕ → List ℕ

@@ -25,16 +25,16 @@ IsPicture Waits trace text = IsWaitTable trace.events text
 -- nothing was written.
 abbrev pub HasDrawn : Picture → Viewed → (left rest held after : Option (List ℕ)) → Type 0
 HasDrawn picture Whole left rest held after =
-    (taken : List ℕ) × (trace : Trace) × (text : List ℕ) × IsInput left taken × Writes trace taken × Nested trace.header trace.events trace.end
-    × IsPicture picture trace text × Appends held after text
+    (taken : List ℕ) × (trace : Trace) × (text : List ℕ) × IsInput left taken
+    × Writes trace taken × Nested trace.header trace.events trace.end × IsPicture picture trace text × Appends held after text
 HasDrawn picture (Refused refusal) left rest held after = (taken : List ℕ) × IsRefusedInput left taken refusal × Keeps held after
 HasDrawn picture (Broken breach) left rest held after =
     (taken : List ℕ) × (trace : Trace) × IsInput left taken × Writes trace taken × IsFirstBreach trace.header trace.events trace.end breach
     × Keeps held after
 HasDrawn picture ReadFault left rest held after = (taken : List ℕ) × Consumes left rest taken × IsUnrefused taken × Keeps held after
 HasDrawn picture WriteFault left rest held after =
-    (taken : List ℕ) × (trace : Trace) × (text : List ℕ) × IsInput left taken × Writes trace taken × Nested trace.header trace.events trace.end
-    × IsPicture picture trace text × AppendsFront held after text
+    (taken : List ℕ) × (trace : Trace) × (text : List ℕ) × IsInput left taken
+    × Writes trace taken × Nested trace.header trace.events trace.end × IsPicture picture trace text × AppendsFront held after text
 HasDrawn picture Memory left rest held after = Keeps held after
 
 -- what was written of a trace, by how it ended: the whole picture, a front of it, or nothing. Nothing else comes to pass

@@ -1,4 +1,5 @@
 pub mod Names
+pub mod Naming
 pub mod NamedLines
 pub mod Chrome
 pub mod ItemStyles

@@ -2,6 +2,9 @@
 use Rattle.std.specs.Prelude.{ℕ, List, [], ◌∷◌, ◌++◌, Option, Some, None, codes}
 use Rattle.std.specs.Fmt.{decimal}
 use Rattle.ompt_calls.specs.declared.event.EventRecord.{EventRecord}
+use Rattle.trace_view.specs.declared.label.Behind.{Behind}
+use Rattle.trace_view.specs.declared.label.Behind.TheVariants.{Nothing, Number, Name}
+use Rattle.trace_view.specs.declared.label.Label.{Label}
 use Rattle.trace_view.specs.declared.mark.Happening.{Happening}
 use Rattle.trace_view.specs.declared.mark.Happening.TheVariants.{ThreadEnd, TaskCreate, LockInit, LockDestroy, TestLock, Dispatch}
 use Rattle.trace_view.specs.declared.mark.MarkKind.{MarkKind}
@@ -9,6 +12,16 @@ use Rattle.trace_view.specs.declared.mark.MarkKind.TheVariants.{Begins, Ends, Ha
 use Rattle.trace_view.specs.declared.mark.MutexName.{MutexName}
 use Rattle.trace_view.specs.Chrome.{Mark, begins, ends, flows_from, flows_to, happens, holds, mark_text, mutex_name, names_thread, slice_name, waits}
 use Rattle.trace_view.specs.Names.{dispatch_kind_text}
+use Rattle.trace_view.specs.Naming.{number_text}
+
+-- a word, and the number behind it
+abbrev pub behind_text : List ℕ → Behind → List ℕ
+behind_text word Nothing = word
+behind_text word (Number number) = word ++ decimal number
+behind_text word (Name name) = word ++ number_text name.of name.number
+
+abbrev pub label_text : Label → List ℕ
+label_text label = behind_text label.word.now label.behind
 
 abbrev pub happening_text : Happening → List ℕ
 happening_text ThreadEnd = codes "thread_end"

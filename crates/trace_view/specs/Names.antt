@@ -1,4 +1,5 @@
--- The names that OMPT's header gives to numbers (OpenMP 5.2, 19.4.4), as far as a trace has them. A number without a name here is written as itself.
+-- The names that OMPT's header gives to numbers (OpenMP 5.2, 19.4.4), as far as a trace has them. A number without a name here is
+-- written as itself.
 use Rattle.std.specs.Prelude.{ℕ, ◌==◌, List, codes, if◌then◌else◌}
 use Rattle.std.specs.Fmt.{decimal}
 use Rattle.omp_codes.specs.declared.dispatch_kinds.TheConstants as dispatch_kind
@@ -15,7 +16,8 @@ use Rattle.omp_codes.specs.declared.work_kinds.TheConstants as work_kind
 -- ompt_thread_t
 abbrev pub thread_kind_text : ℕ → List ℕ
 thread_kind_text n =
-    if n == thread_kind.INITIAL then codes "ompt_thread_initial" else if n == thread_kind.WORKER then codes "ompt_thread_worker" else decimal n
+    if n == thread_kind.INITIAL then codes "ompt_thread_initial"
+    else if n == thread_kind.WORKER then codes "ompt_thread_worker" else decimal n
 
 -- ompt_scope_endpoint_t
 abbrev pub endpoint_text : ℕ → List ℕ
@@ -45,12 +47,14 @@ work_kind_text n =
 -- ompt_dispatch_t
 abbrev pub dispatch_kind_text : ℕ → List ℕ
 dispatch_kind_text n =
-    if n == dispatch_kind.SECTION then codes "ompt_dispatch_section" else if n == dispatch_kind.WS_LOOP_CHUNK then codes "ompt_dispatch_ws_loop_chunk" else decimal n
+    if n == dispatch_kind.SECTION then codes "ompt_dispatch_section"
+    else if n == dispatch_kind.WS_LOOP_CHUNK then codes "ompt_dispatch_ws_loop_chunk" else decimal n
 
 -- ompt_task_status_t
 abbrev pub task_status_text : ℕ → List ℕ
 task_status_text n =
-    if n == task_status.COMPLETE then codes "ompt_task_complete" else if n == task_status.SWITCH then codes "ompt_task_switch" else decimal n
+    if n == task_status.COMPLETE then codes "ompt_task_complete"
+    else if n == task_status.SWITCH then codes "ompt_task_switch" else decimal n
 
 -- ompt_task_flag_t, with a bar between two flags
 abbrev pub task_flags_text : ℕ → List ℕ
@@ -70,12 +74,13 @@ state_text n =
     if n == WORK_SERIAL then codes "ompt_state_work_serial" else if n == WORK_PARALLEL then codes "ompt_state_work_parallel"
     else if n == WAIT_BARRIER_IMPLICIT_PARALLEL then codes "ompt_state_wait_barrier_implicit_parallel"
     else if n == WAIT_BARRIER_IMPLICIT_WORKSHARE then codes "ompt_state_wait_barrier_implicit_workshare"
-    else if n == WAIT_BARRIER_EXPLICIT then codes "ompt_state_wait_barrier_explicit" else if n == WAIT_TASKWAIT then codes "ompt_state_wait_taskwait"
+    else if n == WAIT_BARRIER_EXPLICIT then codes "ompt_state_wait_barrier_explicit"
+    else if n == WAIT_TASKWAIT then codes "ompt_state_wait_taskwait"
     else if n == WAIT_LOCK then codes "ompt_state_wait_lock" else if n == WAIT_CRITICAL then codes "ompt_state_wait_critical"
     else if n == IDLE then codes "ompt_state_idle" else if n == OVERHEAD then codes "ompt_state_overhead" else decimal n
 
 -- the status of a run, and what came to pass
 abbrev pub ending_text : ℕ → List ℕ
 ending_text n =
-    if n == 0 then codes "done" else if n == 1 then codes "returned" else if n == 4 then codes "trapped" else if n == 5 then codes "deadlock"
-    else if n == 6 then codes "limit" else decimal n
+    if n == 0 then codes "done" else if n == 1 then codes "returned" else if n == 4 then codes "trapped"
+    else if n == 5 then codes "deadlock" else if n == 6 then codes "limit" else decimal n

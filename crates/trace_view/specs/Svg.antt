@@ -107,7 +107,8 @@ path_end = codes "\"/>" ++ 10 ∷ []
 abbrev pub shade_path : ℕ → List EventRecord → ℕ → List ℕ
 shade_path columns events shade =
     shade_head shade
-    ++ over_cells columns events (λ (thread column : ℕ). stroke_of shade (cell_shade columns events thread column) thread column) ++ path_end
+    ++ over_cells columns events (λ (thread column : ℕ). stroke_of shade (cell_shade columns events thread column) thread column)
+    ++ path_end
 
 abbrev pub tick_path : ℕ → List EventRecord → List ℕ
 tick_path columns events =

@@ -14,7 +14,8 @@ use Rattle.trace_view.specs.ItemStyles.{styled_items, styled_trace}
 -- a front was written of what is written of the items of a front of the input
 abbrev pub IsCutOff : ItemStyle → (left held after : Option (List ℕ)) → Type 0
 IsCutOff style left held after =
-    (taken : List ℕ) × (items : List Item) × IsInputFront left taken × AreItems taken items × AppendsFront held after (styled_items style items)
+    (taken : List ℕ) × (items : List Item) × IsInputFront left taken
+    × AreItems taken items × AppendsFront held after (styled_items style items)
 
 -- By the style and the end, over what the source has left before and after, and what the sink holds before and after. The whole input is a
 -- trace, and is written so; or the input is refused, or a read failed, and what is written is that of the items that are whole in what was

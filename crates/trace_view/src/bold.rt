@@ -34,7 +34,8 @@ fn add_crossed(
     positions: &BTreeSet<u32>,
     event: &EventRecord,
 ) -> Result<(), AllocError>
-    ensures { OnOk result (Gains tasks.old tasks.new (if contains nat_cmp positions.now event.now.seq then listed (named_task event.now.call) else [])) }
+    ensures { OnOk result (Gains tasks.old tasks.new (if contains nat_cmp positions.now event.now.seq
+        then listed (named_task event.now.call) else [])) }
 {
     if positions.contains(&event.seq) {
         add_named(tasks, &event.call)

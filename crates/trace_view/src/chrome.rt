@@ -5,7 +5,7 @@ ghost use Rattle.trace_view.specs.Chrome.{chrome_end, chrome_event, chrome_head,
 
 use crate::mark::MaybeMark;
 use crate::marks::{own_marks, slice_mark};
-use crate::number_names::Ending;
+use crate::number_names::{Enumeration, NumberName};
 use ompt_calls::EventRecord;
 use std::alloc::{AllocError, Global};
 use trace_format::{EndMark, Item};
@@ -58,7 +58,8 @@ fn chrome_event(alloc: Global, event: &EventRecord) -> Result<Vec<u8>, AllocErro
 fn chrome_end(alloc: Global, end: &EndMark) -> Result<Vec<u8>, AllocError>
     ensures { IfOk result (λ text. text.items ≡ chrome_end end.now) }
 {
-    let ending = Ending {
+    let ending = NumberName {
+        of: Enumeration::Ending,
         number: u32::from(end.status),
     };
     let text = format!(in alloc;

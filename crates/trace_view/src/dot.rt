@@ -1,6 +1,6 @@
 //! The task tree of a trace for Graphviz.
 
-ghost use Rattle.std.specs.Prelude.{ℕ, ◌≡◌, ◌++◌, ◌&&◌, IfOk, List, OnOk, Some, reverse};
+ghost use Rattle.std.specs.Prelude.{ℕ, ◌≡◌, ◌++◌, ◌&&◌, IfOk, List, OnOk, reverse};
 ghost use Rattle.std.specs.Ordering.{nat_cmp};
 ghost use Rattle.std.specs.BTreeSet.{contains};
 ghost use Rattle.ompt_calls.specs.declared.event.EventRecord.{EventRecord};
@@ -13,10 +13,9 @@ ghost use Rattle.trace_view.specs.Bold.{HasNumbers};
 ghost use Rattle.trace_view.specs.Dot.{IsDot, box_line, edge_line, head_lines, lines_of_tasks, picture_of, stroke_text};
 
 use crate::bold::crossed_tasks;
+use omp_codes::task_flags::{IMPLICIT, INITIAL};
 use std::alloc::{AllocError, Global};
 use std::collections::BTreeSet;
-use std::fmt;
-use std::fmt::{Display, Formatter};
 use tool_tasks::{Forest, TaskNode};
 use trace_format::Trace;
 
@@ -39,7 +38,8 @@ fn picture(
     bold: &BTreeSet<u32>,
     span: usize,
 ) -> Result<Vec<u8>, AllocError>
-    ensures { IfOk result (λ text. (events : List EventRecord) (numbers : List ℕ) → IsForest forest.now events → HasNumbers bold.now numbers →
+    ensures { IfOk result (λ text. (events : List EventRecord) (numbers : List ℕ) → IsForest forest.now events →
+        HasNumbers bold.now numbers →
         text.items ≡ picture_of (reverse events) numbers span) }
 {
     let mut text = head_lines(alloc, forest.work(), span)?;
@@ -65,7 +65,8 @@ fn put_tasks(
     bold: &BTreeSet<u32>,
     text: &mut Vec<u8>,
 ) -> Result<(), AllocError>
-    ensures { OnOk result ((events : List EventRecord) (numbers : List ℕ) → IsForest forest.now events → HasNumbers bold.now numbers →
+    ensures { OnOk result ((events : List EventRecord) (numbers : List ℕ) → IsForest forest.now events →
+        HasNumbers bold.now numbers →
         text.new.items ≡ text.old.items ++ lines_of_tasks numbers (reverse events) (tasks_from 1 (reverse events))) }
 {
     for identity in 1..u32::MAX {
@@ -84,25 +85,28 @@ fn put_task(
     bold: &BTreeSet<u32>,
     text: &mut Vec<u8>,
 ) -> Result<(), AllocError>
-    ensures { OnOk result (text.new.items ≡ text.old.items ++ (box_line (contains nat_cmp bold.now task.now.identity) task.now
-        ++ edge_line (contains nat_cmp bold.now task.now.parent && contains nat_cmp bold.now task.now.identity) task.now)) }
+    ensures { OnOk result (text.new.items ≡ text.old.items ++
+        (box_line (contains nat_cmp bold.now task.now.identity) task.now
+        ++ edge_line (contains nat_cmp bold.now task.now.parent && contains nat_cmp bold.now task.now.identity)
+        task.now)) }
 {
     let is_bold = bold.contains(&task.identity);
-    put_box(alloc, task, Stroke { is_bold }, text)?;
+    put_box(alloc, task, is_bold, text)?;
     let is_bold = bold.contains(&task.parent) && is_bold;
-    put_edge(alloc, task, Stroke { is_bold }, text)
+    put_edge(alloc, task, is_bold, text)
 }
 
 /// Adds the line of a task alone.
 fn put_box(
     alloc: Global,
     task: &TaskNode,
-    stroke: Stroke,
+    is_bold: bool,
     text: &mut Vec<u8>,
 ) -> Result<(), AllocError>
-    ensures { OnOk result (text.new.items ≡ text.old.items ++ box_line stroke.is_bold task.now) }
+    ensures { OnOk result (text.new.items ≡ text.old.items ++ box_line is_bold task.now) }
 {
-    let kind = Kind { flags: task.flags };
+    let kind = kind_text(task.flags);
+    let stroke = stroke_text(is_bold);
     let line = format!(in alloc;
         "{} [label=<{} {kind}<BR/>work {}>, style={stroke}];\n",
         task.identity, task.identity, task.events
@@ -114,50 +118,33 @@ fn put_box(
 fn put_edge(
     alloc: Global,
     task: &TaskNode,
-    stroke: Stroke,
+    is_bold: bool,
     text: &mut Vec<u8>,
 ) -> Result<(), AllocError>
-    ensures { OnOk result (text.new.items ≡ text.old.items ++ edge_line stroke.is_bold task.now) }
+    ensures { OnOk result (text.new.items ≡ text.old.items ++ edge_line is_bold task.now) }
 {
     if task.parent == 0 {
         return Ok(());
     }
+    let stroke = stroke_text(is_bold);
     let line = format!(in alloc; "{} -> {} [style={stroke}];\n", task.parent, task.identity)?;
     text.extend_from_slice(line.as_bytes())
 }
 
 /// The kind of a task with these flags.
-#[derive(Clone, Copy)]
-struct Kind {
-    flags: u32,
-}
-
-impl Display for Kind {
-    ghost output = { λ kind. Some (kind_text kind.flags) };
-
-    fn fmt<W: fmt::Write>(&self, f: &mut Formatter<W>) -> fmt::Result {
-        match self.flags {
-            1 => write!(f, "initial"),
-            2 => write!(f, "implicit"),
-            _ => write!(f, "explicit"),
-        }
+fn kind_text(flags: u32) -> &'static str
+    ensures { result.now ≡ kind_text flags }
+{
+    match flags {
+        INITIAL => "initial",
+        IMPLICIT => "implicit",
+        _ => "explicit",
     }
 }
 
 /// How a line is drawn.
-#[derive(Clone, Copy)]
-struct Stroke {
-    is_bold: bool,
-}
-
-impl Display for Stroke {
-    ghost output = { λ stroke. Some (stroke_text stroke.is_bold) };
-
-    fn fmt<W: fmt::Write>(&self, f: &mut Formatter<W>) -> fmt::Result {
-        if self.is_bold {
-            write!(f, "bold")
-        } else {
-            write!(f, "solid")
-        }
-    }
+fn stroke_text(is_bold: bool) -> &'static str
+    ensures { result.now ≡ stroke_text is_bold }
+{
+    if is_bold { "bold" } else { "solid" }
 }

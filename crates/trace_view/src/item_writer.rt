@@ -35,7 +35,8 @@ impl<O: Sink> Taker for ItemWriter<'_, O> {
         × Appends (O.held start.out.now) (O.held now.out.now) (styled_items start.style items) };
 
     ghost stopped = { λ start now items next stop. (now.out.ghost_name ≡ start.out.ghost_name)
-        × StopsAt start.style stop (O.faults start.out.now) (O.faults now.out.now) (O.held start.out.now) (O.held now.out.now) items next };
+        × StopsAt start.style stop (O.faults start.out.now) (O.faults now.out.now) (O.held start.out.now)
+        (O.held now.out.now) items next };
 
     fn take(&mut self, item: &Item) -> Result<(), Viewed> {
         put_item(self.alloc, self.style, item, self.out)

@@ -11,7 +11,8 @@
 //!
 //! The definitions stand in `specs/`: `Names` has the names of numbers, `NamedLines` the lines, `Chrome` the marks and their objects, `ItemStyles`
 //! what is written by style, `Slices` which slices are open on a thread, `Dot` the picture of the tasks, `Svg` that of the states, `Waits` the
-//! table, and `ViewingItems` and `Drawing` what was read and written, by how it ended. `Marking`, `Bold`, `Cells` and `WaitTallies` serve the proofs.
+//! table, and `ViewingItems` and `Drawing` what was read and written, by how it ended. `Naming`, `Marking`, `Bold`, `Cells` and `WaitTallies`
+//! serve the proofs.
 //!
 //! Proved by the contract of [`view_items`]:
 //!
@@ -51,9 +52,11 @@ mod dot;
 mod drawing;
 mod item_style;
 mod item_writer;
+mod label;
 mod laws;
 mod mark;
 mod marks;
+mod named_call;
 mod named_lines;
 mod number_names;
 mod paths;

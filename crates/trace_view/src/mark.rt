@@ -1,11 +1,12 @@
 //! A mark of an event in the Trace Event Format, as an object of JSON.
 
-ghost use Rattle.std.specs.Prelude.{◌≡◌, ℕ, Some};
+ghost use Rattle.std.specs.Prelude.{◌≡◌, ◌++◌, ℕ, Some, codes};
 ghost use Rattle.trace_view.specs.Chrome.{mark_text, slice_name};
-ghost use Rattle.trace_view.specs.Marking.{happening_text, mark_of, maybe_text, mutex_text};
+ghost use Rattle.trace_view.specs.Marking.{happening_text, label_text, mark_of, maybe_text, mutex_text};
 
-use crate::named_lines::NamedCall;
-use crate::number_names::{DispatchKind, SyncKind, WorkKind};
+use crate::label::Label;
+use crate::named_call::NamedCall;
+use crate::number_names::Enumeration::{DispatchKind, SyncKind, WorkKind};
 use omp_codes::mutex_kinds::CRITICAL;
 use ompt_calls::EventRecord;
 use std::fmt;
@@ -54,21 +55,6 @@ pub(crate) enum Happening {
     Dispatch(u32),
 }
 
-impl Display for Happening {
-    ghost output = { λ happening. Some (happening_text happening) };
-
-    fn fmt<W: fmt::Write>(&self, f: &mut Formatter<W>) -> fmt::Result {
-        match self {
-            Happening::ThreadEnd => write!(f, "thread_end"),
-            Happening::TaskCreate(task) => write!(f, "task_create {task}"),
-            Happening::LockInit(wait_id) => write!(f, "lock_init {wait_id}"),
-            Happening::LockDestroy(wait_id) => write!(f, "lock_destroy {wait_id}"),
-            Happening::TestLock(wait_id) => write!(f, "test_lock {wait_id}"),
-            Happening::Dispatch(kind) => write!(f, "{}", DispatchKind { number: *kind }),
-        }
-    }
-}
-
 /// A critical or a lock.
 #[derive(Clone, Copy)]
 pub(crate) struct MutexName {
@@ -76,40 +62,6 @@ pub(crate) struct MutexName {
     pub kind: u32,
     /// Its wait identifier.
     pub wait_id: u32,
-}
-
-impl Display for MutexName {
-    ghost output = { λ mutex. Some (mutex_text mutex) };
-
-    fn fmt<W: fmt::Write>(&self, f: &mut Formatter<W>) -> fmt::Result {
-        if self.kind == CRITICAL {
-            write!(f, "critical {}", self.wait_id)
-        } else {
-            write!(f, "lock {}", self.wait_id)
-        }
-    }
-}
-
-/// The name of a slice.
-#[derive(Clone, Copy)]
-struct SliceName {
-    bracket: Bracket,
-}
-
-impl Display for SliceName {
-    ghost output = { λ slice. Some (slice_name slice.bracket) };
-
-    fn fmt<W: fmt::Write>(&self, f: &mut Formatter<W>) -> fmt::Result {
-        match self.bracket {
-            Bracket::Parallel(region) => write!(f, "region {region}"),
-            Bracket::Implicit(task) => write!(f, "implicit task {task}"),
-            Bracket::Explicit(_, task) => write!(f, "task {task}"),
-            Bracket::Worksharing(_, _, kind, _) => write!(f, "{}", WorkKind { number: kind }),
-            Bracket::Masking(_) => write!(f, "masked"),
-            Bracket::Syncing(_, kind) => write!(f, "{}", SyncKind { number: kind }),
-            Bracket::Waiting(_, kind) => write!(f, "wait {}", SyncKind { number: kind }),
-        }
-    }
 }
 
 /// A mark of an event: the thread is its track, and the position in the history its time.
@@ -126,28 +78,16 @@ impl Display for Mark {
         write!(
             f,
             ",\n{{\"ph\":\"{}\",\"pid\":1,\"tid\":{},\"ts\":{}{},\"name\":\"{}\",\"args\":{{{}\"call\":\"{}\"}}}}",
-            Phase(*self),
+            phase_of(self.kind),
             self.event.thread,
             self.event.seq,
-            Fields(*self),
-            Name(*self),
+            fields_of(self.kind, self.event.thread),
+            name_of(self.kind),
             Argument(*self),
             NamedCall {
                 call: self.event.call
             }
         )
-    }
-}
-
-/// The letter of a mark's phase.
-#[derive(Clone, Copy)]
-struct Phase(Mark);
-
-impl Display for Phase {
-    ghost output = { λ of. Some ((mark_of of.0.event.thread of.0.kind).phase) };
-
-    fn fmt<W: fmt::Write>(&self, f: &mut Formatter<W>) -> fmt::Result {
-        write!(f, "{}", phase_of(self.0.kind))
     }
 }
 
@@ -167,49 +107,86 @@ fn phase_of(kind: MarkKind) -> &'static str
     }
 }
 
-/// The fields that a mark's phase asks for.
-#[derive(Clone, Copy)]
-struct Fields(Mark);
-
-impl Display for Fields {
-    ghost output = { λ of. Some ((mark_of of.0.event.thread of.0.kind).fields) };
-
-    fn fmt<W: fmt::Write>(&self, f: &mut Formatter<W>) -> fmt::Result {
-        match self.0.kind {
-            MarkKind::Begins(_) | MarkKind::Ends(_) | MarkKind::NamesThread => write!(f, ""),
-            MarkKind::Happens(_) => write!(f, ",\"s\":\"t\""),
-            MarkKind::FlowsFrom(task) => write!(f, ",\"cat\":\"task\",\"id\":{task}"),
-            MarkKind::FlowsTo(task) => { write!(f, ",\"cat\":\"task\",\"bp\":\"e\",\"id\":{task}") }
-            MarkKind::BeginsHold(mutex) | MarkKind::EndsHold(mutex) => {
-                write!(f, ",\"cat\":\"mutex\",\"id\":{}", mutex.wait_id)
-            }
-            MarkKind::BeginsWait(_) | MarkKind::EndsWait(_) => {
-                write!(f, ",\"cat\":\"wait\",\"id\":{}", self.0.event.thread)
-            }
+/// The fields that its phase asks for, on this thread.
+fn fields_of(kind: MarkKind, thread: u8) -> Label
+    ensures { label_text result ≡ (mark_of thread kind).fields }
+{
+    match kind {
+        MarkKind::Begins(_) | MarkKind::Ends(_) | MarkKind::NamesThread => Label::word(""),
+        MarkKind::Happens(_) => Label::word(",\"s\":\"t\""),
+        MarkKind::FlowsFrom(task) => Label::number(",\"cat\":\"task\",\"id\":", task),
+        MarkKind::FlowsTo(task) => Label::number(",\"cat\":\"task\",\"bp\":\"e\",\"id\":", task),
+        MarkKind::BeginsHold(mutex) | MarkKind::EndsHold(mutex) => {
+            Label::number(",\"cat\":\"mutex\",\"id\":", mutex.wait_id)
+        }
+        MarkKind::BeginsWait(_) | MarkKind::EndsWait(_) => {
+            Label::number(",\"cat\":\"wait\",\"id\":", u32::from(thread))
         }
     }
 }
 
-/// A mark's name.
-#[derive(Clone, Copy)]
-struct Name(Mark);
+/// Its name.
+fn name_of(kind: MarkKind) -> Label
+    ensures { (thread : ℕ) → label_text result ≡ (mark_of thread kind).name }
+{
+    match kind {
+        MarkKind::Begins(bracket) | MarkKind::Ends(bracket) => slice_name(bracket),
+        MarkKind::Happens(happening) => happening_name(happening),
+        MarkKind::FlowsFrom(_) | MarkKind::FlowsTo(_) => Label::word("task"),
+        MarkKind::BeginsHold(mutex) | MarkKind::EndsHold(mutex) => hold_name(mutex),
+        MarkKind::BeginsWait(mutex) | MarkKind::EndsWait(mutex) => wait_name(mutex),
+        MarkKind::NamesThread => Label::word("thread_name"),
+    }
+}
 
-impl Display for Name {
-    ghost output = { λ of. Some ((mark_of of.0.event.thread of.0.kind).name) };
+/// The name of a slice.
+fn slice_name(bracket: Bracket) -> Label
+    ensures { label_text result ≡ slice_name bracket }
+{
+    match bracket {
+        Bracket::Parallel(region) => Label::number("region ", region),
+        Bracket::Implicit(task) => Label::number("implicit task ", task),
+        Bracket::Explicit(_, task) => Label::number("task ", task),
+        Bracket::Worksharing(_, _, kind, _) => Label::name("", WorkKind, kind),
+        Bracket::Masking(_) => Label::word("masked"),
+        Bracket::Syncing(_, kind) => Label::name("", SyncKind, kind),
+        Bracket::Waiting(_, kind) => Label::name("wait ", SyncKind, kind),
+    }
+}
 
-    fn fmt<W: fmt::Write>(&self, f: &mut Formatter<W>) -> fmt::Result {
-        match self.0.kind {
-            MarkKind::Begins(bracket) | MarkKind::Ends(bracket) => {
-                write!(f, "{}", SliceName { bracket })
-            }
-            MarkKind::Happens(happening) => write!(f, "{happening}"),
-            MarkKind::FlowsFrom(_) | MarkKind::FlowsTo(_) => write!(f, "task"),
-            MarkKind::BeginsHold(mutex) | MarkKind::EndsHold(mutex) => write!(f, "{mutex}"),
-            MarkKind::BeginsWait(mutex) | MarkKind::EndsWait(mutex) => {
-                write!(f, "wait for {mutex}")
-            }
-            MarkKind::NamesThread => write!(f, "thread_name"),
-        }
+/// The name of what comes to pass.
+fn happening_name(happening: Happening) -> Label
+    ensures { label_text result ≡ happening_text happening }
+{
+    match happening {
+        Happening::ThreadEnd => Label::word("thread_end"),
+        Happening::TaskCreate(task) => Label::number("task_create ", task),
+        Happening::LockInit(wait_id) => Label::number("lock_init ", wait_id),
+        Happening::LockDestroy(wait_id) => Label::number("lock_destroy ", wait_id),
+        Happening::TestLock(wait_id) => Label::number("test_lock ", wait_id),
+        Happening::Dispatch(kind) => Label::name("", DispatchKind, kind),
+    }
+}
+
+/// The name of a mutex that is held.
+fn hold_name(mutex: MutexName) -> Label
+    ensures { label_text result ≡ mutex_text mutex }
+{
+    if mutex.kind == CRITICAL {
+        Label::number("critical ", mutex.wait_id)
+    } else {
+        Label::number("lock ", mutex.wait_id)
+    }
+}
+
+/// The name of the wait for a mutex.
+fn wait_name(mutex: MutexName) -> Label
+    ensures { label_text result ≡ codes "wait for " ++ mutex_text mutex }
+{
+    if mutex.kind == CRITICAL {
+        Label::number("wait for critical ", mutex.wait_id)
+    } else {
+        Label::number("wait for lock ", mutex.wait_id)
     }
 }
 

@@ -1,246 +1,221 @@
 //! Numbers of OMPT that are written by their names.
 
 ghost use Rattle.std.specs.Prelude.{◌≡◌, Some};
+ghost use Rattle.std.specs.Option.{option_copied};
 ghost use Rattle.trace_view.specs.Names.{dispatch_kind_text, ending_text, endpoint_text, mutex_kind_text, region_flags_text, state_text, sync_kind_text, task_flags_text, task_status_text, thread_kind_text, work_kind_text};
+ghost use Rattle.trace_view.specs.Naming.{name_text, number_text};
 
-use omp_codes::states::{
-    IDLE, OVERHEAD, WAIT_BARRIER_EXPLICIT, WAIT_BARRIER_IMPLICIT_PARALLEL,
-    WAIT_BARRIER_IMPLICIT_WORKSHARE, WAIT_CRITICAL, WAIT_LOCK, WAIT_TASKWAIT, WORK_PARALLEL,
-    WORK_SERIAL,
-};
 use omp_codes::{
-    dispatch_kinds, endpoints, mutex_kinds, parallel_flags, sync_kinds, task_flags, task_statuses,
-    thread_kinds, work_kinds,
+    dispatch_kinds, endpoints, mutex_kinds, parallel_flags, states, sync_kinds, task_flags,
+    task_statuses, thread_kinds, work_kinds,
 };
 use std::fmt;
 use std::fmt::{Display, Formatter};
 
-/// An `ompt_thread_t` by its name, and a number without one as itself.
+/// What a number is a value of.
 #[derive(Clone, Copy)]
-pub(crate) struct ThreadKind {
+pub(crate) enum Enumeration {
+    /// `ompt_thread_t`.
+    ThreadKind,
+    /// `ompt_scope_endpoint_t`.
+    Endpoint,
+    /// `ompt_sync_region_t`.
+    SyncKind,
+    /// `ompt_mutex_t`.
+    MutexKind,
+    /// `ompt_work_t`.
+    WorkKind,
+    /// `ompt_dispatch_t`.
+    DispatchKind,
+    /// `ompt_task_status_t`.
+    TaskStatus,
+    /// `ompt_task_flag_t`.
+    TaskFlags,
+    /// `ompt_parallel_flag_t`.
+    RegionFlags,
+    /// `ompt_state_t`.
+    State,
+    /// The status of a run.
+    Ending,
+}
+
+/// A number by its name, and one without a name as itself.
+#[derive(Clone, Copy)]
+pub(crate) struct NumberName {
+    pub of: Enumeration,
     pub number: u32,
 }
 
-impl Display for ThreadKind {
-    ghost output = { λ n. Some (thread_kind_text n.number) };
+impl Display for NumberName {
+    ghost output = { λ name. Some (number_text name.of name.number) };
 
     fn fmt<W: fmt::Write>(&self, f: &mut Formatter<W>) -> fmt::Result {
-        match self.number {
-            thread_kinds::INITIAL => write!(f, "ompt_thread_initial"),
-            thread_kinds::WORKER => write!(f, "ompt_thread_worker"),
-            number => write!(f, "{number}"),
+        match self.word() {
+            Some(word) => write!(f, "{word}"),
+            None => write!(f, "{}", self.number),
         }
     }
 }
 
-/// An `ompt_scope_endpoint_t` by its name, and a number without one as itself.
-#[derive(Clone, Copy)]
-pub(crate) struct Endpoint {
-    pub number: u32,
-}
-
-impl Display for Endpoint {
-    ghost output = { λ n. Some (endpoint_text n.number) };
-
-    fn fmt<W: fmt::Write>(&self, f: &mut Formatter<W>) -> fmt::Result {
-        match self.number {
-            endpoints::BEGIN => write!(f, "ompt_scope_begin"),
-            endpoints::END => write!(f, "ompt_scope_end"),
-            number => write!(f, "{number}"),
+impl NumberName {
+    /// The name, if there is one.
+    fn word(self) -> Option<&'static str>
+        ensures { name_text (option_copied result) self.number ≡ number_text self.of self.number }
+    {
+        match self.of {
+            Enumeration::ThreadKind => thread_kind(self.number),
+            Enumeration::Endpoint => endpoint(self.number),
+            Enumeration::SyncKind => sync_kind(self.number),
+            Enumeration::MutexKind => mutex_kind(self.number),
+            Enumeration::WorkKind => work_kind(self.number),
+            Enumeration::DispatchKind => dispatch_kind(self.number),
+            Enumeration::TaskStatus => task_status(self.number),
+            Enumeration::TaskFlags => task_flags(self.number),
+            Enumeration::RegionFlags => region_flags(self.number),
+            Enumeration::State => state(self.number),
+            Enumeration::Ending => ending(self.number),
         }
     }
 }
 
-/// An `ompt_sync_region_t` by its name, and a number without one as itself.
-#[derive(Clone, Copy)]
-pub(crate) struct SyncKind {
-    pub number: u32,
-}
-
-impl Display for SyncKind {
-    ghost output = { λ n. Some (sync_kind_text n.number) };
-
-    fn fmt<W: fmt::Write>(&self, f: &mut Formatter<W>) -> fmt::Result {
-        match self.number {
-            sync_kinds::BARRIER_EXPLICIT => write!(f, "ompt_sync_region_barrier_explicit"),
-            sync_kinds::TASKWAIT => write!(f, "ompt_sync_region_taskwait"),
-            sync_kinds::BARRIER_IMPLICIT_WORKSHARE => write!(
-                f,
-                "ompt_sync_region_barrier_implicit_workshare"
-            ),
-            sync_kinds::BARRIER_IMPLICIT_PARALLEL => write!(
-                f,
-                "ompt_sync_region_barrier_implicit_parallel"
-            ),
-            number => write!(f, "{number}"),
-        }
+/// The name of an `ompt_thread_t`.
+fn thread_kind(number: u32) -> Option<&'static str>
+    ensures { name_text (option_copied result) number ≡ thread_kind_text number }
+{
+    match number {
+        thread_kinds::INITIAL => Some("ompt_thread_initial"),
+        thread_kinds::WORKER => Some("ompt_thread_worker"),
+        _ => None,
     }
 }
 
-/// An `ompt_mutex_t` by its name, and a number without one as itself.
-#[derive(Clone, Copy)]
-pub(crate) struct MutexKind {
-    pub number: u32,
-}
-
-impl Display for MutexKind {
-    ghost output = { λ n. Some (mutex_kind_text n.number) };
-
-    fn fmt<W: fmt::Write>(&self, f: &mut Formatter<W>) -> fmt::Result {
-        match self.number {
-            mutex_kinds::LOCK => write!(f, "ompt_mutex_lock"),
-            mutex_kinds::TEST_LOCK => write!(f, "ompt_mutex_test_lock"),
-            mutex_kinds::CRITICAL => write!(f, "ompt_mutex_critical"),
-            number => write!(f, "{number}"),
-        }
+/// The name of an `ompt_scope_endpoint_t`.
+fn endpoint(number: u32) -> Option<&'static str>
+    ensures { name_text (option_copied result) number ≡ endpoint_text number }
+{
+    match number {
+        endpoints::BEGIN => Some("ompt_scope_begin"),
+        endpoints::END => Some("ompt_scope_end"),
+        _ => None,
     }
 }
 
-/// An `ompt_work_t` by its name, and a number without one as itself.
-#[derive(Clone, Copy)]
-pub(crate) struct WorkKind {
-    pub number: u32,
-}
-
-impl Display for WorkKind {
-    ghost output = { λ n. Some (work_kind_text n.number) };
-
-    fn fmt<W: fmt::Write>(&self, f: &mut Formatter<W>) -> fmt::Result {
-        match self.number {
-            work_kinds::LOOP => write!(f, "ompt_work_loop"),
-            work_kinds::SECTIONS => write!(f, "ompt_work_sections"),
-            work_kinds::SINGLE_EXECUTOR => write!(f, "ompt_work_single_executor"),
-            work_kinds::SINGLE_OTHER => write!(f, "ompt_work_single_other"),
-            number => write!(f, "{number}"),
+/// The name of an `ompt_sync_region_t`.
+fn sync_kind(number: u32) -> Option<&'static str>
+    ensures { name_text (option_copied result) number ≡ sync_kind_text number }
+{
+    match number {
+        sync_kinds::BARRIER_EXPLICIT => Some("ompt_sync_region_barrier_explicit"),
+        sync_kinds::TASKWAIT => Some("ompt_sync_region_taskwait"),
+        sync_kinds::BARRIER_IMPLICIT_WORKSHARE => {
+            Some("ompt_sync_region_barrier_implicit_workshare")
         }
+        sync_kinds::BARRIER_IMPLICIT_PARALLEL => Some("ompt_sync_region_barrier_implicit_parallel"),
+        _ => None,
     }
 }
 
-/// An `ompt_dispatch_t` by its name, and a number without one as itself.
-#[derive(Clone, Copy)]
-pub(crate) struct DispatchKind {
-    pub number: u32,
-}
-
-impl Display for DispatchKind {
-    ghost output = { λ n. Some (dispatch_kind_text n.number) };
-
-    fn fmt<W: fmt::Write>(&self, f: &mut Formatter<W>) -> fmt::Result {
-        match self.number {
-            dispatch_kinds::SECTION => write!(f, "ompt_dispatch_section"),
-            dispatch_kinds::WS_LOOP_CHUNK => write!(f, "ompt_dispatch_ws_loop_chunk"),
-            number => write!(f, "{number}"),
-        }
+/// The name of an `ompt_mutex_t`.
+fn mutex_kind(number: u32) -> Option<&'static str>
+    ensures { name_text (option_copied result) number ≡ mutex_kind_text number }
+{
+    match number {
+        mutex_kinds::LOCK => Some("ompt_mutex_lock"),
+        mutex_kinds::TEST_LOCK => Some("ompt_mutex_test_lock"),
+        mutex_kinds::CRITICAL => Some("ompt_mutex_critical"),
+        _ => None,
     }
 }
 
-/// An `ompt_task_status_t` by its name, and a number without one as itself.
-#[derive(Clone, Copy)]
-pub(crate) struct TaskStatus {
-    pub number: u32,
-}
-
-impl Display for TaskStatus {
-    ghost output = { λ n. Some (task_status_text n.number) };
-
-    fn fmt<W: fmt::Write>(&self, f: &mut Formatter<W>) -> fmt::Result {
-        match self.number {
-            task_statuses::COMPLETE => write!(f, "ompt_task_complete"),
-            task_statuses::SWITCH => write!(f, "ompt_task_switch"),
-            number => write!(f, "{number}"),
-        }
+/// The name of an `ompt_work_t`.
+fn work_kind(number: u32) -> Option<&'static str>
+    ensures { name_text (option_copied result) number ≡ work_kind_text number }
+{
+    match number {
+        work_kinds::LOOP => Some("ompt_work_loop"),
+        work_kinds::SECTIONS => Some("ompt_work_sections"),
+        work_kinds::SINGLE_EXECUTOR => Some("ompt_work_single_executor"),
+        work_kinds::SINGLE_OTHER => Some("ompt_work_single_other"),
+        _ => None,
     }
 }
 
-/// Flags of `ompt_task_flag_t` by its name, and a number without one as itself.
-#[derive(Clone, Copy)]
-pub(crate) struct TaskFlags {
-    pub number: u32,
-}
-
-impl Display for TaskFlags {
-    ghost output = { λ n. Some (task_flags_text n.number) };
-
-    fn fmt<W: fmt::Write>(&self, f: &mut Formatter<W>) -> fmt::Result {
-        match self.number {
-            task_flags::INITIAL => write!(f, "ompt_task_initial"),
-            task_flags::IMPLICIT => write!(f, "ompt_task_implicit"),
-            task_flags::EXPLICIT => write!(f, "ompt_task_explicit"),
-            task_flags::EXPLICIT_UNDEFERRED => write!(f, "ompt_task_explicit|ompt_task_undeferred"),
-            number => write!(f, "{number}"),
-        }
+/// The name of an `ompt_dispatch_t`.
+fn dispatch_kind(number: u32) -> Option<&'static str>
+    ensures { name_text (option_copied result) number ≡ dispatch_kind_text number }
+{
+    match number {
+        dispatch_kinds::SECTION => Some("ompt_dispatch_section"),
+        dispatch_kinds::WS_LOOP_CHUNK => Some("ompt_dispatch_ws_loop_chunk"),
+        _ => None,
     }
 }
 
-/// Flags of `ompt_parallel_flag_t` by its name, and a number without one as itself.
-#[derive(Clone, Copy)]
-pub(crate) struct RegionFlags {
-    pub number: u32,
-}
-
-impl Display for RegionFlags {
-    ghost output = { λ n. Some (region_flags_text n.number) };
-
-    fn fmt<W: fmt::Write>(&self, f: &mut Formatter<W>) -> fmt::Result {
-        match self.number {
-            parallel_flags::TEAM_OF_PROGRAM => write!(
-                f,
-                "ompt_parallel_invoker_program|ompt_parallel_team"
-            ),
-            number => write!(f, "{number}"),
-        }
+/// The name of an `ompt_task_status_t`.
+fn task_status(number: u32) -> Option<&'static str>
+    ensures { name_text (option_copied result) number ≡ task_status_text number }
+{
+    match number {
+        task_statuses::COMPLETE => Some("ompt_task_complete"),
+        task_statuses::SWITCH => Some("ompt_task_switch"),
+        _ => None,
     }
 }
 
-/// An `ompt_state_t` by its name, and a number without one as itself.
-#[derive(Clone, Copy)]
-pub(crate) struct StateName {
-    pub number: u32,
-}
-
-impl Display for StateName {
-    ghost output = { λ n. Some (state_text n.number) };
-
-    fn fmt<W: fmt::Write>(&self, f: &mut Formatter<W>) -> fmt::Result {
-        match self.number {
-            WORK_SERIAL => write!(f, "ompt_state_work_serial"),
-            WORK_PARALLEL => write!(f, "ompt_state_work_parallel"),
-            WAIT_BARRIER_IMPLICIT_PARALLEL => write!(
-                f,
-                "ompt_state_wait_barrier_implicit_parallel"
-            ),
-            WAIT_BARRIER_IMPLICIT_WORKSHARE => write!(
-                f,
-                "ompt_state_wait_barrier_implicit_workshare"
-            ),
-            WAIT_BARRIER_EXPLICIT => write!(f, "ompt_state_wait_barrier_explicit"),
-            WAIT_TASKWAIT => write!(f, "ompt_state_wait_taskwait"),
-            WAIT_LOCK => write!(f, "ompt_state_wait_lock"),
-            WAIT_CRITICAL => write!(f, "ompt_state_wait_critical"),
-            IDLE => write!(f, "ompt_state_idle"),
-            OVERHEAD => write!(f, "ompt_state_overhead"),
-            number => write!(f, "{number}"),
-        }
+/// The names of flags of `ompt_task_flag_t`, with a bar between two.
+fn task_flags(number: u32) -> Option<&'static str>
+    ensures { name_text (option_copied result) number ≡ task_flags_text number }
+{
+    match number {
+        task_flags::INITIAL => Some("ompt_task_initial"),
+        task_flags::IMPLICIT => Some("ompt_task_implicit"),
+        task_flags::EXPLICIT => Some("ompt_task_explicit"),
+        task_flags::EXPLICIT_UNDEFERRED => Some("ompt_task_explicit|ompt_task_undeferred"),
+        _ => None,
     }
 }
 
-/// The status of a run by its name, and a number without one as itself.
-#[derive(Clone, Copy)]
-pub(crate) struct Ending {
-    pub number: u32,
+/// The names of flags of `ompt_parallel_flag_t`, with a bar between two.
+fn region_flags(number: u32) -> Option<&'static str>
+    ensures { name_text (option_copied result) number ≡ region_flags_text number }
+{
+    match number {
+        parallel_flags::TEAM_OF_PROGRAM => Some("ompt_parallel_invoker_program|ompt_parallel_team"),
+        _ => None,
+    }
 }
 
-impl Display for Ending {
-    ghost output = { λ n. Some (ending_text n.number) };
-
-    fn fmt<W: fmt::Write>(&self, f: &mut Formatter<W>) -> fmt::Result {
-        match self.number {
-            0 => write!(f, "done"),
-            1 => write!(f, "returned"),
-            4 => write!(f, "trapped"),
-            5 => write!(f, "deadlock"),
-            6 => write!(f, "limit"),
-            number => write!(f, "{number}"),
+/// The name of an `ompt_state_t`.
+fn state(number: u32) -> Option<&'static str>
+    ensures { name_text (option_copied result) number ≡ state_text number }
+{
+    match number {
+        states::WORK_SERIAL => Some("ompt_state_work_serial"),
+        states::WORK_PARALLEL => Some("ompt_state_work_parallel"),
+        states::WAIT_BARRIER_IMPLICIT_PARALLEL => Some("ompt_state_wait_barrier_implicit_parallel"),
+        states::WAIT_BARRIER_IMPLICIT_WORKSHARE => {
+            Some("ompt_state_wait_barrier_implicit_workshare")
         }
+        states::WAIT_BARRIER_EXPLICIT => Some("ompt_state_wait_barrier_explicit"),
+        states::WAIT_TASKWAIT => Some("ompt_state_wait_taskwait"),
+        states::WAIT_LOCK => Some("ompt_state_wait_lock"),
+        states::WAIT_CRITICAL => Some("ompt_state_wait_critical"),
+        states::IDLE => Some("ompt_state_idle"),
+        states::OVERHEAD => Some("ompt_state_overhead"),
+        _ => None,
+    }
+}
+
+/// The name of the status of a run.
+fn ending(number: u32) -> Option<&'static str>
+    ensures { name_text (option_copied result) number ≡ ending_text number }
+{
+    match number {
+        0 => Some("done"),
+        1 => Some("returned"),
+        4 => Some("trapped"),
+        5 => Some("deadlock"),
+        6 => Some("limit"),
+        _ => None,
     }
 }

@@ -5,7 +5,7 @@ ghost use Rattle.trace_view.specs.Cells.{mark_text, path_head, path_text, row_te
 ghost use Rattle.trace_view.specs.Svg.{left_of, middle_of, move_to, shade_head};
 
 use crate::cells::{Cell, THREADS};
-use crate::shades::Colour;
+use crate::shades::colour_of;
 use std::alloc::{AllocError, Global};
 
 /// What is drawn of cells.
@@ -49,7 +49,7 @@ fn put_head(alloc: Global, mark: Mark, text: &mut Vec<u8>) -> Result<(), AllocEr
 fn put_shade_head(alloc: Global, shade: u8, text: &mut Vec<u8>) -> Result<(), AllocError>
     ensures { OnOk result (text.new.items ≡ text.old.items ++ shade_head shade) }
 {
-    let colour = Colour { shade };
+    let colour = colour_of(shade);
     let head = format!(in alloc; "<path stroke=\"{colour}\" stroke-width=\"14\" d=\"")?;
     text.extend_from_slice(head.as_bytes())
 }

@@ -1,6 +1,6 @@
 //! The shades in which states are drawn.
 
-ghost use Rattle.std.specs.Prelude.{◌≡◌, Some};
+ghost use Rattle.std.specs.Prelude.{◌≡◌};
 ghost use Rattle.trace_view.specs.Svg.{colour_of, shade_of, shade_text};
 
 use omp_codes::states::{
@@ -8,8 +8,6 @@ use omp_codes::states::{
     WAIT_BARRIER_IMPLICIT_WORKSHARE, WAIT_CRITICAL, WAIT_LOCK, WAIT_TASKWAIT, WORK_PARALLEL,
     WORK_SERIAL,
 };
-use std::fmt;
-use std::fmt::{Display, Formatter};
 
 /// The shade of a state, from 1 to 9.
 pub(crate) fn shade_of(state: u16) -> u8
@@ -30,22 +28,7 @@ pub(crate) fn shade_of(state: u16) -> u8
 }
 
 /// The colour of a shade.
-#[derive(Clone, Copy)]
-pub(crate) struct Colour {
-    /// The shade.
-    pub shade: u8,
-}
-
-impl Display for Colour {
-    ghost output = { λ colour. Some (colour_of colour.shade) };
-
-    fn fmt<W: fmt::Write>(&self, f: &mut Formatter<W>) -> fmt::Result {
-        write!(f, "{}", colour_of(self.shade))
-    }
-}
-
-/// The colour of a shade.
-fn colour_of(shade: u8) -> &'static str
+pub(crate) fn colour_of(shade: u8) -> &'static str
     ensures { result.now ≡ colour_of shade }
 {
     match shade {
@@ -61,23 +44,8 @@ fn colour_of(shade: u8) -> &'static str
     }
 }
 
-/// What a shade stands for.
-#[derive(Clone, Copy)]
-pub(crate) struct ShadeName {
-    /// The shade.
-    pub shade: u8,
-}
-
-impl Display for ShadeName {
-    ghost output = { λ name. Some (shade_text name.shade) };
-
-    fn fmt<W: fmt::Write>(&self, f: &mut Formatter<W>) -> fmt::Result {
-        write!(f, "{}", shade_text(self.shade))
-    }
-}
-
 /// What a shade stands for, in words.
-fn shade_text(shade: u8) -> &'static str
+pub(crate) fn shade_text(shade: u8) -> &'static str
     ensures { result.now ≡ shade_text shade }
 {
     match shade {

@@ -8,7 +8,7 @@ ghost use Rattle.trace_view.specs.Svg.{legend_line, svg_head, svg_of, thread_lab
 
 use crate::cells::{Cell, cells_of, threads_of};
 use crate::paths::{Mark, middle_of, put_path};
-use crate::shades::{Colour, ShadeName};
+use crate::shades::{colour_of, shade_text};
 use std::alloc::{AllocError, Global};
 use trace_format::Trace;
 
@@ -113,8 +113,8 @@ fn put_legend_line(
 {
     let at = threads as u32 * 20 + shade as u32 * 16;
     let base = at + 4;
-    let colour = Colour { shade };
-    let name = ShadeName { shade };
+    let colour = colour_of(shade);
+    let name = shade_text(shade);
     let line = format!(in alloc;
         "<path stroke=\"{colour}\" stroke-width=\"10\" d=\"M30 {at}h12\"/><text x=\"48\" y=\"{base}\">{name}</text>\n"
     )?;

@@ -18,7 +18,8 @@ pub fn view_items<S: Source, O: Sink>(
     source: &mut S,
     out: &mut O,
 ) -> Viewed
-    ensures viewed { HasViewedItems style result (S.left source.old) (S.left source.new) (O.held out.old) (O.held out.new) }
+    ensures viewed { HasViewedItems style result (S.left source.old) (S.left source.new) (O.held out.old)
+        (O.held out.new) }
     // Each fault was counted, and no count rose without one.
     ensures read { result ≡ Viewed.ReadFault → Rose (S.faults source.old) (S.faults source.new) }
     ensures write { result ≡ Viewed.WriteFault → Rose (O.faults out.old) (O.faults out.new) }

@@ -1,8 +1,10 @@
 //! The waits of a trace as a table.
 
 ghost use Rattle.std.specs.Prelude.{◌≡◌, ◌++◌, IfOk, List, OnOk, Some};
+ghost use Rattle.std.specs.Option.{option_copied};
 ghost use Rattle.ompt_calls.specs.declared.event.EventRecord.{EventRecord as EventOf};
 ghost use Rattle.trace_check.specs.Nested.{last_seq};
+ghost use Rattle.trace_view.specs.Naming.{name_text};
 ghost use Rattle.trace_view.specs.Waits.{IsWaitTable, cause_text};
 ghost use Rattle.trace_view.specs.WaitTallies.{HasTallies, line_of};
 
@@ -86,14 +88,24 @@ impl Display for Cause {
     ghost output = { λ cause. Some (cause_text cause.number) };
 
     fn fmt<W: fmt::Write>(&self, f: &mut Formatter<W>) -> fmt::Result {
-        match self.number {
-            17 => write!(f, "ompt_mutex_lock"),
-            21 => write!(f, "ompt_mutex_critical"),
-            3 => write!(f, "ompt_sync_region_barrier_explicit"),
-            5 => write!(f, "ompt_sync_region_taskwait"),
-            8 => write!(f, "ompt_sync_region_barrier_implicit_workshare"),
-            9 => write!(f, "ompt_sync_region_barrier_implicit_parallel"),
-            number => write!(f, "{number}"),
+        match cause_name(self.number) {
+            Some(name) => write!(f, "{name}"),
+            None => write!(f, "{}", self.number),
         }
+    }
+}
+
+/// The name of what is waited for, if it has one.
+fn cause_name(cause: u64) -> Option<&'static str>
+    ensures { name_text (option_copied result) cause ≡ cause_text cause }
+{
+    match cause {
+        17 => Some("ompt_mutex_lock"),
+        21 => Some("ompt_mutex_critical"),
+        3 => Some("ompt_sync_region_barrier_explicit"),
+        5 => Some("ompt_sync_region_taskwait"),
+        8 => Some("ompt_sync_region_barrier_implicit_workshare"),
+        9 => Some("ompt_sync_region_barrier_implicit_parallel"),
+        _ => None,
     }
 }
