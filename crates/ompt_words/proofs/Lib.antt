@@ -7,3 +7,4 @@ pub mod Readings
 pub mod Choices
 pub mod Faults
 pub mod Commands
+pub mod Requests

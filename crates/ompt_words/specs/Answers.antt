@@ -3,12 +3,13 @@ use Rattle.std.specs.Prelude.{ℕ, Bool, true, false, ⊤, ◌≡◌, ◌≢◌,
 use Rattle.std.specs.Str.{bytes_eq}
 use Rattle.std.specs.Str.Parse.{digits_value, without_leading_plus}
 use Rattle.clap.specs.ValueTests.{is_unsigned_in}
-use Rattle.clap.specs.Walk.{Text, one_of}
+use Rattle.clap.specs.Walk.{Text, one_of, rows_of}
 use Rattle.clap.specs.Simple.{subcommand_of}
 use Rattle.clap.specs.Faults.{fault_of}
 use Rattle.clap.specs.Kinds.{IsAmong}
 use Rattle.clap.specs.declared.error.kind.ErrorKind.{ErrorKind}
 use Rattle.clap.specs.declared.error.kind.ErrorKind.TheVariants as kind
+use Rattle.clap.specs.declared.parser.matches.Found.{Found}
 use Rattle.ompt_words.specs.declared.fault.WordsFault.{WordsFault}
 use Rattle.ompt_words.specs.declared.fault.WordsFault.TheVariants.{Usage, Shown, Memory}
 use Rattle.ompt_words.specs.declared.settings.Settings.{Settings}
@@ -33,6 +34,11 @@ number_in low high default (Some text) =
 abbrev pub flag_in : Option Text → Bool
 flag_in None = false
 flag_in (Some text) = bytes_eq text (codes "true")
+
+-- clap finds no fault in the words, and the command that they name has this name and these matches
+pub record HasFound (words : List Text) (command : List ℕ) (found : Found) : Type 0 where
+  pub taken : fault_of ompt words ≡ []
+  pub command_is : subcommand_of ompt words ≡ Some (command, rows_of found)
 
 -- clap finds no fault in the words, and the command that they name has this name
 pub record NamesCommand (words : List Text) (command : List ℕ) : Type 0 where

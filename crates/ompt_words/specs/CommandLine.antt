@@ -1,45 +1,41 @@
 -- The command line, as clap is told of it.
-use Rattle.std.specs.Prelude.{Some, [], ◌∷◌, codes, true, pos}
+use Rattle.std.specs.Prelude.{Some, [], ◌∷◌, ◌++◌, codes, true, pos}
 use Rattle.clap.specs.Walk.{Rule, Text}
 use Rattle.clap.specs.Simple.{App, Shape, new_app, new_rule, new_shape, with_subcommand}
 use Rattle.clap.specs.declared.builder.action.ArgAction.TheVariants.{SetTrue}
+use Rattle.clap.specs.declared.builder.value_parser.ValueParser.{ValueParser}
 use Rattle.clap.specs.declared.builder.value_parser.ValueParser.TheVariants.{Signed}
+
+-- an option with a number that this parser reads, and one without a number; the long name of each is its id
+abbrev pub number_rule : Text → ValueParser → Rule
+number_rule id parser = record (new_rule id) { long = Some id; value_names = 1; parser = Some parser }
+
+abbrev pub flag_rule : Text → Rule
+flag_rule id = record (new_rule id) { long = Some id; action = Some SetTrue }
 
 -- `--threads N`, where N is from 1 to 16
 abbrev pub threads_rule : Rule
-threads_rule = record (new_rule (codes "threads")) {
-  long = Some (codes "threads");
-  value_names = 1;
-  parser = Some (Signed (pos 1) (pos 16));
-}
+threads_rule = number_rule (codes "threads") (Signed (pos 1) (pos 16))
 
 -- `--steps N`, where N is from 1 to 30,000,000
 abbrev pub steps_rule : Rule
-steps_rule = record (new_rule (codes "steps")) {
-  long = Some (codes "steps");
-  value_names = 1;
-  parser = Some (Signed (pos 1) (pos 30000000));
-}
+steps_rule = number_rule (codes "steps") (Signed (pos 1) (pos 30000000))
 
 -- `--serial`
 abbrev pub serial_rule : Rule
-serial_rule = record (new_rule (codes "serial")) { long = Some (codes "serial"); action = Some SetTrue }
+serial_rule = flag_rule (codes "serial")
 
 -- `--history`
 abbrev pub history_rule : Rule
-history_rule = record (new_rule (codes "history")) { long = Some (codes "history"); action = Some SetTrue }
+history_rule = flag_rule (codes "history")
 
 -- `--profile`
 abbrev pub profile_rule : Rule
-profile_rule = record (new_rule (codes "profile")) { long = Some (codes "profile"); action = Some SetTrue }
+profile_rule = flag_rule (codes "profile")
 
 -- `--columns N`, where N is from 10 to 200
 abbrev pub columns_rule : Rule
-columns_rule = record (new_rule (codes "columns")) {
-  long = Some (codes "columns");
-  value_names = 1;
-  parser = Some (Signed (pos 10) (pos 200));
-}
+columns_rule = number_rule (codes "columns") (Signed (pos 10) (pos 200))
 
 -- the number of blocks, from 1 to 400, which has to be given and has no option
 abbrev pub blocks_rule : Rule
@@ -48,6 +44,10 @@ blocks_rule = record (new_rule (codes "blocks")) {
   parser = Some (Signed (pos 1) (pos 400));
   required = true;
 }
+
+-- a command with one more option, the last
+abbrev pub with_option : Shape → Rule → Shape
+with_option shape rule = record shape { rules = shape.rules ++ rule ∷ [] }
 
 -- a command that runs a program, with this name
 abbrev pub runner : Text → Shape

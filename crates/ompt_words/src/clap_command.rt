@@ -1,14 +1,15 @@
 //! The command line, as clap is told of it.
 
 ghost use Rattle.std.specs.Prelude.{◌≡◌, IfOk, false};
-ghost use Rattle.clap.specs.Simple.{with_subcommand};
-ghost use Rattle.clap.specs.Words.{app_of, shape_of};
+ghost use Rattle.clap.specs.Simple.{App, Shape, new_shape, with_subcommand};
+ghost use Rattle.clap.specs.Walk.{Rule};
+ghost use Rattle.clap.specs.Words.{app_of, rule_of, shape_of};
 ghost use Rattle.clap.specs.declared.builder.command.Command.TheViews.{out-Command};
-ghost use Rattle.ompt_words.specs.CommandLine.{generator, ompt, program, reader, reporters, run_command, runner, runners, timeline, trace_readers};
+ghost use Rattle.ompt_words.specs.CommandLine.{generator, ompt, program, reader, reporters, run_command, runner, runners, timeline, trace_readers, with_option};
 
 use crate::arguments::{blocks, columns, history, profile, serial, steps, threads};
 use crate::help;
-use clap::Command;
+use clap::{Arg, Command};
 use std::alloc::{AllocError, Global};
 
 /// The version that is shown.
@@ -19,14 +20,13 @@ pub(crate) fn ompt_command<'a>(alloc: Global) -> Result<Command<'a>, AllocError>
     ensures app { IfOk result (λ command. app_of command ≡ ompt) }
     ensures local { IfOk result (λ command. (out-Command command).has_globals ≡ false) }
 {
-    let line = trace_readers(alloc)?;
     let line = with_reader(
         alloc,
-        line,
+        trace_readers(alloc),
         "rerun",
         "Reads a history and says whether it is a legal run that ends as it says",
         help::RERUN,
-    )?;
+    );
     with_reader(
         alloc,
         line,
@@ -41,21 +41,20 @@ fn trace_readers<'a>(alloc: Global) -> Result<Command<'a>, AllocError>
     ensures app { IfOk result (λ command. app_of command ≡ trace_readers) }
     ensures local { IfOk result (λ command. (out-Command command).has_globals ≡ false) }
 {
-    let line = reporters(alloc)?;
     let line = with_reader(
         alloc,
-        line,
+        reporters(alloc),
         "show",
         "Reads a trace and writes a line for each event, and one for the end",
         help::SHOW,
-    )?;
+    );
     let line = with_reader(
         alloc,
         line,
         "migrate",
         "Reads a trace and writes it in the second version of the format",
         help::MIGRATE,
-    )?;
+    );
     with_reader(
         alloc,
         line,
@@ -70,16 +69,15 @@ fn reporters<'a>(alloc: Global) -> Result<Command<'a>, AllocError>
     ensures app { IfOk result (λ command. app_of command ≡ reporters) }
     ensures local { IfOk result (λ command. (out-Command command).has_globals ≡ false) }
 {
-    let line = runners(alloc)?;
     let line = with_runner(
         alloc,
-        line,
+        runners(alloc),
         "profile",
         "Runs a program and writes how many calls of each callback there were",
         help::PROFILE,
-    )?;
-    let line = with_timeline(alloc, line)?;
-    with_generator(alloc, line)
+    );
+    let line = with_command(line, timeline(alloc));
+    with_command(line, generator(alloc))
 }
 
 /// The program with the first commands that run a program.
@@ -87,15 +85,14 @@ fn runners<'a>(alloc: Global) -> Result<Command<'a>, AllocError>
     ensures app { IfOk result (λ command. app_of command ≡ runners) }
     ensures local { IfOk result (λ command. (out-Command command).has_globals ≡ false) }
 {
-    let line = program(alloc)?;
-    let line = with_run(alloc, line)?;
+    let line = with_command(program(alloc), run_command(alloc));
     let line = with_runner(
         alloc,
         line,
         "list",
         "Runs a program and writes a line for each event",
         help::LIST,
-    )?;
+    );
     with_runner(
         alloc,
         line,
@@ -108,65 +105,50 @@ fn runners<'a>(alloc: Global) -> Result<Command<'a>, AllocError>
 /// The command line with one more command that runs a program.
 fn with_runner<'a>(
     alloc: Global,
-    line: Command<'a>,
+    line: Result<Command<'a>, AllocError>,
     name: &'a str,
     about: &'a str,
     example: &'a str,
 ) -> Result<Command<'a>, AllocError>
-    requires { (out-Command line).has_globals ≡ false }
-    ensures app { IfOk result (λ command.
-        app_of command ≡ with_subcommand (app_of line.entry) (runner name.entry.now)) }
+    requires { IfOk line (λ command. (out-Command command).has_globals ≡ false) }
+    ensures app { (app : App) → IfOk line.entry (λ command. app_of command ≡ app) →
+        IfOk result (λ command. app_of command ≡ with_subcommand app (runner name.entry.now)) }
     ensures local { IfOk result (λ command. (out-Command command).has_globals ≡ false) }
 {
-    let more = runner(alloc, name, about, example)?;
-    line.subcommand(more)
+    with_command(line, runner(alloc, name, about, example))
 }
 
 /// The command line with one more command that reads what a run has left.
 fn with_reader<'a>(
     alloc: Global,
-    line: Command<'a>,
+    line: Result<Command<'a>, AllocError>,
     name: &'a str,
     about: &'a str,
     example: &'a str,
 ) -> Result<Command<'a>, AllocError>
-    requires { (out-Command line).has_globals ≡ false }
-    ensures app { IfOk result (λ command.
-        app_of command ≡ with_subcommand (app_of line.entry) (reader name.entry.now)) }
+    requires { IfOk line (λ command. (out-Command command).has_globals ≡ false) }
+    ensures app { (app : App) → IfOk line.entry (λ command. app_of command ≡ app) →
+        IfOk result (λ command. app_of command ≡ with_subcommand app (reader name.entry.now)) }
     ensures local { IfOk result (λ command. (out-Command command).has_globals ≡ false) }
 {
-    let more = reader(alloc, name, about, example)?;
-    line.subcommand(more)
+    with_command(line, Ok(bare(alloc, name, about, example)))
 }
 
-/// The command line with the command that runs a program with the tools.
-fn with_run<'a>(alloc: Global, line: Command<'a>) -> Result<Command<'a>, AllocError>
-    requires { (out-Command line).has_globals ≡ false }
-    ensures app { IfOk result (λ command. app_of command ≡ with_subcommand (app_of line.entry) run_command) }
+/// The command line with one more command, where there was memory for both.
+fn with_command<'a>(
+    line: Result<Command<'a>, AllocError>,
+    command: Result<Command<'a>, AllocError>,
+) -> Result<Command<'a>, AllocError>
+    requires line { IfOk line (λ command. (out-Command command).has_globals ≡ false) }
+    requires command { IfOk command (λ command. (out-Command command).has_globals ≡ false) }
+    ensures app { (app : App) (shape : Shape) → IfOk line.entry (λ command. app_of command ≡ app) →
+        IfOk command.entry (λ command. shape_of command ≡ shape) →
+        IfOk result (λ command. app_of command ≡ with_subcommand app shape) }
     ensures local { IfOk result (λ command. (out-Command command).has_globals ≡ false) }
 {
-    let more = run_command(alloc)?;
-    line.subcommand(more)
-}
-
-/// The command line with the command that writes the states of threads.
-fn with_timeline<'a>(alloc: Global, line: Command<'a>) -> Result<Command<'a>, AllocError>
-    requires { (out-Command line).has_globals ≡ false }
-    ensures app { IfOk result (λ command. app_of command ≡ with_subcommand (app_of line.entry) timeline) }
-    ensures local { IfOk result (λ command. (out-Command command).has_globals ≡ false) }
-{
-    let more = timeline(alloc)?;
-    line.subcommand(more)
-}
-
-/// The command line with the command that generates a program.
-fn with_generator<'a>(alloc: Global, line: Command<'a>) -> Result<Command<'a>, AllocError>
-    requires { (out-Command line).has_globals ≡ false }
-    ensures app { IfOk result (λ command. app_of command ≡ with_subcommand (app_of line.entry) generator) }
-    ensures local { IfOk result (λ command. (out-Command command).has_globals ≡ false) }
-{
-    let more = generator(alloc)?;
-    line.subcommand(more)
+    let line = line?;
+    let command = command?;
+    line.subcommand(command)
 }
 
 /// The program itself, without its commands.
@@ -195,12 +177,10 @@ fn runner<'a>(
     ensures shape { IfOk result (λ command. shape_of command ≡ runner name.entry.now) }
     ensures local { IfOk result (λ command. (out-Command command).has_globals ≡ false) }
 {
-    Command::new(alloc, name)
-        .about(about)
-        .after_help(example)
-        .arg(threads(alloc))?
-        .arg(steps(alloc))?
-        .arg(serial(alloc))
+    let command = Ok(bare(alloc, name, about, example));
+    let command = with_option(command, threads(alloc));
+    let command = with_option(command, steps(alloc));
+    with_option(command, serial(alloc))
 }
 
 /// The command that runs a program with the tools: it may write the history of its run, or the counts of its events.
@@ -208,14 +188,14 @@ fn run_command<'a>(alloc: Global) -> Result<Command<'a>, AllocError>
     ensures shape { IfOk result (λ command. shape_of command ≡ run_command) }
     ensures local { IfOk result (λ command. (out-Command command).has_globals ≡ false) }
 {
-    runner(
+    let command = runner(
         alloc,
         "run",
         "Runs a program with the tools, and writes what it prints",
         help::RUN,
-    )?
-    .arg(history(alloc))?
-    .arg(profile(alloc))
+    );
+    let command = with_option(command, history(alloc));
+    with_option(command, profile(alloc))
 }
 
 /// The command that writes the states of threads: it has its columns, too.
@@ -223,13 +203,13 @@ fn timeline<'a>(alloc: Global) -> Result<Command<'a>, AllocError>
     ensures shape { IfOk result (λ command. shape_of command ≡ timeline) }
     ensures local { IfOk result (λ command. (out-Command command).has_globals ≡ false) }
 {
-    runner(
+    let command = runner(
         alloc,
         "timeline",
         "Runs a program and writes the states of its threads over the run",
         help::TIMELINE,
-    )?
-    .arg(columns(alloc))
+    );
+    with_option(command, columns(alloc))
 }
 
 /// The command that generates a program: it reads none.
@@ -237,22 +217,35 @@ fn generator<'a>(alloc: Global) -> Result<Command<'a>, AllocError>
     ensures shape { IfOk result (λ command. shape_of command ≡ generator) }
     ensures local { IfOk result (λ command. (out-Command command).has_globals ≡ false) }
 {
-    Command::new(alloc, "gen")
-        .about("Generates a program, runs it serially, and writes a summary of the run")
-        .after_help(help::GEN)
-        .arg(blocks(alloc))?
-        .arg(threads(alloc))
+    let command = Ok(bare(
+        alloc,
+        "gen",
+        "Generates a program, runs it serially, and writes a summary of the run",
+        help::GEN,
+    ));
+    let command = with_option(command, blocks(alloc));
+    with_option(command, threads(alloc))
 }
 
-/// A command that reads what a run has left.
-fn reader<'a>(
-    alloc: Global,
-    name: &'a str,
-    about: &'a str,
-    example: &'a str,
+/// A command with one more option, where there was memory for the command.
+fn with_option<'a>(
+    command: Result<Command<'a>, AllocError>,
+    option: Arg<'a>,
 ) -> Result<Command<'a>, AllocError>
-    ensures shape { IfOk result (λ command. shape_of command ≡ reader name.entry.now) }
+    requires command { IfOk command (λ command. (out-Command command).has_globals ≡ false) }
+    requires option { option.global ≡ false }
+    ensures shape { (shape : Shape) (rule : Rule) → IfOk command.entry (λ command. shape_of command ≡ shape) →
+        rule_of option.entry ≡ rule → IfOk result (λ command. shape_of command ≡ with_option shape rule) }
     ensures local { IfOk result (λ command. (out-Command command).has_globals ≡ false) }
 {
-    Ok(Command::new(alloc, name).about(about).after_help(example))
+    let command = command?;
+    command.arg(option)
+}
+
+/// A command without options. The commands that read what a run has left are such.
+fn bare<'a>(alloc: Global, name: &'a str, about: &'a str, example: &'a str) -> Command<'a>
+    ensures shape { shape_of result ≡ new_shape name.entry.now }
+    ensures local { (out-Command result).has_globals ≡ false }
+{
+    Command::new(alloc, name).about(about).after_help(example)
 }

@@ -1,9 +1,9 @@
 //! Words, and what they ask for.
 
-ghost use Rattle.std.specs.Prelude.{◌≡◌, ◌≤◌, true, IfOk, IfSome, IsNone, IsErrAnd, MatchResult, String, codes, string_bytes, map};
+ghost use Rattle.std.specs.Prelude.{◌≡◌, ◌≤◌, ℕ, List, true, IfOk, IfSome, IsNone, IsErrAnd, MatchOption, MatchResult, String, codes, string_bytes, map};
 ghost use Rattle.std.specs.declared.alloc.Global.{Global};
 ghost use Rattle.clap.specs.Words.{found_of, one_text};
-ghost use Rattle.ompt_words.specs.Answers.{AreReadAs, AreWrong, AskForText, HoldBoth, IsTextOrMemory, IsUsageOrMemory, flag_in, number_in};
+ghost use Rattle.ompt_words.specs.Answers.{AreReadAs, AreWrong, AskForText, HasFound, HoldBoth, IsTextOrMemory, IsUsageOrMemory, flag_in, number_in};
 ghost use Rattle.ompt_words.specs.Form.{AskInForm, InForm, IsOutput, ReadInForm, default_columns, default_steps, default_threads, own_settings};
 
 use crate::clap_command::ompt_command;
@@ -37,23 +37,31 @@ pub fn request_of(alloc: Global, words: &[String]) -> Result<Request, WordsFault
     let Some((name, inner)) = matches.subcommand() else {
         return Err(WordsFault::Usage);
     };
-    Ok(match name {
+    request_in(name, inner).ok_or(WordsFault::Usage)
+}
+
+/// What a command with these matches asks for. It may be `run` with two outputs, which asks for nothing.
+fn request_in(name: &str, matches: &ArgMatches<'_>) -> Option<Request>
+    ensures { (words : List (List ℕ)) → HasFound words name.now (found_of matches.now) →
+        MatchOption result (HoldBoth words) (AreReadAs words) }
+{
+    Some(match name {
         "show" => Request::Read(ReadCommand::Show),
         "migrate" => Request::Read(ReadCommand::Migrate),
         "check" => Request::Read(ReadCommand::Check),
         "rerun" => Request::Read(ReadCommand::Rerun),
         "tasks" => Request::Read(ReadCommand::Tasks),
-        "gen" => Request::Run(generator_settings(inner)),
+        "gen" => Request::Run(generator_settings(matches)),
         "run" => {
-            let Some(output) = output_in(inner) else {
-                return Err(WordsFault::Usage);
+            let Some(output) = output_in(matches) else {
+                return None;
             };
-            Request::Run(settings_in(Command::Run(output), inner))
+            Request::Run(settings_in(Command::Run(output), matches))
         }
-        "record" => Request::Run(settings_in(Command::Record, inner)),
-        "profile" => Request::Run(settings_in(Command::Profile, inner)),
-        "timeline" => Request::Run(settings_in(Command::Timeline(columns_in(inner)), inner)),
-        _ => Request::Run(settings_in(Command::List, inner)),
+        "record" => Request::Run(settings_in(Command::Record, matches)),
+        "profile" => Request::Run(settings_in(Command::Profile, matches)),
+        "timeline" => Request::Run(settings_in(Command::Timeline(columns_in(matches)), matches)),
+        _ => Request::Run(settings_in(Command::List, matches)),
     })
 }
 

@@ -1,11 +1,10 @@
-use Rattle.std.proofs.Common.{codes, ap, ◌∙◌}
-use Rattle.std.proofs.lemmas.Result.{IfOk-weaker}
+use Rattle.std.proofs.Common.{codes}
 use Rattle.clap.specs.Simple.{with_subcommand}
-use Rattle.ompt_words.specs.CommandLine.{generator, runner, timeline}
+use Rattle.ompt_words.specs.CommandLine.{generator, runner, runners, timeline}
 use Rattle.ompt_words.proofs.clap_command.reporters.Goals as goal
 
 pub returns-clause-app : goal.returns-clause-app
 returns-clause-app c =
-    let line2 = c.in_ok-line-2.ensures.app ∙ ap (λ line. with_subcommand line (runner (codes "profile"))) c.in_ok-line.ensures.app in
-    let line3 = c.in_ok-line-3.ensures.app ∙ ap (λ line. with_subcommand line timeline) line2 in
-    IfOk-weaker c.with_generator.result _ _ (λ command is. is ∙ ap (λ line. with_subcommand line generator) line3) c.with_generator.ensures.app
+    let first = c.with_runner-line.ensures.app runners c.runners.ensures.app in
+    let second = c.with_command-line.ensures.app (with_subcommand runners (runner (codes "profile"))) timeline first c.timeline.ensures.shape in
+    c.with_command.ensures.app (with_subcommand (with_subcommand runners (runner (codes "profile"))) timeline) generator second c.generator.ensures.shape

@@ -1,11 +1,10 @@
-use Rattle.std.proofs.Common.{codes, ap, ◌∙◌}
-use Rattle.std.proofs.lemmas.Result.{IfOk-weaker}
+use Rattle.std.proofs.Common.{codes}
 use Rattle.clap.specs.Simple.{with_subcommand}
-use Rattle.ompt_words.specs.CommandLine.{reader}
+use Rattle.ompt_words.specs.CommandLine.{reader, reporters}
 use Rattle.ompt_words.proofs.clap_command.trace_readers.Goals as goal
 
 pub returns-clause-app : goal.returns-clause-app
 returns-clause-app c =
-    let line2 = c.in_ok-line-2.ensures.app ∙ ap (λ line. with_subcommand line (reader (codes "show"))) c.in_ok-line.ensures.app in
-    let line3 = c.in_ok-line-3.ensures.app ∙ ap (λ line. with_subcommand line (reader (codes "migrate"))) line2 in
-    IfOk-weaker c.with_reader-3.result _ _ (λ command is. is ∙ ap (λ line. with_subcommand line (reader (codes "check"))) line3) c.with_reader-3.ensures.app
+    let first = c.with_reader-line.ensures.app reporters c.reporters.ensures.app in
+    let second = c.with_reader-line-2.ensures.app (with_subcommand reporters (reader (codes "show"))) first in
+    c.with_reader.ensures.app (with_subcommand (with_subcommand reporters (reader (codes "show"))) (reader (codes "migrate"))) second

@@ -1,11 +1,5 @@
-use Rattle.std.proofs.Common.{refl}
-use Rattle.clap.specs.Words.{app_of}
 use Rattle.ompt_words.specs.CommandLine.{runner}
-use Rattle.ompt_words.proofs.Commands.{one_more_if_ok, still_local_if_ok}
 use Rattle.ompt_words.proofs.clap_command.with_runner.Goals as goal
 
 pub returns-clause-app : goal.returns-clause-app
-returns-clause-app c = one_more_if_ok c.subcommand.result c.args.line c.in_ok-more.more (app_of c.args.line) (runner c.args.name.now) c.subcommand.ensures c.in_ok-more.ensures.local refl c.in_ok-more.ensures.shape
-
-pub returns-clause-local : goal.returns-clause-local
-returns-clause-local c = still_local_if_ok c.subcommand.result c.args.line c.in_ok-more.more c.subcommand.ensures c.in_ok-more.ensures.local c.requires
+returns-clause-app c = λ app before. c.with_command.ensures.app app (runner c.args.name.now) before c.runner.ensures.shape
