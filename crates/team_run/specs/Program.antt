@@ -22,10 +22,10 @@ run_of program threads steps ran = run_of_program program ran.mask threads steps
 -- What was answered of this run, serially or by threads, with these parts: a legal history with its cause, what the program printed,
 -- what each part was called for, and that nothing else is heard. The callbacks that were registered are called always.
 pub record IsRan {P : Type 0} (stands_for : P → Record → Type 0) (Same : P → P → Type 0) (serial : Bool) (run : Run)
-    (parts : List P) (ran : Ran P) : Type 0 where
+    (before : List P) (ran : Ran P) : Type 0 where
   pub legal : Legal run ran.history
-  pub parts : RunsParts stands_for serial run ran.cause ran.history parts ran.parts.items
-  pub same : AreSame Same parts ran.parts.items
+  pub parts : RunsParts stands_for serial run ran.cause ran.history before ran.parts.items
+  pub same : AreSame Same before ran.parts.items
   pub always : AreAlways ran.mask
   pub own : HearsOwn run ran.history
   pub cause : ran.cause ≢ causes.Memory → cause_of run ran.history ≡ Some ran.cause
