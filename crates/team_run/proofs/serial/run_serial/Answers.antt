@@ -15,11 +15,11 @@ use Rattle.team_run.proofs.Visiting.{stands-start, unheard-none}
 use Rattle.team_run.proofs.serial.run_serial.Goals as goal
 
 pub finish-cause-requires-clause-stands : goal.finish-cause-requires-clause-stands
-finish-cause-requires-clause-stands g c =
+finish-cause-requires-clause-stands g c κs within =
     rw c.in_ok-book.ensures (stands-start (run_of_program c.args.program c.mask_of-mask.result c.args.threads c.args.steps) c.requires.some c.requires.few)
 
 pub finish-cause-requires-clause-parts : goal.finish-cause-requires-clause-parts
-finish-cause-requires-clause-parts g c =
+finish-cause-requires-clause-parts g c κs within =
     c.initialize_first-start.ensures.first.as_many ∙ c.requires.parts ∙ sym (ap (λ (book : Pages). book.run.threads) c.in_ok-book.ensures)
 
 pub returns-clause-ran : goal.returns-clause-ran
