@@ -1,6 +1,6 @@
 //! How a task's code goes on behind an event.
 
-ghost use Rattle.std.specs.Prelude.{◌≡◌, ◌<◌, ◌++◌, [], ◌∷◌, length, drop, IfSome};
+ghost use Rattle.std.specs.Prelude.{◌≡◌, ◌<◌, ◌++◌, [], ◌∷◌, length, IfSome};
 ghost use Rattle.c_syntax.specs.language.Numbered.{TreeView, tree_at};
 ghost use Rattle.c_model.specs.Clauses.{construct_statement};
 ghost use Rattle.c_model.specs.Copies.{makes_cells};
