@@ -21,6 +21,7 @@ use crate::control::Control;
 use crate::control::statements::branch_taken;
 use crate::control::steps::setting_of;
 use crate::item::Item;
+use crate::next::is_quiet;
 use crate::numbers::binary_result;
 use crate::scope::{Scope, number_in};
 use c_model::{Target, View};
@@ -168,6 +169,7 @@ impl Control {
     }
 
     /// `return`, of nothing, of a call, or of an expression.
+    #[tactic(auto, using(crate::proofs::Trying::attempt_of))]
     #[inline(always)]
     pub(super) fn try_return(
         &mut self,
@@ -187,7 +189,7 @@ impl Control {
                 self.try_call(code, cells, view, right, Target::Return)
             }
             _ => match self.quick_value(code, cells, view, right) {
-                Some(number) => self.try_returns(code, cells, view, number),
+                Some(number) => is_quiet(self.returns(code, cells, view, number)),
                 None => false,
             },
         }
