@@ -298,8 +298,7 @@ impl Control {
         ensures held { self.new ≡ record
             (given_back (last_call self.old.frames) number (closed self.old)) { returned = Some number } }
         ensures cells { cells.new ≡ record cells.old {
-          cells = cells_given
-              (last_call self.old.frames) number cells.old.cells;
+          cells = cells_given (last_call self.old.frames) number cells.old.cells;
         } }
     {
         if let Some(to) = self.close() {

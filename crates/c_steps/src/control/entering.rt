@@ -57,8 +57,7 @@ impl Control {
         ensures step { moment_at code.now self.new cells.new ≡ moment_entered (here_at code.now view self.old cells.old)
             (part_at code.now.trees function) (open_call (here_at code.now view self.old cells.old)
             (env_with declared (env_at code.now self.old)) to) (bound_in (here_at code.now view self.old cells.old)
-            (part_at code.now.trees function)
-            (values_in (all_values (scope_in code.now view self.old cells.old)
+            (part_at code.now.trees function) (values_in (all_values (scope_in code.now view self.old cells.old)
             (parts (part_at code.now.trees call))))) }
         ensures settled { IsAfterStep self.old self.new }
         ensures frames { AreFrames code.now self.new.frames }

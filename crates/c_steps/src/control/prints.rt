@@ -57,8 +57,7 @@ impl Control {
         ensures text { let numbers = values_in (all_values (scope_in code.now view self.now cells.old)
             (parts (tree_at code.now.trees node))) in
             cells.new ≡ (if result then record cells.old {
-              text = cells.old.text ++
-                  printed_text (text_of (tree_at code.now.trees node)) numbers;
+              text = cells.old.text ++ printed_text (text_of (tree_at code.now.trees node)) numbers;
             } else cells.old) }
         ensures limit { let numbers = values_in (all_values (scope_in code.now view self.now cells.old)
             (parts (tree_at code.now.trees node))) in
