@@ -1,12 +1,16 @@
 -- A step that is tried.
-use Rattle.std.proofs.Common.{Result, Ok, Err, is_ok, sym}
+use Rattle.std.proofs.Common.{◌≡◌, Result, Ok, Err, is_ok, subst, sym}
 use Rattle.c_syntax.specs.language.Numbered.{TreeView}
+use Rattle.c_model.specs.declared.view.View.{View}
+use Rattle.c_model.specs.Step.{step_of}
 use Rattle.c_model.specs.Task.{Outcome, Store}
+use Rattle.c_steps.specs.declared.item.Item.{Item}
 use Rattle.c_steps.specs.declared.next.Next.{Next}
 use Rattle.c_steps.specs.declared.next.Next.TheVariants as next
 use Rattle.c_steps.specs.declared.next.Refusal.{Refusal}
 use Rattle.c_steps.specs.declared.next.Refusal.TheVariants as refusal
-use Rattle.c_steps.specs.Held.{Held, moment_at, next_of_call}
+use Rattle.c_steps.specs.Held.{Held, here_at, moment_at, next_of_call}
+use Rattle.c_steps.specs.Items.{item_at}
 use Rattle.c_steps.specs.Ready.{AreFrames}
 use Rattle.c_steps.specs.Steps.{Advances, Tells}
 use Rattle.c_steps.specs.Trying.{IsAttempt, is_quiet}
@@ -33,3 +37,11 @@ pub told_at : (program : TreeView) (outcome : Outcome) (result : Next) (held : H
     Tells program result outcome → AreFrames program held.frames → Advances program result held store held store outcome
 told_at program outcome result held store is are =
     record { step = is.step (moment_at program held store); settled = is.unchanged held store; numbers = is.numbers; frames = are }
+
+-- .. of an item of this form
+pub told_item : (program : TreeView) (view : View) (it form : Item) (result : Next) (held : Held) (store : Store) → it ≡ form →
+    Tells program result (step_of (item_at program form) (here_at program view held store)) → AreFrames program held.frames →
+    Advances program result held store held store (step_of (item_at program it) (here_at program view held store))
+told_item program view it form result held store same is are =
+    subst (λ (it : Item). Advances program result held store held store (step_of (item_at program it) (here_at program view held store))) (sym same)
+    (told_at program (step_of (item_at program form) (here_at program view held store)) result held store is are)

@@ -13,9 +13,9 @@ ghost use Rattle.c_steps.specs.Items.{item_at, items_if, loop_at, with_file};
 ghost use Rattle.c_steps.specs.Made.{IsMadeFor};
 ghost use Rattle.c_steps.specs.Moves.{asking};
 ghost use Rattle.c_steps.specs.Nodes.{IsPart, part_at};
-ghost use Rattle.c_steps.specs.Passing.{IsAfterEvent, IsEventOf, IsEventOfNext, IsPassed, names_behind_asking, names_behind_work, stages_at};
+ghost use Rattle.c_steps.specs.Passing.{IsAfterEvent, IsEventOf, IsEventOfNext, IsPassed, names_behind_asking, names_behind_work, replaced, stages_at};
 ghost use Rattle.c_steps.specs.Rooming.{IsEntry};
-ghost use Rattle.c_steps.specs.Ready.{AreLoopNumbers, AreWorkNumbers, IsItem, IsLoop, IsPassing};
+ghost use Rattle.c_steps.specs.Ready.{AreFrames, AreLoopNumbers, AreWorkNumbers, IsItem, IsLoop, IsPassing};
 
 use crate::clauses::{has_nowait, statement};
 use crate::code::Code;
@@ -163,8 +163,10 @@ impl Control {
     fn ask_alone(&mut self, code: &Code, node: u32, id: u32, kind: MutexKind, to: Target)
         requires ready { IsPassing code.now self.old }
         requires node { node < length code.now.trees }
-        ensures { IsPassed code.now self.old self.new
-            (going.mutex_items kind (tree_at code.now.trees node) id to) (env_at code.now self.old) }
+        ensures task { task_at code.now self.new ≡
+            replaced code.now (going.mutex_items kind (tree_at code.now.trees node) id to) self.old }
+        ensures after { IsAfterEvent self.old self.new }
+        ensures frames { AreFrames code.now self.new.frames }
     {
         let part = statement(code, node);
         self.pass();
@@ -185,8 +187,11 @@ impl Control {
         requires ready { IsPassing code.now self.old }
         requires entry { IsEntry entry }
         requires node { node < length code.now.trees }
-        ensures { IsPassed code.now self.old self.new
-            (going.mutex_items kind (tree_at code.now.trees node) id to) (env_at code.now self.old ++ entry ∷ []) }
+        ensures task { task_at code.now self.new ≡
+            record (replaced code.now (going.mutex_items kind (tree_at code.now.trees node) id to) self.old)
+            { env = env_at code.now self.old ++ entry ∷ [] } }
+        ensures after { IsAfterEvent self.old self.new }
+        ensures frames { AreFrames code.now self.new.frames }
     {
         let part = statement(code, node);
         self.pass();

@@ -1,4 +1,4 @@
-use Rattle.std.proofs.Common.{ap, ◌∙◌, pos}
+use Rattle.std.proofs.Common.{ap, ◌∙◌, pos, rules}
 use Rattle.c_model.specs.Task.{Store}
 use Rattle.c_model.specs.Task.Outcome.{StepsTo}
 use Rattle.c_steps.specs.Held.{Held, moment_at}

@@ -1,4 +1,4 @@
-use Rattle.std.proofs.Common.{◌≡◌, ◌+◌, ◌≤◌, length, sym, subst}
+use Rattle.std.proofs.Common.{◌≡◌, ◌+◌, ◌≤◌, length, sym, subst, rules}
 use Rattle.c_syntax.specs.language.Numbered.{tree_at}
 use Rattle.c_model.specs.Cells.{has_too_many}
 use Rattle.c_model.specs.Copies.{listed_variables, with_own_cells}
