@@ -2,7 +2,7 @@
 use Rattle.std.proofs.Common.{List, replicate, []}
 use Rattle.ompt_calls.specs.declared.event.EventRecord.{EventRecord}
 use Rattle.tool_api.specs.Record.{Record}
-use Rattle.tool_report.specs.Standing.{KeeperFor}
+use Rattle.tool_report.specs.KeeperRelation.{KeeperFor}
 use Rattle.ompt_cli.specs.declared.observing.Observed.{Observed}
 use Rattle.ompt_cli.specs.declared.job.Job.{Job}
 use Rattle.ompt_cli.specs.Commands.{run_of}

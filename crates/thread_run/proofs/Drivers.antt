@@ -12,7 +12,7 @@ use Rattle.omp_model.specs.Cause.{cause_of}
 use Rattle.omp_model.specs.Heard.{heard_of}
 use Rattle.step_book.specs.Owing.{NotBy}
 use Rattle.step_book.specs.Rule.{NoneBy, entries_of}
-use Rattle.step_book.specs.Sharing.{AreOwn, IsClosed, Sight, any_ended, fresh_pass}
+use Rattle.step_book.specs.Sharing.{AreOwn, IsClosed, PassView, any_ended, fresh_pass}
 use Rattle.step_book.proofs.Others.{entries-append, holds-others, own-back}
 use Rattle.thread_run.specs.Driving.{IsDriven}
 use Rattle.thread_run.specs.Drivers.{AreDrivers, AreFor, AreKept, HaveServed, IsDriver}
@@ -34,7 +34,7 @@ outside-first n t = elim (cases_lt t n) [
 
 module _ {P : Type 0} (stands_for : P → Record → Type 0) (Same : P → P → Type 0) (run : Run) where
   -- a driver before its first visit
-  pub driver-first : ((part : P) → Same part part) → (t : ℕ) (first_part part : P) (pass : Sight) → pass ≡ fresh_pass t → part ≡ first_part → IsDriver stands_for Same run t first_part pass part
+  pub driver-first : ((part : P) → Same part part) → (t : ℕ) (first_part part : P) (pass : PassView) → pass ≡ fresh_pass t → part ≡ first_part → IsDriver stands_for Same run t first_part pass part
   driver-first itself t first_part part pass fresh same =
       let outside : pending_at (first run) t ≡ None = outside-first run.threads t in
       let driven : IsDriven stands_for Same run first_part (fresh_pass t) first_part = record {
@@ -67,16 +67,16 @@ kept-then is slots between others as_many one two k d t whose below there = two 
 
 -- What a closed book says of the parts of the drivers.
 
-any-at : (passes : List Sight) (k : ℕ) (d : Sight) → k < length passes → (get_or passes k d).ended ≡ true → any_ended passes ≡ true
+any-at : (passes : List PassView) (k : ℕ) (d : PassView) → k < length passes → (get_or passes k d).ended ≡ true → any_ended passes ≡ true
 any-at [] k d below ended = absurd (omega arith)
 any-at (pass ∷ rest) zero d below ended = or_left pass.ended (any_ended rest) ended
 any-at (pass ∷ rest) (suc k) d below ended = or_right pass.ended (any_ended rest) (any-at rest k d (omega arith) ended)
 
-module _ {P : Type 0} (stands_for : P → Record → Type 0) (Same : P → P → Type 0) (run : Run) (parts others : List P) (passes : List Sight) (history : List Entry) (cause : Option Cause) (p : P)
+module _ {P : Type 0} (stands_for : P → Record → Type 0) (Same : P → P → Type 0) (run : Run) (parts others : List P) (passes : List PassView) (history : List Entry) (cause : Option Cause) (p : P)
     (count : length parts ≡ run.threads) (passed : length passes ≡ run.threads) (back : length others ≡ run.threads)
     (drivers : AreDrivers stands_for Same run parts passes others) (closed : IsClosed run passes history)
     (cause_is : cause ≡ (if any_ended passes then Some causes.Memory else cause_of run history)) where
-  none : Sight
+  none : PassView
   none = fresh_pass 0
 
   driver : (k : ℕ) → k < run.threads → IsDriver stands_for Same run k (get_or parts k p) (get_or passes k none) (get_or others k p)
@@ -140,7 +140,7 @@ module _ {P : Type 0} (stands_for : P → Record → Type 0) (Same : P → P →
   }
 
 -- nothing is heard on a thread that the run doesn't have
-pub hears-own : (run : Run) (passes : List Sight) (history : List Entry) → IsClosed run passes history → HearsOwn run history
+pub hears-own : (run : Run) (passes : List PassView) (history : List Entry) → IsClosed run passes history → HearsOwn run history
 hears-own run passes history closed k past =
     let others : NoneBy k closed.all = λ i d less same. let below = closed.below i d less in omega (arith, below, same, past) in
     ap (λ history. heard_of run history k) closed.entries ∙ heard-others run [] (entries_of closed.all) k (holds-others k closed.all closed.own others)
@@ -167,7 +167,7 @@ module _ {L : Type 0} (all yielded behind rest : List L) (one : L) (whole : yiel
 
   -- one more has come back
   pub finish-more :
-      {P : Type 0} (stands_for : P → Record → Type 0) (Same : P → P → Type 0) (run : Run) (is : ℕ → P → L → Type 0) (first : List P) (passes : List Sight) (parts : List P) (pass : Sight) (part : P)
+      {P : Type 0} (stands_for : P → Record → Type 0) (Same : P → P → Type 0) (run : Run) (is : ℕ → P → L → Type 0) (first : List P) (passes : List PassView) (parts : List P) (pass : PassView) (part : P)
       → length passes ≡ length yielded → length parts ≡ length yielded → AreFor is first all → AreDrivers stands_for Same run first passes parts
       → ((t : ℕ) (whose : P) → is t whose one → IsDriver stands_for Same run t whose pass part) → AreDrivers stands_for Same run first (passes ++ pass ∷ []) (parts ++ part ∷ [])
   finish-more stands_for Same run is first passes parts pass part passed parted are there goes k d e f below = elim (cases_eq k (length yielded)) [

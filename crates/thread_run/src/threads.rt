@@ -3,7 +3,7 @@
 ghost use Rattle.std.specs.Prelude.{◌≡◌, ◌≢◌, ◌<◌, ◌≤◌, ℕ, Some, IfOk, IfSome, List, false, get_or, length, vec_capacity, []};
 ghost use Rattle.omp_model.specs.Cause.{cause_of};
 ghost use Rattle.omp_model.specs.Legal.{Legal, after};
-ghost use Rattle.step_book.specs.Sharing.{Sight, fresh_pass};
+ghost use Rattle.step_book.specs.Sharing.{PassView, fresh_pass};
 ghost use Rattle.thread_run.specs.Drivers.{AreDrivers, AreFor, HaveServed, IsDriver};
 ghost use Rattle.team_run.specs.Program.{run_of};
 ghost use Rattle.team_run.specs.Serving.{AreSame, RunsParts};
@@ -137,7 +137,7 @@ fn pair<K: BookName, P: ToolPart>(
 ) -> Result<Vec<Driver<K, P>>, Memory>
     requires { length passes.items ≡ length parts.items }
     ensures count { IfOk result (λ drivers. length drivers.items ≡ length passes.items) }
-    ensures passes { IfOk result (λ drivers. (k : ℕ) (d : _) (e : Sight) → k < length passes.items → (get_or drivers.items k d).pass ≡ get_or passes.items k e) }
+    ensures passes { IfOk result (λ drivers. (k : ℕ) (d : _) (e : PassView) → k < length passes.items → (get_or drivers.items k d).pass ≡ get_or passes.items k e) }
     ensures parts { IfOk result (λ drivers. (k : ℕ) (d : _) (e : P) → k < length passes.items → (get_or drivers.items k d).part ≡ get_or parts.items k e) }
 {
     let mut drivers = Vec::new(alloc);

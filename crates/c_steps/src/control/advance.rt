@@ -6,9 +6,9 @@ ghost use Rattle.c_model.specs.Task.{Moment};
 ghost use Rattle.c_model.specs.Task.Outcome.{Ends};
 ghost use Rattle.c_model.specs.Step.{silent, step_of};
 ghost use Rattle.c_steps.specs.Advancing.{IsKept, IsNamed};
-ghost use Rattle.c_steps.specs.Held.{Held, here_at, moment_at, outcome_at};
+ghost use Rattle.c_steps.specs.ControlView.{ControlView, here_at, moment_at, outcome_at};
 ghost use Rattle.c_steps.specs.Items.{item_at};
-ghost use Rattle.c_steps.specs.Made.{IsMadeFor};
+ghost use Rattle.c_steps.specs.OfProgram.{IsMadeFor};
 ghost use Rattle.c_steps.specs.Ready.{AreFrames, FitsProgram, IsItem, IsSettled, IsStepping, IsUnchanging};
 ghost use Rattle.c_steps.specs.Scopes.{HasNumbers};
 ghost use Rattle.c_steps.specs.Widths.{step_names};
@@ -50,7 +50,7 @@ impl Control {
             outcome_at program result now ≡ Ends (unwrap_or self.now.returned (pos 0)) }
         ensures unchanged { IsUnchanging result }
         ensures numbers { (program : TreeView) → FitsProgram program result }
-        ensures named { (program : TreeView) (held : Held) → IsNamed program result held }
+        ensures named { (program : TreeView) (held : ControlView) → IsNamed program result held }
     {
         match self.returned {
             Some(number) => Next::Ended(number),

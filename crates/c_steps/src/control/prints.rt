@@ -9,7 +9,7 @@ ghost use Rattle.c_model.specs.Statements as statements;
 ghost use Rattle.c_model.specs.Text.{printed_text};
 ghost use Rattle.c_model.specs.Value.{all_values};
 ghost use Rattle.c_steps.specs.Arguments.{values_in, without_values};
-ghost use Rattle.c_steps.specs.Held.{here_at, moment_at, outcome_at, scope_in};
+ghost use Rattle.c_steps.specs.ControlView.{here_at, moment_at, outcome_at, scope_in};
 ghost use Rattle.c_steps.specs.Ready.{AreFrames, FitsProgram, IsSettled, IsStepping};
 ghost use Rattle.c_steps.specs.Scopes.{HasNumbers};
 

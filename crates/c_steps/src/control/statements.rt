@@ -7,7 +7,7 @@ ghost use Rattle.c_model.specs.Parts.{has_child};
 ghost use Rattle.c_model.specs.Statements as statements;
 ghost use Rattle.c_model.specs.Value as values;
 ghost use Rattle.c_check.specs.Loops.{child_at};
-ghost use Rattle.c_steps.specs.Held.{here_at, moment_at, outcome_at, scope_in};
+ghost use Rattle.c_steps.specs.ControlView.{here_at, moment_at, outcome_at, scope_in};
 ghost use Rattle.c_steps.specs.Items.{items_if, with_file};
 ghost use Rattle.c_steps.specs.Nodes.{IsPart, part_at};
 ghost use Rattle.c_steps.specs.Ready.{AreFrames, FitsProgram, IsItem, IsSettled, IsStepping};

@@ -8,8 +8,8 @@ ghost use Rattle.omp_model.specs.declared.event.Halt.TheVariants as halt;
 ghost use Rattle.omp_model.specs.declared.limits.TheConstants as limits;
 ghost use Rattle.omp_model.specs.State.{task_at};
 ghost use Rattle.omp_model.specs.Changes as changes;
-ghost use Rattle.omp_model.specs.Going as going;
-ghost use Rattle.omp_model.specs.Made.{IsMadeWorld};
+ghost use Rattle.omp_model.specs.EventEffects as going;
+ghost use Rattle.omp_model.specs.MadeWorld.{IsMadeWorld};
 ghost use Rattle.omp_model.specs.Members.{code_of, current, is_explicit_task, moment_of};
 ghost use Rattle.omp_board.specs.Board.{run_of};
 ghost use Rattle.omp_board.specs.Events.{HasGo, IsCreator, IsEffect, KeepsPassing, MayCreate};
@@ -26,7 +26,7 @@ use team_parts::Meeting;
 impl Board {
     /// The event at this point changes what it does beside the code: one line for each. Where it meets a trap or a limit, nothing has changed.
     #[inline(always)]
-    #[tactic(auto, unfolding(omp_model::specs::Going::fault_of_point, omp_model::specs::Going::effect_of_point))]
+    #[tactic(auto, unfolding(omp_model::specs::EventEffects::fault_of_point, omp_model::specs::EventEffects::effect_of_point))]
     pub(super) fn take_effect(&mut self, thread: u8, point: Point) -> Result<(), Halt>
         requires made { IsMadeWorld self.old.world }
         requires creates { MayCreate self.old.program self.old.world thread point }
@@ -263,7 +263,7 @@ impl Board {
         requires { 0 < self.old.room.locks }
         ensures effect { let W = self.old.world in IsEffect
             (going.lock_fault (answers.answer_to_init W.locks.locks wait_id))
-            (changes.initialised W wait_id)
+            (changes.with_initialised_lock W wait_id)
             result W self.new.world }
         ensures kept { KeepsPassing self.old self.new }
     {
@@ -274,7 +274,7 @@ impl Board {
     fn destroy_lock(&mut self, wait_id: u32) -> Result<(), Halt>
         ensures effect { let W = self.old.world in IsEffect
             (going.lock_fault (answers.answer_to_destroy W.locks.locks wait_id))
-            (changes.destroyed W wait_id)
+            (changes.without_lock W wait_id)
             result W self.new.world }
         ensures kept { KeepsPassing self.old self.new }
     {

@@ -3,12 +3,12 @@
 ghost use Rattle.std.specs.Prelude.{◌≡◌, ◌<◌, ◌≤◌, IsOk, None, length};
 ghost use Rattle.task_pool.specs.Tasks.{MayBeParent};
 ghost use Rattle.task_pool.specs.View.{answer_to_add};
-ghost use Rattle.omp_model.specs.declared.event.Arrival.TheVariants.{Meets};
+ghost use Rattle.omp_model.specs.declared.event.Arrival.TheVariants.{RuntimeEvent};
 ghost use Rattle.omp_model.specs.declared.event.Event.TheVariants as event;
 ghost use Rattle.omp_model.specs.declared.limits.TheConstants.{STACK_LIMIT};
 ghost use Rattle.omp_model.specs.Gates.{arrival};
-ghost use Rattle.omp_model.specs.Going.{effect_of, fault_of, stack_fault};
-ghost use Rattle.omp_model.specs.Made.{IsMadeWorld};
+ghost use Rattle.omp_model.specs.EventEffects.{effect_of, fault_of, stack_fault};
+ghost use Rattle.omp_model.specs.MadeWorld.{IsMadeWorld};
 ghost use Rattle.omp_model.specs.State.{region_at, thread_at};
 ghost use Rattle.omp_board.specs.Board.{HasEvent, IsGoingBeside};
 
@@ -19,8 +19,8 @@ use omp_model::{
 
 impl Board {
     /// The Go of the event beside all code that the thread has come to. Where it meets a limit, nothing has changed.
-    pub fn meet_event(&mut self, thread: u8, event: Event) -> Result<Event, Halt>
-        requires meets { arrival self.old.world thread ≡ Meets event }
+    pub fn begin_runtime_event(&mut self, thread: u8, event: Event) -> Result<Event, Halt>
+        requires meets { arrival self.old.world thread ≡ RuntimeEvent event }
         requires made { IsMadeWorld self.old.world }
         requires room { HasEvent self.old.room self.old.world thread }
         ensures going { IsGoingBeside self.old.world thread event result self.new.world }
@@ -34,7 +34,7 @@ impl Board {
     }
 
     /// The limit that the event meets, if it meets one.
-    #[tactic(auto, unfolding(omp_model::specs::Going::fault_of))]
+    #[tactic(auto, unfolding(omp_model::specs::EventEffects::fault_of))]
     fn limit_met(&self, thread: u8, event: Event) -> Option<Halt>
         ensures { result ≡ fault_of self.now.world thread event }
     {
@@ -63,9 +63,9 @@ impl Board {
     }
 
     /// The event happens, which meets no limit.
-    #[tactic(auto, unfolding(omp_model::specs::Going::effect_of))]
+    #[tactic(auto, unfolding(omp_model::specs::EventEffects::effect_of))]
     fn occur(&mut self, thread: u8, event: Event)
-        requires meets { arrival self.old.world thread ≡ Meets event }
+        requires meets { arrival self.old.world thread ≡ RuntimeEvent event }
         requires made { IsMadeWorld self.old.world }
         requires fits { fault_of self.old.world thread event ≡ None }
         requires room { 0 < self.old.room.tasks }
@@ -98,7 +98,7 @@ impl Board {
     }
 
     /// The initial task begins.
-    #[tactic(auto, unfolding(omp_model::specs::Going::effect_of))]
+    #[tactic(auto, unfolding(omp_model::specs::EventEffects::effect_of))]
     fn begin_initial(&mut self, thread: u8)
         requires { length (thread_at self.old.world thread).stack < STACK_LIMIT }
         ensures { self.new ≡ record self.old { world = effect_of self.old.world thread event.InitialTaskBegin } }
@@ -109,7 +109,7 @@ impl Board {
     }
 
     /// A member's implicit task is made and begins.
-    #[tactic(auto, unfolding(omp_model::specs::Going::effect_of))]
+    #[tactic(auto, unfolding(omp_model::specs::EventEffects::effect_of))]
     fn join(&mut self, thread: u8, region: u32, task: u32)
         requires place { region < length self.old.world.regions }
         requires parent { MayBeParent self.old.world.pool.tasks (region_at self.old.world region).head.task }

@@ -4,7 +4,7 @@ use Rattle.omp_model.specs.State.{Run, State}
 use Rattle.omp_model.specs.Legal.{after}
 use Rattle.omp_model.specs.Cause.{cause_in, cause_of}
 use Rattle.omp_model.specs.Serial.{serial}
-use Rattle.step_book.specs.Pages.{state_of}
+use Rattle.step_book.specs.BookView.{state_of}
 use Rattle.team_run.specs.Program.{run_of_program}
 use Rattle.omp_model.proofs.Recording.{HasRun-after, HasRun-whole}
 use Rattle.omp_model.proofs.SerialLaws.{serial-whole}
