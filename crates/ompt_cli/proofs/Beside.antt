@@ -28,7 +28,7 @@ use Rattle.tool_profiled.proofs.Hearing.{first-heard, with_mark, other-heard, ot
 use Rattle.tool_profiled.proofs.Standing.{each-unsaid, first-is, first-marked, other-is, other-marked}
 use Rattle.tool_profiled.proofs.Union.{in-union}
 use Rattle.ompt_cli.specs.Guests.{GuestsJoin, HandOut, ComesTo, guests_of}
-use Rattle.ompt_cli.proofs.Calls.{called-finished, called-unheard, first-finished, first-unheard, same-first, same-missed}
+use Rattle.ompt_cli.proofs.Calls.{first-ended, other-ended, same-first, same-unheard}
 use Rattle.ompt_cli.proofs.Handing.{For, SamePart, as-many, fresh-quiet, guest-in, guest-out, guest-past, guest-same, none-in, none-out}
 use Rattle.ompt_cli.proofs.Keeping.{kept-shares, nothing_called, silent-each}
 
@@ -58,25 +58,25 @@ module _ {G : Type 0} {B : Type 0} (box : G → B) (stands : B → Record → Ty
   before g = fresh_both masks g nothing_counted
 
   abbrev after-first : Record → Record
-  after-first g = record_of_first runs.answer runs.registered (heard_of run H 0) (runs.missed 0) (before g)
+  after-first g = record_of_first runs.answer runs.registered (heard_of run H 0) (runs.unheard 0) (before g)
 
   abbrev after-other : ℕ → Record → Record
-  after-other k g = called_for (heard_of run H (suc k)) (runs.missed (suc k)) (before g)
+  after-other k g = called_for (heard_of run H (suc k)) (runs.unheard (suc k)) (before g)
 
   first-within : (g : Record) → (after-first g).within ≡ starts_of masks ∷ g.started ∷ [] ∷ []
-  first-within g = (same-first runs.answer runs.registered (heard_of run H 0) (runs.missed 0) (before g)).within
+  first-within g = (same-first runs.answer runs.registered (heard_of run H 0) (runs.unheard 0) (before g)).within
 
   first-calls : (g : Record) → (after-first g).calls ≡ heard_of run H 0
-  first-calls g = (same-first runs.answer runs.registered (heard_of run H 0) (runs.missed 0) (before g)).calls
+  first-calls g = (same-first runs.answer runs.registered (heard_of run H 0) (runs.unheard 0) (before g)).calls
 
   first-start : (g : Record) → (after-first g).started ≡ record { answer = runs.answer; mask = runs.registered } ∷ []
-  first-start g = (same-first runs.answer runs.registered (heard_of run H 0) (runs.missed 0) (before g)).started
+  first-start g = (same-first runs.answer runs.registered (heard_of run H 0) (runs.unheard 0) (before g)).started
 
   other-within : (k : ℕ) (g : Record) → (after-other k g).within ≡ starts_of masks ∷ g.started ∷ [] ∷ []
-  other-within k g = (same-missed (heard_of run H (suc k)) (runs.missed (suc k)) (before g)).within
+  other-within k g = (same-unheard (heard_of run H (suc k)) (runs.unheard (suc k)) (before g)).within
 
   other-calls : (k : ℕ) (g : Record) → (after-other k g).calls ≡ heard_of run H (suc k)
-  other-calls k g = (same-missed (heard_of run H (suc k)) (runs.missed (suc k)) (before g)).calls
+  other-calls k g = (same-unheard (heard_of run H (suc k)) (runs.unheard (suc k)) (before g)).calls
 
   -- nothing is said of the guests: what the run has registered, and what the profiles have counted
   unsaid-first : ProfiledFor PartFor (slice_index_or others 0 e) (after-first nothing_said)
@@ -183,10 +183,10 @@ module _ {G : Type 0} {B : Type 0} (box : G → B) (stands : B → Record → Ty
           → ComesTo stands guests after 0 (λ (guest : B). HasHeard stands guest (start ∷ []) masks.first_answer (mask_of masks.first_answer (joins.was_asked p).registered) (heard_of run H 0))
       guest-heard found more d h fresh for =
           let part : PartFor p h = guest-in box stands Same guests (p ∷ ps) rest out 0 d p h (omega arith) more for in
-          let none = runs.all_heard found 0 (omega (arith, each)) in
+          let ended = first-ended runs.answer runs.registered (heard_of run H 0) (runs.unheard 0) (before (first-before h)) answers-one (runs.all_heard found 0 (omega (arith, each))) in
           let heard = first-heard PartFor masks (slice_index_or others 0 e) (after-first (first-before h)) (marked-first h fresh part) (first-before h).started (first-within (first-before h))
-          (joins.was_asked p).profile_mask (first-unheard runs.answer runs.registered (heard_of run H 0) (runs.missed 0) (before (first-before h)) answers-one none) (heard_of run H 0) (first-calls (first-before h))
-          (first-finished runs.answer runs.registered (heard_of run H 0) (runs.missed 0) (before (first-before h)) answers-one none) (start ∷ []) (marks start h.started fresh.started) in
+          (joins.was_asked p).profile_mask (ap (λ (h : Record). h.unheard) ended) (heard_of run H 0) (first-calls (first-before h))
+          (ap (λ (h : Record). h.finished) ended) (start ∷ []) (marks start h.started fresh.started) in
           subst (λ (mask : ℕ). HasHeard stands (slice_index_or after 0 d) (start ∷ []) masks.first_answer mask (heard_of run H 0)) (joins.was_asked p).mask_is
           (other-hears PartFor stands (part_in (slice_index_or others 0 e)) (slice_index_or after 0 d) (start ∷ []) masks.first_answer masks.first (heard_of run H 0) (guest-at 0 d (omega (arith, each)) more) heard)
 
@@ -195,10 +195,10 @@ module _ {G : Type 0} {B : Type 0} (box : G → B) (stands : B → Record → Ty
       guest-hears found zero some below more d h fresh for = absurd (omega (arith, some))
       guest-hears found (suc k) some below more d h fresh for =
           let part : PartFor (slice_index_or ps k p) h = guest-in box stands Same guests (p ∷ ps) rest out (suc k) d p h (omega (arith, below, each)) more for in
-          let none = runs.all_heard found (suc k) below in
+          let ended = other-ended (heard_of run H (suc k)) (runs.unheard (suc k)) (before (with_mark h)) (runs.all_heard found (suc k) below) in
           let heard = other-heard PartFor masks (slice_index_or others (suc k) e) (after-other k (with_mark h)) (marked-other k below h fresh part) (with_mark h).started (other-within k (with_mark h))
-          (joins.was_asked p).profile_mask (called-unheard (heard_of run H (suc k)) (runs.missed (suc k)) (before (with_mark h)) none) (heard_of run H (suc k)) (other-calls k (with_mark h))
-          (called-finished (heard_of run H (suc k)) (runs.missed (suc k)) (before (with_mark h)) none) [] (ap (λ (starts : List Start). record { answer = 1; mask = 0 } ∷ starts) fresh.started) in
+          (joins.was_asked p).profile_mask (ap (λ (h : Record). h.unheard) ended) (heard_of run H (suc k)) (other-calls k (with_mark h))
+          (ap (λ (h : Record). h.finished) ended) [] (ap (λ (starts : List Start). record { answer = 1; mask = 0 } ∷ starts) fresh.started) in
           subst (λ (mask : ℕ). HasHeard stands (slice_index_or after (suc k) d) [] 0 mask (heard_of run H (suc k))) (joins.was_asked p).mask_is
           (other-hears PartFor stands (part_in (slice_index_or others (suc k) e)) (slice_index_or after (suc k) d) [] 0 masks.first (heard_of run H (suc k)) (guest-at (suc k) d below more) heard)
 

@@ -5,6 +5,8 @@ use Rattle.std.specs.Prelude.{IsSome, string_bytes}
 use Rattle.std.specs.Io.KnownBytes.{Appends, Keeps}
 use Rattle.std.specs.declared.string.String.{String}
 use Rattle.std.specs.declared.alloc.Global.{Global}
+use Rattle.std.specs.declared.dyn_box.DynBox.{DynBox}
+use Rattle.tool_api.specs.Record.{Record}
 use Rattle.omp_model.specs.declared.cause.Cause.{Cause}
 use Rattle.omp_model.specs.declared.cause.Cause.TheVariants as causes
 use Rattle.ompt_words.specs.declared.fault.WordsFault.{WordsFault}
@@ -19,25 +21,24 @@ use Rattle.ompt_words.specs.Answers.{AreReadAs, AskForText, HoldBoth, IsTextOrMe
 use Rattle.ompt_words.specs.Form.{AskInForm, InForm, ReadInForm, own_settings}
 use Rattle.ompt_cli.specs.declared.end.End.{End}
 use Rattle.ompt_cli.specs.declared.end.End.TheVariants as end
-use Rattle.ompt_cli.specs.declared.end.Refusal.{Refusal}
 use Rattle.ompt_cli.specs.declared.job.Job.{Job}
 use Rattle.ompt_cli.specs.declared.report.Report.{Report}
-use Rattle.ompt_cli.specs.Commands.{CountsFaults, EndsAs, HasWritten, IsBeforeRun, IsReading, IsShowing, IsUnread, MayRefuse, MayRun, out_of, program_in, run_of, run_text, settings_in, text_in}
+use Rattle.ompt_cli.specs.Commands.{CountsFaults, EndsAs, EndsRun, HasWritten, IsBeforeRun, IsReading, IsShowing, IsUnread, MayRefuse, MayRun, out_of, program_in, run_of, settings_in, text_in}
 use Rattle.run_laws.proofs.Ended.{whole-ended}
 use Rattle.history_file.specs.declared.file.HistoryFile.{HistoryFile}
 use Rattle.history_file.specs.Validity.{WritesHistory}
 use Rattle.ompt_cli.specs.Histories.{Certifies, MayCertify}
+use Rattle.ompt_cli.specs.Loading.{EndsFor, IsLoaded}
 use Rattle.ompt_cli.specs.Reports.{Reports}
 use Rattle.ompt_cli.specs.Text.{IsProgram, IsRefused, Spells, text_for}
 use Rattle.ompt_cli.specs.Top.{CarriesOut, FollowsWords, IsRunOf, StaysUntouched}
 use Rattle.ompt_cli.specs.Traces.{HasRead}
 use Rattle.ompt_cli.specs.Words.{AreFaulty, AreInRange, AreTakenAs, AskFor, AskForRun, AskToRead}
-use Rattle.ompt_cli.proofs.Finishing.{finished}
-use Rattle.ompt_cli.proofs.NestedRuns.{nested-run}
-use Rattle.ompt_cli.proofs.Telling.{ends-may, few-threads, same-settings, shows-faults, some-threads}
-use Rattle.ompt_cli.proofs.Filing.{filed-text}
-use Rattle.ompt_cli.proofs.Recorded.{ends-found}
-use Rattle.ompt_cli.proofs.Traced.{trace_unbroken, trace_unrefused}
+use Rattle.ompt_cli.proofs.Finishing.{finished, nested-run}
+use Rattle.ompt_cli.proofs.Reading.{loaded-unrefused}
+use Rattle.ompt_cli.proofs.Telling.{before-run, ends-may, few-threads, may-run, same-settings, shows-faults, some-threads}
+use Rattle.ompt_cli.proofs.Filing.{ends-found, filed-text}
+use Rattle.ompt_cli.proofs.Written.{trace_unbroken, trace_unrefused}
 
 -- nothing is appended where nothing changed, and nothing is written
 nothing-appended : (held : Option (List ℕ)) → Appends held held []
@@ -84,14 +85,14 @@ module _ {S O : Type 0} (left : S → Option (List ℕ)) (reads_failed : S → �
           generates = λ other ask blocks is. unread blocks (ap (λ (of : Settings). of.command) (asked-is other ask) ∙ is);
         }
 
-    run-words : {Table : Type 0} {Behind : Table → Type 0} (told : End) (ran : Option (Report Table Behind)) → told ≢ end.Usage → told ≢ end.Shown → ((why : Cause) → told ≡ end.Ended why → IsSomeAnd ran (λ report. report.cause ≡ why)) → (told ≡ end.WriteFault → IsSomeAnd ran (λ report. report.cause ≢ causes.Memory)) → FollowsWords words told None None ran
-    run-words told ran used shown ended written =
+    run-words : {Table : Type 0} {Behind : Table → Type 0} (told : End) (ran : Option (Report Table Behind)) → EndsRun told → ((why : Cause) → told ≡ end.Ended why → IsSomeAnd ran (λ report. report.cause ≡ why)) → (told ≡ end.WriteFault → IsSomeAnd ran (λ report. report.cause ≢ causes.Memory)) → FollowsWords words told None None ran
+    run-words told ran ends ended written =
         record {
-          usage = λ is. absurd (used is);
-          formed = λ ask. (used, shown, refl, refl);
+          usage = λ is. absurd (subst EndsRun is ends);
+          formed = λ ask. (ends, refl, refl);
           other = λ no_run no_read. absurd (no_run asks-run);
           shown_alone = tt;
-          displayed = λ is. absurd (shown is);
+          displayed = λ is. absurd (subst EndsRun is ends);
           help = λ ask. absurd (taken.no_help ask);
           clash = λ both. absurd (taken.not_both both);
           reads = λ command ask. absurd (not-read command ask);
@@ -101,23 +102,23 @@ module _ {S O : Type 0} (left : S → Option (List ℕ)) (reads_failed : S → �
         }
 
     -- a program was read and run
-    pub run_carried : {Table : Type 0} {Behind : Table → Type 0} (told : End) (report : Report Table Behind) (job : Job) → Reports job told report → (source source_now : S) (out out_now : O) → job.settings ≡ settings → IfSome (text_for settings.command (left source)) (λ text. text ≡ job.loaded.text.items) → Spells job.loaded.text.items job.loaded.program
-        → ((why : Refusal) → IsSomeAnd (text_for settings.command (left source)) (IsRefused why) → ⊥) → ((blocks : ℕ) → settings.command ≡ Generating blocks → source_now ≡ source) → reads_failed source_now ≡ reads_failed source
-        → HasWritten told (run_text (Some report)) (held out) (held out_now) → CountsFaults told end.WriteFault (writes_failed out) (writes_failed out_now)
+    pub run_carried : {Table : Type 0} {Behind : Table → Type 0} (stands_for : DynBox Table Global Behind → Record → Type 0) (told : End) (report : Report Table Behind) (job : Job) (guests : List (DynBox Table Global Behind)) (source source_now : S) (out out_now : O)
+        → Reports stands_for held writes_failed job guests out out_now told report → job.settings ≡ settings → IsLoaded (text_for settings.command (left source)) job.loaded
+        → ((blocks : ℕ) → settings.command ≡ Generating blocks → source_now ≡ source) → reads_failed source_now ≡ reads_failed source
         → CarriesOut left reads_failed held writes_failed words told None None (Some report) source source_now out out_now
-    run_carried told report job r source source_now out out_now asked sourced spelled unrefused unread steady written faults =
+    run_carried stands_for told report job guests source source_now out out_now r asked loaded unread steady =
         let is : settings_in report ≡ settings = r.observes.asked ∙ asked in
-        let spells : Spells (text_in report) (program_in report) = subst (λ (text : List ℕ). Spells text (program_in report)) (sym r.observes.text_is) (subst (Spells job.loaded.text.items) (sym r.observes.program_is) spelled) in
+        let spells : Spells (text_in report) (program_in report) = subst (λ (text : List ℕ). Spells text (program_in report)) (sym r.observes.text_is) (subst (Spells job.loaded.text.items) (sym r.observes.program_is) loaded.spelled) in
         let ends : (other : End) → told ≡ other → EndsAs report.cause other = λ other same. subst (EndsAs report.cause) same r.ended in
         record {
-          words = run-words told (Some report) (ends end.Usage) (ends end.Shown) (λ why same. sym (ends (end.Ended why) same).0) (ends end.WriteFault);
+          words = run-words told (Some report) (may-run told (ends-may report.cause told r.ended)) (λ why same. sym (ends (end.Ended why) same).0) (ends end.WriteFault);
           ran =
               record {
                 asked = subst (λ (one : Settings). AreReadAs words (request.Run one)) (sym is) taken.read;
                 own = λ form. is ∙ same-settings (request.Run settings) settings (own_settings form) refl (taken.form form);
                 text =
                     subst (λ (text : List ℕ). IfSome (text_for report.command (left source)) (λ one. one ≡ text)) (sym r.observes.text_is)
-                    (subst (λ (one : Settings). IfSome (text_for one.command (left source)) (λ text. text ≡ job.loaded.text.items)) (sym is) sourced);
+                    (subst (λ (one : Settings). IfSome (text_for one.command (left source)) (λ text. text ≡ job.loaded.text.items)) (sym is) loaded.same);
                 spelled = spells;
                 mask = λ other. (r.stays other).mask_is;
                 always = r.observes.to.always;
@@ -137,39 +138,38 @@ module _ {S O : Type 0} (left : S → Option (List ℕ)) (reads_failed : S → �
           text =
               record {
                 refused = λ none why same. absurd (ends (end.Refused why) same);
-                accepted = λ other ask why refused. absurd (unrefused why (text-of other ask (λ text. IsSomeAnd text (IsRefused why)) source refused));
+                accepted = λ other ask why refused. absurd (loaded-unrefused _ job.loaded loaded why (text-of other ask (λ text. IsSomeAnd text (IsRefused why)) source refused));
                 runs = λ other ask program. ends-may report.cause told r.ended;
               };
-          written = λ none. written;
+          written = λ none. r.written;
           recorded =
               record {
                 traced = r.traced;
                 nested = λ other found.
-                    nested-run (run_of report) report.history report.cause (some-threads job report r.observes) (few-threads job report r.observes) (r.stays other).mask_is (text_in report, spells) r.observes.to.legal (r.observes.to.ends found) (r.observes.to.outside found);
+                    nested-run (run_of report) report.history report.cause (some-threads job report r.observes) (few-threads job report r.observes) (r.stays other).mask_is (text_in report) spells r.observes.to.legal (r.observes.to.ends found) (r.observes.to.outside found);
                 history_file = λ whole memory filed.
                     record { is_file = (r.certified whole memory filed).is_file; bytes_are = sym (filed-text report filed (ends-found report.cause told r.ended memory)) };
                 certificate = λ whole memory filed. (r.certified whole memory filed).certificate;
               };
-          faults = shows-faults told _ _ _ _ (record { rose = λ same. absurd (ends end.ReadFault same); steady = λ other. steady }) faults;
+          faults = shows-faults told _ _ _ _ (record { rose = λ same. absurd (ends end.ReadFault same); steady = λ other. steady }) r.faults;
           untouched = run-untouched told source source_now out out_now (ends end.Usage) unread;
         }
 
     -- no program was read or run
-    pub end_carried : {Table : Type 0} {Behind : Table → Type 0} (told : End) (source source_now : S) (out : O) → IsBeforeRun told → ((why : Refusal) → told ≡ end.Refused why → IfSome (text_for settings.command (left source)) (IsRefused why))
-        → ((why : Refusal) → IsSomeAnd (text_for settings.command (left source)) (IsRefused why) → MayRefuse why told) → (IsSomeAnd (text_for settings.command (left source)) IsProgram → MayRun told)
+    pub end_carried : {Table : Type 0} {Behind : Table → Type 0} (told : End) (source source_now : S) (out : O) → EndsFor (text_for settings.command (left source)) told
         → CountsFaults told end.ReadFault (reads_failed source) (reads_failed source_now) → ((blocks : ℕ) → settings.command ≡ Generating blocks → source_now ≡ source)
         → CarriesOut {Table = Table} {Behind = Behind} left reads_failed held writes_failed words told None None None source source_now out out
-    end_carried told source source_now out before refused accepted runs faults unread =
-        let ends : (other : End) → told ≡ other → IsBeforeRun other = λ other same. subst IsBeforeRun same before in
+    end_carried told source source_now out ended faults unread =
+        let ends : (other : End) → told ≡ other → IsBeforeRun other = λ other same. subst IsBeforeRun same ended.before in
         record {
-          words = run-words told None (ends end.Usage) (ends end.Shown) (λ why. ends (end.Ended why)) (ends end.WriteFault);
+          words = run-words told None (before-run told ended.before) (λ why. ends (end.Ended why)) (ends end.WriteFault);
           ran = tt;
           read = tt;
           text =
               record {
-                refused = λ none why is. (settings, taken.read, refused why is);
-                accepted = λ other ask why so. accepted why (text-of other ask (λ text. IsSomeAnd text (IsRefused why)) source so);
-                runs = λ other ask so. runs (text-of other ask (λ text. IsSomeAnd text IsProgram) source so);
+                refused = λ none why is. (settings, taken.read, ended.refused why is);
+                accepted = λ other ask why so. ended.accepted why (text-of other ask (λ text. IsSomeAnd text (IsRefused why)) source so);
+                runs = λ other ask so. ended.runs (text-of other ask (λ text. IsSomeAnd text IsProgram) source so);
               };
           written = λ none. nothing-written told (held out) (ends end.WriteFault);
           recorded = tt;
@@ -267,7 +267,7 @@ module _ {S O : Type 0} (left : S → Option (List ℕ)) (reads_failed : S → �
           words =
               record {
                 usage = λ is. (faulty.usage (answers.used is), refl, answers.unshown (inl is), refl);
-                formed = λ ask. let is = memory ask in ((λ same. cc), (λ same. cc), answers.unshown (inr (no-memory ask)), refl);
+                formed = λ ask. (subst EndsRun (sym (memory ask)) tt, answers.unshown (inr (no-memory ask)), refl);
                 other = λ no_run no_read. (answers.unread, refl, refl);
                 shown_alone = shows-text None None refl refl shown answers.shows;
                 displayed = λ is. answers.displayed (inl is);

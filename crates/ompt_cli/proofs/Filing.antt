@@ -1,8 +1,15 @@
--- What a history file of a run is, and that it is a certificate of the run.
+-- What is written of a run: a trace, or a history file, which is a certificate of the run.
 use Rattle.std.proofs.Common.{◌≡◌, ◌≢◌, ◌≤◌, ◌⊎◌, inl, inr, ℕ, List, length, Option, Some, None, refl, sym, ap, subst, ◌∙◌, arith}
 use Rattle.omp_model.specs.declared.cause.Cause.{Cause}
 use Rattle.omp_model.specs.declared.cause.Cause.TheVariants as causes
+use Rattle.omp_model.specs.declared.history.Entry.{Entry}
+use Rattle.omp_model.specs.Legal.{Legal}
+use Rattle.omp_model.specs.Records.{records_of}
+use Rattle.omp_model.specs.State.{Run}
+use Rattle.ompt_calls.specs.declared.event.EventRecord.{EventRecord}
+use Rattle.run_trace.proofs.Heard.{few-records}
 use Rattle.run_trace.specs.TraceOf.{FitsCause, detail_of, status_of}
+use Rattle.tool_report.specs.Order.{AreShared}
 use Rattle.history_file.specs.Fields.{fields_of as history_fields, spelling as history_spelling}
 use Rattle.history_file.specs.Fitting.{FitsFile}
 use Rattle.history_file.proofs.OfRuns.{files_of_runs}
@@ -12,13 +19,31 @@ use Rattle.ompt_words.specs.declared.settings.RunOutput.TheVariants as output
 use Rattle.ompt_cli.specs.declared.end.End.{End}
 use Rattle.ompt_cli.specs.declared.end.End.TheVariants as end
 use Rattle.ompt_cli.specs.declared.report.Report.{Report}
-use Rattle.ompt_cli.specs.Commands.{EndsAs, run_of, run_text, text_in, written_by}
+use Rattle.ompt_cli.specs.Commands.{EndsAs, IsSharedFew, run_of, run_text, text_in, unless_memory, written_by}
 use Rattle.ompt_cli.specs.Histories.{file_of_report}
 use Rattle.ompt_words.specs.declared.settings.Settings.{Settings}
 use Rattle.ompt_cli.specs.declared.job.Job.{Job}
 use Rattle.ompt_cli.specs.Reports.{HasCertificate, Observes}
-use Rattle.ompt_cli.proofs.Recorded.{unless-found}
 use Rattle.ompt_cli.proofs.Telling.{few-threads, some-threads}
+
+-- something is written of each run that found memory
+pub unless-found : (of : Cause) (lines : List ℕ) → of ≢ causes.Memory → unless_memory of lines ≡ lines
+unless-found causes.Memory lines found = absurd (found refl)
+unless-found other lines found = refl
+
+memory-end : (told : End) → EndsAs causes.Memory told → told ≡ end.Memory
+memory-end end.Memory ends = refl
+memory-end end.WriteFault ends = absurd (ends refl)
+memory-end (end.Ended why) ends = absurd (ends.1 refl)
+memory-end other ends = absurd ends
+
+-- an end that isn't want of memory tells of a run that found memory
+pub ends-found : (of : Cause) (told : End) → EndsAs of told → told ≢ end.Memory → of ≢ causes.Memory
+ends-found of told ends other none = other (memory-end told (subst (λ (found : Cause). EndsAs found told) none ends))
+
+-- the records of a run are few enough
+pub shared-few : (run : Run) (H : List Entry) (parts : List (List EventRecord)) → 1 ≤ run.threads → Legal run H → AreShared (records_of run H) parts → IsSharedFew parts
+shared-few run H parts some legal shared = (records_of run H, shared, few-records run H some legal)
 
 -- a cause that has an end in a file isn't want of memory
 pub found-by : (cause : Cause) (result : Option (ℕ × ℕ)) (status detail : ℕ) → result ≡ Some (status, detail) → (cause ≡ causes.Memory → result ≡ None) → cause ≢ causes.Memory

@@ -1,6 +1,10 @@
--- How a run has ended: whole exactly at Done or Returned, and with no thread inside a callback.
-use Rattle.std.proofs.Common.{◌≡◌, ◌≢◌, ℕ, zero, suc, ℤ, pos, negsuc, ◌&&◌, Bool, true, false, if◌then◌else◌, List, [], ◌∷◌, Option, Some, None, is_none, slice_index_or, refl, sym, ap, subst, ◌∙◌, ◌↔◌}
+-- How a run has ended: whole exactly at Done or Returned, and with no thread inside a callback. And that the trace of a run of a program that a text spells is nested.
+use Rattle.std.proofs.Common.{◌≡◌, ◌≢◌, ◌<◌, ◌≤◌, ℕ, zero, suc, ℤ, pos, negsuc, ◌&&◌, Bool, true, false, if◌then◌else◌, List, [], ◌∷◌, length, Option, Some, None, is_none, slice_index_or, refl, sym, ap, subst, ◌∙◌, ◌↔◌, arith}
 use Rattle.std.specs.List.{list_all}
+use Rattle.omp_codes.specs.declared.callbacks.TheConstants.{PROFILE_MASK}
+use Rattle.c_syntax.specs.language.Words.{words_of}
+use Rattle.c_check.proofs.Earliest.{none-broken}
+use Rattle.c_model.proofs.GrammarTrees.{spelled_is_formed}
 use Rattle.tool_api.specs.Record.{Record}
 use Rattle.omp_model.specs.declared.cause.Cause.{Cause}
 use Rattle.omp_model.specs.declared.cause.Cause.TheVariants as causes
@@ -9,12 +13,18 @@ use Rattle.omp_model.specs.declared.event.Halt.{Halt}
 use Rattle.omp_model.specs.declared.event.Halt.TheVariants.{Trap, Limit}
 use Rattle.omp_model.specs.declared.history.Entry.{Entry}
 use Rattle.omp_model.specs.State.{Run, State}
-use Rattle.omp_model.specs.Cause.{cause_of, cause_by_halt, cause_of_halt, cause_of_value, cause_of_whole, is_stuck, main_value, threads_over, whole_value}
+use Rattle.omp_model.specs.Cause.{cause_of, cause_by_halt, cause_of_halt, cause_of_value, cause_of_whole, is_stuck, main_value, none_pending, threads_over, whole_value}
 use Rattle.omp_model.specs.Gates.{main_returned}
 use Rattle.omp_model.specs.Legal.{Legal, after}
+use Rattle.omp_model.proofs.MadeRuns.{made-after}
+use Rattle.run_trace.specs.TraceOf.{trace_of}
+use Rattle.nested_runs.proofs.Nesting.{nested}
 use Rattle.team_run.specs.Serving.{RunsParts}
 use Rattle.team_run.specs.Unheard.{IsUnheard, LeftAt}
+use Rattle.team_run.proofs.Visiting.{all_none-at}
 use Rattle.ompt_cli.specs.Runs.{AreOutside, IsReturn, IsWhole}
+use Rattle.ompt_cli.specs.Text.{Spells}
+use Rattle.ompt_cli.specs.Traces.{IsNested}
 use Rattle.ompt_cli.proofs.Halting.{not_halted}
 
 -- what main returned is told as a return
@@ -57,14 +67,24 @@ return-from run history cause legal same whole =
 pub finished : (run : Run) (history : List Entry) (cause : Cause) → Legal run history → cause_of run history ≡ Some cause → IsReturn cause ↔ IsWhole run history
 finished run history cause legal same = (whole-from run history cause (after run history).halt same, return-from run history cause legal same)
 
--- of threads of which none is inside a callback, each is outside
-each-outside : (pending : List (Option Callback)) (k : ℕ) → list_all (λ (callback : Option Callback). is_none callback) pending ≡ true → slice_index_or pending k None ≡ None
-each-outside [] k none = refl
-each-outside (None ∷ rest) zero none = refl
-each-outside (None ∷ rest) (suc k) none = each-outside rest k none
-each-outside (Some callback ∷ rest) k none = cc
-
+-- no thread is inside a callback
 pub parts-outside : {P : Type 0} (stands_for : P → Record → Type 0) (serial : Bool) (run : Run) (cause : Cause) (history : List Entry) (parts others : List P) → cause ≢ causes.Memory → RunsParts stands_for serial run cause history parts others → AreOutside run history
 parts-outside stands_for true run cause history parts others found runs =
-    λ k below. each-outside (after run history).pending k (subst (IsUnheard run history) (runs.are_missed.all_heard found) runs.are_missed.is_unheard)
-parts-outside stands_for false run cause history parts others found runs = λ k below. subst (LeftAt run history k) (runs.all_heard found k below) (runs.are_missed k below)
+    λ k below. all_none-at (after run history).pending k (subst (IsUnheard run history) (runs.are_unheard.all_heard found) runs.are_unheard.is_unheard)
+parts-outside stands_for false run cause history parts others found runs = λ k below. subst (LeftAt run history k) (runs.all_heard found k below) (runs.are_unheard k below)
+
+-- no thread is inside a callback where none of the run is
+all-none : (pending : List (Option Callback)) → ((k : ℕ) → k < length pending → slice_index_or pending k None ≡ None) → list_all (λ (callback : Option Callback). is_none callback) pending ≡ true
+all-none [] at = refl
+all-none (first ∷ rest) at = rw (at 0 (omega arith)) (all-none rest (λ k low. at (suc k) (omega (arith, low))))
+
+outside-none : (run : Run) (H : List Entry) → 1 ≤ run.threads → AreOutside run H → none_pending (after run H) ≡ true
+outside-none run H some outside =
+    let places = (made-after run H some).places in
+    all-none (after run H).pending (λ k low. outside k (omega (arith, low, places)))
+
+pub nested-run : (run : Run) (H : List Entry) (cause : Cause) → 1 ≤ run.threads → run.threads ≤ 16 → run.mask ≡ PROFILE_MASK → (text : List ℕ) → Spells text run.program → Legal run H
+    → cause_of run H ≡ Some cause → AreOutside run H → IsNested (trace_of run cause H)
+nested-run run H cause some few mask text spells legal caused outside =
+    nested run H cause some few mask (none-broken run.program spells.keeps) (spelled_is_formed (words_of text spells.read.has.tree_is.tokens) run.program spells.read.has.tree_is.spelled) legal caused
+    (outside-none run H some outside)

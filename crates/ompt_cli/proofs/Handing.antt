@@ -13,7 +13,7 @@ use Rattle.omp_model.specs.Heard.{heard_of}
 use Rattle.team_run.specs.Serving.{AreSame, RunsParts, called_for, record_of_first}
 use Rattle.team_run.specs.Standing.{AreSilent}
 use Rattle.ompt_cli.specs.Guests.{GuestsServe, HandOut, guests_of}
-use Rattle.ompt_cli.proofs.Calls.{SameCalls, same-first, same-missed}
+use Rattle.ompt_cli.proofs.Calls.{SameCalls, same-first, same-unheard}
 use Rattle.ompt_cli.proofs.Keeping.{nothing_called, silent-each}
 
 module _ {G : Type 0} {B : Type 0} (box : G → B) where
@@ -121,7 +121,7 @@ module _ {G : Type 0} {B : Type 0} (box : G → B) (stands : B → Record → Ty
   first-answer serial run cause H (held.Guest g ∷ parts) (a ∷ after) rest some out same kinds runs = absurd out
   first-answer serial run cause H (held.Quiet q ∷ parts) (held.Guest a ∷ after) rest some out same kinds runs = absurd (same-head SamePart (held.Quiet q) (held.Guest a) parts after kinds)
   first-answer serial run cause H (held.Quiet q ∷ parts) (held.Quiet a ∷ after) rest some out same kinds runs =
-      quiet-answer runs.answer runs.registered _ _ a (same-first runs.answer runs.registered (heard_of run H 0) (runs.missed 0) nothing_called) refl (runs.first (held.Quiet q) nothing_called (fresh-quiet q))
+      quiet-answer runs.answer runs.registered _ _ a (same-first runs.answer runs.registered (heard_of run H 0) (runs.unheard 0) nothing_called) refl (runs.first (held.Quiet q) nothing_called (fresh-quiet q))
 
   -- the part of a thread past the guests is none
   pub none-in : (guests : List B) (parts : List (Handed G)) (rest : List B) → HandOut box guests parts rest → (k : ℕ) (e : Handed G) → length guests ≤ k → k < length parts → For (slice_index_or parts k e) nothing_called
@@ -150,10 +150,10 @@ module _ {G : Type 0} {B : Type 0} (box : G → B) (stands : B → Record → Ty
   -- so nothing is stored on a thread without a guest
   without-guest : (serial : Bool) (run : Run) (cause : Cause) (H : List Entry) (guests : List B) (parts after : List (Handed G)) (rest : List B) → HandOut box guests parts rest → AreSame SamePart parts after → RunsParts For serial run cause H parts after → (k : ℕ) (e : Handed G) → length guests ≤ k → k < length parts → AreSilent (heard_of run H k)
   without-guest serial run cause H guests parts after rest out kinds runs zero e past below =
-      silent-each (heard_of run H 0) (subst StoresNothing (same-first runs.answer runs.registered (heard_of run H 0) (runs.missed 0) nothing_called).calls
+      silent-each (heard_of run H 0) (subst StoresNothing (same-first runs.answer runs.registered (heard_of run H 0) (runs.unheard 0) nothing_called).calls
       (none-out guests parts after rest out runs.as_many kinds 0 e _ past below (runs.first e nothing_called (none-in guests parts rest out 0 e past below))))
   without-guest serial run cause H guests parts after rest out kinds runs (suc k) e past below =
-      silent-each (heard_of run H (suc k)) (subst StoresNothing (same-missed (heard_of run H (suc k)) (runs.missed (suc k)) nothing_called).calls
+      silent-each (heard_of run H (suc k)) (subst StoresNothing (same-unheard (heard_of run H (suc k)) (runs.unheard (suc k)) nothing_called).calls
       (none-out guests parts after rest out runs.as_many kinds (suc k) e _ past below (runs.each (suc k) (omega arith) below e nothing_called (none-in guests parts rest out (suc k) e past below))))
 
   -- so the guests stand for what their threads heard
@@ -167,13 +167,13 @@ module _ {G : Type 0} {B : Type 0} (box : G → B) (stands : B → Record → Ty
         mask_is = runs.mask_is;
         nobody = λ none. first-answer serial run cause H (p ∷ parts) after rest (omega arith) (subst (λ guests. HandOut box guests (p ∷ parts) rest) (nil_from_length guests none) out) runs.as_many kinds runs;
         first = λ more d h for.
-            guest-out guests (p ∷ parts) after rest out runs.as_many kinds 0 d p (record_of_first runs.answer runs.registered (heard_of run H 0) (runs.missed 0) h) (omega arith) more
+            guest-out guests (p ∷ parts) after rest out runs.as_many kinds 0 d p (record_of_first runs.answer runs.registered (heard_of run H 0) (runs.unheard 0) h) (omega arith) more
             (runs.first p h (guest-in guests (p ∷ parts) rest out 0 d p h (omega arith) more for));
         others = λ k past below more d h for.
-            guest-out guests (p ∷ parts) after rest out runs.as_many kinds k d p (called_for (heard_of run H k) (runs.missed k) h) (omega (arith, below, each)) more
+            guest-out guests (p ∷ parts) after rest out runs.as_many kinds k d p (called_for (heard_of run H k) (runs.unheard k) h) (omega (arith, below, each)) more
             (runs.each k past (omega (arith, below, each)) p h (guest-in guests (p ∷ parts) rest out k d p h (omega (arith, below, each)) more for));
-        missed = runs.missed;
-        are_missed = runs.are_missed;
+        unheard = runs.unheard;
+        are_unheard = runs.are_unheard;
         all_heard = runs.all_heard;
         same_types = λ k d below. guest-same itself guests (p ∷ parts) after rest out runs.as_many kinds k d below;
         guestless = λ k past below. without-guest serial run cause H guests (p ∷ parts) after rest out kinds runs k p past (omega (arith, below, each));

@@ -21,7 +21,12 @@ use Rattle.trace_format.specs.declared.trace.TheConstants.{SEQ_LIMIT}
 use Rattle.team_run.specs.Serving.{RunsParts, served}
 use Rattle.tool_api.specs.Registering.{mask_of}
 use Rattle.team_run.specs.Standing.{AreSilent, HearsOwn, HearsSilent}
-use Rattle.ompt_cli.proofs.Calls.{SameCalls, same-first, same-missed}
+use Rattle.ompt_cli.specs.declared.observing.Observed.{Observed}
+use Rattle.ompt_cli.specs.declared.job.Job.{Job}
+use Rattle.ompt_cli.specs.Commands.{run_of}
+use Rattle.ompt_cli.specs.Reports.{HasKept, HasObserved}
+use Rattle.ompt_cli.proofs.Calls.{SameCalls, same-first, same-unheard}
+use Rattle.ompt_cli.proofs.Telling.{threads-are}
 
 -- positions from one on are from each smaller one on
 from-less : (least more : ℕ) (events : List EventRecord) → least ≤ more → AreFrom more events → AreFrom least events
@@ -101,7 +106,7 @@ kept-shares {A} keep run H threads parts as_many each some legal same own =
 
 -- parts that stand for what they keep
 module _ {A : Type 0} (keep : List EventRecord → A) (stands : A → Record → Type 0) (into : (kept : A) (h : Record) → KeeperFor keep kept h → stands kept h) (out : (kept : A) (h : Record) → stands kept h → KeeperFor keep kept h) (serial : Bool) (run : Run) (cause : Cause) (H : List Entry) (threads : ℕ) (parts : List A) (some : 1 ≤ threads) (runs : RunsParts stands serial run cause H (replicate threads (keep [])) parts) where
-  pub as_many : length parts ≡ threads
+  as_many : length parts ≡ threads
   as_many = runs.as_many ∙ length-replicate threads (keep [])
 
   -- a fresh part for each thread
@@ -111,28 +116,46 @@ module _ {A : Type 0} (keep : List EventRecord → A) (stands : A → Record →
   -- the first part, after its start
   first-part : (d : A) → KeeperFor keep (slice_index_or parts 0 d) (served (initialized nothing_called runs.answer runs.registered) (heard_of run H 0))
   first-part d =
-      same-keeper keep (slice_index_or parts 0 d) _ _ (same-first runs.answer runs.registered (heard_of run H 0) (runs.missed 0) nothing_called)
+      same-keeper keep (slice_index_or parts 0 d) _ _ (same-first runs.answer runs.registered (heard_of run H 0) (runs.unheard 0) nothing_called)
       (out _ _ (runs.first d nothing_called (fresh-at 0 d (omega (arith, some)))))
 
   -- each part kept what its thread heard
   keeps : (k : ℕ) (d : A) → k < threads → KeepsOf keep (slice_index_or parts k d) (heard_of run H k)
   keeps zero d below = keeps-of keep (slice_index_or parts 0 d) (initialized nothing_called runs.answer runs.registered) refl (heard_of run H 0) (first-part d)
   keeps (suc k) d below =
-      keeps-of keep (slice_index_or parts (suc k) d) nothing_called refl (heard_of run H (suc k)) (same-keeper keep (slice_index_or parts (suc k) d) _ _ (same-missed (heard_of run H (suc k)) (runs.missed (suc k)) nothing_called) (out _ _ (runs.each (suc k) (omega arith) (subst (λ n. suc k < n) (sym (length-replicate threads (keep []))) below) d nothing_called (fresh-at (suc k) d below))))
+      keeps-of keep (slice_index_or parts (suc k) d) nothing_called refl (heard_of run H (suc k)) (same-keeper keep (slice_index_or parts (suc k) d) _ _ (same-unheard (heard_of run H (suc k)) (runs.unheard (suc k)) nothing_called) (out _ _ (runs.each (suc k) (omega arith) (subst (λ n. suc k < n) (sym (length-replicate threads (keep []))) below) d nothing_called (fresh-at (suc k) d below))))
 
   -- so nothing was stored
-  pub parts-silent : run.threads ≡ threads → HearsSilent run H
+  parts-silent : run.threads ≡ threads → HearsSilent run H
   parts-silent same = λ k below. (keeps k (keep []) (subst (λ n. k < n) same below)).silent
 
   -- and all callbacks of the profile were registered
-  pub parts-all : run.mask ≡ PROFILE_MASK
+  parts-all : run.mask ≡ PROFILE_MASK
   parts-all =
       let started = (first-part (keep [])).started 0 (record { answer = 0; mask = 0 }) (omega arith) in
       runs.mask_is ∙ ap (λ answer. mask_of answer runs.registered) started.0 ∙ started.1
 
   -- each part kept its share of the run's records
-  pub parts-kept : Legal run H → run.threads ≡ threads → HearsOwn run H → AreKept keep (records_of run H) parts
+  parts-kept : Legal run H → run.threads ≡ threads → HearsOwn run H → AreKept keep (records_of run H) parts
   parts-kept legal same own = kept-shares keep run H threads parts as_many (λ k d below. (keeps k d below).events) (omega (arith, some, same)) legal same own
+
+-- so for a report of a run of such parts: all callbacks were registered, nothing was stored, and each part keeps its share of the run's records
+pub has_kept :
+    {Table : Type 0} {Behind : Table → Type 0} {A : Type 0} (keep : List EventRecord → A) (stands : A → Record → Type 0) (into : (kept : A) (h : Record) → KeeperFor keep kept h → stands kept h) (out : (kept : A) (h : Record) → stands kept h → KeeperFor keep kept h) (Same : A → A → Type 0) (job : Job) (observed : Observed A Table Behind)
+    → HasObserved stands Same job (replicate job.settings.threads (keep [])) observed → HasKept keep job observed
+has_kept keep stands into out Same job observed has =
+    let report = observed.report in
+    let threads = threads-are job report has.observes in
+    record {
+      observes = has.observes;
+      stays =
+          record {
+            mask_is = parts-all keep stands into out report.serial (run_of report) report.cause report.history job.settings.threads observed.parts.items job.some has.runs;
+            silent = parts-silent keep stands into out report.serial (run_of report) report.cause report.history job.settings.threads observed.parts.items job.some has.runs threads;
+          };
+      kept = parts-kept keep stands into out report.serial (run_of report) report.cause report.history job.settings.threads observed.parts.items job.some has.runs has.observes.to.legal threads has.own;
+      printed = has.printed;
+    }
 
 -- a part that keeps all keeps its share
 pub kept-shared : (events : List EventRecord) (parts : List (List EventRecord)) → AreKept (λ (events : List EventRecord). events) events parts → AreShared events parts

@@ -3,15 +3,9 @@ pub mod Halting
 pub mod Finishing
 pub mod Handing
 pub mod Keeping
-pub mod Observed
-pub mod Ending
 pub mod Reading
 pub mod Telling
-pub mod Recorded
-pub mod Traced
 pub mod Written
-pub mod NestedRuns
 pub mod Filing
 pub mod Carrying
-pub mod Certified
 pub mod Beside

@@ -1,5 +1,7 @@
 -- A text spells a program, or is refused for one thing, and not both.
-use Rattle.std.proofs.Common.{◌≡◌, ℕ, ◌≤◌, ◌⊎◌, Bool, true, false, ltb, inl, inr, List, [], ◌∷◌, ◌++◌, length, Option, Some, None, Ok, refl, sym, ap, subst, ◌∙◌, arith}
+use Rattle.std.proofs.Common.{◌≡◌, ℕ, ◌≤◌, ◌⊎◌, Bool, true, false, ltb, inl, inr, List, [], ◌∷◌, ◌++◌, append-nil, length, length-append, Option, Some, None, IfSome, IsSomeAnd, Ok, refl, sym, ap, subst, ◌∙◌, arith}
+use Rattle.std.specs.Io.KnownBytes.{Consumes, IsAtEnd}
+use Rattle.run_edges.specs.Edges.{ConsumesMore}
 use Rattle.std.proofs.lemmas.Bool.{ltb-false, ltb-true}
 use Rattle.c_tokens.specs.declared.token.Spot.{Spot}
 use Rattle.c_tokens.specs.declared.token.Token.{Token}
@@ -21,6 +23,10 @@ use Rattle.c_syntax.proofs.OneAnswer.{fault_one, not_both, tree_one, tree_or_fau
 use Rattle.c_check.specs.declared.fault.CheckFault.{CheckFault}
 use Rattle.ompt_cli.specs.declared.end.Refusal.{Refusal}
 use Rattle.ompt_cli.specs.declared.end.Refusal.TheVariants.{Tokens, Syntax, Rule, TooLong}
+use Rattle.ompt_cli.specs.declared.end.End.{End}
+use Rattle.ompt_cli.specs.declared.end.End.TheVariants.{Memory, Refused}
+use Rattle.ompt_cli.specs.declared.job.Loaded.{Loaded}
+use Rattle.ompt_cli.specs.Loading.{EndsFor, IsLoaded}
 use Rattle.ompt_cli.specs.Text.{HasTree, IsProgram, IsReadAs, IsRefused, Spells, end_at, end_of, rule_broken}
 use Rattle.numbered_runs.specs.Alike.{AreAlike}
 
@@ -121,3 +127,47 @@ text-judged text = by (ltb 65536 (length text)) refl
     by : (long : Bool) → ltb 65536 (length text) ≡ long → IsProgram text ⊎ ((why : Refusal) × IsRefused why text)
     by true is = inr (TooLong, ltb-true 65536 (length text) is)
     by false is = by-tokens text (ltb-false 65536 (length text) is) (read-or-ended text)
+
+-- How a command ends that comes to no program.
+
+-- the text has this to be refused for
+pub ends-refused : (text : List ℕ) (why : Refusal) → IsRefused why text → EndsFor (Some text) (Refused why)
+ends-refused text why is =
+    record {
+      before = tt;
+      refused = λ other same. let one : why ≡ other = cc in subst (λ (why : Refusal). IsRefused why text) one is;
+      accepted = λ other has. refusal-one text why other is has;
+      runs = λ program. absurd (program-not_refused text why program is);
+    }
+
+-- memory failed
+pub ends-memory : (text : Option (List ℕ)) → EndsFor text Memory
+ends-memory text = record { before = tt; refused = λ why same. absurd cc; accepted = λ why has. tt; runs = λ program. tt }
+
+pub longer : (xs given rest : List ℕ) → xs ≡ given ++ rest → length given ≤ length xs
+longer xs given rest same = omega (arith, ap length same, length-append given rest)
+
+-- the source gave more than a text may have
+pub ends-long : (left rest : Option (List ℕ)) → ConsumesMore left rest 65536 → EndsFor left (Refused TooLong)
+ends-long None rest more = record { before = tt; refused = λ why same. tt; accepted = λ why has. absurd has; runs = λ program. absurd program }
+ends-long (Some text) None more = absurd more.2
+ends-long (Some text) (Some rest) more = ends-refused text TooLong (omega (arith, longer text more.0 rest more.2, more.1))
+
+-- the source gave this text, and no more
+pub read-whole : (left rest : Option (List ℕ)) (given : List ℕ) → Consumes left rest given → IfSome left (λ text. IsAtEnd rest) → IfSome left (λ text. text ≡ given)
+read-whole None rest given takes end = tt
+read-whole (Some text) None given takes end = absurd takes
+read-whole (Some text) (Some rest) given takes end = takes ∙ ap (λ more. given ++ more) end ∙ append-nil given
+
+pub loaded-read : (left : Option (List ℕ)) (text : List ℕ) → IfSome left (λ one. one ≡ text) → (loaded : Loaded) → IsLoaded (Some text) loaded → IsLoaded left loaded
+loaded-read None text same loaded is = record { spelled = is.spelled; same = tt }
+loaded-read (Some one) text same loaded is = record { spelled = is.spelled; same = same ∙ is.same }
+
+pub ends-read : (left : Option (List ℕ)) (text : List ℕ) → IfSome left (λ one. one ≡ text) → (end : End) → EndsFor (Some text) end → EndsFor left end
+ends-read None text same end is = record { before = is.before; refused = λ why refused. tt; accepted = λ why has. absurd has; runs = λ program. absurd program }
+ends-read (Some one) text same end is = subst (λ text. EndsFor (Some text) end) (sym same) is
+
+-- a text of which a program was loaded has nothing to be refused for
+pub loaded-unrefused : (text : Option (List ℕ)) (loaded : Loaded) → IsLoaded text loaded → (why : Refusal) → IsSomeAnd text (IsRefused why) → ⊥
+loaded-unrefused None loaded is why has = has
+loaded-unrefused (Some text) loaded is why has = program-not_refused loaded.text.items why (loaded.program, is.spelled) (subst (IsRefused why) is.same has)

@@ -1,6 +1,6 @@
 -- What is known of a report, in the words of `top`.
-use Rattle.std.proofs.Common.{◌∙◌, ◌≢◌, ◌<◌, ◌≤◌, ◌⊎◌, inl, inr, arith, Bool, ◌≡◌, ℕ, List, refl, sym, subst, ap}
-use Rattle.std.specs.Prelude.{Err, IsErrAnd, Ok, Result}
+use Rattle.std.proofs.Common.{◌∙◌, ◌≢◌, ◌<◌, ◌≤◌, ◌⊎◌, inl, inr, arith, Bool, ◌≡◌, ℕ, List, refl, sym, ap}
+use Rattle.std.specs.Prelude.{Err, Result}
 use Rattle.std.specs.declared.alloc.Global.{Global}
 use Rattle.std.specs.declared.dyn_box.DynBox.{DynBox}
 use Rattle.tool_api.specs.Record.{Record}
@@ -17,8 +17,7 @@ use Rattle.ompt_cli.specs.declared.job.Job.{Job}
 use Rattle.ompt_cli.specs.declared.report.Report.{Report}
 use Rattle.ompt_cli.specs.declared.end.End.{End}
 use Rattle.ompt_cli.specs.declared.end.End.TheVariants as end
-use Rattle.ompt_cli.specs.declared.end.Refusal.{Refusal}
-use Rattle.ompt_cli.specs.Commands.{CountsFaults, EndsAs, HasGuests, MayRefuse, MayRun, run_of}
+use Rattle.ompt_cli.specs.Commands.{CountsFaults, EndsAs, EndsRun, HasGuests, IsBeforeRun, MayRun, run_of, text_in, written_by}
 use Rattle.ompt_cli.specs.Guests.{AfterCommand, GuestsAfter, GuestsServe}
 use Rattle.ompt_cli.specs.Reports.{Observes}
 use Rattle.ompt_cli.specs.Top.{ShowsFaults}
@@ -27,6 +26,11 @@ use Rattle.ompt_cli.specs.Top.{ShowsFaults}
 module _ {Table : Type 0} {Behind : Table → Type 0} (job : Job) (report : Report Table Behind) (observes : Observes job report) where
   pub command-is : report.command ≡ job.settings.command
   command-is = ap (λ (settings : Settings). settings.command) observes.asked
+
+  -- what the command writes of the run is what the job's command does
+  pub written-as : (command : Command) → job.settings.command ≡ command
+      → written_by command (text_in report) (run_of report) report.cause report.history ≡ written_by report.command (text_in report) (run_of report) report.cause report.history
+  written-as command is = ap (λ (command : Command). written_by command (text_in report) (run_of report) report.cause report.history) (sym (command-is ∙ is))
 
   pub threads-are : report.threads ≡ job.settings.threads
   threads-are = ap (λ (settings : Settings). settings.threads) observes.asked
@@ -73,6 +77,17 @@ pub shows-faults : (told : End) (source source_now out out_now : ℕ) → Counts
 shows-faults told source source_now out out_now reads writes =
     record { read = reads.rose; write = writes.rose; unread = lost-read told source source_now reads.steady; lost = lost-write told out out_now writes.steady }
 
+-- the end of a command that comes before its run, or that a program may have, is one of those for words that ask for a run
+pub before-run : (told : End) → IsBeforeRun told → EndsRun told
+before-run (end.Refused why) before = tt
+before-run end.ReadFault before = tt
+before-run end.Memory before = tt
+before-run other before = absurd before
+
+pub may-run : (told : End) → MayRun told → EndsRun told
+may-run (end.Refused why) may = tt
+may-run other may = may
+
 -- the end of a run is one of those that a program may have
 pub ends-may : (why : Cause) (told : End) → EndsAs why told → MayRun told
 ends-may why (end.Ended other) ends = tt
@@ -80,9 +95,6 @@ ends-may why end.WriteFault ends = tt
 ends-may why end.Memory ends = tt
 ends-may why other ends = absurd ends
 
--- a program that was read has no refusal
-pub ok-not-refused : {P : Type 0} (why : Refusal) (program : P) (result : Result P End) → result ≡ Ok program → IsErrAnd result (MayRefuse why) → ⊥
-ok-not-refused {P} why program result is refused = subst (λ (read : Result P End). IsErrAnd read (MayRefuse why)) is refused
-
+-- an error has one end
 pub err-end : {P : Type 0} (result : Result P End) (told other : End) → result ≡ Err told → result ≡ Err other → told ≡ other
 err-end result told other is wrong = let same = sym is ∙ wrong in cc

@@ -1,18 +1,41 @@
--- What a command that reads has written, by how it ended.
-use Rattle.std.proofs.Common.{◌≡◌, ◌⊎◌, ℕ, List, [], Option, Result, Ok, Err, inl, inr, refl, subst, sym, ◌∙◌}
+-- What a command that reads has written, by how it ended. No trace is refused, and a nested one has no breach. And what is so of a history file that is a certificate.
+use Rattle.std.proofs.Common.{◌≡◌, ◌⊎◌, ℕ, List, [], ◌∷◌, ◌++◌, map, Option, Some, None, IsSomeAnd, Result, Ok, Err, inl, inr, refl, ap, subst, sym, ◌∙◌, arith}
 use Rattle.std.specs.Prelude.{IfErr, IfOk}
 use Rattle.std.specs.Io.KnownBytes.{Appends, Keeps}
-use Rattle.run_edges.specs.Edges.{AppendsFront}
+use Rattle.run_edges.specs.Edges.{AppendsFront, ConsumesMore}
 use Rattle.c_syntax.specs.language.Numbered.{TreeView}
+use Rattle.ompt_calls.specs.Item.{Item}
+use Rattle.ompt_calls.specs.Line.{line_text}
+use Rattle.omp_model.specs.Records.{lines_of, record_of}
+use Rattle.trace_format.specs.declared.refusal.Refusal.{Refusal}
 use Rattle.trace_format.specs.declared.trace.Trace.{Trace}
+use Rattle.trace_format.specs.Inputs.{IsRefusedInput}
+use Rattle.trace_format.specs.Refusing.{IsTruncated}
+use Rattle.trace_format.specs.Validity.{Writes}
+use Rattle.trace_format.proofs.Unique.{one_spelling}
+use Rattle.trace_format.proofs.Unrefused.{never_refused_trace}
+use Rattle.trace_check.specs.declared.breach.Breach.{Breach}
+use Rattle.trace_check.specs.declared.checked.Checked.TheVariants as checks
+use Rattle.trace_check.specs.Answering.{HasChecked}
+use Rattle.trace_check.specs.Nested.{Broken as BreaksRule, Nested}
+use Rattle.ompt_words.specs.declared.settings.ReadCommand.{ReadCommand}
+use Rattle.ompt_words.specs.declared.settings.ReadCommand.TheVariants.{Check, Migrate, Rerun, Show, Tasks}
 use Rattle.tool_tasks.specs.Answering.{HasReadNested}
 use Rattle.tool_tasks.specs.Text.{IsForestText}
 use Rattle.history_file.specs.declared.file.HistoryFile.{HistoryFile}
+use Rattle.history_file.specs.declared.file.TheConstants.{HISTORY_LIMIT}
+use Rattle.history_file.specs.Certificates.{IsCertificate, run_of_file}
+use Rattle.history_file.specs.Validity.{WritesHistory}
+use Rattle.history_file.specs.Verdicts.{heard_call}
+use Rattle.history_file.proofs.Lengths.{written_short}
+use Rattle.numbered_runs.proofs.Histories.{same_cause, same_legal}
 use Rattle.ompt_cli.specs.declared.end.End.{End}
-use Rattle.ompt_cli.specs.declared.end.End.TheVariants.{Memory, Read, WriteFault}
+use Rattle.ompt_cli.specs.declared.end.End.TheVariants.{Broken, Memory, Read, TraceRefused, WriteFault}
 use Rattle.ompt_cli.specs.Commands.{HasWritten}
-use Rattle.ompt_cli.specs.Histories.{HasRerun, IsCertified, heard_text}
-use Rattle.ompt_cli.specs.Traces.{HasTasks, IsNested}
+use Rattle.ompt_cli.specs.Histories.{HasRerun, IsCertified, heard_text, lines_of_calls}
+use Rattle.ompt_cli.specs.Text.{Spells}
+use Rattle.ompt_cli.specs.Traces.{HasRead, HasTasks, IsNested}
+use Rattle.ompt_cli.proofs.Reading.{longer, programs-alike}
 
 -- what is so of each of the three ends with what is written at it
 by-end : (Has : End → Type 0) (text : List ℕ) (held after : Option (List ℕ)) (told : End) → (told ≡ Read) ⊎ ((told ≡ WriteFault) ⊎ (told ≡ Memory)) → HasWritten told text held after
@@ -39,3 +62,73 @@ module _ (left rest held after : Option (List ℕ)) (trace : Trace) (has : HasRe
       (λ all. (trace, has, nested, items lines, forest, all)) (λ front. (trace, has, nested, items lines, forest, front)) (λ kept. kept)
   tasks-told items (Err fault) told ends memory forest written =
       subst (λ (end : End). HasTasks end left rest held after) (sym memory) ((written [] tt).kept memory)
+
+-- no file is longer than the longest one may be
+pub never-long : (left rest : Option (List ℕ)) (file : HistoryFile) → IsSomeAnd left (WritesHistory file) → ConsumesMore left rest HISTORY_LIMIT → ⊥
+never-long None rest file is more = is
+never-long (Some text) None file is more = more.2
+never-long (Some text) (Some rest) file is more = absurd (omega (arith, longer text more.0 rest more.2, more.1, written_short file text is))
+
+-- the lines of the calls are those of the records
+pub lines-heard : (items : List Item) → lines_of_calls (map heard_call items) ≡ lines_of (map record_of items)
+lines-heard [] = refl
+lines-heard (item ∷ items) = ap (λ (rest : List ℕ). line_text item.seq item.thread item.call ++ rest) (lines-heard items)
+
+-- a certificate of one program is one of each that its text spells
+pub certificate-of : (file : HistoryFile) (one other : TreeView) → Spells file.text one → Spells file.text other → IsCertificate (run_of_file one file) file → IsCertificate (run_of_file other file) file
+certificate-of file one other spells spelled certificate =
+    let alike = programs-alike file.text one other spells spelled in
+    record {
+      cause = certificate.cause;
+      legal = same_legal (run_of_file one file) other alike file.history certificate.legal;
+      ends = same_cause (run_of_file one file) other alike file.history ∙ certificate.ends;
+      status_is = certificate.status_is;
+      detail_is = certificate.detail_is;
+    }
+
+-- a trace isn't refused: neither a front of it nor the whole
+never-refused : (text taken : List ℕ) (trace : Trace) (refusal : Refusal) → Writes trace text → IsRefusedInput (Some text) taken refusal → ⊥
+never-refused text taken trace refusal writes (inl front) =
+    (never_refused_trace trace text refusal writes).0 (record { front = taken; rest = front.0.0; whole = front.0.1; refuses = front.1 })
+never-refused text taken trace refusal writes (inr whole) =
+    (never_refused_trace trace text refusal writes).1 (subst (λ (bytes : List ℕ). IsTruncated bytes refusal) (sym whole.0) whole.1)
+
+-- an input that was refused has no trace for its spelling
+refused-input : (left : Option (List ℕ)) (taken : List ℕ) (trace : Trace) (refusal : Refusal) → IsSomeAnd left (Writes trace) → IsRefusedInput left taken refusal → ⊥
+refused-input None taken trace refusal is refused = is
+refused-input (Some text) taken trace refusal is refused = never-refused text taken trace refusal is refused
+
+-- so no command that reads it ends so
+pub trace_unrefused :
+    (command : ReadCommand) (left rest held after : Option (List ℕ)) (told : End) (trace : Trace) (refusal : Refusal) → IsSomeAnd left (Writes trace)
+    → HasRead command told left rest held after → told ≡ TraceRefused refusal → ⊥
+trace_unrefused command left rest held after told trace refusal is read same = by command (subst (λ (told : End). HasRead command told left rest held after) same read)
+  where
+    by : (command : ReadCommand) → HasRead command (TraceRefused refusal) left rest held after → ⊥
+    by Show read = refused-input left read.0 trace refusal is read.2
+    by Migrate read = refused-input left read.0 trace refusal is read.2
+    by Rerun read = read
+    by Check (checked, kept) = refused-input left checked.0 trace refusal is checked.1
+    by Tasks (answered, kept) = refused-input left answered.0 trace refusal is answered.1
+
+-- a nested trace has no first breach
+nested-unbroken :
+    (left rest : Option (List ℕ)) (trace : Trace) (breach : Breach) → IsSomeAnd left (Writes trace) → Nested trace.header trace.events trace.end
+    → HasChecked (checks.Broken breach) left rest → ⊥
+nested-unbroken None rest trace breach is nested broken = is
+nested-unbroken (Some text) rest trace breach is nested (taken, other, input, writes, first) =
+    let same : other ≡ trace = (one_spelling other trace text text [] [] (subst (Writes other) (sym input) writes) is refl).0 in
+    nested breach.rule breach.seq (subst (λ (of : Trace). BreaksRule of.header of.events of.end breach.rule breach.seq) same first.broken)
+
+-- so no command ends with a breach of it
+pub trace_unbroken :
+    (command : ReadCommand) (left rest held after : Option (List ℕ)) (told : End) (trace : Trace) (breach : Breach) → IsSomeAnd left (Writes trace)
+    → Nested trace.header trace.events trace.end → HasRead command told left rest held after → told ≡ Broken breach → ⊥
+trace_unbroken command left rest held after told trace breach is nested read same = by command (subst (λ (told : End). HasRead command told left rest held after) same read)
+  where
+    by : (command : ReadCommand) → HasRead command (Broken breach) left rest held after → ⊥
+    by Show read = read
+    by Migrate read = read
+    by Rerun read = read
+    by Check (checked, kept) = nested-unbroken left rest trace breach is nested checked
+    by Tasks (answered, kept) = nested-unbroken left rest trace breach is nested answered

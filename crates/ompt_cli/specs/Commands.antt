@@ -28,7 +28,7 @@ use Rattle.ompt_words.specs.declared.settings.RunOutput.TheVariants as output
 use Rattle.ompt_words.specs.declared.settings.Settings.{Settings}
 use Rattle.ompt_cli.specs.declared.end.Refusal.{Refusal}
 use Rattle.ompt_cli.specs.declared.end.End.{End}
-use Rattle.ompt_cli.specs.declared.end.End.TheVariants.{Ended, Shown, Read, TraceRefused, HistoryRefused, Broken, Illegal, Usage, Refused, ReadFault, WriteFault, Memory}
+use Rattle.ompt_cli.specs.declared.end.End.TheVariants.{Ended, Shown, Usage, Refused, ReadFault, WriteFault, Memory}
 use Rattle.ompt_cli.specs.declared.report.Report.{Report}
 
 -- the program that ran, by its tree and by its text. A guest of the report is a box of a vtable and what lies behind it
@@ -56,7 +56,7 @@ abbrev pub HasGuests : Command → Type 0
 HasGuests (Running what) = ⊤
 HasGuests other = ⊥
 
--- what `list` writes of these events, or `gen` of a run of which the program printed this
+-- what a command makes of these events: `list` a line for each, and `gen` the summary of a run whose program printed this
 abbrev pub text_of_events : Command → List EventRecord → List ℕ → List ℕ
 text_of_events (Generating blocks) events printed = summary_of (generated blocks) events printed
 text_of_events other events printed = lines_of events
@@ -66,8 +66,9 @@ abbrev pub columns_in : Command → ℕ
 columns_in (Timelining columns) = columns
 columns_in other = 0
 
--- what a command writes of its run of the program of this text, which ended in this cause: a listing a line for each record, a recording the trace, a
--- profile the counts, a timeline the states, `run` what the program printed, the history file, or what was printed and then the counts, and `gen` the summary
+-- what a command writes of its run of the program of this text, which ended in this cause: a listing a line for each record, a recording
+-- the trace, a profile the counts, a timeline the states, `run` what the program printed, the history file, or what was printed and then
+-- the counts, and `gen` the summary
 abbrev pub written_by : Command → List ℕ → Run → Cause → List Entry → List ℕ
 written_by Listing text run cause history = lines_of (records_of run history)
 written_by Recording text run cause history = spelling (fields_of (trace_of run cause history))
@@ -76,7 +77,8 @@ written_by (Timelining columns) text run cause history = timeline_of columns (re
 written_by (Running output.Printed) text run cause history = (after run history).world.store.text
 written_by (Running output.History) text run cause history = history_spelling (history_fields (file_of text run cause history))
 written_by (Running output.Profile) text run cause history = (after run history).world.store.text ++ profile_of (records_of run history)
-written_by (Generating blocks) text run cause history = summary_of (generated blocks) (records_of run history) (after run history).world.store.text
+written_by (Generating blocks) text run cause history =
+    summary_of (generated blocks) (records_of run history) (after run history).world.store.text
 
 -- what a command writes of its run, if there was one
 abbrev pub run_text : {Table : Type 0} {Behind : Table → Type 0} → Option (Report Table Behind) → List ℕ
@@ -111,13 +113,10 @@ MayRun WriteFault = ⊤
 MayRun Memory = ⊤
 MayRun other = ⊥
 
--- the end of a command whose words ask for no run: they are refused, or a text is shown
-abbrev pub IsUnread : End → Type 0
-IsUnread Shown = ⊤
-IsUnread Usage = ⊤
-IsUnread WriteFault = ⊤
-IsUnread Memory = ⊤
-IsUnread other = ⊥
+-- the end of a command whose words ask for a run: its text may be refused too
+abbrev pub EndsRun : End → Type 0
+EndsRun (Refused why) = ⊤
+EndsRun other = MayRun other
 
 -- the end of a command whose words ask for a text: it is shown, unless a write or memory fails
 abbrev pub IsShowing : End → Type 0
@@ -126,18 +125,17 @@ IsShowing WriteFault = ⊤
 IsShowing Memory = ⊤
 IsShowing other = ⊥
 
--- the end of a command that reads a trace or a history file
+-- the end of a command whose words ask for no run, and for nothing to be read: they are refused, or a text is shown
+abbrev pub IsUnread : End → Type 0
+IsUnread Usage = ⊤
+IsUnread other = IsShowing other
+
+-- the end of a command that reads a trace or a history file: any but those of a run, of a text that is shown, and of words that are refused
 abbrev pub IsReading : End → Type 0
-IsReading Read = ⊤
-IsReading (Refused why) = ⊤
-IsReading (TraceRefused refusal) = ⊤
-IsReading (HistoryRefused reason offset) = ⊤
-IsReading (Broken breach) = ⊤
-IsReading (Illegal place) = ⊤
-IsReading ReadFault = ⊤
-IsReading WriteFault = ⊤
-IsReading Memory = ⊤
-IsReading other = ⊥
+IsReading (Ended why) = ⊥
+IsReading Shown = ⊥
+IsReading Usage = ⊥
+IsReading other = ⊤
 
 -- the end of a command that comes before its run
 abbrev pub IsBeforeRun : End → Type 0
@@ -153,8 +151,8 @@ EndsAs why WriteFault = why ≢ cause.Memory
 EndsAs why Memory = ⊤
 EndsAs why other = ⊥
 
--- What a command has written of this text, by how it ended: all of it, a front of it where a write failed, and nothing where memory failed. Over what the
--- output holds before and after.
+-- What a command has written of this text, by how it ended: all of it, a front of it where a write failed, and nothing where memory
+-- failed. Over what the output holds before and after.
 pub record HasWritten (end : End) (text : List ℕ) (old new : Option (List ℕ)) : Type 0 where
   pub listed : end ≢ WriteFault → end ≢ Memory → Appends old new text
   pub part : end ≡ WriteFault → AppendsFront old new text

@@ -31,30 +31,23 @@ status_of ReadFault = 8
 status_of WriteFault = 9
 status_of Memory = 10
 
--- the number of a refusal, and its place, which is 0:0 where it is of the whole text
-abbrev pub refusal_number : Refusal → ℕ
-refusal_number (Tokens found) = token_number found
-refusal_number (Syntax found) = syntax_number found
-refusal_number (Rule found) = rule_number found
-refusal_number TooLong = 15
-
-abbrev pub refusal_spot : Refusal → Spot
-refusal_spot (Tokens found) = token_spot found
-refusal_spot (Syntax found) = syntax_spot found
-refusal_spot (Rule found) = rule_spot found
-refusal_spot TooLong = nowhere
-
--- the line on standard error that tells a refusal, without its newline
+-- the line on standard error that tells a refusal with this number at this place, without its newline
 abbrev pub refusal_at : ℕ → Spot → List ℕ
 refusal_at number spot = codes "refused " ++ decimal number ++ codes " at " ++ decimal spot.line ++ codes ":" ++ decimal spot.column
 
+-- a refusal of the whole text has the place 0:0
 abbrev pub refusal_text : Refusal → List ℕ
-refusal_text why = refusal_at (refusal_number why) (refusal_spot why)
+refusal_text (Tokens found) = refusal_at (token_number found) (token_spot found)
+refusal_text (Syntax found) = refusal_at (syntax_number found) (syntax_spot found)
+refusal_text (Rule found) = refusal_at (rule_number found) (rule_spot found)
+refusal_text TooLong = refusal_at 15 nowhere
 
 -- the names of the limits, which have the numbers 1 to 7
 abbrev pub limit_text : ℕ → List ℕ
 limit_text number =
-    if number == 1 then codes "limit steps" else if number == 2 then codes "limit turns" else if number == 3 then codes "limit cells" else if number == 4 then codes "limit tasks" else if number == 5 then codes "limit stack" else if number == 6 then codes "limit depth" else codes "limit text"
+    if number == 1 then codes "limit steps" else if number == 2 then codes "limit turns" else if number == 3 then codes "limit cells"
+    else if number == 4 then codes "limit tasks" else if number == 5 then codes "limit stack" else if number == 6 then codes "limit depth"
+    else codes "limit text"
 
 -- the line on standard error that tells the cause in which a run ended
 abbrev pub line_of_cause : Cause → List ℕ
@@ -65,6 +58,10 @@ line_of_cause cause.Deadlock = codes "deadlock" ++ 10 ∷ []
 line_of_cause (cause.Limit number) = limit_text number ++ 10 ∷ []
 line_of_cause cause.Memory = codes "memory" ++ 10 ∷ []
 
+-- the line on standard error that tells a number at a place
+abbrev pub line_at : List ℕ → ℕ → ℕ → List ℕ
+line_at text number place = (text ++ decimal number ++ codes " at " ++ decimal place) ++ 10 ∷ []
+
 -- the line on standard error, which is empty at status 0
 abbrev pub line_of_end : End → List ℕ
 line_of_end (Ended why) = line_of_cause why
@@ -72,9 +69,9 @@ line_of_end Shown = []
 line_of_end Read = []
 line_of_end Usage = codes "usage: ompt run, list, record, profile, timeline, show, check, gen, migrate, rerun or tasks" ++ 10 ∷ []
 line_of_end (Refused why) = refusal_text why ++ 10 ∷ []
-line_of_end (TraceRefused refusal) = (codes "trace refused " ++ decimal (number_of_reason refusal.reason) ++ codes " at " ++ decimal refusal.offset) ++ 10 ∷ []
-line_of_end (HistoryRefused reason offset) = (codes "history refused " ++ decimal (number_of_history_reason reason) ++ codes " at " ++ decimal offset) ++ 10 ∷ []
-line_of_end (Broken breach) = (codes "breach " ++ decimal breach.rule ++ codes " at " ++ decimal breach.seq) ++ 10 ∷ []
+line_of_end (TraceRefused refusal) = line_at (codes "trace refused ") (number_of_reason refusal.reason) refusal.offset
+line_of_end (HistoryRefused reason offset) = line_at (codes "history refused ") (number_of_history_reason reason) offset
+line_of_end (Broken breach) = line_at (codes "breach ") breach.rule breach.seq
 line_of_end (Illegal place) = (codes "illegal at " ++ decimal place) ++ 10 ∷ []
 line_of_end ReadFault = codes "read fault" ++ 10 ∷ []
 line_of_end WriteFault = codes "write fault" ++ 10 ∷ []
@@ -100,8 +97,8 @@ pub record IsLost (status : ℕ) (end : End) (old new : Option (List ℕ)) (befo
   pub counted : Rose before now
   pub part : AppendsFront old new (line_of_end end)
 
--- The line of the end is told and the status is the end's, unless a write of the line failed. At status 0 there is no line, and nothing is touched. Over
--- what a sink for lines holds, and its count of faults.
+-- The line of the end is told and the status is the end's, unless a write of the line failed. At status 0 there is no line, and nothing
+-- is touched. Over what a sink for lines holds, and its count of faults.
 pub record TellsEnd {E : Type 0} (held : E → Option (List ℕ)) (faults : E → ℕ) (status : ℕ) (end : End) (old new : E) : Type 0 where
   pub told : IsTold status end (held old) (held new) ⊎ IsLost status end (held old) (held new) (faults old) (faults new)
   pub zero : (status ≡ 0) ↔ IsQuiet end

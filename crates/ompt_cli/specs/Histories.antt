@@ -29,7 +29,8 @@ lines_of_calls calls = flat_map (λ (call : HeardCall). line_text call.seq call.
 -- what is written of a file whose history is legal and ends as it says: a line for each call that was heard, and one for the end
 abbrev pub heard_text : TreeView → HistoryFile → List ℕ
 heard_text program file =
-    lines_of (records_of (run_of_file program file) file.history) ++ line_of_mark (record { status = file.status; detail = file.detail; count = length file.history })
+    lines_of (records_of (run_of_file program file) file.history) ++ line_of_mark
+    (record { status = file.status; detail = file.detail; count = length file.history })
 
 -- the source has left this file, whose text spells this program
 pub record HasFile (left : Option (List ℕ)) (file : HistoryFile) (program : TreeView) : Type 0 where
@@ -47,13 +48,17 @@ pub record IsUncertified (left : Option (List ℕ)) (file : HistoryFile) (progra
   pub no_certificate : IsCertificate (run_of_file program file) file → ⊥
   pub front : IsLegalFront (run_of_file program file) file.history place
 
--- Over what the source has left before and what the output holds before and after: the file is a certificate, and the calls that were heard are written; or
--- its history is illegal, its text is refused, or the bytes are no file, and nothing is written.
+-- Over what the source has left before and what the output holds before and after: the file is a certificate, and the calls that were
+-- heard are written; or its history is illegal, its text is refused, or the bytes are no file, and nothing is written.
 abbrev pub HasRerun : End → (left held after : Option (List ℕ)) → Type 0
-HasRerun Read left held after = (file : HistoryFile) × (program : TreeView) × IsCertified left file program × Appends held after (heard_text program file)
-HasRerun WriteFault left held after = (file : HistoryFile) × (program : TreeView) × IsCertified left file program × AppendsFront held after (heard_text program file)
-HasRerun (Illegal place) left held after = (file : HistoryFile) × (program : TreeView) × IsUncertified left file program place × Keeps held after
-HasRerun (Refused why) left held after = (file : HistoryFile) × IfSome left (WritesHistory file) × IsRefused why file.text × Keeps held after
+HasRerun Read left held after = (file : HistoryFile) × (program : TreeView) × IsCertified left file program ×
+    Appends held after (heard_text program file)
+HasRerun WriteFault left held after = (file : HistoryFile) × (program : TreeView) × IsCertified left file program ×
+    AppendsFront held after (heard_text program file)
+HasRerun (Illegal place) left held after = (file : HistoryFile) × (program : TreeView) × IsUncertified left file program place ×
+    Keeps held after
+HasRerun (Refused why) left held after = (file : HistoryFile) × IfSome left (WritesHistory file) × IsRefused why file.text ×
+    Keeps held after
 HasRerun (HistoryRefused reason offset) left held after = IfSome left (λ bytes. IsHistoryRefused bytes reason offset) × Keeps held after
 HasRerun ReadFault left held after = Keeps held after
 HasRerun Memory left held after = Keeps held after

@@ -1,5 +1,7 @@
 -- What a report says of its run.
-use Rattle.std.specs.Prelude.{◌≡◌, ◌≢◌, List}
+use Rattle.std.specs.Prelude.{ℕ, ◌≡◌, ◌≢◌, List, Option, Some}
+use Rattle.std.specs.declared.alloc.Global.{Global}
+use Rattle.std.specs.declared.dyn_box.DynBox.{DynBox}
 use Rattle.omp_codes.specs.declared.callbacks.TheConstants.{PROFILE_MASK}
 use Rattle.omp_model.specs.declared.cause.Cause.TheVariants as cause
 use Rattle.omp_model.specs.Legal.{after}
@@ -20,7 +22,8 @@ use Rattle.ompt_cli.specs.declared.end.End.{End}
 use Rattle.ompt_cli.specs.declared.end.End.TheVariants.{Memory, WriteFault}
 use Rattle.history_file.specs.Certificates.{IsCertificate}
 use Rattle.history_file.specs.Validity.{IsHistoryFile}
-use Rattle.ompt_cli.specs.Commands.{EndsAs, HasGuests, program_in, run_of, settings_in, text_in}
+use Rattle.ompt_cli.specs.Commands.{CountsFaults, EndsAs, HasGuests, HasWritten, program_in, run_of, run_text, settings_in, text_in}
+use Rattle.ompt_cli.specs.Guests.{GuestsAfter}
 use Rattle.ompt_cli.specs.Histories.{file_of_report}
 use Rattle.ompt_cli.specs.Runs.{RunsTo}
 
@@ -41,27 +44,37 @@ pub record HasCertificate {Table : Type 0} {Behind : Table → Type 0} (report :
   pub is_file : IsHistoryFile (file_of_report report)
   pub certificate : IsCertificate (run_of report) (file_of_report report)
 
--- The report of a command that has run this job and ended so: its end is the run's, unless a write or memory fails. `run` without a profile needs no memory
--- after its run, what is recorded is a trace, and a history file is a certificate
-pub record Reports {Table : Type 0} {Behind : Table → Type 0} (job : Job) (end : End) (report : Report Table Behind) : Type 0 where
+-- What a command reports that has run this job and ended so: its end is the run's, unless a write or memory fails. `run` without a profile
+-- needs no memory after its run, what is recorded is a trace, and a history file is a certificate. The guests were called for what their
+-- threads heard, and what the command writes of its run was written. Over the guests before, and what the output holds and counts
+pub record Reports {O Table : Type 0} {Behind : Table → Type 0} (stands_for : DynBox Table Global Behind → Record → Type 0)
+    (held : O → Option (List ℕ)) (writes_failed : O → ℕ) (job : Job) (guests : List (DynBox Table Global Behind)) (out out_now : O)
+    (end : End) (report : Report Table Behind) : Type 0 where
   pub observes : Observes job report
   pub stays : ¬ HasGuests report.command → StaysSilent report
   pub ended : EndsAs report.cause end
   pub memory : HasGuests report.command → report.command ≢ Running output.Profile → report.cause ≢ cause.Memory → end ≢ Memory
   pub traced : end ≢ WriteFault → end ≢ Memory → report.command ≡ Recording → IsTrace (trace_of (run_of report) report.cause report.history)
   pub certified : end ≢ WriteFault → end ≢ Memory → report.command ≡ Running output.History → HasCertificate report
+  pub guests_are : GuestsAfter stands_for guests report
+  pub written : HasWritten end (run_text (Some report)) (held out) (held out_now)
+  pub faults : CountsFaults end WriteFault (writes_failed out) (writes_failed out_now)
 
--- the parts of a run of this job: they were called for what their threads heard, and are those that were given. The run printed this text
-pub record HasObserved {P Table : Type 0} {Behind : Table → Type 0} (stands_for : P → Record → Type 0) (Same : P → P → Type 0) (job : Job) (parts : List P) (observed : Observed P Table Behind) : Type 0 where
+-- the parts of a run of this job: they were called for what their threads heard, and are those that were given. The run printed this
+-- text
+pub record HasObserved {P Table : Type 0} {Behind : Table → Type 0} (stands_for : P → Record → Type 0) (Same : P → P → Type 0)
+    (job : Job) (parts : List P) (observed : Observed P Table Behind) : Type 0 where
   pub observes : Observes job observed.report
-  pub runs : RunsParts stands_for observed.report.serial (run_of observed.report) observed.report.cause observed.report.history parts observed.parts.items
+  pub runs : RunsParts stands_for observed.report.serial (run_of observed.report) observed.report.cause observed.report.history
+      parts observed.parts.items
   pub same : AreSame Same parts observed.parts.items
   pub own : HearsOwn (run_of observed.report) observed.report.history
   pub printed : observed.text.items ≡ (after (run_of observed.report) observed.report.history).world.store.text
 
--- parts that keep this of what they are told were run with this job: all callbacks of the profile were registered, nothing was stored, and each kept its share
--- of the records of the run, which printed this text
-pub record HasKept {Table A : Type 0} {Behind : Table → Type 0} (keep : List EventRecord → A) (job : Job) (observed : Observed A Table Behind) : Type 0 where
+-- parts that keep this of what they are told were run with this job: all callbacks of the profile were registered, nothing was stored, and
+-- each kept its share of the records of the run, which printed this text
+pub record HasKept {Table A : Type 0} {Behind : Table → Type 0} (keep : List EventRecord → A) (job : Job)
+    (observed : Observed A Table Behind) : Type 0 where
   pub observes : Observes job observed.report
   pub stays : StaysSilent observed.report
   pub kept : AreKept keep (records_of (run_of observed.report) observed.report.history) observed.parts.items

@@ -26,8 +26,9 @@ IsReturn other = ⊥
 abbrev pub AreOutside : Run → List Entry → Type 0
 AreOutside run history = (k : ℕ) → k < run.threads → pending_at (after run history) k ≡ None
 
--- A run that ended in this cause with this history: a legal one that ends in its cause, with no thread inside a callback, and serially where it is to be. Where
--- nothing is stored, a serial run is the one that there is. Each callback that was registered is one that is called always
+-- A run that ended in this cause with this history: a legal one that ends in its cause, with no thread inside a callback, and serially
+-- where it is to be. Where nothing is stored, a serial run is the one that there is. Each callback that was registered is one that is
+-- called always
 pub record RunsTo (run : Run) (is_serial : Bool) (cause : Cause) (history : List Entry) : Type 0 where
   pub legal : Legal run history
   pub ends : cause ≢ causes.Memory → cause_of run history ≡ Some cause

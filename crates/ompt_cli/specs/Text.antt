@@ -72,7 +72,3 @@ IsRefused TooLong text = 65536 < length text
 -- the text runs
 abbrev pub IsProgram : List ℕ → Type 0
 IsProgram text = (program : TreeView) × Spells text program
-
--- some text spells this program
-abbrev pub IsSpelled : TreeView → Type 0
-IsSpelled program = (text : List ℕ) × Spells text program

@@ -53,16 +53,18 @@ HasJudged WriteFault left rest held after = HasChecked checked.Nested left rest 
 HasJudged Memory left rest held after = HasChecked checked.Memory left rest × Keeps held after
 HasJudged other left rest held after = ⊥
 
--- The tasks of a trace were told: a nested trace was read whole, and the text of its tasks is written, or a front of it where a write failed. Nothing is
--- written else
+-- The tasks of a trace were told: a nested trace was read whole, and the text of its tasks is written, or a front of it where a write
+-- failed. Nothing is written else
 abbrev pub HasTasks : End → (left rest held after : Option (List ℕ)) → Type 0
 HasTasks Read left rest held after =
-    (trace : Trace) × HasReadNested (Ok trace) left rest × IsNested trace × (text : List ℕ) × IsForestText trace.events text × Appends held after text
+    (trace : Trace) × HasReadNested (Ok trace) left rest × IsNested trace × (text : List ℕ) × IsForestText trace.events text ×
+    Appends held after text
 HasTasks (TraceRefused refusal) left rest held after = HasReadNested (Err (unread.Refused refusal)) left rest × Keeps held after
 HasTasks (Broken breach) left rest held after = HasReadNested (Err (unread.Broken breach)) left rest × Keeps held after
 HasTasks ReadFault left rest held after = HasReadNested (Err unread.ReadFault) left rest × Keeps held after
 HasTasks WriteFault left rest held after =
-    (trace : Trace) × HasReadNested (Ok trace) left rest × IsNested trace × (text : List ℕ) × IsForestText trace.events text × AppendsFront held after text
+    (trace : Trace) × HasReadNested (Ok trace) left rest × IsNested trace × (text : List ℕ) × IsForestText trace.events text ×
+    AppendsFront held after text
 HasTasks Memory left rest held after = Keeps held after
 HasTasks other left rest held after = ⊥
 
@@ -74,8 +76,9 @@ HasRead Check end left rest held after = HasJudged end left rest held after
 HasRead Rerun end left rest held after = HasRerun end left held after
 HasRead Tasks end left rest held after = HasTasks end left rest held after
 
--- What a command that reads has read and written, by how it ended: the trace or the file was read to its end, or it is refused, isn't nested or isn't legal,
--- or a read, a write or memory failed. No trace is refused, no nested one has a breach, and `migrate` takes no memory. Each certificate is found to be one.
+-- What a command that reads has read and written, by how it ended: the trace or the file was read to its end, or it is refused, isn't
+-- nested or isn't legal, or a read, a write or memory failed. No trace is refused, no nested one has a breach, and `migrate` takes no
+-- memory. Each certificate is found to be one.
 pub record HasReadInput (command : ReadCommand) (end : End) (left rest held after : Option (List ℕ)) : Type 0 where
   pub copied : HasRead command end left rest held after
   pub unrefused : (trace : Trace) → IsSomeAnd left (Writes trace) → (refusal : Refusal) → end ≢ TraceRefused refusal

@@ -1,51 +1,79 @@
-//! The commands that run a program.
+//! The commands that run a program, from their settings.
 
-ghost use Rattle.std.specs.Prelude.{◌≡◌, IfOk, OnErr, Some};
-ghost use Rattle.ompt_cli.specs.Commands.{CountsFaults, HasWritten, run_text};
+ghost use Rattle.std.specs.Prelude.{ℕ, ◌≡◌, IfOk, IfSome, List, OnErr};
+ghost use Rattle.ompt_words.specs.declared.settings.Request.TheVariants as request;
 ghost use Rattle.ompt_cli.specs.Guests.{GuestsAfter};
 ghost use Rattle.ompt_cli.specs.Reports.{Reports};
+ghost use Rattle.ompt_cli.specs.Top.{CarriesOut};
+ghost use Rattle.ompt_cli.specs.Words.{AreInRange, AreTakenAs};
 
 use crate::end::End;
 use crate::job::Job;
-use crate::outcome::Ended;
+use crate::outcome::{AfterRun, Outcome, without_run};
 use crate::profiling::run_profiled;
 use crate::recording::record;
-use crate::reporting::report;
+use crate::reporting::report_kept;
 use crate::run::{run_history, run_printed};
 use crate::runner::Runner;
-use ompt_words::{Command, RunOutput};
-use run_edges::Sink;
-use std::alloc::{AllocError, Global};
+use crate::text::program_for;
+use ompt_words::{Command, RunOutput, Settings};
+use run_edges::{Sink, Source};
+use std::alloc::AllocError;
 use tool_api::GuestTool;
 use tool_report::{Profile, Recorder, Timeline};
 
-/// Runs the job, and writes what its command writes of its run. An error says that there was no memory for the run.
-pub(crate) fn run_command<X: Runner, O: Sink>(
+/// Reads the program, or makes it for `gen`, runs it with these settings, and writes what the command writes.
+pub(crate) fn run_settings<X: Runner, S: Source, O: Sink>(
     runner: &X,
-    alloc: Global,
+    settings: Settings,
+    source: &mut S,
+    out: &mut O,
+    guests: Vec<Box<dyn GuestTool>>,
+) -> Outcome
+    requires kind { X.may_run runner.now settings.serial }
+    requires range { AreInRange settings }
+    ensures carried { (words : List (List ℕ)) → AreTakenAs words (request.Run settings) →
+        CarriesOut S.left S.faults O.held O.faults words result.end result.shown result.read result.ran source.old
+        source.new out.old out.new }
+    ensures guests { IfSome result.ran (GuestsAfter (λ guest h.
+        (GuestTool-box guest).stands_for guest.value h) guests.items) }
+{
+    let loaded = match program_for(runner.alloc(), settings.command, source) {
+        Ok(loaded) => loaded,
+        Err(end) => return without_run(end),
+    };
+    match run_command(runner, Job { loaded, settings }, guests, out) {
+        Ok(ended) => Outcome {
+            end: ended.end,
+            ran: Some(ended.report),
+            shown: None,
+            read: None,
+        },
+        Err(_) => without_run(End::Memory),
+    }
+}
+
+/// Runs the job, and writes what its command writes of its run. An error says that there was no memory for the run.
+fn run_command<X: Runner, O: Sink>(
+    runner: &X,
     job: Job,
     guests: Vec<Box<dyn GuestTool>>,
     out: &mut O,
-) -> Result<Ended, AllocError>
+) -> Result<AfterRun, AllocError>
     requires { X.may_run runner.now job.settings.serial }
-    ensures ran { IfOk result (λ ended. Reports job ended.end ended.report) }
-    ensures guests { IfOk result (λ ended.
-        GuestsAfter (λ guest h. (GuestTool-box guest).stands_for guest.value h) guests.items ended.report) }
-    ensures written { IfOk result (λ ended.
-        HasWritten ended.end (run_text (Some ended.report)) (O.held out.old) (O.held out.new)) }
-    ensures faults { IfOk result (λ ended.
-        CountsFaults ended.end End.WriteFault (O.faults out.old) (O.faults out.new)) }
+    ensures ran { IfOk result (λ ended. Reports (λ guest h. (GuestTool-box guest).stands_for guest.value h)
+        O.held O.faults job guests.items out.old out.new ended.end ended.report) }
     ensures untouched { OnErr result (out.new ≡ out.old) }
 {
     match job.settings.command {
-        Command::Run(RunOutput::Printed) => run_printed(runner, alloc, job, guests, out),
-        Command::Run(RunOutput::History) => run_history(runner, alloc, job, guests, out),
-        Command::Run(RunOutput::Profile) => run_profiled(runner, alloc, job, guests, out),
-        Command::Record => record(runner, alloc, job, guests, out),
-        Command::Profile => report::<X, Profile, O>(runner, alloc, job, guests, out),
-        Command::Timeline(_) => report::<X, Timeline, O>(runner, alloc, job, guests, out),
-        Command::List | Command::Generate(_) => report::<X, Recorder, O>(
-            runner, alloc, job, guests, out,
+        Command::Run(RunOutput::Printed) => run_printed(runner, job, guests, out),
+        Command::Run(RunOutput::History) => run_history(runner, job, guests, out),
+        Command::Run(RunOutput::Profile) => run_profiled(runner, job, guests, out),
+        Command::Record => record(runner, job, guests, out),
+        Command::Profile => report_kept::<X, Profile, O>(runner, job, guests, out),
+        Command::Timeline(_) => report_kept::<X, Timeline, O>(runner, job, guests, out),
+        Command::List | Command::Generate(_) => report_kept::<X, Recorder, O>(
+            runner, job, guests, out,
         ),
     }
 }

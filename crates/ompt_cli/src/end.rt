@@ -4,7 +4,7 @@ ghost use Rattle.std.specs.Prelude.{◌≡◌, ◌≤◌, ◌+◌, ◌∷◌, �
 ghost use Rattle.std.specs.Fmt.{decimal, signed_decimal};
 ghost use Rattle.arrayvec.specs.ArrayString.{array_string_len};
 ghost use Rattle.run_trace.specs.TraceOf.{status_of as status_of_cause};
-ghost use Rattle.ompt_cli.specs.Ends.{line_of_cause, line_of_end, refusal_number, refusal_spot, refusal_text, status_of};
+ghost use Rattle.ompt_cli.specs.Ends.{line_at, line_of_cause, line_of_end, refusal_at, refusal_text, status_of};
 
 use arrayvec::ArrayString;
 use c_check::CheckFault;
@@ -105,44 +105,16 @@ impl End {
 }
 
 impl Refusal {
-    /// The number by which it is told.
-    fn number(self) -> u32
-        ensures { result ≡ refusal_number self }
-    {
-        match self {
-            Refusal::Tokens(fault) => fault.number(),
-            Refusal::Syntax(fault) => fault.number(),
-            Refusal::Rule(fault) => fault.number(),
-            Refusal::TooLong => 15,
-        }
-    }
-
-    /// The place at which it is told: 0:0 where it is of the whole text.
-    fn spot(self) -> Spot
-        ensures { result ≡ refusal_spot self }
-    {
-        match self {
-            Refusal::Tokens(fault) => fault.spot(),
-            Refusal::Syntax(fault) => fault.spot(),
-            Refusal::Rule(fault) => fault.spot(),
-            Refusal::TooLong => NOWHERE,
-        }
-    }
-
-    /// The line that tells it, with its newline.
+    /// The line that tells it, with its newline. A refusal of the whole text is told at 0:0.
     fn line(self) -> ArrayString<160>
         ensures { result.bytes ≡ refusal_text self ++ 10 ∷ [] }
     {
-        let spot = self.spot();
-        let mut line = ArrayString::new();
-        line.push_str("refused ");
-        push_number(&mut line, self.number());
-        line.push_str(" at ");
-        push_number(&mut line, spot.line);
-        line.push_str(":");
-        push_number(&mut line, spot.column);
-        line.push_str("\n");
-        line
+        match self {
+            Refusal::Tokens(fault) => line_of_refusal(fault.number(), fault.spot()),
+            Refusal::Syntax(fault) => line_of_refusal(fault.number(), fault.spot()),
+            Refusal::Rule(fault) => line_of_refusal(fault.number(), fault.spot()),
+            Refusal::TooLong => line_of_refusal(15, NOWHERE),
+        }
     }
 }
 
@@ -192,6 +164,20 @@ fn line_of_returned(value: i32) -> ArrayString<160>
     line
 }
 
+/// The line that tells a refusal with this number at this place.
+fn line_of_refusal(number: u32, spot: Spot) -> ArrayString<160>
+    ensures { result.bytes ≡ refusal_at number spot ++ 10 ∷ [] }
+{
+    let mut line = line_of("refused ");
+    push_number(&mut line, number);
+    line.push_str(" at ");
+    push_number(&mut line, spot.line);
+    line.push_str(":");
+    push_number(&mut line, spot.column);
+    line.push_str("\n");
+    line
+}
+
 /// A line of this text and a number.
 fn line_with(text: &str, number: u32) -> ArrayString<160>
     requires { length text.now ≤ 40 }
@@ -206,7 +192,7 @@ fn line_with(text: &str, number: u32) -> ArrayString<160>
 /// A line of this text, a number, and a place.
 fn line_at(text: &str, number: u8, place: u64) -> ArrayString<160>
     requires { length text.now ≤ 40 }
-    ensures { result.bytes ≡ (text.now ++ decimal number ++ codes " at " ++ decimal place) ++ 10 ∷ [] }
+    ensures { result.bytes ≡ line_at text.now number place }
 {
     let mut digits = Buffer::new();
     let mut line = line_of(text);

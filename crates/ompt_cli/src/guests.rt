@@ -3,9 +3,45 @@
 ghost use Rattle.std.specs.Prelude.{◌≡◌, ◌≤◌, ◌+◌, ◌++◌, ◌∷◌, [], reverse, length, IfOk, vec_len, vec_capacity};
 ghost use Rattle.ompt_cli.specs.Guests.{HandOut, guests_of};
 
-use crate::guest_part::GuestPart;
+use ompt_calls::{Call, Reply, Snapshot};
 use std::alloc::{AllocError, Global};
-use tool_api::{GuestTool, Handed, Quiet};
+use tool_api::{GuestTool, Handed, Memory, Quiet, Registrar, ToolPart};
+
+/// A part that hands each call on to a guest, and stands for what the guest stands for. It is a type of this crate, since
+/// what a function of another crate does with a box isn't seen here: the box that comes back could be any other.
+#[derive(Drop)]
+pub(crate) struct GuestPart(pub Box<dyn GuestTool>);
+
+impl ToolPart for GuestPart {
+    ghost stands_for = { λ guest h. (GuestTool-box guest.0).stands_for guest.0.value h };
+
+    ghost use Rattle.std.specs.Prelude.{◌≡◌};
+    ghost use Rattle.std.proofs.Common.{refl, ◌∙◌};
+
+    ghost same = { λ guest other. guest.0.vtable ≡ other.0.vtable };
+
+    ghost same_itself = { λ guest. refl };
+
+    ghost same_onward = { λ first second third one other. one ∙ other };
+
+    fn initialize(&mut self, registrar: &mut Registrar) -> u32 {
+        self.0.initialize(registrar)
+    }
+
+    fn callback(
+        &mut self,
+        seq: u32,
+        thread: u8,
+        call: &Call,
+        snapshot: &Snapshot,
+    ) -> Result<Reply, Memory> {
+        self.0.callback(seq, thread, call, snapshot)
+    }
+
+    fn finalize(&mut self) {
+        self.0.finalize();
+    }
+}
 
 /// The parts of the threads, and the guests that are left, the next one last. There is room for all the guests to wait again.
 #[derive(Drop)]
@@ -27,7 +63,10 @@ pub(crate) fn hand_out_all(
 {
     let mut waiting = guests;
     waiting.reverse();
-    let parts = hand_out(alloc, threads, &mut waiting)?;
+    let mut parts = Vec::new(alloc);
+    for _thread in 0..threads {
+        parts.push(next_part(&mut waiting))?;
+    }
     waiting.reserve(threads as usize)?;
     Ok(Handing { parts, waiting })
 }
@@ -41,45 +80,20 @@ pub(crate) fn take_back_all(
     ensures { result.items ≡ guests_of (λ guest. guest.0) parts.items ++ reverse waiting.items }
 {
     let (mut parts, mut waiting) = (parts, waiting);
-    take_back(&mut parts, &mut waiting);
+    while let Some(part) = parts.pop() {
+        wait_again(part, &mut waiting);
+    }
     waiting.reverse();
     waiting
 }
 
-/// A part for each thread: the guest that waits next, which is the last one of the list, or none where no more wait.
-fn hand_out(
-    alloc: Global,
-    threads: u8,
-    waiting: &mut Vec<Box<dyn GuestTool>>,
-) -> Result<Vec<Handed<GuestPart>>, AllocError>
-    ensures handed { IfOk result (λ parts.
-        HandOut (λ guest. guest.0) (reverse waiting.old.items) parts.items (reverse waiting.new.items)) }
-    ensures each { IfOk result (λ parts. length parts.items ≡ threads) }
-{
-    let mut parts = Vec::new(alloc);
-    for _thread in 0..threads {
-        parts.push(next_part(waiting))?;
-    }
-    Ok(parts)
-}
-
-/// The part of the next thread.
+/// The part of the next thread: the guest that waits next, which is the last one of the list, or none where no more wait.
 fn next_part(waiting: &mut Vec<Box<dyn GuestTool>>) -> Handed<GuestPart>
     ensures { HandOut (λ guest. guest.0) (reverse waiting.old.items) (result ∷ []) (reverse waiting.new.items) }
 {
     match waiting.pop() {
         Some(guest) => Handed::Guest(GuestPart(guest)),
         None => Handed::Quiet(Quiet),
-    }
-}
-
-/// The guests that these parts hold wait again, the first one last.
-fn take_back(parts: &mut Vec<Handed<GuestPart>>, waiting: &mut Vec<Box<dyn GuestTool>>)
-    requires { vec_len waiting.old + length parts.old.items ≤ vec_capacity waiting.old }
-    ensures { reverse waiting.new.items ≡ guests_of (λ guest. guest.0) parts.old.items ++ reverse waiting.old.items }
-{
-    while let Some(part) = parts.pop() {
-        wait_again(part, waiting);
     }
 }
 

@@ -9,7 +9,7 @@ ghost use Rattle.ompt_cli.specs.Commands.{CountsFaults, EndsAs, HasWritten, run_
 ghost use Rattle.ompt_cli.specs.Reports.{HasCertificate, Observes};
 
 use crate::end::End;
-use crate::outcome::Ended;
+use crate::outcome::AfterRun;
 use crate::report::Report;
 use history_file::{FileText, HistoryFile, end_of, write_history};
 use omp_model::Cause;
@@ -17,7 +17,7 @@ use ompt_words::{Command, RunOutput};
 use run_edges::Sink;
 
 /// Writes the history file of the run that is reported, whose program has this text, unless the run found no memory. It takes no memory.
-pub(crate) fn write_history_of_run<O: Sink>(report: Report, text: FileText, out: &mut O) -> Ended
+pub(crate) fn write_history_of_run<O: Sink>(report: Report, text: FileText, out: &mut O) -> AfterRun
     requires command { report.command ≡ Command.Run RunOutput.History }
     requires observes { (job : Job) × Observes job report }
     requires text { text_in report ≡ text }
@@ -29,7 +29,7 @@ pub(crate) fn write_history_of_run<O: Sink>(report: Report, text: FileText, out:
     ensures faults { CountsFaults result.end End.WriteFault (O.faults out.old) (O.faults out.new) }
 {
     let Some((status, detail)) = end_of(report.cause) else {
-        return Ended {
+        return AfterRun {
             end: End::Memory,
             report,
         };
@@ -44,7 +44,7 @@ pub(crate) fn write_history_of_run<O: Sink>(report: Report, text: FileText, out:
         detail,
     };
     let end = write_file(report.cause, &file, out);
-    Ended {
+    AfterRun {
         end,
         report: Report {
             history: file.history,

@@ -2,10 +2,19 @@
 
 ghost use Rattle.std.specs.Prelude.{◌≡◌, ◌≤◌, IfOk, length};
 
-use crate::loaded::Loaded;
+use c_check::Program;
 use history_file::FileText;
 use ompt_words::Settings;
 use std::alloc::{AllocError, Global};
+
+/// A program, with the text that spells it.
+#[derive(Drop)]
+pub(crate) struct Loaded {
+    /// The program.
+    pub program: Program,
+    /// Its text, at most 65,536 bytes.
+    pub text: Vec<u8>,
+}
 
 /// What is to run: a program with its text, and its settings, with 1 to 16 threads and 1 to 30,000,000 silent steps.
 #[derive(Drop)]

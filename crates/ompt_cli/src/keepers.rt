@@ -1,6 +1,7 @@
 //! The parts that keep what they are told, and what a command makes of that.
 
-ghost use Rattle.std.specs.Prelude.{ℕ, ◌≡◌, IfOk, List, [], replicate};
+ghost use Rattle.std.specs.Prelude.{ℕ, ◌≡◌, ◌↔◌, IfOk, List, [], length, replicate};
+ghost use Rattle.std.specs.Thread.{IsSync};
 ghost use Rattle.tool_api.specs.Record.{Record};
 ghost use Rattle.ompt_calls.specs.declared.event.EventRecord.{EventRecord};
 ghost use Rattle.tool_report.specs.Generator.{generated, summary_of};
@@ -8,24 +9,30 @@ ghost use Rattle.tool_report.specs.Order.{AreKept, AreShared};
 ghost use Rattle.tool_report.specs.Standing.{KeeperFor};
 ghost use Rattle.ompt_words.specs.declared.settings.Command.{Command as SeenCommand};
 ghost use Rattle.ompt_cli.specs.Commands.{columns_in};
+ghost use Rattle.ompt_cli.specs.Reports.{HasObserved};
 
-use crate::runner::JobPart;
+use crate::job::Job;
+use crate::observing::{Observed, observe};
 use ompt_words::Command;
 use std::alloc::{AllocError, Global};
+use std::mem;
+use std::sync::Wait;
+use std::thread::Threads;
+use tool_api::{GuestTool, ToolPart};
 use tool_report::{
     Profile, Recorder, Timeline, generated_text, lines_text, merge, profile_text, summary_text,
     timeline_text,
 };
 
-/// A part that keeps what it is told, as it likes.
-pub(crate) trait Keeper: JobPart {
+/// A part that keeps something of the events that it is told. Each kind says what it keeps, and what a command writes of that.
+pub(crate) trait Keeper: ToolPart {
     /// What it keeps of these events.
     ghost keep: { List EventRecord → Self };
 
     /// What a command makes of these events and of what the program printed.
     ghost text_of: { SeenCommand → List EventRecord → List ℕ → List ℕ };
 
-    /// A part that was told nothing yet.
+    /// A part that was told nothing.
     fn fresh(alloc: Global) -> Self
         ensures { result ≡ keep [] };
 
@@ -39,9 +46,21 @@ pub(crate) trait Keeper: JobPart {
         ensures { IfOk result (λ text. (events : List EventRecord) → AreKept keep events parts.now →
             text.items ≡ text_of command events printed.now) };
 
-    ghost stands: { (kept : Self) (h : Record) → KeeperFor keep kept h → Self.stands_for kept h };
+    /// Runs the job by threads with these parts, which it takes out of the list, as [`observe`] does. The parts are sent to the threads, and nothing says
+    /// of a type parameter of a method that it may be sent. So each kind makes its own runs.
+    fn run_by_threads<R: Threads + Wait + Sync>(
+        rt: &R,
+        alloc: Global,
+        job: Job,
+        parts: &mut Vec<Self>,
+        guests: Vec<Box<dyn GuestTool>>,
+    ) -> Result<Observed<Self>, AllocError>
+        requires sync { IsSync R.row }
+        requires parts { length parts.old.items ≡ job.settings.threads }
+        ensures observed { IfOk result (HasObserved Self.stands_for Self.same job parts.old.items) }
+        ensures guests { IfOk result (λ observed. observed.report.guests ≡ guests) };
 
-    ghost stood: { (kept : Self) (h : Record) → Self.stands_for kept h → KeeperFor keep kept h };
+    ghost stands: { (kept : Self) (h : Record) → KeeperFor keep kept h ↔ Self.stands_for kept h };
 }
 
 impl Keeper for Recorder {
@@ -67,9 +86,17 @@ impl Keeper for Recorder {
         }
     }
 
-    ghost stands = { λ kept h for. for };
+    fn run_by_threads<R: Threads + Wait + Sync>(
+        rt: &R,
+        alloc: Global,
+        job: Job,
+        parts: &mut Vec<Recorder>,
+        guests: Vec<Box<dyn GuestTool>>,
+    ) -> Result<Observed<Recorder>, AllocError> {
+        observe(rt, alloc, job, mem::replace(parts, Vec::new(alloc)), guests)
+    }
 
-    ghost stood = { λ kept h for. for };
+    ghost stands = { λ kept h. (λ for. for, λ for. for) };
 }
 
 impl Keeper for Profile {
@@ -93,9 +120,17 @@ impl Keeper for Profile {
         profile_text(alloc, parts)
     }
 
-    ghost stands = { λ kept h for. for };
+    fn run_by_threads<R: Threads + Wait + Sync>(
+        rt: &R,
+        alloc: Global,
+        job: Job,
+        parts: &mut Vec<Profile>,
+        guests: Vec<Box<dyn GuestTool>>,
+    ) -> Result<Observed<Profile>, AllocError> {
+        observe(rt, alloc, job, mem::replace(parts, Vec::new(alloc)), guests)
+    }
 
-    ghost stood = { λ kept h for. for };
+    ghost stands = { λ kept h. (λ for. for, λ for. for) };
 }
 
 impl Keeper for Timeline {
@@ -117,15 +152,26 @@ impl Keeper for Timeline {
         parts: &[Timeline],
         _printed: &[u8],
     ) -> Result<Vec<u8>, AllocError> {
-        timeline_text(alloc, parts, columns_in(command))
+        match command {
+            Command::Timeline(columns) => timeline_text(alloc, parts, columns),
+            _ => timeline_text(alloc, parts, 0),
+        }
     }
 
-    ghost stands = { λ kept h for. for };
+    fn run_by_threads<R: Threads + Wait + Sync>(
+        rt: &R,
+        alloc: Global,
+        job: Job,
+        parts: &mut Vec<Timeline>,
+        guests: Vec<Box<dyn GuestTool>>,
+    ) -> Result<Observed<Timeline>, AllocError> {
+        observe(rt, alloc, job, mem::replace(parts, Vec::new(alloc)), guests)
+    }
 
-    ghost stood = { λ kept h for. for };
+    ghost stands = { λ kept h. (λ for. for, λ for. for) };
 }
 
-/// A part for each of so many threads, which was told nothing yet.
+/// A part for each of so many threads, which was told nothing.
 pub(crate) fn keepers<P: Keeper>(alloc: Global, threads: u8) -> Result<Vec<P>, AllocError>
     ensures { IfOk result (λ parts. parts.items ≡ replicate threads (P.keep [])) }
 {
@@ -136,17 +182,7 @@ pub(crate) fn keepers<P: Keeper>(alloc: Global, threads: u8) -> Result<Vec<P>, A
     Ok(parts)
 }
 
-/// How many columns a timeline is to have.
-fn columns_in(command: Command) -> u8
-    ensures { result ≡ columns_in command }
-{
-    match command {
-        Command::Timeline(columns) => columns,
-        _ => 0,
-    }
-}
-
-/// The summary of a run of the program with so many blocks, of which these recorders were told, and which printed this text.
+/// The summary of a run of the program with so many blocks: these recorders were told of the run, and it printed this text.
 fn summary(
     alloc: Global,
     blocks: u16,

@@ -4,8 +4,7 @@ ghost use Rattle.std.specs.Prelude.{◌≡◌, ◌≢◌, [], IfOk, length, true
 ghost use Rattle.ompt_cli.specs.Reports.{HasObserved};
 
 use crate::job::Job;
-use crate::program_tree::ProgramTree;
-use crate::report::Report;
+use crate::report::{ProgramTree, Report};
 use omp_model::Cause;
 use ompt_words::Settings;
 use std::alloc::{AllocError, Global};

@@ -18,7 +18,7 @@ pub(crate) struct Outcome {
 
 /// How a command ended that has run, and what it reports of its run.
 #[derive(Drop)]
-pub(crate) struct Ended {
+pub(crate) struct AfterRun {
     pub end: End,
     pub report: Report,
 }

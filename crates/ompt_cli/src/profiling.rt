@@ -1,21 +1,20 @@
 //! The command `run` with a profile: the guests are called beside profiles, and what the program prints is followed by the counts.
 
-ghost use Rattle.std.specs.Prelude.{◌≡◌, ◌++◌, IfOk, List, OnErr, Some};
+ghost use Rattle.std.specs.Prelude.{◌≡◌, ◌++◌, IfOk, List, OnErr};
 ghost use Rattle.omp_model.specs.Legal.{after};
 ghost use Rattle.omp_model.specs.Records.{records_of};
 ghost use Rattle.ompt_calls.specs.declared.event.EventRecord.{EventRecord};
 ghost use Rattle.tool_report.specs.Counts.{counts_of};
 ghost use Rattle.tool_report.specs.Order.{AreKept};
 ghost use Rattle.tool_report.specs.Profile.{profile_of};
-ghost use Rattle.ompt_cli.specs.Commands.{CountsFaults, HasWritten, run_of, run_text};
+ghost use Rattle.ompt_cli.specs.Commands.{run_of};
 ghost use Rattle.ompt_cli.specs.Guests.{GuestsAfter};
 ghost use Rattle.ompt_cli.specs.Reports.{Observes, Reports};
 
-use crate::end::End;
 use crate::guests::{Handing, hand_out_all, take_back_all};
 use crate::job::Job;
 use crate::observing::Observed;
-use crate::outcome::Ended;
+use crate::outcome::AfterRun;
 use crate::report::Report;
 use crate::runner::Runner;
 use crate::writing::write_made;
@@ -37,30 +36,24 @@ struct CountedRun {
 /// Runs the job, and writes what the program printed, and then how many calls of each callback there were. Guest t is the part of thread t beside a profile.
 pub(crate) fn run_profiled<X: Runner, O: Sink>(
     runner: &X,
-    alloc: Global,
     job: Job,
     guests: Vec<Box<dyn GuestTool>>,
     out: &mut O,
-) -> Result<Ended, AllocError>
+) -> Result<AfterRun, AllocError>
     requires kind { X.may_run runner.now job.settings.serial }
     requires command { job.settings.command ≡ Command.Run RunOutput.Profile }
-    ensures ran { IfOk result (λ ended. Reports job ended.end ended.report) }
-    ensures guests { IfOk result (λ ended.
-        GuestsAfter (λ guest h. (GuestTool-box guest).stands_for guest.value h) guests.items ended.report) }
-    ensures written { IfOk result (λ ended.
-        HasWritten ended.end (run_text (Some ended.report)) (O.held out.old) (O.held out.new)) }
-    ensures faults { IfOk result (λ ended.
-        CountsFaults ended.end End.WriteFault (O.faults out.old) (O.faults out.new)) }
+    ensures ran { IfOk result (λ ended. Reports (λ guest h. (GuestTool-box guest).stands_for guest.value h)
+        O.held O.faults job guests.items out.old out.new ended.end ended.report) }
     ensures untouched { OnErr result (out.new ≡ out.old) }
 {
     let CountedRun {
         report,
         text,
         profiles,
-    } = serve_profiled(runner, alloc, job, guests)?;
-    let made = with_profile(alloc, text, &profiles);
+    } = serve_profiled(runner, job, guests)?;
+    let made = with_profile(runner.alloc(), text, &profiles);
     let end = write_made(report.cause, made, out);
-    Ok(Ended { end, report })
+    Ok(AfterRun { end, report })
 }
 
 /// This text, and behind it the report of what these profiles counted.
@@ -81,7 +74,6 @@ fn with_profile(
 /// Runs the job with the guests beside profiles. A run that found no memory for its first entry is none.
 fn serve_profiled<X: Runner>(
     runner: &X,
-    alloc: Global,
     job: Job,
     guests: Vec<Box<dyn GuestTool>>,
 ) -> Result<CountedRun, AllocError>
@@ -95,13 +87,13 @@ fn serve_profiled<X: Runner>(
     ensures counted { IfOk result (λ counted.
         AreKept counts_of (records_of (run_of counted.report) counted.report.history) counted.profiles.items) }
 {
-    let Handing { parts, waiting } = hand_out_all(alloc, job.settings.threads, guests)?;
-    let Joined { parts, room, .. } = join_all(alloc, parts)?;
+    let Handing { parts, waiting } = hand_out_all(runner.alloc(), job.settings.threads, guests)?;
+    let Joined { parts, room, .. } = join_all(runner.alloc(), parts)?;
     let Observed {
         report,
         parts,
         text,
-    } = runner.run_joined(alloc, job, parts)?;
+    } = runner.run_joined(job, parts)?;
     let Parted { parts, profiles } = part_all(room, parts);
     let report = Report {
         guests: take_back_all(parts, waiting),

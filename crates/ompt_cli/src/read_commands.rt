@@ -1,22 +1,26 @@
 //! The commands that read: a trace for `show`, `migrate`, `check` and `tasks`, and a history file for `rerun`.
 
-ghost use Rattle.std.specs.Prelude.{◌≡◌, ◌≢◌, ◌⊎◌, IsSomeAnd};
+ghost use Rattle.std.specs.Prelude.{◌≡◌, ◌≢◌, ◌⊎◌, IfOk, IsSomeAnd};
 ghost use Rattle.std.specs.Io.KnownBytes.{Appends};
 ghost use Rattle.run_edges.specs.Edges.{AppendsFront};
 ghost use Rattle.ompt_cli.specs.Commands.{CountsFaults, IsReading};
 ghost use Rattle.history_file.specs.declared.file.HistoryFile.{HistoryFile as SeenFile};
 ghost use Rattle.history_file.specs.Validity.{WritesHistory};
 ghost use Rattle.ompt_cli.specs.Histories.{Certifies, MayCertify};
-ghost use Rattle.ompt_cli.specs.Traces.{HasJudged, HasRead, HasCopy, ok_text};
+ghost use Rattle.ompt_cli.specs.Traces.{HasCopy, HasJudged, HasRead, HasTasks, IsNested, ok_text};
+ghost use Rattle.tool_tasks.specs.Text.{IsForestText};
+ghost use Rattle.trace_format.specs.Validity.{IsTrace};
 
 use crate::end::End;
 use crate::rerunning::rerun_history;
-use crate::task_tree::tell_tasks;
+use crate::writing::write_read;
 use ompt_words::ReadCommand;
 use run_edges::{Sink, Source, write_all};
-use std::alloc::Global;
+use std::alloc::{AllocError, Global};
+use tool_tasks::{Forest, Unread, read_nested};
 use trace_check::{Checked, check_trace};
 use trace_copy::{Copied, Form, copy_trace};
+use trace_format::Trace;
 
 /// Reads a trace or a history file from the source, and writes what the command says of it.
 pub(crate) fn read_input<S: Source, O: Sink>(
@@ -87,4 +91,30 @@ fn write_ok<O: Sink>(out: &mut O) -> End
         Ok(()) => End::Read,
         Err(_) => End::WriteFault,
     }
+}
+
+/// Reads a trace to its end, and writes its tasks where it is nested.
+fn tell_tasks<S: Source, O: Sink>(alloc: Global, source: &mut S, out: &mut O) -> End
+    ensures end { IsReading result }
+    ensures tasks { HasTasks result (S.left source.old) (S.left source.new) (O.held out.old) (O.held out.new) }
+    ensures reads { CountsFaults result End.ReadFault (S.faults source.old) (S.faults source.new) }
+    ensures writes { CountsFaults result End.WriteFault (O.faults out.old) (O.faults out.new) }
+{
+    match read_nested(alloc, source) {
+        Ok(trace) => write_read(tasks_text(alloc, &trace), out),
+        Err(Unread::Refused(refusal)) => End::TraceRefused(refusal),
+        Err(Unread::Broken(breach)) => End::Broken(breach),
+        Err(Unread::ReadFault) => End::ReadFault,
+        Err(Unread::Memory) => End::Memory,
+    }
+}
+
+/// What is written of the tasks of a nested trace.
+fn tasks_text(alloc: Global, trace: &Trace) -> Result<Vec<u8>, AllocError>
+    requires valid { IsTrace trace.now }
+    requires nested { IsNested trace.now }
+    ensures { IfOk result (λ text. IsForestText trace.now.events text.items) }
+{
+    let forest = Forest::of(alloc, trace)?;
+    forest.text(alloc)
 }

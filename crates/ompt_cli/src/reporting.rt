@@ -1,48 +1,40 @@
 //! The commands that run a program and report what the parts of their threads kept: `list`, `profile`, `timeline` and `gen`.
 
-ghost use Rattle.std.specs.Prelude.{ℕ, ◌≡◌, ◌≢◌, IfOk, List, OnErr, Some};
+ghost use Rattle.std.specs.Prelude.{ℕ, ◌≡◌, ◌≢◌, IfOk, List, OnErr};
 ghost use Rattle.omp_model.specs.declared.cause.Cause.{Cause};
 ghost use Rattle.omp_model.specs.declared.history.Entry.{Entry};
 ghost use Rattle.omp_model.specs.Legal.{after};
 ghost use Rattle.omp_model.specs.Records.{records_of};
 ghost use Rattle.omp_model.specs.State.{Run};
-ghost use Rattle.ompt_cli.specs.Commands.{CountsFaults, HasGuests, HasWritten, run_text, written_by};
-ghost use Rattle.ompt_cli.specs.Guests.{GuestsAfter};
+ghost use Rattle.ompt_cli.specs.Commands.{HasGuests, written_by};
 ghost use Rattle.ompt_cli.specs.Reports.{HasKept, Reports};
 
-use crate::end::End;
 use crate::job::Job;
 use crate::keepers::{Keeper, keepers};
 use crate::observing::Observed;
-use crate::outcome::Ended;
+use crate::outcome::AfterRun;
 use crate::runner::Runner;
 use crate::writing::write_made;
 use ompt_words::Command;
 use run_edges::Sink;
-use std::alloc::{AllocError, Global};
+use std::alloc::AllocError;
 use tool_api::GuestTool;
 
 /// Runs the job, and writes what its command makes of what the parts kept. The guests come back as they were.
-pub(crate) fn report<X: Runner, P: Keeper, O: Sink>(
+pub(crate) fn report_kept<X: Runner, P: Keeper, O: Sink>(
     runner: &X,
-    alloc: Global,
     job: Job,
     guests: Vec<Box<dyn GuestTool>>,
     out: &mut O,
-) -> Result<Ended, AllocError>
+) -> Result<AfterRun, AllocError>
     requires kind { X.may_run runner.now job.settings.serial }
     requires guestless { ¬ HasGuests job.settings.command }
     requires unrecorded { job.settings.command ≢ Command.Record }
     requires text { (text : List ℕ) (run : Run) (cause : Cause) (history : List Entry) →
         written_by job.settings.command text run cause history
         ≡ P.text_of job.settings.command (records_of run history) (after run history).world.store.text }
-    ensures ran { IfOk result (λ ended. Reports job ended.end ended.report) }
-    ensures guests { IfOk result (λ ended.
-        GuestsAfter (λ guest h. (GuestTool-box guest).stands_for guest.value h) guests.items ended.report) }
-    ensures written { IfOk result (λ ended.
-        HasWritten ended.end (run_text (Some ended.report)) (O.held out.old) (O.held out.new)) }
-    ensures faults { IfOk result (λ ended.
-        CountsFaults ended.end End.WriteFault (O.faults out.old) (O.faults out.new)) }
+    ensures ran { IfOk result (λ ended. Reports (λ guest h. (GuestTool-box guest).stands_for guest.value h)
+        O.held O.faults job guests.items out.old out.new ended.end ended.report) }
     ensures untouched { OnErr result (out.new ≡ out.old) }
 {
     let command = job.settings.command;
@@ -50,16 +42,15 @@ pub(crate) fn report<X: Runner, P: Keeper, O: Sink>(
         report,
         parts,
         text,
-    } = run_kept::<X, P>(runner, alloc, job, guests)?;
-    let made = P::text(alloc, command, &parts, &text);
+    } = run_kept::<X, P>(runner, job, guests)?;
+    let made = P::text(runner.alloc(), command, &parts, &text);
     let end = write_made(report.cause, made, out);
-    Ok(Ended { end, report })
+    Ok(AfterRun { end, report })
 }
 
 /// Runs the job with a part for each thread that keeps what it is told. The guests of the report are these.
 pub(crate) fn run_kept<X: Runner, P: Keeper>(
     runner: &X,
-    alloc: Global,
     job: Job,
     guests: Vec<Box<dyn GuestTool>>,
 ) -> Result<Observed<P>, AllocError>
@@ -67,6 +58,6 @@ pub(crate) fn run_kept<X: Runner, P: Keeper>(
     ensures kept { IfOk result (HasKept P.keep job) }
     ensures guests { IfOk result (λ observed. observed.report.guests ≡ guests) }
 {
-    let mut parts = keepers::<P>(alloc, job.settings.threads)?;
-    runner.run(alloc, job, &mut parts, guests)
+    let mut parts = keepers::<P>(runner.alloc(), job.settings.threads)?;
+    runner.run(job, &mut parts, guests)
 }

@@ -1,23 +1,22 @@
 //! The command `run`: it runs the program with the guests as the parts of its threads, and writes what it prints, or the history of its run.
 
-ghost use Rattle.std.specs.Prelude.{◌≡◌, ◌⊎◌, IfOk, OnErr, Some};
+ghost use Rattle.std.specs.Prelude.{◌≡◌, ◌⊎◌, IfOk, OnErr};
 ghost use Rattle.omp_model.specs.Legal.{after};
-ghost use Rattle.ompt_cli.specs.Commands.{CountsFaults, HasWritten, run_of, run_text};
+ghost use Rattle.ompt_cli.specs.Commands.{run_of};
 ghost use Rattle.ompt_cli.specs.Guests.{GuestsAfter};
 ghost use Rattle.ompt_cli.specs.Reports.{Observes, Reports};
 
-use crate::end::End;
 use crate::guests::{Handing, hand_out_all, take_back_all};
 use crate::history_writing::write_history_of_run;
 use crate::job::Job;
 use crate::observing::Observed;
-use crate::outcome::Ended;
+use crate::outcome::AfterRun;
 use crate::report::Report;
 use crate::runner::Runner;
 use crate::writing::write_run;
 use ompt_words::{Command, RunOutput};
 use run_edges::Sink;
-use std::alloc::{AllocError, Global};
+use std::alloc::AllocError;
 use tool_api::GuestTool;
 
 /// What a run with guests gave: its report, in which the guests are back, and the bytes that the program printed.
@@ -30,55 +29,42 @@ struct Served {
 /// Runs the job, and writes what the program printed. Guest t is the part of thread t; threads past the guests have none.
 pub(crate) fn run_printed<X: Runner, O: Sink>(
     runner: &X,
-    alloc: Global,
     job: Job,
     guests: Vec<Box<dyn GuestTool>>,
     out: &mut O,
-) -> Result<Ended, AllocError>
+) -> Result<AfterRun, AllocError>
     requires kind { X.may_run runner.now job.settings.serial }
     requires command { job.settings.command ≡ Command.Run RunOutput.Printed }
-    ensures ran { IfOk result (λ ended. Reports job ended.end ended.report) }
-    ensures guests { IfOk result (λ ended.
-        GuestsAfter (λ guest h. (GuestTool-box guest).stands_for guest.value h) guests.items ended.report) }
-    ensures written { IfOk result (λ ended.
-        HasWritten ended.end (run_text (Some ended.report)) (O.held out.old) (O.held out.new)) }
-    ensures faults { IfOk result (λ ended.
-        CountsFaults ended.end End.WriteFault (O.faults out.old) (O.faults out.new)) }
+    ensures ran { IfOk result (λ ended. Reports (λ guest h. (GuestTool-box guest).stands_for guest.value h)
+        O.held O.faults job guests.items out.old out.new ended.end ended.report) }
     ensures untouched { OnErr result (out.new ≡ out.old) }
 {
-    let Served { report, text } = serve(runner, alloc, job, guests)?;
+    let Served { report, text } = serve(runner, job, guests)?;
     let end = write_run(report.cause, &text, out);
-    Ok(Ended { end, report })
+    Ok(AfterRun { end, report })
 }
 
 /// Runs the job, and writes the history of its run. It takes no memory after the run.
 pub(crate) fn run_history<X: Runner, O: Sink>(
     runner: &X,
-    alloc: Global,
     job: Job,
     guests: Vec<Box<dyn GuestTool>>,
     out: &mut O,
-) -> Result<Ended, AllocError>
+) -> Result<AfterRun, AllocError>
     requires kind { X.may_run runner.now job.settings.serial }
     requires command { job.settings.command ≡ Command.Run RunOutput.History }
-    ensures ran { IfOk result (λ ended. Reports job ended.end ended.report) }
-    ensures guests { IfOk result (λ ended.
-        GuestsAfter (λ guest h. (GuestTool-box guest).stands_for guest.value h) guests.items ended.report) }
-    ensures written { IfOk result (λ ended.
-        HasWritten ended.end (run_text (Some ended.report)) (O.held out.old) (O.held out.new)) }
-    ensures faults { IfOk result (λ ended.
-        CountsFaults ended.end End.WriteFault (O.faults out.old) (O.faults out.new)) }
+    ensures ran { IfOk result (λ ended. Reports (λ guest h. (GuestTool-box guest).stands_for guest.value h)
+        O.held O.faults job guests.items out.old out.new ended.end ended.report) }
     ensures untouched { OnErr result (out.new ≡ out.old) }
 {
-    let text = job.copied_text(alloc)?;
-    let Served { report, .. } = serve(runner, alloc, job, guests)?;
+    let text = job.copied_text(runner.alloc())?;
+    let Served { report, .. } = serve(runner, job, guests)?;
     Ok(write_history_of_run(report, text, out))
 }
 
 /// Runs the job with the guests. A run that found no memory for its first entry is none.
 fn serve<X: Runner>(
     runner: &X,
-    alloc: Global,
     job: Job,
     guests: Vec<Box<dyn GuestTool>>,
 ) -> Result<Served, AllocError>
@@ -91,12 +77,12 @@ fn serve<X: Runner>(
     ensures printed { IfOk result (λ served.
         served.text.items ≡ (after (run_of served.report) served.report.history).world.store.text) }
 {
-    let Handing { parts, waiting } = hand_out_all(alloc, job.settings.threads, guests)?;
+    let Handing { parts, waiting } = hand_out_all(runner.alloc(), job.settings.threads, guests)?;
     let Observed {
         report,
         parts,
         text,
-    } = runner.run_guests(alloc, job, parts)?;
+    } = runner.run_guests(job, parts)?;
     let report = Report {
         guests: take_back_all(parts, waiting),
         ..report

@@ -6,118 +6,28 @@ ghost use Rattle.tool_api.specs.Handed.{HandedFor, SameHanded};
 ghost use Rattle.tool_profiled.specs.Joining.{ProfiledFor, SameProfiled};
 ghost use Rattle.ompt_cli.specs.Reports.{HasObserved};
 
-use crate::guest_part::GuestPart;
+use crate::guests::GuestPart;
 use crate::job::Job;
+use crate::keepers::Keeper;
 use crate::observing::{Observed, observe, observe_alone};
 use std::alloc::{AllocError, Global};
 use std::mem;
 use std::sync::Wait;
 use std::thread::Threads;
-use tool_api::{GuestTool, Handed, ToolPart};
+use tool_api::{GuestTool, Handed};
 use tool_profiled::Profiled;
-use tool_report::{Profile, Recorder, Timeline};
 
-/// A kind of parts with which jobs are run. What a bound promises of sending isn't handed on through a generic method of a trait, so each kind
-/// makes its runs itself. A run takes the parts out of the list.
-pub(crate) trait JobPart: ToolPart {
-    /// Runs a serial job with these parts, as [`observe_alone`] does.
-    fn run_alone(
-        alloc: Global,
-        job: Job,
-        parts: &mut Vec<Self>,
-        guests: Vec<Box<dyn GuestTool>>,
-    ) -> Result<Observed<Self>, AllocError>
-        requires serial { job.settings.serial ≡ true }
-        requires parts { length parts.old.items ≡ job.settings.threads }
-        ensures observed { IfOk result (HasObserved Self.stands_for Self.same job parts.old.items) }
-        ensures guests { IfOk result (λ observed. observed.report.guests ≡ guests) };
-
-    /// Runs the job with these parts, as [`observe`] does.
-    fn run_by_threads<R: Threads + Wait + Sync>(
-        rt: &R,
-        alloc: Global,
-        job: Job,
-        parts: &mut Vec<Self>,
-        guests: Vec<Box<dyn GuestTool>>,
-    ) -> Result<Observed<Self>, AllocError>
-        requires sync { IsSync R.row }
-        requires parts { length parts.old.items ≡ job.settings.threads }
-        ensures observed { IfOk result (HasObserved Self.stands_for Self.same job parts.old.items) }
-        ensures guests { IfOk result (λ observed. observed.report.guests ≡ guests) };
-}
-
-impl JobPart for Recorder {
-    fn run_alone(
-        alloc: Global,
-        job: Job,
-        parts: &mut Vec<Recorder>,
-        guests: Vec<Box<dyn GuestTool>>,
-    ) -> Result<Observed<Recorder>, AllocError> {
-        observe_alone(alloc, job, mem::replace(parts, Vec::new(alloc)), guests)
-    }
-
-    fn run_by_threads<R: Threads + Wait + Sync>(
-        rt: &R,
-        alloc: Global,
-        job: Job,
-        parts: &mut Vec<Recorder>,
-        guests: Vec<Box<dyn GuestTool>>,
-    ) -> Result<Observed<Recorder>, AllocError> {
-        observe(rt, alloc, job, mem::replace(parts, Vec::new(alloc)), guests)
-    }
-}
-
-impl JobPart for Profile {
-    fn run_alone(
-        alloc: Global,
-        job: Job,
-        parts: &mut Vec<Profile>,
-        guests: Vec<Box<dyn GuestTool>>,
-    ) -> Result<Observed<Profile>, AllocError> {
-        observe_alone(alloc, job, mem::replace(parts, Vec::new(alloc)), guests)
-    }
-
-    fn run_by_threads<R: Threads + Wait + Sync>(
-        rt: &R,
-        alloc: Global,
-        job: Job,
-        parts: &mut Vec<Profile>,
-        guests: Vec<Box<dyn GuestTool>>,
-    ) -> Result<Observed<Profile>, AllocError> {
-        observe(rt, alloc, job, mem::replace(parts, Vec::new(alloc)), guests)
-    }
-}
-
-impl JobPart for Timeline {
-    fn run_alone(
-        alloc: Global,
-        job: Job,
-        parts: &mut Vec<Timeline>,
-        guests: Vec<Box<dyn GuestTool>>,
-    ) -> Result<Observed<Timeline>, AllocError> {
-        observe_alone(alloc, job, mem::replace(parts, Vec::new(alloc)), guests)
-    }
-
-    fn run_by_threads<R: Threads + Wait + Sync>(
-        rt: &R,
-        alloc: Global,
-        job: Job,
-        parts: &mut Vec<Timeline>,
-        guests: Vec<Box<dyn GuestTool>>,
-    ) -> Result<Observed<Timeline>, AllocError> {
-        observe(rt, alloc, job, mem::replace(parts, Vec::new(alloc)), guests)
-    }
-}
-
-/// What makes runs of jobs: [`Alone`] of serial ones, and [`WithThreads`] of all. It has a method for guests, and one for guests beside profiles.
+/// Runs jobs: [`Alone`] runs serial jobs, and [`WithThreads`] runs all jobs. Guests have a method, and so have guests beside profiles.
 pub(crate) trait Runner {
-    /// Whether it makes runs of jobs that are serial, or of such as aren't.
+    /// Whether it runs jobs that are serial, or jobs that aren't.
     ghost may_run: { Self → Bool → Type 0 };
 
+    /// Where runs take their memory.
+    fn alloc(&self) -> Global;
+
     /// Runs the job with these parts. The guests of the report are these.
-    fn run<P: JobPart>(
+    fn run<P: Keeper>(
         &self,
-        alloc: Global,
         job: Job,
         parts: &mut Vec<P>,
         guests: Vec<Box<dyn GuestTool>>,
@@ -130,21 +40,18 @@ pub(crate) trait Runner {
     /// Runs the job with these parts. The report has no guests.
     fn run_guests(
         &self,
-        alloc: Global,
         job: Job,
         parts: Vec<Handed<GuestPart>>,
     ) -> Result<Observed<Handed<GuestPart>>, AllocError>
         requires kind { may_run self.now job.settings.serial }
         requires parts { length parts.items ≡ job.settings.threads }
         ensures { IfOk result (HasObserved
-            (HandedFor (λ guest h. (GuestTool-box guest.0).stands_for guest.0.value h)) (SameHanded (λ guest other.
-            guest.0.vtable ≡ other.0.vtable))
-            job parts.items) };
+            (HandedFor (λ guest h. (GuestTool-box guest.0).stands_for guest.0.value h))
+            (SameHanded (λ guest other. guest.0.vtable ≡ other.0.vtable)) job parts.items) };
 
     /// Runs the job with these parts, which are joined with profiles. The report has no guests.
     fn run_joined(
         &self,
-        alloc: Global,
         job: Job,
         parts: Vec<Profiled<Handed<GuestPart>>>,
     ) -> Result<Observed<Profiled<Handed<GuestPart>>>, AllocError>
@@ -152,78 +59,79 @@ pub(crate) trait Runner {
         requires parts { length parts.items ≡ job.settings.threads }
         ensures { IfOk result (HasObserved
             (ProfiledFor (HandedFor (λ guest h. (GuestTool-box guest.0).stands_for guest.0.value h)))
-            (SameProfiled (SameHanded (λ guest other. guest.0.vtable ≡ other.0.vtable)))
-            job parts.items) };
+            (SameProfiled (SameHanded (λ guest other. guest.0.vtable ≡ other.0.vtable))) job parts.items) };
 }
 
-/// It makes serial runs, and waits for nobody.
+/// It runs serial jobs, and waits for nobody.
 #[derive(Drop)]
-pub(crate) struct Alone;
+pub(crate) struct Alone(pub Global);
 
 impl Runner for Alone {
     ghost may_run = { λ _ serial. serial ≡ true };
 
-    fn run<P: JobPart>(
+    fn alloc(&self) -> Global {
+        self.0
+    }
+
+    fn run<P: Keeper>(
         &self,
-        alloc: Global,
         job: Job,
         parts: &mut Vec<P>,
         guests: Vec<Box<dyn GuestTool>>,
     ) -> Result<Observed<P>, AllocError> {
-        P::run_alone(alloc, job, parts, guests)
+        observe_alone(self.0, job, mem::replace(parts, Vec::new(self.0)), guests)
     }
 
     fn run_guests(
         &self,
-        alloc: Global,
         job: Job,
         parts: Vec<Handed<GuestPart>>,
     ) -> Result<Observed<Handed<GuestPart>>, AllocError> {
-        observe_alone(alloc, job, parts, Vec::new(alloc))
+        observe_alone(self.0, job, parts, Vec::new(self.0))
     }
 
     fn run_joined(
         &self,
-        alloc: Global,
         job: Job,
         parts: Vec<Profiled<Handed<GuestPart>>>,
     ) -> Result<Observed<Profiled<Handed<GuestPart>>>, AllocError> {
-        observe_alone(alloc, job, parts, Vec::new(alloc))
+        observe_alone(self.0, job, parts, Vec::new(self.0))
     }
 }
 
-/// It makes runs by threads too.
+/// It runs jobs by threads too.
 #[derive(Drop)]
-pub(crate) struct WithThreads<'a, R>(pub &'a R);
+pub(crate) struct WithThreads<'a, R>(pub &'a R, pub Global);
 
 impl<'a, R: Threads + Wait + Sync> Runner for WithThreads<'a, R> {
     ghost may_run = { λ _ _. IsSync R.row };
 
-    fn run<P: JobPart>(
+    fn alloc(&self) -> Global {
+        self.1
+    }
+
+    fn run<P: Keeper>(
         &self,
-        alloc: Global,
         job: Job,
         parts: &mut Vec<P>,
         guests: Vec<Box<dyn GuestTool>>,
     ) -> Result<Observed<P>, AllocError> {
-        P::run_by_threads(self.0, alloc, job, parts, guests)
+        P::run_by_threads(self.0, self.1, job, parts, guests)
     }
 
     fn run_guests(
         &self,
-        alloc: Global,
         job: Job,
         parts: Vec<Handed<GuestPart>>,
     ) -> Result<Observed<Handed<GuestPart>>, AllocError> {
-        observe(self.0, alloc, job, parts, Vec::new(alloc))
+        observe(self.0, self.1, job, parts, Vec::new(self.1))
     }
 
     fn run_joined(
         &self,
-        alloc: Global,
         job: Job,
         parts: Vec<Profiled<Handed<GuestPart>>>,
     ) -> Result<Observed<Profiled<Handed<GuestPart>>>, AllocError> {
-        observe(self.0, alloc, job, parts, Vec::new(alloc))
+        observe(self.0, self.1, job, parts, Vec::new(self.1))
     }
 }

@@ -1,13 +1,13 @@
 //! The texts that run.
 
-ghost use Rattle.std.specs.Prelude.{ℕ, ◌≡◌, ◌≢◌, ◌≤◌, IfSome, IsSomeAnd, IfOk, IfErr, IsErrAnd, length};
+ghost use Rattle.std.specs.Prelude.{ℕ, ◌≡◌, ◌≢◌, ◌≤◌, IfOk, IfErr, Some, length};
 ghost use Rattle.run_edges.specs.Edges.{Rose};
-ghost use Rattle.ompt_cli.specs.Text.{IsProgram, IsReadAs, IsRefused, Spells, text_for};
+ghost use Rattle.ompt_cli.specs.Loading.{EndsFor, IsLoaded};
+ghost use Rattle.ompt_cli.specs.Text.{IsReadAs, Spells, text_for};
 ghost use Rattle.tool_report.specs.Generator.{generated};
-ghost use Rattle.ompt_cli.specs.Commands.{IsBeforeRun, MayRefuse, MayRun};
 
 use crate::end::{End, Refusal};
-use crate::loaded::Loaded;
+use crate::job::Loaded;
 use c_check::{CheckFault, Program, check};
 use c_syntax::{SyntaxFault, Tree, read_program};
 use c_tokens::{TokenFault, tokens};
@@ -19,21 +19,15 @@ use tool_report::generated_text;
 /// The length in bytes of the longest text that is read.
 const TEXT_LIMIT: u32 = 65_536;
 
-/// The program that the command runs, with its text: of `gen` the generated one, and nothing is read; of all others the one that the source has left.
+/// The program that the command runs, with its text. For `gen` it is the generated one, and nothing is read. For all others it is the one that
+/// the source has left.
 pub(crate) fn program_for<S: Source>(
     alloc: Global,
     command: Command,
     source: &mut S,
 ) -> Result<Loaded, End>
-    ensures program { IfOk result (λ loaded. Spells loaded.text.items loaded.program) }
-    ensures text { IfOk result (λ loaded. IfSome (text_for command (S.left source.old)) (λ text.
-        text ≡ loaded.text.items)) }
-    ensures before { IfErr result IsBeforeRun }
-    ensures refused { (why : Refusal) → result ≡ Err (End.Refused why) →
-        IfSome (text_for command (S.left source.old)) (IsRefused why) }
-    ensures accepted { (why : Refusal) → IsSomeAnd (text_for command (S.left source.old)) (IsRefused why) →
-        IsErrAnd result (MayRefuse why) }
-    ensures runs { IsSomeAnd (text_for command (S.left source.old)) IsProgram → IfErr result MayRun }
+    ensures loaded { IfOk result (IsLoaded (text_for command (S.left source.old))) }
+    ensures ended { IfErr result (EndsFor (text_for command (S.left source.old))) }
     ensures read { result ≡ Err End.ReadFault → Rose (S.faults source.old) (S.faults source.new) }
     ensures steady { result ≢ Err End.ReadFault → S.faults source.new ≡ S.faults source.old }
     ensures unread { (blocks : ℕ) → command ≡ Command.Generate blocks → source.new ≡ source.old }
@@ -46,12 +40,8 @@ pub(crate) fn program_for<S: Source>(
 
 /// The program with so many generated blocks.
 fn generated_program(alloc: Global, blocks: u16) -> Result<Loaded, End>
-    ensures program { IfOk result (λ loaded. Spells loaded.text.items loaded.program) }
-    ensures text { IfOk result (λ loaded. generated blocks ≡ loaded.text.items) }
-    ensures before { IfErr result IsBeforeRun }
-    ensures refused { (why : Refusal) → result ≡ Err (End.Refused why) → IsRefused why (generated blocks) }
-    ensures accepted { (why : Refusal) → IsRefused why (generated blocks) → IsErrAnd result (MayRefuse why) }
-    ensures runs { IsProgram (generated blocks) → IfErr result MayRun }
+    ensures loaded { IfOk result (IsLoaded (Some (generated blocks))) }
+    ensures ended { IfErr result (EndsFor (Some (generated blocks))) }
     ensures read { result ≢ Err End.ReadFault }
 {
     let Ok(text) = generated_text(alloc, blocks) else {
@@ -65,14 +55,8 @@ fn generated_program(alloc: Global, blocks: u16) -> Result<Loaded, End>
 
 /// Reads the text to its end. It spells the program, or the command ends for want of a program that runs.
 fn read_program_of<S: Source>(alloc: Global, source: &mut S) -> Result<Loaded, End>
-    ensures program { IfOk result (λ loaded. Spells loaded.text.items loaded.program) }
-    ensures text { IfOk result (λ loaded. IfSome (S.left source.old) (λ text. text ≡ loaded.text.items)) }
-    ensures before { IfErr result IsBeforeRun }
-    ensures refused { (why : Refusal) → result ≡ Err (End.Refused why) →
-        IfSome (S.left source.old) (IsRefused why) }
-    ensures accepted { (why : Refusal) → IsSomeAnd (S.left source.old) (IsRefused why) →
-        IsErrAnd result (MayRefuse why) }
-    ensures runs { IsSomeAnd (S.left source.old) IsProgram → IfErr result MayRun }
+    ensures loaded { IfOk result (IsLoaded (S.left source.old)) }
+    ensures ended { IfErr result (EndsFor (S.left source.old)) }
     ensures read { result ≡ Err End.ReadFault → Rose (S.faults source.old) (S.faults source.new) }
     ensures steady { result ≢ Err End.ReadFault → S.faults source.new ≡ S.faults source.old }
 {
@@ -87,12 +71,8 @@ fn read_program_of<S: Source>(alloc: Global, source: &mut S) -> Result<Loaded, E
 /// The program that the text spells, with the text.
 fn load(alloc: Global, text: Vec<u8>) -> Result<Loaded, End>
     requires { length text.items ≤ 65536 }
-    ensures program { IfOk result (λ loaded. Spells loaded.text.items loaded.program) }
-    ensures text { IfOk result (λ loaded. loaded.text ≡ text) }
-    ensures before { IfErr result IsBeforeRun }
-    ensures refused { (why : Refusal) → result ≡ Err (End.Refused why) → IsRefused why text.items }
-    ensures accepted { (why : Refusal) → IsRefused why text.items → IsErrAnd result (MayRefuse why) }
-    ensures runs { IsProgram text.items → IfErr result MayRun }
+    ensures loaded { IfOk result (IsLoaded (Some text.items)) }
+    ensures ended { IfErr result (EndsFor (Some text.items)) }
     ensures read { result ≢ Err End.ReadFault }
 {
     match program_of(alloc, &text) {
@@ -101,14 +81,11 @@ fn load(alloc: Global, text: Vec<u8>) -> Result<Loaded, End>
     }
 }
 
-/// The program that the text spells, by the rules. All its tokens are tried before the grammar, and then the rules.
+/// The program that the text spells. The tokens are tried first, then the grammar, and then the rules.
 pub(crate) fn program_of(alloc: Global, text: &[u8]) -> Result<Program, End>
     requires { length text.now ≤ 65536 }
     ensures program { IfOk result (Spells text.now) }
-    ensures before { IfErr result IsBeforeRun }
-    ensures refused { (why : Refusal) → result ≡ Err (End.Refused why) → IsRefused why text.now }
-    ensures accepted { (why : Refusal) → IsRefused why text.now → IsErrAnd result (MayRefuse why) }
-    ensures runs { IsProgram text.now → IfErr result MayRun }
+    ensures ended { IfErr result (EndsFor (Some text.now)) }
     ensures read { result ≢ Err End.ReadFault }
 {
     let tree = match tree_of(alloc, text) {
@@ -128,10 +105,7 @@ pub(crate) fn program_of(alloc: Global, text: &[u8]) -> Result<Program, End>
 fn tree_of(alloc: Global, text: &[u8]) -> Result<Tree, End>
     requires { length text.now ≤ 65536 }
     ensures tree { IfOk result (IsReadAs text.now) }
-    ensures before { IfErr result IsBeforeRun }
-    ensures refused { (why : Refusal) → result ≡ Err (End.Refused why) → IsRefused why text.now }
-    ensures accepted { (why : Refusal) → IsRefused why text.now → IfErr result (MayRefuse why) }
-    ensures runs { IsProgram text.now → IfErr result MayRun }
+    ensures ended { IfErr result (EndsFor (Some text.now)) }
     ensures read { result ≢ Err End.ReadFault }
 {
     let tokens = match tokens(alloc, text) {

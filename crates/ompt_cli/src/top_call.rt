@@ -9,13 +9,13 @@ ghost use Rattle.ompt_cli.specs.Top.{CarriesOut, FollowsWords, HasTrace, IsRunOf
 ghost use Rattle.ompt_cli.specs.Traces.{HasReadInput};
 ghost use Rattle.ompt_cli.specs.Words.{AreFaulty, AreInRange, AreTakenAs, texts};
 
+use crate::commands::run_settings;
 use crate::end::End;
 use crate::outcome::{Outcome, without_run};
 use crate::read_commands::read_input;
 use crate::report::{ByThreads, Top};
 use crate::runner::{Alone, WithThreads};
-use crate::settings_run::run_settings;
-use ompt_words::{ReadCommand, Request, WordsFault, request_of};
+use ompt_words::{Request, WordsFault, request_of};
 use run_edges::{Sink, Source, write_all};
 use std::alloc::Global;
 use std::sync::Wait;
@@ -104,10 +104,18 @@ pub fn top_alone<S: Source, O: Sink, E: Sink>(
             if !settings.serial {
                 return Err(ByThreads { settings, guests });
             }
-            let outcome = run_settings(&Alone, alloc, settings, source, out, guests);
+            let outcome = run_settings(&Alone(alloc), settings, source, out, guests);
             Ok(tell(outcome, err))
         }
-        Ok(Request::Read(command)) => Ok(tell(read_as(alloc, command, source, out), err)),
+        Ok(Request::Read(command)) => {
+            let outcome = Outcome {
+                end: read_input(alloc, command, source, out),
+                ran: None,
+                shown: None,
+                read: Some(command),
+            };
+            Ok(tell(outcome, err))
+        }
         Err(fault) => Ok(tell(without_request(fault, source, out), err)),
     }
 }
@@ -131,29 +139,9 @@ fn top_by_threads<R: Threads + Wait + Sync, S: Source, O: Sink, E: Sink>(
 {
     let ByThreads { settings, guests } = asked;
     tell(
-        run_settings(&WithThreads(rt), alloc, settings, source, out, guests),
+        run_settings(&WithThreads(rt, alloc), settings, source, out, guests),
         err,
     )
-}
-
-/// Reads a trace or a history file from the source, as the words ask.
-fn read_as<S: Source, O: Sink>(
-    alloc: Global,
-    command: ReadCommand,
-    source: &mut S,
-    out: &mut O,
-) -> Outcome
-    ensures carried { (words : List (List ℕ)) → AreTakenAs words (request.Read command) →
-        CarriesOut S.left S.faults O.held O.faults words result.end result.shown result.read result.ran source.old
-        source.new out.old out.new }
-    ensures no_run { IsNone result.ran }
-{
-    Outcome {
-        end: read_input(alloc, command, source, out),
-        ran: None,
-        shown: None,
-        read: Some(command),
-    }
 }
 
 /// Shows the text that the words ask for, or refuses them. Nothing is read.

@@ -10,9 +10,9 @@ use Rattle.omp_model.specs.declared.cause.Cause.TheVariants as causes
 use Rattle.omp_model.specs.declared.history.Entry.{Entry}
 use Rattle.omp_model.specs.State.{Run}
 use Rattle.omp_model.specs.Heard.{heard, heard_of}
-use Rattle.team_run.specs.Serving.{Becomes, called_for, served, Serves, OnlyUnheard, told_on, finished_by, RunsParts, AreSame}
+use Rattle.team_run.specs.Serving.{Becomes, ChangesFirst, called_for, served, Serves, OnlyUnheard, told_on, finished_by, RunsParts, AreSame}
 use Rattle.tool_api.specs.Registering.{mask_of}
-use Rattle.team_run.specs.Unheard.{AreMissed, is_just, unheard_on}
+use Rattle.team_run.specs.Unheard.{AreUnheard, is_of, unheard_on}
 use Rattle.team_run.specs.Standing.{AreSilent, HearsSilent, HearsOwn}
 
 -- the items of one thread
@@ -123,33 +123,9 @@ written-back new items len same all =
 
 -- parts of which none was called before were called for all that their threads heard
 pub served-all : {P : Type 0} (stands_for : P → Record → Type 0) (run : Run) (started between : List P) (H : List Entry) (unheard : Option ℕ) → Serves stands_for run started [] unheard between H
-    → (k : ℕ) (d : P) (h : Record) → k < length started → stands_for (slice_index_or started k d) h → stands_for (slice_index_or between k d) (called_for (heard_of run H k) (is_just unheard k) h)
+    → (k : ℕ) (d : P) (h : Record) → k < length started → stands_for (slice_index_or started k d) h → stands_for (slice_index_or between k d) (called_for (heard_of run H k) (is_of unheard k) h)
 served-all stands_for run started between H unheard serves k d h below stands =
     serves.each k d h below (subst (λ (h : Record). stands_for (slice_index_or started k d) h) (sym (served-nil h)) stands)
-
--- the first part was started, all were called, and the first was finished
-pub runs-parts :
-    {P : Type 0} (stands_for : P → Record → Type 0) (serial : Bool) (run : Run) (cause : Cause) (H : List Entry) (parts started between after : List P) (answer registered : ℕ) → run.mask ≡ mask_of answer registered → 0 < length parts
-    → length started ≡ length parts → ((d : P) (h : Record) → stands_for (slice_index_or parts 0 d) h → stands_for (slice_index_or started 0 d) (initialized h answer registered))
-    → ((k : ℕ) (d : P) → 0 < k → slice_index_or started k d ≡ slice_index_or parts k d)
-    → (missed : ℕ → Bool) → AreMissed serial run cause H missed → (cause ≢ causes.Memory → (k : ℕ) → k < run.threads → missed k ≡ false) → length between ≡ length started
-    → ((k : ℕ) (d : P) (h : Record) → k < length started → stands_for (slice_index_or started k d) h → stands_for (slice_index_or between k d) (called_for (heard_of run H k) (missed k) h))
-    → length after ≡ length between → ((d : P) (h : Record) → stands_for (slice_index_or between 0 d) h → stands_for (slice_index_or after 0 d) (finished_by answer h))
-    → ((k : ℕ) (d : P) → 0 < k → slice_index_or after k d ≡ slice_index_or between k d) → RunsParts stands_for serial run cause H parts after
-runs-parts {P} stands_for serial run cause H parts started between after answer registered mask_is some as_many first others missed are_missed all_heard as_many_called called as_many_too last others_too =
-    record {
-      as_many = as_many_too ∙ as_many_called ∙ as_many;
-      answer = answer;
-      registered = registered;
-      mask_is = mask_is;
-      missed = missed;
-      are_missed = are_missed;
-      all_heard = all_heard;
-      first = λ d h stands. last d _ (called 0 d (initialized h answer registered) (omega (arith, some, as_many)) (first d h stands));
-      each = λ k past below d h stands.
-          subst (λ (part : P). stands_for part (called_for (heard_of run H k) (missed k) h)) (sym (others_too k d past))
-          (called k d h (omega (arith, below, as_many)) (subst (λ (part : P). stands_for part h) (sym (others k d past)) stands));
-    }
 
 -- the same parts, where nothing changes, and where one step follows another
 pub same-itself : {P : Type 0} (Same : P → P → Type 0) → ((part : P) → Same part part) → (parts : List P) → AreSame Same parts parts
@@ -158,3 +134,32 @@ same-itself Same itself parts = record { each = λ k d below. itself (slice_inde
 pub same-then : {P : Type 0} (Same : P → P → Type 0) → ((first second third : P) → Same first second → Same second third → Same first third) → (parts between after : List P) → length between ≡ length parts → AreSame Same parts between → AreSame Same between after → AreSame Same parts after
 same-then Same onward parts between after as_many first second =
     record { each = λ k d below. onward (slice_index_or parts k d) (slice_index_or between k d) (slice_index_or after k d) (first.each k d below) (second.each k d (omega (arith, below, as_many))) }
+
+-- the same parts, from before the start of the first one until after its end
+pub same-around :
+    {P : Type 0} (stands_for : P → Record → Type 0) (Same : P → P → Type 0) → ((one other third : P) → Same one other → Same other third → Same one third) → (start last : Record → Record) (parts started between after : List P)
+    → ChangesFirst stands_for Same start parts started → length between ≡ length started → AreSame Same started between → ChangesFirst stands_for Same last between after → AreSame Same parts after
+same-around stands_for Same onward start last parts started between after first many same end =
+    same-then Same onward parts between after (many ∙ first.as_many) (same-then Same onward parts started between first.as_many first.same same) end.same
+
+-- the first part was started, all were called, and the first was finished
+pub runs-parts :
+    {P : Type 0} (stands_for : P → Record → Type 0) (Same : P → P → Type 0) (serial : Bool) (run : Run) (cause : Cause) (H : List Entry) (parts started between after : List P) (answer registered : ℕ) → run.mask ≡ mask_of answer registered → 0 < length parts
+    → ChangesFirst stands_for Same (λ (h : Record). initialized h answer registered) parts started
+    → (unheard : ℕ → Bool) → AreUnheard serial run cause H unheard → (cause ≢ causes.Memory → (k : ℕ) → k < run.threads → unheard k ≡ false) → length between ≡ length started
+    → ((k : ℕ) (d : P) (h : Record) → k < length started → stands_for (slice_index_or started k d) h → stands_for (slice_index_or between k d) (called_for (heard_of run H k) (unheard k) h))
+    → ChangesFirst stands_for Same (finished_by answer) between after → RunsParts stands_for serial run cause H parts after
+runs-parts {P} stands_for Same serial run cause H parts started between after answer registered mask_is some start unheard are_unheard all_heard many called last =
+    record {
+      as_many = last.as_many ∙ many ∙ start.as_many;
+      answer = answer;
+      registered = registered;
+      mask_is = mask_is;
+      unheard = unheard;
+      are_unheard = are_unheard;
+      all_heard = all_heard;
+      first = λ d h stands. last.first d _ (called 0 d (initialized h answer registered) (omega (arith, some, start.as_many)) (start.first d h stands));
+      each = λ k past below d h stands.
+          subst (λ (part : P). stands_for part (called_for (heard_of run H k) (unheard k) h)) (sym (last.others_are k d past))
+          (called k d h (omega (arith, below, start.as_many)) (subst (λ (part : P). stands_for part h) (sym (start.others_are k d past)) stands));
+    }

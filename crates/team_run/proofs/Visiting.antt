@@ -1,8 +1,8 @@
 -- A serial run after one more visit, and at its end.
-use Rattle.std.proofs.Common.{◌≡◌, ℕ, ℤ, zero, suc, ◌+◌, ◌<◌, ◌≤◌, Bool, true, false, ◌&&◌, List, [], ◌∷◌, ◌++◌, length, length-append, replicate, slice_set, slice_index_or, get_or-set_same, Option, Some, None, IsSome, is_none, refl, sym, ap, subst, ◌∙◌, inl, inr, arith, append-nil, append_assoc, Result, Ok, Err, OnOk, OnErr}
+use Rattle.std.proofs.Common.{◌≡◌, ℕ, ℤ, zero, suc, ◌+◌, ◌<◌, ◌≤◌, Bool, true, false, List, [], ◌∷◌, ◌++◌, length, length-append, replicate, slice_set, slice_index_or, Option, Some, None, IsSome, is_none, refl, sym, ap, subst, ◌∙◌, arith, append-nil, append_assoc, Result, Ok, Err, OnOk, OnErr}
 use Rattle.std.specs.List.{list_all}
-use Rattle.std.proofs.lemmas.Bool.{true≢false, cases_lt}
-use Rattle.std.proofs.lemmas.List.{length-set, get_or_past}
+use Rattle.std.proofs.lemmas.Bool.{true≢false, and_from, and_parts}
+use Rattle.std.proofs.lemmas.List.{set-set}
 use Rattle.ompt_calls.specs.declared.call.Call.{Call}
 use Rattle.ompt_calls.specs.declared.snapshot.Snapshot.{Snapshot}
 use Rattle.ompt_calls.specs.Item.{Item}
@@ -30,7 +30,7 @@ use Rattle.omp_model.specs.Cause.{none_pending, whole_value, is_stuck, cause_of_
 use Rattle.omp_model.proofs.Turns.{Leaves, leaves-turn, turn-pending, turns-rise, back-turns}
 use Rattle.omp_model.proofs.Replies.{may-store}
 use Rattle.omp_model.proofs.Recording.{HasRun-start, HasRun-after, HasRun-alone, HasRun-event, HasRun-serial, HasRun-pending, heard-alone, heard-event, heard-pending, event_at, first_enabled-below, first_enabled-enabled, first_enabled-none, put_all-turns, StoresNothing-append}
-use Rattle.team_run.specs.Standing.{AreSilent, StandsAt, StopsAt}
+use Rattle.team_run.specs.Standing.{AreSilent, HearsOwn, HearsSilent, StandsAt, StopsAt}
 use Rattle.omp_machine.proofs.Storing.{Inside, inside-put}
 use Rattle.omp_machine.proofs.Telling.{IsTold, IsUntold}
 use Rattle.step_book.specs.Pages.{Pages, state_of, with_entries}
@@ -42,7 +42,7 @@ use Rattle.team_run.specs.Serving.{Serves, ServesTo, OnlyUnheard, Answers}
 use Rattle.team_run.specs.Unheard.{IsUnheard}
 use Rattle.team_run.proofs.Serving.{serves-told, serves-unheard, hears-front, item-silent, own-told, own-unheard, heard_of-same}
 
-abbrev all_none : List (Option Callback) → Bool
+abbrev pub all_none : List (Option Callback) → Bool
 all_none pending = list_all (λ (callback : Option Callback). is_none callback) pending
 
 -- nobody is inside a callback at first
@@ -50,30 +50,16 @@ all_none-replicate : (n : ℕ) → all_none (replicate n None) ≡ true
 all_none-replicate zero = refl
 all_none-replicate (suc n) = all_none-replicate n
 
-all_none-tail : (x : Option Callback) (xs : List (Option Callback)) → all_none (x ∷ xs) ≡ true → all_none xs ≡ true
-all_none-tail None xs all = all
-all_none-tail (Some callback) xs all = absurd (true≢false (sym all))
-
-all_none-put : (x : Option Callback) (xs ys : List (Option Callback)) → all_none (x ∷ xs) ≡ true → all_none ys ≡ true → all_none (x ∷ ys) ≡ true
-all_none-put None xs ys all others = others
-all_none-put (Some callback) xs ys all others = absurd (true≢false (sym all))
-
 -- nor where one has come out
 all_none-set : (pending : List (Option Callback)) (t : ℕ) → all_none pending ≡ true → all_none (slice_set pending t None) ≡ true
 all_none-set [] t all = refl
-all_none-set (x ∷ xs) zero all = all_none-tail x xs all
-all_none-set (x ∷ xs) (suc t) all = all_none-put x xs (slice_set xs t None) all (all_none-set xs t (all_none-tail x xs all))
-
--- what is set twice is as it was set last
-set-twice : (pending : List (Option Callback)) (t : ℕ) (x y : Option Callback) → slice_set (slice_set pending t x) t y ≡ slice_set pending t y
-set-twice [] t x y = refl
-set-twice (z ∷ rest) zero x y = refl
-set-twice (z ∷ rest) (suc t) x y = ap (λ more. z ∷ more) (set-twice rest t x y)
+all_none-set (x ∷ xs) zero all = (and_parts (is_none x) (all_none xs) all).1
+all_none-set (x ∷ xs) (suc t) all = let both = and_parts (is_none x) (all_none xs) all in and_from (is_none x) _ both.0 (all_none-set xs t both.1)
 
 -- a store changes no other thread's callback
 put-others : (S : State) (t : ℕ) (store : Stored) (callback : Option Callback) → slice_set (put_from S t store.target store.word callback).pending t None ≡ slice_set S.pending t None
 put-others S t store None = refl
-put-others S t store (Some callback) = set-twice S.pending t _ None
+put-others S t store (Some callback) = set-set S.pending t _ None
 
 put_all-others : (S : State) (t : ℕ) (stores : List Stored) → slice_set (put_all S t stores).pending t None ≡ slice_set S.pending t None
 put_all-others S t [] = refl
@@ -89,7 +75,7 @@ nobody-back : (run : Run) (S : State) (t : ℕ) (event : Event) (stores : List S
 nobody-back run S t event stores nobody happens waits =
     let between : State = (turn run S t).state in
     let same : (back (put_all between t stores) t).pending ≡ slice_set S.pending t None =
-    back-pending (put_all between t stores) t (pending_at (put_all between t stores) t) waits ∙ put_all-others between t stores ∙ ap (λ pending. slice_set pending t None) (turn-pending run S t event happens) ∙ set-twice S.pending t (Some (called event)) None in
+    back-pending (put_all between t stores) t (pending_at (put_all between t stores) t) waits ∙ put_all-others between t stores ∙ ap (λ pending. slice_set pending t None) (turn-pending run S t event happens) ∙ set-set S.pending t (Some (called event)) None in
     ap all_none same ∙ all_none-set S.pending t nobody
 
 -- a thread inside a callback that is registered still is inside one after its stores
@@ -149,7 +135,7 @@ module _ (run : Run) (S : State) (from : ℕ) (H : List Entry) (t : ℕ) (stands
         reached = stands.has_run.reached (go_at t ∷ []);
       }
 
-module _ (run : Run) (S : State) (from : ℕ) (H : List Entry) (t : ℕ) (stands : StandsAt run S from H) (turns : first_enabled run S from ≡ Some t) (e : Event) (happens : (turn run S t).outcome ≡ Happens e) (waits : IsSome (pending_at (turn run S t).state t)) where
+module _ (run : Run) (S : State) (from : ℕ) (H : List Entry) (t : ℕ) (stands : StandsAt run S from H) (turns : first_enabled run S from ≡ Some t) (e : Event) (happens : (turn run S t).outcome ≡ Happens e) where
   abbrev pub between : State
   between = (turn run S t).state
 
@@ -158,18 +144,11 @@ module _ (run : Run) (S : State) (from : ℕ) (H : List Entry) (t : ℕ) (stands
   item_with stores =
       record { seq = length H; thread = t; call = call_of between.world t e; snapshot = snap_of between.world t e; stores = stores }
 
-  -- the thread is one of those that may be inside a callback
-  within-pending : t < length S.pending
-  within-pending =
-      elim (cases_lt t (length S.pending)) [
-        | inl under ↦ under
-        | inr past ↦ let none : pending_at between t ≡ None = ap (λ pending. slice_index_or pending t None) (turn-pending run S t e happens) ∙ get_or_past (slice_set S.pending t (Some (called e))) t None (omega (arith, past, length-set S.pending t (Some (called e)))) in absurd (true≢false (sym (rw none at waits)))
-      ]
-
-  -- it is inside this one
+  -- the thread is inside its callback
   pub inside-event : pending_at between t ≡ Some (called e)
   inside-event =
-      ap (λ pending. slice_index_or pending t None) (turn-pending run S t e happens) ∙ get_or-set_same S.pending t (Some (called e)) None within-pending
+      let here : after run H ≡ S = HasRun-after stands.has_run in
+      subst (λ (S : State). (turn run S t).outcome ≡ Happens e → pending_at (turn run S t).state t ≡ Some (called e)) here (inside-told run H t e stands.some (first_enabled-below run S from t stands.within turns)) happens
 
   -- and so it is after its stores, where it is registered
   pub inside-still : is_registered run.mask (callback_of e) ≡ true → (stores : List Stored) → IsSome (pending_at (put_all between t stores) t)
@@ -192,62 +171,56 @@ module _ (run : Run) (S : State) (from : ℕ) (H : List Entry) (t : ℕ) (stands
   untold-heard unregistered =
       heard-event t e [] stands.has_run happens ∙ ap (λ said. heard run H ++ said) (rw unregistered refl) ∙ append-nil (heard run H)
 
-  -- after an event that is heard
+  -- after an event, with these stores
+  stands-event : (stores : List Stored) → length stores ≤ 3 → MayStore run between t stores → IsSome (pending_at (put_all between t stores) t) → HearsOwn run (H ++ event_at t stores)
+      → (HearsSilent run (H ++ event_at t stores) → HearsSilent run H × (stores ≡ [])) → StandsAt run (back (put_all between t stores) t) (t + 1) (H ++ event_at t stores)
+  stands-event stores few may waits own quiet =
+      record {
+        some = stands.some;
+        few = stands.few;
+        within = below run S from H t stands turns;
+        nobody = nobody-back run S t e stores stands.nobody happens waits;
+        has_run = HasRun-event t e stores stands.has_run turns happens few may waits;
+        own = own;
+        silent = λ silent. StoresNothing-append H (event_at t stores) (stands.silent (quiet silent).0) (subst (λ (stores : List Stored). StoresNothing (event_at t stores)) (sym (quiet silent).1) (refl, (refl, tt)));
+      }
+
+  -- one that is heard
   pub stands-told : is_registered run.mask (callback_of e) ≡ true → (stores : List Stored) → length stores ≤ 3 → MayStore run between t stores → StandsAt run (back (put_all between t stores) t) (t + 1) (H ++ event_at t stores)
   stands-told registered stores few may =
       let more = told-heard registered stores in
       let under : t < run.threads = omega (arith, below run S from H t stands turns) in
-      record {
-        some = stands.some;
-        few = stands.few;
-        within = below run S from H t stands turns;
-        nobody = nobody-back run S t e stores stands.nobody happens (inside-still registered stores);
-        has_run = HasRun-event t e stores stands.has_run turns happens few may (inside-still registered stores);
-        own = own-told run H (H ++ event_at t stores) t (item_with stores) refl under more stands.own;
-        silent = λ silent.
-            let none : stores ≡ [] = item-silent run H (H ++ event_at t stores) t (item_with stores) refl more under silent in
-            StoresNothing-append H (event_at t stores) (stands.silent (hears-front run H (H ++ event_at t stores) (item_with stores ∷ []) more silent)) (subst (λ (stores : List Stored). StoresNothing (event_at t stores)) (sym none) (refl, (refl, tt)));
-      }
+      stands-event stores few may (inside-still registered stores) (own-told run H (H ++ event_at t stores) t (item_with stores) refl under more stands.own)
+      (λ silent. (hears-front run H (H ++ event_at t stores) (item_with stores ∷ []) more silent, item-silent run H (H ++ event_at t stores) t (item_with stores) refl more under silent))
 
-  -- after one that isn't
+  -- and one that isn't
   pub stands-untold : is_registered run.mask (callback_of e) ≡ false → StandsAt run (back between t) (t + 1) (H ++ event_at t [])
   stands-untold unregistered =
       let same = untold-heard unregistered in
-      record {
-        some = stands.some;
-        few = stands.few;
-        within = below run S from H t stands turns;
-        nobody = nobody-back run S t e [] stands.nobody happens waits;
-        has_run = HasRun-event t e [] stands.has_run turns happens (omega arith) tt waits;
-        own = own-unheard run H (H ++ event_at t []) same stands.own;
-        silent = λ silent. StoresNothing-append H (event_at t []) (stands.silent (λ k under. subst AreSilent (heard_of-same run H (H ++ event_at t []) k same) (silent k under))) (refl, (refl, tt));
-      }
+      stands-event [] (omega arith) tt (rw inside-event refl) (own-unheard run H (H ++ event_at t []) same stands.own)
+      (λ silent. ((λ k under. subst AreSilent (heard_of-same run H (H ++ event_at t []) k same) (silent k under)), refl))
 
 -- at most three stores of a reply take effect
-stored-few : (snapshot : Snapshot) (store : Option Store) → length (stored_of snapshot store) ≤ 1
-stored-few snapshot None = omega arith
-stored-few snapshot (Some store) = stored-one store.word (target_of snapshot store.place)
-  where
-    stored-one : (word : ℕ) (found : Option Target) → length (stored word found) ≤ 1
-    stored-one word None = omega arith
-    stored-one word (Some found) = omega arith
+stored-few : (word : ℕ) (found : Option Target) → length (stored word found) ≤ 1
+stored-few word None = omega arith
+stored-few word (Some found) = omega arith
+
+stored_of-few : (snapshot : Snapshot) (store : Option Store) → length (stored_of snapshot store) ≤ 1
+stored_of-few snapshot None = omega arith
+stored_of-few snapshot (Some store) = stored-few store.word (target_of snapshot store.place)
 
 pub stores-few : (reply : Reply) (snapshot : Snapshot) → length (stores_of reply snapshot) ≤ 3
 stores-few reply snapshot =
-    let first = stored_of snapshot reply.first in
-    let second = stored_of snapshot reply.second in
-    let third = stored_of snapshot reply.third in
-    omega (arith, length-append first (second ++ third), length-append second third, length-append (first ++ second) third, length-append first second, stored-few snapshot reply.first, stored-few snapshot reply.second, stored-few snapshot reply.third)
-
--- four tests that hold
-all_four : (a b c d : Bool) → a ≡ true → b ≡ true → c ≡ true → d ≡ true → (a && b && c && d) ≡ true
-all_four a b c d first second third fourth = rw (first, second, third, fourth)
+    let one = stored_of snapshot reply.first in
+    let two = stored_of snapshot reply.second in
+    let three = stored_of snapshot reply.third in
+    omega (arith, length-append (one ++ two) three, length-append one two, stored_of-few snapshot reply.first, stored_of-few snapshot reply.second, stored_of-few snapshot reply.third)
 
 -- where no thread can go on and nobody is inside a callback, the run has ended
 caused-whole : (run : Run) (S : State) (value : Option ℤ) → whole_value S.world ≡ value → enabled_among S 0 run.threads ≡ None → none_pending S ≡ true → S.halt ≡ None → cause_of_whole run S value ≡ None → ⊥
 caused-whole run S (Some value) whole none nobody running no_cause = cc
 caused-whole run S None whole none nobody running no_cause =
-    let stuck : is_stuck run S ≡ true = all_four _ _ _ _ (ap is_none none) nobody (ap is_none running) (ap is_none whole) in
+    let stuck : is_stuck run S ≡ true = and_from _ _ (and_from _ _ (and_from _ _ (ap is_none none) nobody) (ap is_none running)) (ap is_none whole) in
     let deadlock : cause_of_whole run S None ≡ Some cause.Deadlock = rw stuck in
     cc
 
@@ -260,11 +233,11 @@ caused run S from H stands over no_cause =
     caused-halt run S S.halt refl (first_enabled-none run S from stands.within over) stands.nobody no_cause
 
 -- where nobody is inside a callback, each thread is in none
-all_none-at : (pending : List (Option Callback)) (t : ℕ) → all_none pending ≡ true → slice_index_or pending t None ≡ None
+pub all_none-at : (pending : List (Option Callback)) (t : ℕ) → all_none pending ≡ true → slice_index_or pending t None ≡ None
 all_none-at [] t all = refl
 all_none-at (None ∷ xs) zero all = refl
 all_none-at (Some callback ∷ xs) zero all = absurd (true≢false (sym all))
-all_none-at (x ∷ xs) (suc t) all = all_none-at xs t (all_none-tail x xs all)
+all_none-at (x ∷ xs) (suc t) all = all_none-at xs t (and_parts (is_none x) (all_none xs) all).1
 
 -- so each call was heard where a run stands
 pub unheard-none : (run : Run) (S : State) (from : ℕ) (H : List Entry) (unheard : Option ℕ) → StandsAt run S from H → IsUnheard run H unheard → unheard ≡ None
@@ -316,7 +289,7 @@ module _ (run : Run) (S : State) (from : ℕ) (H : List Entry) (t : ℕ) (stands
       (serves-unheard stands_for run parts parts H (H ++ go_at t ∷ []) None (heard-alone t stands.has_run none) (record { as_many = refl; each = λ k below d h stands. stands }))
       (stands-alone run S from H t stands turns none) rises
 
-  module _ (e : Event) (happens : (turn run S t).outcome ≡ Happens e) (waits : IsSome (pending_at (turn run S t).state t)) where
+  module _ (e : Event) (happens : (turn run S t).outcome ≡ Happens e) where
     abbrev inner : State
     inner = (turn run S t).state
 
@@ -325,19 +298,19 @@ module _ (run : Run) (S : State) (from : ℕ) (H : List Entry) (t : ℕ) (stands
     visited-told registered others longer answers =
         let stores : List Stored = stores_of answers.reply (snap_of inner.world t e) in
         let history : longer ≡ H ++ event_at t stores = answers.history_is ∙ append_assoc H (go_at t ∷ []) (event_reply t stores) in
-        let more : heard run longer ≡ heard run H ++ item_with run S from H t stands turns e happens waits stores ∷ [] = ap (heard run) history ∙ told-heard run S from H t stands turns e happens waits registered stores in
-        let may = may-reply run S from H t stands turns e happens waits registered answers.reply in
+        let more : heard run longer ≡ heard run H ++ item_with run S from H t stands turns e happens stores ∷ [] = ap (heard run) history ∙ told-heard run S from H t stands turns e happens registered stores in
+        let may = may-reply run S from H t stands turns e happens registered answers.reply in
         visited-at (back (put_all inner t stores) t) others longer
-        (serves-told stands_for run parts others H longer t (item_with run S from H t stands turns e happens waits stores) refl more answers.as_many answers.each)
-        (rw history (stands-told run S from H t stands turns e happens waits registered stores (stores-few answers.reply (snap_of inner.world t e)) may))
+        (serves-told stands_for run parts others H longer t (item_with run S from H t stands turns e happens stores) refl more answers.as_many answers.each)
+        (rw history (stands-told run S from H t stands turns e happens registered stores (stores-few answers.reply (snap_of inner.world t e)) may))
         (back-turns (put_all inner t stores) t ∙ put_all-turns inner t stores ∙ rises)
 
     -- without a part's answer, where the callback isn't registered
     pub visited-untold : is_registered run.mask (callback_of e) ≡ false → Visited stands_for run H t parts parts (H ++ event_at t [])
     visited-untold unregistered =
         visited-at (back inner t) parts (H ++ event_at t [])
-        (serves-unheard stands_for run parts parts H (H ++ event_at t []) None (untold-heard run S from H t stands turns e happens waits unregistered) (record { as_many = refl; each = λ k below d h stands. stands }))
-        (stands-untold run S from H t stands turns e happens waits unregistered) (back-turns inner t ∙ rises)
+        (serves-unheard stands_for run parts parts H (H ++ event_at t []) None (untold-heard run S from H t stands turns e happens unregistered) (record { as_many = refl; each = λ k below d h stands. stands }))
+        (stands-untold run S from H t stands turns e happens unregistered) (back-turns inner t ∙ rises)
 
     -- where the part found no memory, nothing more was heard, and the history ends inside its callback
     pub serves-inside : is_registered run.mask (callback_of e) ≡ true → (others : List P) → OnlyUnheard stands_for (Some t) parts others → ServesTo stands_for run parts H others (H ++ go_at t ∷ [])
@@ -350,7 +323,7 @@ module _ (run : Run) (S : State) (from : ℕ) (H : List Entry) (t : ℕ) (stands
                 before = H;
                 last = refl;
                 callback = called e;
-                inside = ap (λ (S : State). pending_at S t) reached ∙ inside-event run S from H t stands turns e happens waits;
+                inside = ap (λ (S : State). pending_at S t) reached ∙ inside-event run S from H t stands turns e happens;
                 registered = registered;
               };
           serves = serves-unheard stands_for run parts others H (H ++ go_at t ∷ []) (Some t) (heard-pending t e stands.has_run happens) kept;
@@ -358,10 +331,6 @@ module _ (run : Run) (S : State) (from : ℕ) (H : List Entry) (t : ℕ) (stands
 
 -- Where an event was told.
 module _ (run : Run) (from : ℕ) (H : List Entry) (t : ℕ) (stands : StandsAt run (after run H) from H) (turns : first_enabled run (after run H) from ≡ Some t) (call : Call) (snapshot : Snapshot) (said : IsTold run (turn run (after run H) t).state t (turn run (after run H) t).outcome call snapshot) where
-  waits : IsSome (pending_at (turn run (after run H) t).state t)
-  waits =
-      rw (inside-told run H t said.event stands.some (first_enabled-below run (after run H) from t stands.within turns) said.happens) refl
-
   -- the history at which the run stops where the part found no memory
   pub stops-said : StopsAt run (after run (H ++ go_at t ∷ [])) (H ++ go_at t ∷ [])
   stops-said =
@@ -374,20 +343,19 @@ module _ (run : Run) (from : ℕ) (H : List Entry) (t : ℕ) (stands : StandsAt 
         let one = subst (λ seq. Answers stands_for seq t call snapshot parts (H ++ go_at t ∷ []) others longer) seq_is answers in
         let two = subst (λ (call : Call). Answers stands_for (length H) t call snapshot parts (H ++ go_at t ∷ []) others longer) (sym said.call_is) one in
         let three = subst (λ (snapshot : Snapshot). Answers stands_for (length H) t (call_of (turn run (after run H) t).state.world t said.event) snapshot parts (H ++ go_at t ∷ []) others longer) (sym said.snapshot_is) two in
-        visited-told run (after run H) from H t stands turns stands_for parts said.event said.happens waits said.registered others longer three
+        visited-told run (after run H) from H t stands turns stands_for parts said.event said.happens said.registered others longer three
 
     -- where it found no memory
     pub serves-said : OnlyUnheard stands_for (Some t) parts others → ServesTo stands_for run parts H others (H ++ go_at t ∷ [])
     serves-said kept =
-        serves-inside run (after run H) from H t stands turns stands_for parts said.event said.happens waits said.registered others kept
+        serves-inside run (after run H) from H t stands turns stands_for parts said.event said.happens said.registered others kept
 
 -- where an event wasn't
 pub visited-unsaid :
     (run : Run) (from : ℕ) (H : List Entry) (t : ℕ) (stands : StandsAt run (after run H) from H) (turns : first_enabled run (after run H) from ≡ Some t) → IsUntold run (turn run (after run H) t).outcome → {P : Type 0} (stands_for : P → Record → Type 0) (parts : List P)
     → Visited stands_for run H t parts parts (H ++ event_at t [])
 visited-unsaid run from H t stands turns unsaid stands_for parts =
-    let waits : IsSome (pending_at (turn run (after run H) t).state t) = rw (inside-told run H t unsaid.event stands.some (first_enabled-below run (after run H) from t stands.within turns) unsaid.happens) refl in
-    visited-untold run (after run H) from H t stands turns stands_for parts unsaid.event unsaid.happens waits unsaid.unregistered
+    visited-untold run (after run H) from H t stands turns stands_for parts unsaid.event unsaid.happens unsaid.unregistered
 
 -- a visit that told nothing: what was added, and what is so afterwards
 pub record QuietVisit {P : Type 0} (stands_for : P → Record → Type 0) (book next : Pages) (t : ℕ) (parts : List P) : Type 0 where

@@ -1,4 +1,4 @@
--- The threads that missed an event: the part of one was called for it, and found no memory. And what that adds to the records of the parts.
+-- The calls that went unheard: the part of a thread was called for an event, and found no memory. And what that adds to the parts' records.
 use Rattle.std.specs.Prelude.{ℕ, ◌≡◌, ◌≢◌, ◌<◌, ◌==◌, Bool, true, false, IsTrue, if◌then◌else◌, List, [], ◌∷◌, ◌++◌, Option, Some, None}
 use Rattle.ompt_calls.specs.declared.call.Call.{Call}
 use Rattle.ompt_calls.specs.declared.snapshot.Snapshot.{Snapshot}
@@ -35,32 +35,33 @@ pub record OwesStill (run : Run) (history : List Entry) (t : ℕ) : Type 0 where
   pub snapshot : Snapshot
   pub owes : Owes run history t seq call snapshot
 
--- how a thread is left at the end of a history: where its part found no memory in a call, the answer is owed still, and else the thread is inside no
--- callback
+-- how a thread is left at the end of a history: where its part found no memory in a call, the answer is owed still, and else the thread is
+-- inside no callback
 abbrev pub LeftAt : Run → List Entry → ℕ → Bool → Type 0
 LeftAt run history t true = OwesStill run history t
 LeftAt run history t false = pending_at (after run history) t ≡ None
 
-abbrev pub is_just : Option ℕ → ℕ → Bool
-is_just None k = false
-is_just (Some t) k = t == k
+-- it is the number of this thread
+abbrev pub is_of : Option ℕ → ℕ → Bool
+is_of None k = false
+is_of (Some t) k = t == k
 
--- after a serial run the one thread inside whose callback the history ends, if it ends so, missed an event
-pub record IsOneMissed (run : Run) (cause : Cause) (history : List Entry) (missed : ℕ → Bool) : Type 0 where
-  pub unheard : Option ℕ
-  pub is_unheard : IsUnheard run history unheard
-  pub all_heard : cause ≢ causes.Memory → unheard ≡ None
-  pub missed_is : (k : ℕ) → missed k ≡ is_just unheard k
+-- after a serial run the one call that went unheard, if one did, is that of the thread inside whose callback the history ends
+pub record IsOneUnheard (run : Run) (cause : Cause) (history : List Entry) (unheard : ℕ → Bool) : Type 0 where
+  pub one : Option ℕ
+  pub is_unheard : IsUnheard run history one
+  pub all_heard : cause ≢ causes.Memory → one ≡ None
+  pub unheard_is : (k : ℕ) → unheard k ≡ is_of one k
 
--- the threads that missed an event: after a run by threads those that owe an answer still
-abbrev pub AreMissed : Bool → Run → Cause → List Entry → (ℕ → Bool) → Type 0
-AreMissed true run cause history missed = IsOneMissed run cause history missed
-AreMissed false run cause history missed = (k : ℕ) → k < run.threads → LeftAt run history k (missed k)
+-- the threads a call of whose parts went unheard: after a run by threads those that owe an answer still
+abbrev pub AreUnheard : Bool → Run → Cause → List Entry → (ℕ → Bool) → Type 0
+AreUnheard true run cause history unheard = IsOneUnheard run cause history unheard
+AreUnheard false run cause history unheard = (k : ℕ) → k < run.threads → LeftAt run history k (unheard k)
 
 -- the record after one more call that found no memory, if there was one
 abbrev pub unheard_if : Bool → Record → Record
-unheard_if missed h = if missed then one_unheard h else h
+unheard_if unheard h = if unheard then one_unheard h else h
 
 -- the record of part k where the part of this thread, if of any, found no memory in one call
 abbrev pub unheard_on : Option ℕ → ℕ → Record → Record
-unheard_on unheard k h = unheard_if (is_just unheard k) h
+unheard_on unheard k h = unheard_if (is_of unheard k) h

@@ -1,8 +1,8 @@
 //! The start and the end of the first part.
 
-ghost use Rattle.std.specs.Prelude.{◌≡◌, ◌<◌, length, slice_index_or, ℕ};
+ghost use Rattle.std.specs.Prelude.{◌≡◌, ◌<◌, length};
 ghost use Rattle.tool_api.specs.Record.{Record, initialized};
-ghost use Rattle.team_run.specs.Serving.{Becomes, AreSame, finished_by};
+ghost use Rattle.team_run.specs.Serving.{ChangesFirst, finished_by};
 ghost use Rattle.tool_api.specs.Registering.{AreAlways, mask_of};
 
 use tool_api::{Registrar, ToolPart};
@@ -17,14 +17,11 @@ pub struct Start {
 }
 
 /// Starts the first part.
-pub fn initialize_first<P: ToolPart>(parts: &mut [P]) -> Start
-    requires { 0 < length parts.old }
-    ensures as_many { length parts.new ≡ length parts.old }
+pub fn initialize_first<P: ToolPart>(parts: &mut Vec<P>) -> Start
+    requires { 0 < length parts.old.items }
     ensures always { AreAlways result.registered }
-    ensures same { AreSame P.same parts.old parts.new }
-    ensures first { Becomes P.stands_for parts.old parts.new 0
-        (λ (h : Record). initialized h result.answer result.registered) }
-    ensures others { (k : ℕ) (d : P) → 0 < k → slice_index_or parts.new k d ≡ slice_index_or parts.old k d }
+    ensures first { ChangesFirst P.stands_for P.same
+        (λ (h : Record). initialized h result.answer result.registered) parts.old.items parts.new.items }
 {
     let mut registrar = Registrar::new();
     let answer = parts[0].initialize(&mut registrar);
@@ -47,12 +44,9 @@ pub fn mask_of(start: Start) -> u64
 }
 
 /// Finishes the first part, where it is active.
-pub fn finalize_first<P: ToolPart>(start: Start, parts: &mut [P])
-    requires { 0 < length parts.old }
-    ensures as_many { length parts.new ≡ length parts.old }
-    ensures same { AreSame P.same parts.old parts.new }
-    ensures first { Becomes P.stands_for parts.old parts.new 0 (finished_by start.answer) }
-    ensures others { (k : ℕ) (d : P) → 0 < k → slice_index_or parts.new k d ≡ slice_index_or parts.old k d }
+pub fn finalize_first<P: ToolPart>(start: Start, parts: &mut Vec<P>)
+    requires { 0 < length parts.old.items }
+    ensures { ChangesFirst P.stands_for P.same (finished_by start.answer) parts.old.items parts.new.items }
 {
     if start.answer == 0 {
         return;

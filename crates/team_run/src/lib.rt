@@ -17,24 +17,26 @@
 //!
 //! Proved by the contracts of [`run_serial`], for every kind of part, over the definitions of `omp_model` and of `specs/`.
 //! They hold of each [`Ran`] that it answers; "the run" is that of the program, the threads and the silent steps that it
-//! was handed, with the mask in the answer:
+//! was handed, with the mask in the answer. `ran` is a record, which `thread_run` says too of a run by threads:
 //!
-//! - `serial`: the history is legal for the run, and in the serial order: each Go is of the first enabled thread after the
-//!   one before, and an event's stores and its Back follow its Go directly;
-//! - `parts`: part 0 was started once, and the mask is what it then registered, or 0 where it answered 0. It was finished
+//! - `ran.legal`: the history is legal for the run;
+//! - `ran.parts`: part 0 was started once, and the mask is what it then registered, or 0 where it answered 0. It was finished
 //!   once and after all its calls where it answered another number, and else not at all. No other part was started or
 //!   finished. Each part was called for what its thread hears of the history, in order: the position of the event, its
 //!   call, its snapshot, and the stores that took effect. Where the history ends inside the callback of a thread, which is
 //!   then registered, that thread's part was called once more and found no memory. That is so only where the cause is
 //!   [`Memory`](omp_model::Cause::Memory). For nothing else was a part called;
-//! - `same`: each part is the same as before, by a relation of its own; `always`: the mask has callbacks alone that are called always;
-//! - `own`: nothing is heard on a thread that the run doesn't have. So nothing is heard for which no part was called;
-//! - `text`: the text is what the program has printed in the state after the history, also where the cause is `Memory`;
-//! - `cause`: the cause is the one in which the history ends;
+//! - `ran.same`: each part is the same as before, by a relation of its own; `ran.always`: the mask has callbacks alone that are
+//!   called always;
+//! - `ran.own`: nothing is heard on a thread that the run doesn't have. So nothing is heard for which no part was called;
+//! - `ran.text`: the text is what the program has printed in the state after the history, also where the cause is `Memory`;
+//! - `ran.cause`: the cause is the one in which the history ends;
+//! - `serial`: the history is in the serial order: each Go is of the first enabled thread after the one before, and an event's
+//!   stores and its Back follow its Go directly;
 //! - `whole`: where no store took effect, the history is `serial` of the run, the one list;
 //! - `begun`: where the cause is `Memory`, the history has an entry.
 //!
-//! `cause` and `whole` say nothing where the cause is `Memory`. The history then stops between two turns, or after
+//! `ran.cause` and `whole` say nothing where the cause is `Memory`. The history then stops between two turns, or after
 //! the Go of the event whose callback found no memory. What a part "was called for" is said by `stands_for` of
 //! its kind: a part that stood for a record of calls stands afterwards for the record with these calls. So a kind that
 //! stands for everything tells nothing.

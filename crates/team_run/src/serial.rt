@@ -1,13 +1,9 @@
 //! The serial run: threads take turns round and round, each a whole turn with its callback.
 
-ghost use Rattle.std.specs.Prelude.{◌≡◌, ◌≢◌, ◌≤◌, [], Some, IfOk, length, true};
+ghost use Rattle.std.specs.Prelude.{◌≡◌, ◌≢◌, ◌≤◌, [], IfOk, length, true};
 ghost use Rattle.omp_model.specs.Serial.{Serial, serial};
-ghost use Rattle.omp_model.specs.Cause.{cause_of};
-ghost use Rattle.omp_model.specs.Legal.{after};
-ghost use Rattle.tool_api.specs.Registering.{AreAlways};
-ghost use Rattle.team_run.specs.Program.{run_of};
-ghost use Rattle.team_run.specs.Serving.{AreSame, RunsParts};
-ghost use Rattle.team_run.specs.Standing.{HearsOwn, HearsSilent};
+ghost use Rattle.team_run.specs.Program.{IsRan, run_of};
+ghost use Rattle.team_run.specs.Standing.{HearsSilent};
 
 use crate::edges::{finalize_first, initialize_first, mask_of};
 use crate::ran::{Memory, Ran};
@@ -15,7 +11,7 @@ use crate::serial_run::SerialRun;
 use c_check::Program;
 use omp_model::Cause;
 use std::alloc::{AllocError, Global};
-use step_book::Closed;
+use step_book::{Book, Closed};
 use tool_api::ToolPart;
 
 /// Runs the program serially, with so many threads, and so many silent steps at most. Part t is called for the events of
@@ -39,26 +35,24 @@ pub fn run_serial<P: ToolPart>(
     requires steps { 1 ≤ steps }
     requires bounded { steps ≤ 30000000 }
     requires parts { length parts.items ≡ threads }
+    ensures ran { IfOk result (λ ran.
+        IsRan P.stands_for P.same true (run_of program threads steps ran) parts.items ran) }
     ensures serial { IfOk result (λ ran. Serial (run_of program threads steps ran) ran.history) }
-    ensures parts { IfOk result (λ ran.
-        RunsParts P.stands_for true (run_of program threads steps ran) ran.cause ran.history parts.items
-        ran.parts.items) }
-    ensures same { IfOk result (λ ran. AreSame P.same parts.items ran.parts.items) }
-    ensures always { IfOk result (λ ran. AreAlways ran.mask) }
-    ensures own { IfOk result (λ ran. HearsOwn (run_of program threads steps ran) ran.history) }
-    ensures cause { IfOk result (λ ran. ran.cause ≢ Cause.Memory →
-        cause_of (run_of program threads steps ran) ran.history ≡ Some ran.cause) }
+    // Where no store took effect it is the one list.
     ensures whole { IfOk result (λ ran. ran.cause ≢ Cause.Memory →
         HearsSilent (run_of program threads steps ran) ran.history →
         ran.history ≡ serial (run_of program threads steps ran)) }
-    ensures text { IfOk result (λ ran.
-        ran.text.items ≡ (after (run_of program threads steps ran) ran.history).world.store.text) }
     ensures begun { IfOk result (λ ran. ran.cause ≡ Cause.Memory → ran.history ≢ []) }
 {
     let mut parts = parts;
     let start = initialize_first(&mut parts);
     let mask = mask_of(start);
-    let mut run = SerialRun::new(alloc, program, mask, threads, steps, parts)?;
+    let book = Book::start(alloc, program, mask, threads, steps)?;
+    let mut run = SerialRun {
+        book,
+        parts,
+        next: 0,
+    };
     let cause = run.finish();
     if cause == Cause::Memory && run.book.entries().is_empty() {
         return Err(AllocError);

@@ -1,21 +1,18 @@
 //! A serial run under way.
 
-ghost use Rattle.std.specs.Prelude.{◌≡◌, ◌≢◌, ◌≤◌, ◌<◌, ◌+◌, ◌++◌, ◌∷◌, [], Some, None, IfOk, OnOk, OnErr, length, ℕ};
+ghost use Rattle.std.specs.Prelude.{◌≡◌, ◌≢◌, ◌<◌, ◌+◌, Some, None, OnOk, OnErr, length};
 ghost use Rattle.omp_model.specs.Gates.{arrival};
 ghost use Rattle.omp_model.specs.Serial.{first_enabled};
 ghost use Rattle.omp_model.specs.Cause.{cause_of};
 ghost use Rattle.step_book.specs.Owing.{Owes};
-ghost use Rattle.step_book.specs.Pages.{Pages, state_of};
-ghost use Rattle.team_run.specs.Program.{run_of_program};
+ghost use Rattle.step_book.specs.Pages.{state_of};
 ghost use Rattle.team_run.specs.Serving.{Answers, OnlyUnheard, AreSame, ServesTo};
 ghost use Rattle.team_run.specs.Standing.{StandsAt, StopsAt};
 
 use crate::ran::Memory;
-use c_check::Program;
 use omp_machine::Ready;
 use omp_model::Cause;
 use ompt_calls::{Call, Snapshot};
-use std::alloc::Global;
 use step_book::{Book, Step};
 use tool_api::ToolPart;
 
@@ -31,32 +28,6 @@ pub(crate) struct SerialRun<P> {
 }
 
 impl<P: ToolPart> SerialRun<P> {
-    /// A run before its first entry.
-    pub fn new(
-        alloc: Global,
-        program: Program,
-        mask: u64,
-        threads: u8,
-        steps: u32,
-        parts: Vec<P>,
-    ) -> Result<SerialRun<P>, Memory>
-        requires some { 1 ≤ threads }
-        requires few { threads ≤ 16 }
-        requires steps { 1 ≤ steps }
-        requires bounded { steps ≤ 30000000 }
-        ensures run { IfOk result (λ serial. serial.book.run ≡ run_of_program program mask threads steps) }
-        ensures parts { IfOk result (λ serial. serial.parts ≡ parts) }
-        ensures fresh { IfOk result (λ serial. serial.book.history ≡ []) }
-        ensures stands { IfOk result (λ serial.
-            StandsAt serial.book.run (state_of serial.book) serial.next serial.book.history) }
-    {
-        Ok(SerialRun {
-            book: Book::start(alloc, program, mask, threads, steps)?,
-            parts,
-            next: 0,
-        })
-    }
-
     /// Takes turns until no thread can go on, or there is no memory. It answers why the run ended.
     pub fn finish(&mut self) -> Cause
         requires stands { StandsAt self.old.book.run (state_of self.old.book) self.old.next self.old.book.history }

@@ -10,6 +10,8 @@ use Rattle.omp_model.specs.declared.history.Entry.{Entry}
 use Rattle.omp_model.specs.State.{Run, first, pending_at}
 use Rattle.omp_model.specs.Cause.{cause_of}
 use Rattle.omp_model.specs.Heard.{heard_of}
+use Rattle.omp_model.specs.Legal.{after}
+use Rattle.step_book.specs.declared.closed.Closed.{Closed}
 use Rattle.step_book.specs.Owing.{NotBy}
 use Rattle.step_book.specs.Rule.{NoneBy, entries_of}
 use Rattle.step_book.specs.Sharing.{AreOwn, IsClosed, Sight, any_ended, fresh_pass}
@@ -32,9 +34,33 @@ outside-first n t = elim (cases_lt t n) [
   | inr past ↦ get_or_past (replicate n nobody) t nobody (omega (arith, past, length-replicate n nobody))
 ]
 
+-- A list that a loop has gone through up to one of its items.
+module _ {L : Type 0} (all yielded behind rest : List L) (one : L) (whole : yielded ++ behind ≡ all) (next : behind ≡ one ∷ rest) where
+  pub whole-next : (yielded ++ one ∷ []) ++ rest ≡ all
+  whole-next = append_assoc yielded (one ∷ []) rest ∙ ap (λ more. yielded ++ more) (sym next) ∙ whole
+
+  pub item-at : (d : L) → get_or all (length yielded) d ≡ one
+  item-at d = ap (λ (all : List L). get_or all (length yielded) d) (sym whole ∙ ap (λ more. yielded ++ more) next) ∙ get_or_at yielded one rest d (length yielded) refl
+
+  pub item-below : length yielded < length all
+  item-below = omega (arith, ap (λ (all : List L). length all) (sym whole ∙ ap (λ more. yielded ++ more) next), length-append yielded (one ∷ rest))
+
+  -- one more has come back
+  pub finish-more :
+      {P : Type 0} (stands_for : P → Record → Type 0) (Same : P → P → Type 0) (run : Run) (is : ℕ → P → L → Type 0) (first : List P) (passes : List Sight) (parts : List P) (pass : Sight) (part : P)
+      → length passes ≡ length yielded → length parts ≡ length yielded → AreFor is first all → AreDrivers stands_for Same run first passes parts
+      → ((t : ℕ) (whose : P) → is t whose one → IsDriver stands_for Same run t whose pass part) → AreDrivers stands_for Same run first (passes ++ pass ∷ []) (parts ++ part ∷ [])
+  finish-more stands_for Same run is first passes parts pass part passed parted are there goes k d e f below = elim (cases_eq k (length yielded)) [
+    | inl here ↦ rw (here, get_or_push passes pass d (length yielded) passed, get_or_push parts part f (length yielded) parted)
+        (goes (length yielded) (get_or first (length yielded) e) (subst (λ item. is (length yielded) (get_or first (length yielded) e) item) (item-at one) (are (length yielded) one e item-below)))
+    | inr other ↦
+        let less : k < length passes = omega (arith, below, other, passed, length-append passes (pass ∷ [])) in
+        rw (get_or_append_left passes (pass ∷ []) d k less, get_or_append_left parts (part ∷ []) f k (omega (arith, less, passed, parted))) (there k d e f less)
+  ]
+
 module _ {P : Type 0} (stands_for : P → Record → Type 0) (Same : P → P → Type 0) (run : Run) where
   -- a driver before its first visit
-  pub driver-first : ((part : P) → Same part part) → (t : ℕ) (first_part part : P) (pass : Sight) → pass ≡ fresh_pass t → part ≡ first_part → IsDriver stands_for Same run t first_part pass part
+  driver-first : ((part : P) → Same part part) → (t : ℕ) (first_part part : P) (pass : Sight) → pass ≡ fresh_pass t → part ≡ first_part → IsDriver stands_for Same run t first_part pass part
   driver-first itself t first_part part pass fresh same =
       let outside : pending_at (first run) t ≡ None = outside-first run.threads t in
       let driven : IsDriven stands_for Same run first_part (fresh_pass t) first_part = record {
@@ -45,6 +71,21 @@ module _ {P : Type 0} (stands_for : P → Record → Type 0) (Same : P → P →
         same_is = itself first_part;
       } in
       rw (fresh, same) (record { thread = refl; driven = driven })
+
+  -- all of them
+  pub drivers-first : ((part : P) → Same part part) → (parts : List P) (passes : List Sight) → length parts ≡ run.threads → length passes ≡ run.threads → ((k : ℕ) (d : Sight) → k < run.threads → get_or passes k d ≡ fresh_pass k)
+      → AreDrivers stands_for Same run parts passes parts
+  drivers-first itself parts passes many count fresh k d e f below =
+      driver-first itself k (get_or parts k e) (get_or parts k f) (get_or passes k d) (fresh k d (omega (arith, below, count))) (get_or_default parts k f e (omega (arith, below, count, many)))
+
+  -- the next driver, where a loop has gone through the passes and parts up to it
+  pub driver-next : (all yielded behind rest : List Sight) (pass : Sight) → yielded ++ behind ≡ all → behind ≡ pass ∷ rest → (parts : List P) (part : P) (n : ℕ) → n ≡ length yielded → ((d : P) → part ≡ get_or parts (length yielded) d)
+      → AreDrivers stands_for Same run parts all parts → (e : P) → IsDriver stands_for Same run n (get_or parts n e) pass part
+  driver-next all yielded behind rest pass whole next parts part n same is are e =
+      let here = are (length yielded) pass e e (item-below all yielded behind rest pass whole next) in
+      subst (λ k. IsDriver stands_for Same run k (get_or parts k e) pass part) (sym same)
+      (subst (λ part. IsDriver stands_for Same run (length yielded) (get_or parts (length yielded) e) pass part) (sym (is e))
+      (subst (λ pass. IsDriver stands_for Same run (length yielded) (get_or parts (length yielded) e) pass (get_or parts (length yielded) e)) (item-at all yielded behind rest pass whole next pass) here))
 
 -- one more of a list
 pub for-more : {P L : Type 0} (is : ℕ → P → L → Type 0) (parts : List P) (slots : List L) (slot : L) → AreFor is parts slots → ((e : P) → is (length slots) (get_or parts (length slots) e) slot) → AreFor is parts (slots ++ slot ∷ [])
@@ -65,17 +106,30 @@ kept-set is slots others place none next kept as_many within goes k d t whose be
 pub kept-then : {P L : Type 0} (is : ℕ → P → L → Type 0) (slots between others : List L) → length between ≡ length slots → AreKept is slots between → AreKept is between others → AreKept is slots others
 kept-then is slots between others as_many one two k d t whose below there = two k d t whose (omega (arith, below, as_many)) (one k d t whose below there)
 
--- What a closed book says of the parts of the drivers.
+-- What a closed book says.
+
+-- nothing is heard on a thread that the run doesn't have
+hears-own : (run : Run) (passes : List Sight) (history : List Entry) → IsClosed run passes history → HearsOwn run history
+hears-own run passes history closed k past =
+    let others : NoneBy k closed.all = λ i d less same. let below = closed.below i d less in omega (arith, below, same, past) in
+    ap (λ history. heard_of run history k) closed.entries ∙ heard-others run [] (entries_of closed.all) k (holds-others k closed.all closed.own others)
+
+-- the cause where no pass has ended the run for want of memory
+cause-known : (ended : Bool) (cause found : Option Cause) → cause ≡ (if ended then Some causes.Memory else found) → IfSome cause (λ cause. cause ≢ causes.Memory → found ≡ Some cause)
+cause-known true None found is = tt
+cause-known true (Some cause) found is = λ other. let same : cause ≡ causes.Memory = cc in absurd (other same)
+cause-known false None found is = tt
+cause-known false (Some cause) found is = λ other. sym is
 
 any-at : (passes : List Sight) (k : ℕ) (d : Sight) → k < length passes → (get_or passes k d).ended ≡ true → any_ended passes ≡ true
 any-at [] k d below ended = absurd (omega arith)
 any-at (pass ∷ rest) zero d below ended = or_left pass.ended (any_ended rest) ended
 any-at (pass ∷ rest) (suc k) d below ended = or_right pass.ended (any_ended rest) (any-at rest k d (omega arith) ended)
 
-module _ {P : Type 0} (stands_for : P → Record → Type 0) (Same : P → P → Type 0) (run : Run) (parts others : List P) (passes : List Sight) (history : List Entry) (cause : Option Cause) (p : P)
+module _ {P : Type 0} (stands_for : P → Record → Type 0) (Same : P → P → Type 0) (run : Run) (parts others : List P) (passes : List Sight) (closed : Closed) (p : P)
     (count : length parts ≡ run.threads) (passed : length passes ≡ run.threads) (back : length others ≡ run.threads)
-    (drivers : AreDrivers stands_for Same run parts passes others) (closed : IsClosed run passes history)
-    (cause_is : cause ≡ (if any_ended passes then Some causes.Memory else cause_of run history)) where
+    (drivers : AreDrivers stands_for Same run parts passes others) (is_closed : IsClosed run passes closed.history)
+    (text : closed.text.items ≡ (after run closed.history).world.store.text) (cause_is : closed.cause ≡ (if any_ended passes then Some causes.Memory else cause_of run closed.history)) where
   none : Sight
   none = fresh_pass 0
 
@@ -85,31 +139,31 @@ module _ {P : Type 0} (stands_for : P → Record → Type 0) (Same : P → P →
   -- what stands in the history beyond what a pass has seen is others'
   record Beyond (k : ℕ) : Type 0 where
     more : List Entry
-    whole : history ≡ entries_of (get_or passes k none).seen ++ more
+    whole : closed.history ≡ entries_of (get_or passes k none).seen ++ more
     not_by : NotBy k more
 
   beyond : (k : ℕ) → k < run.threads → Beyond k
   beyond k below =
-      let begins = closed.begins k none below in
+      let begins = is_closed.begins k none below in
       let seen = (get_or passes k none).seen in
       record {
         more = entries_of begins.rest;
-        whole = closed.entries ∙ ap entries_of begins.whole ∙ entries-append seen begins.rest;
-        not_by = holds-others k begins.rest (own-back seen begins.rest (subst AreOwn begins.whole closed.own)) begins.others;
+        whole = is_closed.entries ∙ ap entries_of begins.whole ∙ entries-append seen begins.rest;
+        not_by = holds-others k begins.rest (own-back seen begins.rest (subst AreOwn begins.whole is_closed.own)) begins.others;
       }
 
   abbrev unheard-by : (k : ℕ) → (k < run.threads) ⊎ (run.threads ≤ k) → Bool
   unheard-by k (inl below) = (driver k below).driven.unheard
   unheard-by k (inr past) = false
 
-  left-by : (k : ℕ) (c : (k < run.threads) ⊎ (run.threads ≤ k)) → k < run.threads → LeftAt run history k (unheard-by k c)
+  left-by : (k : ℕ) (c : (k < run.threads) ⊎ (run.threads ≤ k)) → k < run.threads → LeftAt run closed.history k (unheard-by k c)
   left-by k (inl below) less =
       let b = beyond k below in
       let d = driver k below in
       subst (λ history. LeftAt run history k d.driven.unheard) (sym b.whole) (left-others run (entries_of (get_or passes k none).seen) b.more k d.driven.unheard b.not_by (rw d.thread at d.driven.left))
   left-by k (inr past) less = absurd (omega arith)
 
-  heard-by : (k : ℕ) (c : (k < run.threads) ⊎ (run.threads ≤ k)) → cause ≢ Some causes.Memory → k < run.threads → unheard-by k c ≡ false
+  heard-by : (k : ℕ) (c : (k < run.threads) ⊎ (run.threads ≤ k)) → closed.cause ≢ Some causes.Memory → k < run.threads → unheard-by k c ≡ false
   heard-by k (inl below) other less = by (driver k below).driven.unheard (driver k below).driven.over
     where
       by : (unheard : Bool) → (unheard ≡ true → (get_or passes k none).ended ≡ true) → unheard ≡ false
@@ -117,73 +171,39 @@ module _ {P : Type 0} (stands_for : P → Record → Type 0) (Same : P → P →
       by false over = refl
   heard-by k (inr past) other less = absurd (omega arith)
 
-  each-by : (k : ℕ) (c : (k < run.threads) ⊎ (run.threads ≤ k)) (d : P) (h : Record) → k < length parts → stands_for (get_or parts k d) h → stands_for (get_or others k d) (called_for (heard_of run history k) (unheard-by k c) h)
+  each-by : (k : ℕ) (c : (k < run.threads) ⊎ (run.threads ≤ k)) (d : P) (h : Record) → k < length parts → stands_for (get_or parts k d) h → stands_for (get_or others k d) (called_for (heard_of run closed.history k) (unheard-by k c) h)
   each-by k (inl below) d h less stands =
       let b = beyond k below in
       let one = driver k below in
       let from = subst (λ part. stands_for part h) (get_or_default parts k d p less) stands in
       let hears = rw one.thread at (one.driven.hears h from) in
-      let same : heard_of run history k ≡ heard_of run (entries_of (get_or passes k none).seen) k = ap (λ history. heard_of run history k) b.whole ∙ heard-others run (entries_of (get_or passes k none).seen) b.more k b.not_by in
-      subst (λ part. stands_for part (called_for (heard_of run history k) one.driven.unheard h)) (get_or_default others k p d (omega (arith, below, back))) (rw same hears)
+      let same : heard_of run closed.history k ≡ heard_of run (entries_of (get_or passes k none).seen) k = ap (λ history. heard_of run history k) b.whole ∙ heard-others run (entries_of (get_or passes k none).seen) b.more k b.not_by in
+      subst (λ part. stands_for part (called_for (heard_of run closed.history k) one.driven.unheard h)) (get_or_default others k p d (omega (arith, below, back))) (rw same hears)
   each-by k (inr past) d h less stands = absurd (omega arith)
 
-  pub have-served : HaveServed stands_for Same run cause history parts others
+  pub have-served : HaveServed stands_for Same run closed parts others
   have-served = record {
+    legal = is_closed.legal;
+    own = hears-own run passes closed.history is_closed;
+    text = text;
+    known = cause-known (any_ended passes) closed.cause (cause_of run closed.history) cause_is;
     as_many = back ∙ sym count;
     unheard = λ k. unheard-by k (cases_lt k run.threads);
     left = λ k below. left-by k (cases_lt k run.threads) below;
     all_heard = λ other k below. heard-by k (cases_lt k run.threads) other below;
     each = λ k d h below stands. each-by k (cases_lt k run.threads) d h below stands;
-    same = λ k d below.
-        subst (λ part. Same (get_or parts k d) part) (sym (get_or_default others k d p (omega (arith, below, count, back))))
-        (subst (λ part. Same part (get_or others k p)) (sym (get_or_default parts k d p below)) (driver k (omega (arith, below, count))).driven.same_is);
+    same =
+        record {
+          each = λ k d below.
+              subst (λ part. Same (get_or parts k d) part) (sym (get_or_default others k d p (omega (arith, below, count, back))))
+              (subst (λ part. Same part (get_or others k p)) (sym (get_or_default parts k d p below)) (driver k (omega (arith, below, count))).driven.same_is);
+        };
   }
-
--- nothing is heard on a thread that the run doesn't have
-pub hears-own : (run : Run) (passes : List Sight) (history : List Entry) → IsClosed run passes history → HearsOwn run history
-hears-own run passes history closed k past =
-    let others : NoneBy k closed.all = λ i d less same. let below = closed.below i d less in omega (arith, below, same, past) in
-    ap (λ history. heard_of run history k) closed.entries ∙ heard-others run [] (entries_of closed.all) k (holds-others k closed.all closed.own others)
-
--- A list that a loop has gone through up to one of its items.
-module _ {L : Type 0} (all yielded behind rest : List L) (one : L) (whole : yielded ++ behind ≡ all) (next : behind ≡ one ∷ rest) where
-  pub whole-next : (yielded ++ one ∷ []) ++ rest ≡ all
-  whole-next = append_assoc yielded (one ∷ []) rest ∙ ap (λ more. yielded ++ more) (sym next) ∙ whole
-
-  pub item-at : (d : L) → get_or all (length yielded) d ≡ one
-  item-at d = ap (λ (all : List L). get_or all (length yielded) d) (sym whole ∙ ap (λ more. yielded ++ more) next) ∙ get_or_at yielded one rest d (length yielded) refl
-
-  pub item-below : length yielded < length all
-  item-below = omega (arith, ap (λ (all : List L). length all) (sym whole ∙ ap (λ more. yielded ++ more) next), length-append yielded (one ∷ rest))
-
-  -- one more was started
-  pub start-more :
-      {P M : Type 0} (is : ℕ → P → L → Type 0) (becomes : ℕ → P → M → Type 0) (parts : List P) (slots : List M) (slot : M) → length slots ≡ length yielded → AreFor is parts all → AreFor becomes parts slots
-      → ((t : ℕ) (whose : P) → is t whose one → becomes t whose slot) → AreFor becomes parts (slots ++ slot ∷ [])
-  start-more is becomes parts slots slot as_many are there goes =
-      for-more becomes parts slots slot there (λ e.
-      goes (length slots) (get_or parts (length slots) e)
-      (subst (λ n. is n (get_or parts n e) one) (sym as_many) (subst (λ item. is (length yielded) (get_or parts (length yielded) e) item) (item-at one) (are (length yielded) one e item-below))))
-
-  -- one more has come back
-  pub finish-more :
-      {P : Type 0} (stands_for : P → Record → Type 0) (Same : P → P → Type 0) (run : Run) (is : ℕ → P → L → Type 0) (first : List P) (passes : List Sight) (parts : List P) (pass : Sight) (part : P)
-      → length passes ≡ length yielded → length parts ≡ length yielded → AreFor is first all → AreDrivers stands_for Same run first passes parts
-      → ((t : ℕ) (whose : P) → is t whose one → IsDriver stands_for Same run t whose pass part) → AreDrivers stands_for Same run first (passes ++ pass ∷ []) (parts ++ part ∷ [])
-  finish-more stands_for Same run is first passes parts pass part passed parted are there goes k d e f below = elim (cases_eq k (length yielded)) [
-    | inl here ↦ rw (here, get_or_push passes pass d (length yielded) passed, get_or_push parts part f (length yielded) parted)
-        (goes (length yielded) (get_or first (length yielded) e) (subst (λ item. is (length yielded) (get_or first (length yielded) e) item) (item-at one) (are (length yielded) one e item-below)))
-    | inr other ↦
-        let less : k < length passes = omega (arith, below, other, passed, length-append passes (pass ∷ [])) in
-        rw (get_or_append_left passes (pass ∷ []) d k less, get_or_append_left parts (part ∷ []) f k (omega (arith, less, passed, parted))) (there k d e f less)
-  ]
 
 -- what is so of each is so of each that was kept
 pub for-kept : {P L : Type 0} (is : ℕ → P → L → Type 0) (parts : List P) (slots others : List L) → length others ≡ length slots → AreFor is parts slots → AreKept is slots others → AreFor is parts others
 for-kept is parts slots others as_many each kept k d e below =
     let less : k < length slots = omega (arith, below, as_many) in kept k d k (get_or parts k e) less (each k d e less)
-
--- Two lists of which each driver has an item.
 
 -- the rest of a list from a place on, and the next item
 pub rest-next : {P : Type 0} (parts rest more : List P) (n : ℕ) (part : P) → rest ≡ drop n parts → rest ≡ part ∷ more → (more ≡ drop (n + 1) parts) × ((d : P) → part ≡ get_or parts n d)
@@ -194,23 +214,7 @@ rest-next parts rest more n part is next =
     let tail : more ≡ drop (n + 1) parts = cc in
     (tail, λ d. head ∙ get_or_default parts n part d within)
 
--- one driver more
-pub pairs-more :
-    {D X : Type 0} (field : D → X) (drivers : List D) (xs : List X) (driver : D) (n m : ℕ) → length drivers ≡ n → m ≡ n + 1 → ((k : ℕ) (d : D) (e : X) → k < n → field (get_or drivers k d) ≡ get_or xs k e) → ((e : X) → field driver ≡ get_or xs n e)
-    → (k : ℕ) (d : D) (e : X) → k < m → field (get_or (drivers ++ driver ∷ []) k d) ≡ get_or xs k e
-pairs-more field drivers xs driver n m count more each one k d e below = elim (cases_eq k n) [
-  | inl here ↦ rw (here, get_or_push drivers driver d n count) (one e)
-  | inr other ↦ let less : k < n = omega (arith, below, other, more) in rw (get_or_append_left drivers (driver ∷ []) d k (omega (arith, less, count))) (each k d e less)
-]
-
 -- an item of a list that has one
 pub some-of : {P : Type 0} (parts : List P) → 0 < length parts → P
 some-of [] some = absurd (omega arith)
 some-of (part ∷ rest) some = part
-
--- the cause where no pass has ended the run for want of memory
-pub cause-known : (ended : Bool) (cause found : Option Cause) → cause ≡ (if ended then Some causes.Memory else found) → IfSome cause (λ cause. cause ≢ causes.Memory → found ≡ Some cause)
-cause-known true None found is = tt
-cause-known true (Some cause) found is = λ other. let same : cause ≡ causes.Memory = cc in absurd (other same)
-cause-known false None found is = tt
-cause-known false (Some cause) found is = λ other. sym is

@@ -1,25 +1,34 @@
 -- The drivers of a run, while they are started, and once they have come back.
-use Rattle.std.specs.Prelude.{ℕ, ◌≡◌, ◌≢◌, ◌<◌, Bool, false, List, length, get_or, Option, Some, Result, Ok, Err}
+use Rattle.std.specs.Prelude.{ℕ, ◌≡◌, ◌≢◌, ◌<◌, Bool, false, List, length, get_or, IfSome, Some, Result, Ok, Err}
 use Rattle.tool_api.specs.Record.{Record}
-use Rattle.omp_model.specs.declared.cause.Cause.{Cause}
 use Rattle.omp_model.specs.declared.cause.Cause.TheVariants as causes
-use Rattle.omp_model.specs.declared.history.Entry.{Entry}
+use Rattle.omp_model.specs.Cause.{cause_of}
 use Rattle.omp_model.specs.State.{Run}
 use Rattle.omp_model.specs.Heard.{heard_of}
+use Rattle.omp_model.specs.Legal.{Legal, after}
+use Rattle.step_book.specs.declared.closed.Closed.{Closed}
 use Rattle.step_book.specs.Sharing.{Sight}
-use Rattle.team_run.specs.Serving.{called_for}
+use Rattle.team_run.specs.Serving.{AreSame, called_for}
+use Rattle.team_run.specs.Standing.{HearsOwn}
 use Rattle.team_run.specs.Unheard.{LeftAt}
+use Rattle.thread_run.specs.declared.team.Slot.{Slot}
 use Rattle.thread_run.specs.Driving.{IsDriven}
 
 -- the driver of a thread, whose part was this one at first
-pub record IsDriver {P : Type 0} (stands_for : P → Record → Type 0) (Same : P → P → Type 0) (run : Run) (t : ℕ) (first : P) (pass : Sight) (part : P) : Type 0 where
+pub record IsDriver {P : Type 0} (stands_for : P → Record → Type 0) (Same : P → P → Type 0) (run : Run) (t : ℕ) (first : P)
+    (pass : Sight) (part : P) : Type 0 where
   pub thread : pass.thread ≡ t
   pub driven : IsDriven stands_for Same run first pass part
 
 -- a driver that runs on a thread of its own, as it was when it was started, or that the caller has
-abbrev pub IsSlot : {P H : Type 0} → (H → Sight) → (H → P) → (P → Record → Type 0) → (P → P → Type 0) → Run → ℕ → P → Result H (Sight × P) → Type 0
-IsSlot pass_of part_of stands_for Same run t first (Ok running) = IsDriver stands_for Same run t first (pass_of running) (part_of running)
-IsSlot pass_of part_of stands_for Same run t first (Err here) = IsDriver stands_for Same run t first here.0 here.1
+abbrev pub IsPlaced : {P H : Type 0} → (H → Sight) → (H → P) → (P → Record → Type 0) → (P → P → Type 0) → Run → ℕ → P →
+    Result H (Sight × P) → Type 0
+IsPlaced pass_of part_of stands_for Same run t first (Ok running) = IsDriver stands_for Same run t first (pass_of running) (part_of running)
+IsPlaced pass_of part_of stands_for Same run t first (Err here) = IsDriver stands_for Same run t first here.0 here.1
+
+abbrev pub IsSlot : {K P : Type 0} → (P → Record → Type 0) → (P → P → Type 0) → Run → ℕ → P → Slot K P → Type 0
+IsSlot stands_for Same run t first slot =
+    IsPlaced (λ h. h.promise.0.value) (λ h. h.promise.1.value) stands_for Same run t first slot.driver
 
 -- each of these is what this says of its place and of the part that was there at first
 abbrev pub AreFor : {P L : Type 0} → (ℕ → P → L → Type 0) → List P → List L → Type 0
@@ -27,19 +36,26 @@ AreFor {P = P} {L = L} is parts slots = (k : ℕ) (d : L) (e : P) → k < length
 
 -- the passes and parts of all threads, in order
 abbrev pub AreDrivers : {P : Type 0} → (P → Record → Type 0) → (P → P → Type 0) → Run → List P → List Sight → List P → Type 0
-AreDrivers {P = P} stands_for Same run first passes parts =
-    (k : ℕ) (d : Sight) (e f : P) → k < length passes → IsDriver stands_for Same run k (get_or first k e) (get_or passes k d) (get_or parts k f)
+AreDrivers {P = P} stands_for Same run first passes parts = (k : ℕ) (d : Sight) (e f : P) → k < length passes →
+    IsDriver stands_for Same run k (get_or first k e) (get_or passes k d) (get_or parts k f)
 
 -- what is so of a list of slots is so of the other
 abbrev pub AreKept : {P L : Type 0} → (ℕ → P → L → Type 0) → List L → List L → Type 0
-AreKept {P = P} {L = L} is slots others = (k : ℕ) (d : L) (t : ℕ) (first : P) → k < length slots → is t first (get_or slots k d) → is t first (get_or others k d)
+AreKept {P = P} {L = L} is slots others = (k : ℕ) (d : L) (t : ℕ) (first : P) → k < length slots →
+    is t first (get_or slots k d) → is t first (get_or others k d)
 
--- The parts of all threads were called for what their threads hear of the history, and else at most once, where the call found no memory. Then the run
--- ended for want of memory.
-pub record HaveServed {P : Type 0} (stands_for : P → Record → Type 0) (Same : P → P → Type 0) (run : Run) (cause : Option Cause) (history : List Entry) (parts others : List P) : Type 0 where
+-- What a run by threads has come to: a legal history, and its parts, which were called for what their threads hear of it, and else at most
+-- once, where the call found no memory. Then the run ended for want of memory.
+pub record HaveServed {P : Type 0} (stands_for : P → Record → Type 0) (Same : P → P → Type 0) (run : Run) (closed : Closed)
+    (parts others : List P) : Type 0 where
+  pub legal : Legal run closed.history
+  pub own : HearsOwn run closed.history
+  pub text : closed.text.items ≡ (after run closed.history).world.store.text
+  pub known : IfSome closed.cause (λ cause. cause ≢ causes.Memory → cause_of run closed.history ≡ Some cause)
   pub as_many : length others ≡ length parts
   pub unheard : ℕ → Bool
-  pub left : (k : ℕ) → k < run.threads → LeftAt run history k (unheard k)
-  pub all_heard : cause ≢ Some causes.Memory → (k : ℕ) → k < run.threads → unheard k ≡ false
-  pub each : (k : ℕ) (d : P) (h : Record) → k < length parts → stands_for (get_or parts k d) h → stands_for (get_or others k d) (called_for (heard_of run history k) (unheard k) h)
-  pub same : (k : ℕ) (d : P) → k < length parts → Same (get_or parts k d) (get_or others k d)
+  pub left : (k : ℕ) → k < run.threads → LeftAt run closed.history k (unheard k)
+  pub all_heard : closed.cause ≢ Some causes.Memory → (k : ℕ) → k < run.threads → unheard k ≡ false
+  pub each : (k : ℕ) (d : P) (h : Record) → k < length parts → stands_for (get_or parts k d) h →
+      stands_for (get_or others k d) (called_for (heard_of run closed.history k) (unheard k) h)
+  pub same : AreSame Same parts others

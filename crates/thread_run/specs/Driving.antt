@@ -15,7 +15,8 @@ abbrev pub is_over : Sight → Bool
 is_over pass = pass.ended || pass.told_over
 
 -- The driver of a pass: its part, which was this one at first, was called for what the pass's thread hears of what the pass has seen.
-pub record IsDriven {P : Type 0} (stands_for : P → Record → Type 0) (Same : P → P → Type 0) (run : Run) (first : P) (pass : Sight) (part : P) : Type 0 where
+pub record IsDriven {P : Type 0} (stands_for : P → Record → Type 0) (Same : P → P → Type 0) (run : Run) (first : P) (pass : Sight)
+    (part : P) : Type 0 where
   pub unheard : Bool
   pub left : LeftAt run (entries_of pass.seen) pass.thread unheard
   pub over : unheard ≡ true → pass.ended ≡ true
@@ -23,7 +24,8 @@ pub record IsDriven {P : Type 0} (stands_for : P → Record → Type 0) (Same : 
   pub same_is : Same first part
 
 -- The same while the pass's thread is inside a callback: its part was called for what the thread had heard before.
-pub record IsInside {P : Type 0} (stands_for : P → Record → Type 0) (Same : P → P → Type 0) (run : Run) (first : P) (pass : Sight) (part : P) : Type 0 where
+pub record IsInside {P : Type 0} (stands_for : P → Record → Type 0) (Same : P → P → Type 0) (run : Run) (first : P) (pass : Sight)
+    (part : P) : Type 0 where
   pub hears : (h : Record) → stands_for first h → stands_for part (served h (heard_of run (entries_of pass.seen) pass.thread))
   pub same_is : Same first part
 
@@ -35,9 +37,11 @@ HasStep stands_for Same run first pass part other = IsDriven stands_for Same run
 -- what a driver has come to between two visits: where it found no memory, it is still to end the run
 abbrev pub HasCome : {P E : Type 0} → (P → Record → Type 0) → (P → P → Type 0) → Run → P → Sight → P → Result Step E → Type 0
 HasCome stands_for Same run first pass part (Ok step) = HasStep stands_for Same run first pass part step
-HasCome stands_for Same run first pass part (Err e) = (later : Sight) → Grows pass later [] → later.ended ≡ true → IsDriven stands_for Same run first later part
+HasCome stands_for Same run first pass part (Err e) = (later : Sight) → Grows pass later [] → later.ended ≡ true →
+    IsDriven stands_for Same run first later part
 
 -- a driver goes on from this pass and part to those: the thread is the same, and what was so of it is so still
-pub record GoesOn {P : Type 0} (stands_for : P → Record → Type 0) (Same : P → P → Type 0) (run : Run) (pass : Sight) (part : P) (later : Sight) (next : P) : Type 0 where
+pub record GoesOn {P : Type 0} (stands_for : P → Record → Type 0) (Same : P → P → Type 0) (run : Run) (pass : Sight) (part : P)
+    (later : Sight) (next : P) : Type 0 where
   pub thread : later.thread ≡ pass.thread
   pub driven : (first : P) → IsDriven stands_for Same run first pass part → IsDriven stands_for Same run first later next

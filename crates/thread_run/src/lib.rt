@@ -8,27 +8,28 @@
 //!
 //! The caller has the driver of thread 0, and each other one runs on a thread of its own. Where a start is refused the driver comes
 //! back as it was, and the caller visits it in turn with driver 0, one visit with its answer each. Passes and parts come back in
-//! the order of their threads. Part 0 is started before the book is made, and finished when all drivers have come back, as in a
+//! the order of their threads. Part 0 is started before the book is made. It is finished when all drivers have come back, as in a
 //! serial run.
 //!
-//! `driver` has a driver's whole way and a visit alone, `team` starts the drivers and takes them back, `threads` puts them together.
-//! In `specs/` `Driving` says what a driver's part was called for, and `Drivers` what is so of all drivers at once. What the parts of a whole run were called
-//! for is said as of a serial run (`RunsParts` of `team_run`).
+//! `driver` has the loop of a driver, and a visit alone. `team` starts the drivers and takes them back. `threads` puts them together.
+//! In `specs/` `Driving` says what a driver's part was called for, and `Drivers` what is so of all drivers at once. What the parts of a
+//! whole run were called for is said as of a serial run (`RunsParts` of `team_run`).
 //!
 //! Proved by the contract of [`run_threads`], for every kind of part. It holds of each answer that has a run. "The run" is that
 //! of the program, the threads and the silent steps that were handed in, with the mask in the answer:
 //!
-//! - `legal`: the history is legal for the run;
-//! - `parts`: part 0 was started once, and the mask is what it then registered, or 0 where it answered 0. It was finished once
+//! - `ran.legal`: the history is legal for the run;
+//! - `ran.parts`: part 0 was started once, and the mask is what it then registered, or 0 where it answered 0. It was finished once
 //!   and after all its calls where it answered another number, and else not at all. No other part was started or finished.
 //!   Each part was called for what its thread hears of the history, in order: the position of the event, its call, its
 //!   snapshot, and the stores that took effect. Beside that a part was called at most once more, for the event whose answer its
 //!   thread owes at the end of the history, and found no memory. That is so only where the cause is
 //!   [`Memory`](omp_model::Cause::Memory). A thread whose part found memory is inside no callback at the end;
-//! - `same`: each part is the same as before, by a relation of its own; `always`: the mask has callbacks alone that are called always;
-//! - `own`: nothing is heard on a thread that the run doesn't have;
-//! - `cause`: where the cause isn't `Memory` it is the one in which the history ends;
-//! - `text`: the text is what the program has printed in the state after the history.
+//! - `ran.same`: each part is the same as before, by a relation of its own; `ran.always`: the mask has callbacks alone that are called
+//!   always;
+//! - `ran.own`: nothing is heard on a thread that the run doesn't have;
+//! - `ran.cause`: where the cause isn't `Memory` it is the one in which the history ends;
+//! - `ran.text`: the text is what the program has printed in the state after the history.
 //!
 //! Not proved:
 //!

@@ -19,15 +19,6 @@ const THREADS: usize = 16;
 /// For each thread whether its driver is to be handed back as it is.
 pub(crate) type Stays = [AtomicBool; THREADS];
 
-/// The driver of a thread.
-#[derive(Drop)]
-pub(crate) struct Driver<K: BookName, P: ToolPart> {
-    /// Its pass.
-    pub pass: Pass<K>,
-    /// Its part.
-    pub part: P,
-}
-
 /// That a driver goes on from this pass and this part.
 #[derive(Drop)]
 struct Drives<K: BookName, P: ToolPart>(Snapshot<Pass<K>>, Snapshot<P>);
@@ -53,7 +44,7 @@ fn start<'s, E: 's, R: Wait + Sync, K: BookName + 's, P: ToolPart + 's>(
     part: P,
 ) -> Slot<K, P>
     ensures { (t : ℕ) (first : P) → IsDriver P.stands_for P.same K.run t first pass part →
-        IsSlot (λ h. h.promise.0.value) (λ h. h.promise.1.value) P.stands_for P.same K.run t first result.driver }
+        IsSlot P.stands_for P.same K.run t first result }
 {
     let promise = Drives(Snapshot::of(&pass), Snapshot::of(&part));
     match scope.spawn_with(
@@ -82,8 +73,7 @@ fn start<'s, E: 's, R: Wait + Sync, K: BookName + 's, P: ToolPart + 's>(
 
 /// The driver as it has come back from its thread, if it has one.
 fn finish<R: Threads, K: BookName, P: ToolPart>(rt: &R, slot: Slot<K, P>) -> (Pass<K>, P)
-    ensures { (t : ℕ) (first : P) →
-        IsSlot (λ h. h.promise.0.value) (λ h. h.promise.1.value) P.stands_for P.same K.run t first slot.driver →
+    ensures { (t : ℕ) (first : P) → IsSlot P.stands_for P.same K.run t first slot →
         IsDriver P.stands_for P.same K.run t first result.0 result.1 }
 {
     match slot.driver {
@@ -92,43 +82,21 @@ fn finish<R: Threads, K: BookName, P: ToolPart>(rt: &R, slot: Slot<K, P>) -> (Pa
     }
 }
 
-/// How many drivers the caller has.
-fn count_here<K: BookName, P: ToolPart>(slots: &[Slot<K, P>]) -> usize {
-    slots.iter().filter(|slot| slot.driver.is_err()).count()
-}
-
-/// Drives the drivers that the caller has, until the run is over.
+/// Drives the drivers that the caller has, until the run is over. Where it has one alone, that is the first.
 pub(crate) fn drive_here<R: Wait, K: BookName, P: ToolPart>(
     rt: &R,
     book: &SharedBook<K>,
     slots: &mut [Slot<K, P>],
 )
     ensures as_many { length slots.new ≡ length slots.old }
-    ensures kept { AreKept (λ t first slot.
-        IsSlot (λ h. h.promise.0.value) (λ h.
-        h.promise.1.value) P.stands_for P.same K.run t first slot.driver) slots.old slots.new }
+    ensures kept { AreKept (IsSlot P.stands_for P.same K.run) slots.old slots.new }
 {
-    if count_here(slots) == 1 {
-        drive_alone(rt, book, slots);
-    } else {
-        drive_in_turn(rt, book, slots);
+    let here = slots.iter().filter(|slot| slot.driver.is_err()).count();
+    if here == 1 && !slots.is_empty() {
+        drive_slot(rt, book, &mut slots[0]);
+        return;
     }
-}
-
-/// Drives the only driver that the caller has.
-fn drive_alone<R: Wait, K: BookName, P: ToolPart>(
-    rt: &R,
-    book: &SharedBook<K>,
-    slots: &mut [Slot<K, P>],
-)
-    ensures as_many { length slots.new ≡ length slots.old }
-    ensures kept { AreKept (λ t first slot.
-        IsSlot (λ h. h.promise.0.value) (λ h.
-        h.promise.1.value) P.stands_for P.same K.run t first slot.driver) slots.old slots.new }
-{
-    for place in 0..slots.len() {
-        drive_slot(rt, book, &mut slots[place]);
-    }
+    drive_in_turn(rt, book, slots);
 }
 
 /// Drives the driver, if the caller has it.
@@ -137,9 +105,8 @@ fn drive_slot<R: Wait, K: BookName, P: ToolPart>(
     book: &SharedBook<K>,
     slot: &mut Slot<K, P>,
 )
-    ensures { (t : ℕ) (first : P) →
-        IsSlot (λ h. h.promise.0.value) (λ h. h.promise.1.value) P.stands_for P.same K.run t first slot.old.driver →
-        IsSlot (λ h. h.promise.0.value) (λ h. h.promise.1.value) P.stands_for P.same K.run t first slot.new.driver }
+    ensures { (t : ℕ) (first : P) → IsSlot P.stands_for P.same K.run t first slot.old →
+        IsSlot P.stands_for P.same K.run t first slot.new }
 {
     if let Err((pass, part)) = &mut slot.driver {
         drive(rt, book, pass, part);
@@ -153,9 +120,7 @@ fn drive_in_turn<R: Wait, K: BookName, P: ToolPart>(
     slots: &mut [Slot<K, P>],
 )
     ensures as_many { length slots.new ≡ length slots.old }
-    ensures kept { AreKept (λ t first slot.
-        IsSlot (λ h. h.promise.0.value) (λ h.
-        h.promise.1.value) P.stands_for P.same K.run t first slot.driver) slots.old slots.new }
+    ensures kept { AreKept (IsSlot P.stands_for P.same K.run) slots.old slots.new }
 {
     for _ in rt.forever() {
         if !visit_all(rt, book, slots) {
@@ -172,9 +137,7 @@ fn visit_all<R: Wait, K: BookName, P: ToolPart>(
     slots: &mut [Slot<K, P>],
 ) -> bool
     ensures as_many { length slots.new ≡ length slots.old }
-    ensures kept { AreKept (λ t first slot.
-        IsSlot (λ h. h.promise.0.value) (λ h.
-        h.promise.1.value) P.stands_for P.same K.run t first slot.driver) slots.old slots.new }
+    ensures kept { AreKept (IsSlot P.stands_for P.same K.run) slots.old slots.new }
 {
     let mut goes_on = false;
     for place in 0..slots.len() {
@@ -191,9 +154,8 @@ fn visit_here<R: Wait, K: BookName, P: ToolPart>(
     book: &SharedBook<K>,
     slot: &mut Slot<K, P>,
 ) -> Visited
-    ensures { (t : ℕ) (first : P) →
-        IsSlot (λ h. h.promise.0.value) (λ h. h.promise.1.value) P.stands_for P.same K.run t first slot.old.driver →
-        IsSlot (λ h. h.promise.0.value) (λ h. h.promise.1.value) P.stands_for P.same K.run t first slot.new.driver }
+    ensures { (t : ℕ) (first : P) → IsSlot P.stands_for P.same K.run t first slot.old →
+        IsSlot P.stands_for P.same K.run t first slot.new }
 {
     match &mut slot.driver {
         Err((pass, part)) => visit(rt, book, pass, part),
@@ -201,29 +163,30 @@ fn visit_here<R: Wait, K: BookName, P: ToolPart>(
     }
 }
 
-/// Starts each driver but the first, which the caller has.
+/// Starts the driver of each pass and part but the first, which the caller has.
 pub(crate) fn start_all<'s, E: 's, R: Wait + Sync, K: BookName + 's, P: ToolPart + 's>(
     scope: &Scope<'s, E>,
     rt: &'s R,
     book: &'s SharedBook<K>,
     stays: &'s Stays,
-    drivers: Vec<Driver<K, P>>,
+    passes: Vec<Pass<K>>,
+    parts: Vec<P>,
     slots: Vec<Slot<K, P>>,
 ) -> Vec<Slot<K, P>>
-    requires few { length drivers.items ≤ 16 }
+    requires few { length passes.items ≤ 16 }
+    requires each { length passes.items ≡ length parts.items }
     requires empty { slots.items ≡ [] }
-    requires room { length drivers.items ≤ vec_capacity slots }
-    ensures as_many { length result.items ≡ length drivers.items }
-    ensures slots { (parts : List P) →
-        AreFor (λ t first driver. IsDriver P.stands_for P.same K.run t first driver.pass driver.part) parts
-        drivers.items →
-        AreFor (λ t first slot.
-        IsSlot (λ h. h.promise.0.value) (λ h.
-        h.promise.1.value) P.stands_for P.same K.run t first slot.driver) parts result.items }
+    requires room { length passes.items ≤ vec_capacity slots }
+    ensures as_many { length result.items ≡ length passes.items }
+    ensures slots { AreDrivers P.stands_for P.same K.run parts.items passes.items parts.items →
+        AreFor (IsSlot P.stands_for P.same K.run) parts.items result.items }
 {
     let mut slots = slots;
-    for driver in drivers {
-        let Driver { pass, part } = driver;
+    let mut parts = parts.into_iter();
+    for pass in passes {
+        let Some(part) = parts.next() else {
+            unreachable!();
+        };
         let place = slots.len();
         let slot = if place == 0 {
             Slot {
@@ -250,9 +213,7 @@ pub(crate) fn finish_all<R: Threads, K: BookName, P: ToolPart>(
     requires parts { length slots.items ≤ vec_capacity parts }
     ensures passes { length result.0.items ≡ length slots.items }
     ensures parts { length result.1.items ≡ length slots.items }
-    ensures drivers { (first : List P) → AreFor (λ t first slot.
-        IsSlot (λ h. h.promise.0.value) (λ h.
-        h.promise.1.value) P.stands_for P.same K.run t first slot.driver) first slots.items →
+    ensures drivers { (first : List P) → AreFor (IsSlot P.stands_for P.same K.run) first slots.items →
         AreDrivers P.stands_for P.same K.run first result.0.items result.1.items }
 {
     let mut passes = passes;

@@ -1,16 +1,10 @@
 //! The run by threads: each thread number has a thread of its own, where it can be started, and callbacks of different threads may overlap.
 
-ghost use Rattle.std.specs.Prelude.{◌≡◌, ◌≢◌, ◌<◌, ◌≤◌, ℕ, Some, IfOk, IfSome, List, false, get_or, length, vec_capacity, []};
-ghost use Rattle.omp_model.specs.Cause.{cause_of};
-ghost use Rattle.omp_model.specs.Legal.{Legal, after};
-ghost use Rattle.step_book.specs.Sharing.{Sight, fresh_pass};
-ghost use Rattle.thread_run.specs.Drivers.{AreDrivers, AreFor, HaveServed, IsDriver};
-ghost use Rattle.team_run.specs.Program.{run_of};
-ghost use Rattle.team_run.specs.Serving.{AreSame, RunsParts};
-ghost use Rattle.tool_api.specs.Registering.{AreAlways, mask_of};
-ghost use Rattle.team_run.specs.Standing.{HearsOwn};
+ghost use Rattle.std.specs.Prelude.{◌≡◌, ◌≢◌, ◌≤◌, Some, IfOk, false, length, vec_capacity, []};
+ghost use Rattle.thread_run.specs.Drivers.{AreDrivers, HaveServed};
+ghost use Rattle.team_run.specs.Program.{IsRan, run_of};
 
-use crate::team::{Driver, Slot, Stays, drive_here, finish_all, start_all};
+use crate::team::{Slot, Stays, drive_here, finish_all, start_all};
 use c_check::Program;
 use omp_model::Cause;
 use std::alloc::Global;
@@ -18,8 +12,8 @@ use std::marker::Brand;
 use std::num::NonZeroUsize;
 use std::sync::Wait;
 use std::sync::atomic::AtomicBool;
-use std::thread;
 use std::thread::Threads;
+use std::{array, thread};
 use step_book::{Blank, BookName, Closed, Pass, SharedBook};
 use team_run::{Memory, Ran, finalize_first, initialize_first, mask_of};
 use tool_api::ToolPart;
@@ -45,23 +39,14 @@ pub fn run_threads<R: Threads + Wait + Sync, P: ToolPart>(
     requires steps { 1 ≤ steps }
     requires bounded { steps ≤ 30000000 }
     requires parts { length parts.items ≡ threads }
-    ensures legal { IfOk result (λ ran. Legal (run_of program threads steps ran) ran.history) }
-    ensures parts { IfOk result (λ ran.
-        RunsParts P.stands_for false (run_of program threads steps ran) ran.cause ran.history parts.items
-        ran.parts.items) }
-    ensures same { IfOk result (λ ran. AreSame P.same parts.items ran.parts.items) }
-    ensures always { IfOk result (λ ran. AreAlways ran.mask) }
-    ensures own { IfOk result (λ ran. HearsOwn (run_of program threads steps ran) ran.history) }
-    ensures cause { IfOk result (λ ran. ran.cause ≢ Cause.Memory →
-        cause_of (run_of program threads steps ran) ran.history ≡ Some ran.cause) }
-    ensures text { IfOk result (λ ran.
-        ran.text.items ≡ (after (run_of program threads steps ran) ran.history).world.store.text) }
+    ensures ran { IfOk result (λ ran.
+        IsRan P.stands_for P.same false (run_of program threads steps ran) parts.items ran) }
 {
     let mut parts = parts;
     let start = initialize_first(&mut parts);
     let mask = mask_of(start);
     let blank = Blank::new(alloc, program, mask, threads, steps)?;
-    let Team { closed, mut parts } = run_team::<R, Brand, P>(rt, alloc, blank, parts)?;
+    let (closed, mut parts) = run_team::<R, Brand, P>(rt, alloc, blank, parts)?;
     finalize_first(start, &mut parts);
     let Closed {
         history,
@@ -77,15 +62,6 @@ pub fn run_threads<R: Threads + Wait + Sync, P: ToolPart>(
     })
 }
 
-/// What a team has come to.
-#[derive(Drop)]
-struct Team<P> {
-    /// The book.
-    closed: Closed,
-    /// The parts, by thread.
-    parts: Vec<P>,
-}
-
 /// Why a run ended whose history ended so. A history that hasn't ended is left where there was no memory.
 fn known_cause(cause: Option<Cause>) -> Cause
     ensures { result ≢ Cause.Memory → cause ≡ Some result }
@@ -96,36 +72,26 @@ fn known_cause(cause: Option<Cause>) -> Cause
     }
 }
 
-/// Runs the drivers of all threads over the book of this name until the run is over.
+/// Runs the drivers of all threads over the book of this name until the run is over. It answers what the book has come to, and the parts.
 fn run_team<R: Threads + Wait + Sync, K: BookName, P: ToolPart>(
     rt: &R,
     alloc: Global,
     blank: Blank,
     parts: Vec<P>,
-) -> Result<Team<P>, Memory>
+) -> Result<(Closed, Vec<P>), Memory>
     requires table { blank.table ≡ K.table }
     requires run { blank.run ≡ K.run }
     requires some { 1 ≤ K.run.threads }
     requires few { K.run.threads ≤ 16 }
     requires parts { length parts.items ≡ K.run.threads }
-    ensures legal { IfOk result (λ team. Legal K.run team.closed.history) }
-    ensures served { IfOk result (λ team.
-        HaveServed P.stands_for P.same K.run team.closed.cause team.closed.history parts.items team.parts.items) }
-    ensures own { IfOk result (λ team. HearsOwn K.run team.closed.history) }
-    ensures text { IfOk result (λ team. team.closed.text.items ≡ (after K.run team.closed.history).world.store.text) }
-    ensures cause { IfOk result (λ team. IfSome team.closed.cause (λ cause. cause ≢ Cause.Memory →
-        cause_of K.run team.closed.history ≡ Some cause)) }
+    ensures { IfOk result (λ team. HaveServed P.stands_for P.same K.run team.0 parts.items team.1.items) }
 {
     let (book, passes) = SharedBook::<K>::start(alloc, blank, processors(rt))?;
     let slots = Vec::with_capacity(alloc, passes.len())?;
     let passes_back = Vec::with_capacity(alloc, passes.len())?;
     let parts_back = Vec::with_capacity(alloc, passes.len())?;
-    let drivers = pair(alloc, passes, parts)?;
-    let (passes, parts) = run_drivers(rt, &book, drivers, slots, passes_back, parts_back);
-    Ok(Team {
-        closed: book.close(passes),
-        parts,
-    })
+    let (passes, parts) = run_drivers(rt, &book, passes, parts, slots, passes_back, parts_back);
+    Ok((book.close(passes), parts))
 }
 
 /// How many processors the threads may run on, or one where that isn't known.
@@ -133,98 +99,52 @@ fn processors<R: Threads>(rt: &R) -> usize {
     thread::available_parallelism(rt).map_or(1, NonZeroUsize::get)
 }
 
-/// The driver of each pass and part.
-fn pair<K: BookName, P: ToolPart>(
-    alloc: Global,
-    passes: Vec<Pass<K>>,
-    parts: Vec<P>,
-) -> Result<Vec<Driver<K, P>>, Memory>
-    requires { length passes.items ≡ length parts.items }
-    ensures count { IfOk result (λ drivers. length drivers.items ≡ length passes.items) }
-    ensures passes { IfOk result (λ drivers. (k : ℕ) (d : _) (e : Sight) → k < length passes.items →
-        (get_or drivers.items k d).pass ≡ get_or passes.items k e) }
-    ensures parts { IfOk result (λ drivers. (k : ℕ) (d : _) (e : P) → k < length passes.items →
-        (get_or drivers.items k d).part ≡ get_or parts.items k e) }
-{
-    let mut drivers = Vec::new(alloc);
-    let mut parts = parts.into_iter();
-    for pass in passes {
-        match parts.next() {
-            Some(part) => drivers.push(Driver { pass, part })?,
-            None => unreachable!(),
-        }
-    }
-    Ok(drivers)
-}
-
-/// Runs the drivers, each on a thread of its own, and hands the passes and parts back in order.
+/// Runs the drivers of these passes and parts, each on a thread of its own, and hands them back in order.
 fn run_drivers<R: Threads + Wait + Sync, K: BookName, P: ToolPart>(
     rt: &R,
     book: &SharedBook<K>,
-    drivers: Vec<Driver<K, P>>,
-    slots: Vec<Slot<K, P>>,
     passes: Vec<Pass<K>>,
     parts: Vec<P>,
+    slots: Vec<Slot<K, P>>,
+    passes_back: Vec<Pass<K>>,
+    parts_back: Vec<P>,
 ) -> (Vec<Pass<K>>, Vec<P>)
-    requires few { length drivers.items ≤ 16 }
+    requires few { length passes.items ≤ 16 }
+    requires each { length passes.items ≡ length parts.items }
     requires no_slot { slots.items ≡ [] }
-    requires no_pass { passes.items ≡ [] }
-    requires no_part { parts.items ≡ [] }
-    requires slots { length drivers.items ≤ vec_capacity slots }
-    requires passes { length drivers.items ≤ vec_capacity passes }
-    requires parts { length drivers.items ≤ vec_capacity parts }
-    ensures passes { length result.0.items ≡ length drivers.items }
-    ensures parts { length result.1.items ≡ length drivers.items }
-    ensures drivers { (first : List P) →
-        AreFor (λ t first driver. IsDriver P.stands_for P.same K.run t first driver.pass driver.part) first
-        drivers.items →
-        AreDrivers P.stands_for P.same K.run first result.0.items result.1.items }
+    requires no_pass { passes_back.items ≡ [] }
+    requires no_part { parts_back.items ≡ [] }
+    requires slots { length passes.items ≤ vec_capacity slots }
+    requires passes { length passes.items ≤ vec_capacity passes_back }
+    requires parts { length passes.items ≤ vec_capacity parts_back }
+    ensures passes { length result.0.items ≡ length passes.items }
+    ensures parts { length result.1.items ≡ length passes.items }
+    ensures drivers { AreDrivers P.stands_for P.same K.run parts.items passes.items parts.items →
+        AreDrivers P.stands_for P.same K.run parts.items result.0.items result.1.items }
 {
-    let stays: Stays = [
-        stay(),
-        stay(),
-        stay(),
-        stay(),
-        stay(),
-        stay(),
-        stay(),
-        stay(),
-        stay(),
-        stay(),
-        stay(),
-        stay(),
-        stay(),
-        stay(),
-        stay(),
-        stay(),
-    ];
+    // No driver is handed back.
+    let stays: Stays = array::from_fn(|_| AtomicBool::new(false));
     let stays = &stays;
     thread::scope(
         thread::scope_env(),
         rt,
         move |scope| -> (Vec<Pass<K>>, Vec<P>)
-            requires few { length drivers.items ≤ 16 }
+            requires few { length passes.items ≤ 16 }
+            requires each { length passes.items ≡ length parts.items }
             requires no_slot { slots.items ≡ [] }
-            requires no_pass { passes.items ≡ [] }
-            requires no_part { parts.items ≡ [] }
-            requires slots { length drivers.items ≤ vec_capacity slots }
-            requires passes { length drivers.items ≤ vec_capacity passes }
-            requires parts { length drivers.items ≤ vec_capacity parts }
-            ensures passes { length result.0.items ≡ length drivers.items }
-            ensures parts { length result.1.items ≡ length drivers.items }
-            ensures drivers { (first : List P) →
-                AreFor (λ t first driver. IsDriver P.stands_for P.same K.run t first driver.pass driver.part) first
-                drivers.items →
-                AreDrivers P.stands_for P.same K.run first result.0.items result.1.items }
+            requires no_pass { passes_back.items ≡ [] }
+            requires no_part { parts_back.items ≡ [] }
+            requires slots { length passes.items ≤ vec_capacity slots }
+            requires passes { length passes.items ≤ vec_capacity passes_back }
+            requires parts { length passes.items ≤ vec_capacity parts_back }
+            ensures passes { length result.0.items ≡ length passes.items }
+            ensures parts { length result.1.items ≡ length passes.items }
+            ensures drivers { AreDrivers P.stands_for P.same K.run parts.items passes.items parts.items →
+                AreDrivers P.stands_for P.same K.run parts.items result.0.items result.1.items }
         {
-            let mut slots = start_all(scope, rt, book, stays, drivers, slots);
+            let mut slots = start_all(scope, rt, book, stays, passes, parts, slots);
             drive_here(rt, book, &mut slots);
-            finish_all(rt, slots, passes, parts)
+            finish_all(rt, slots, passes_back, parts_back)
         },
     )
-}
-
-/// That a driver isn't handed back.
-fn stay() -> AtomicBool {
-    AtomicBool::new(false)
 }

@@ -5,7 +5,8 @@ use Rattle.ompt_cli.proofs.observing.observe_alone.Goals as goal
 pub returns-clause-observed : goal.returns-clause-observed
 returns-clause-observed g c =
     let ran = c.in_ok-ran.ran in
-    let of = c.in_ok-ran.ensures in
+    let of = c.in_ok-ran.ensures.ran in
+    let serial = c.in_ok-ran.ensures in
     rw (c.with_report.ensures, c.of-program.ensures.tree)
     (record {
       observes =
@@ -15,12 +16,12 @@ returns-clause-observed g c =
             text_is = ap (λ list. list.items) c.of-program.ensures.text;
             to =
                 record {
-                  legal = of.serial.legal;
+                  legal = of.legal;
                   ends = of.cause;
                   outside = λ found. parts-outside g.P.ToolPart.stands_for true _ ran.cause ran.history c.args.parts.items ran.parts.items found of.parts;
-                  in_order = λ serial. of.serial;
-                  whole = λ serial. of.whole;
-                  begun = of.begun;
+                  in_order = λ is. serial.serial;
+                  whole = λ is. serial.whole;
+                  begun = serial.begun;
                   always = of.always;
                 };
           };

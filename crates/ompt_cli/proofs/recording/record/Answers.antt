@@ -4,11 +4,11 @@ use Rattle.run_trace.specs.TraceOf.{trace_with}
 use Rattle.run_trace.proofs.Traces.{traces_of_runs}
 use Rattle.trace_format.specs.Fields.{fields_of, spelling}
 use Rattle.tool_report.specs.Order.{AreShared}
-use Rattle.ompt_words.specs.declared.settings.Command.{Command}
-use Rattle.ompt_cli.specs.Commands.{HasGuests, HasWritten, run_of, text_in, unless_memory, written_by}
+use Rattle.ompt_words.specs.declared.settings.Command.TheVariants.{Record as Recording}
+use Rattle.ompt_cli.specs.Commands.{HasGuests, HasWritten, run_of, unless_memory}
 use Rattle.ompt_cli.proofs.Keeping.{kept-shared}
-use Rattle.ompt_cli.proofs.Recorded.{ends-found, shared-few}
-use Rattle.ompt_cli.proofs.Telling.{command-is, few-threads, guests-kept, some-threads}
+use Rattle.ompt_cli.proofs.Filing.{ends-found, shared-few}
+use Rattle.ompt_cli.proofs.Telling.{command-is, few-threads, guests-kept, some-threads, written-as}
 use Rattle.ompt_cli.proofs.recording.record.Goals as goal
 
 pub write_trace_of_run-end-requires : goal.write_trace_of_run-end-requires
@@ -35,21 +35,11 @@ returns-clause-ran g c =
           traces_of_runs (run_of report) report.history report.cause (some-threads c.args.job report has.observes) (few-threads c.args.job report has.observes) has.stays.mask_is has.observes.to.legal
           (has.observes.to.ends found) fits.1 fits.0;
       certified = λ whole memory is. absurd cc;
+      guests_are = guests-kept _ c.args.guests.items report (λ guests. subst HasGuests command guests) (ap (λ list. list.items) c.in_ok-report.ensures.guests);
+      written =
+          subst (λ (bytes : List ℕ). HasWritten c.write_trace_of_run-end.result (unless_memory report.cause bytes) (g.O.Sink.held c.args.out.now) (g.O.Sink.held c.write_trace_of_run-end.new.out))
+          (ap (λ (callbacks : ℕ). spelling (fields_of (trace_with report.threads callbacks report.cause (records_of (run_of report) report.history)))) (sym has.stays.mask_is)
+          ∙ written-as c.args.job report has.observes Recording c.requires.command)
+          (c.write_trace_of_run-end.ensures.written (records_of (run_of report) report.history) shared);
+      faults = c.write_trace_of_run-end.ensures.faults;
     }
-
-pub returns-clause-guests : goal.returns-clause-guests
-returns-clause-guests g c =
-    let has = c.in_ok-report.ensures in
-    let command = command-is c.args.job c.in_ok-report.field-0.report has.kept.observes ∙ c.requires.command in
-    guests-kept _ c.args.guests.items c.in_ok-report.field-0.report (λ guests. subst HasGuests command guests) (ap (λ list. list.items) has.guests)
-
-pub returns-clause-written : goal.returns-clause-written
-returns-clause-written g c =
-    let report = c.in_ok-report.field-0.report in
-    let has = c.in_ok-report.ensures.kept in
-    let command = command-is c.args.job report has.observes ∙ c.requires.command in
-    let shared : AreShared (records_of (run_of report) report.history) c.deref.result.now = rw c.deref.ensures.value (kept-shared _ _ has.kept) in
-    subst (λ (bytes : List ℕ). HasWritten c.write_trace_of_run-end.result (unless_memory report.cause bytes) (g.O.Sink.held c.args.out.now) (g.O.Sink.held c.write_trace_of_run-end.new.out))
-    (ap (λ (callbacks : ℕ). spelling (fields_of (trace_with report.threads callbacks report.cause (records_of (run_of report) report.history)))) (sym has.stays.mask_is)
-    ∙ sym (ap (λ (command : Command). written_by command (text_in report) (run_of report) report.cause report.history) command))
-    (c.write_trace_of_run-end.ensures.written (records_of (run_of report) report.history) shared)

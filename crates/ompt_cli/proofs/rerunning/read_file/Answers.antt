@@ -1,6 +1,6 @@
 use Rattle.std.proofs.Common.{ap, ◌∙◌}
 use Rattle.std.specs.Prelude.{Err}
-use Rattle.ompt_cli.proofs.Certified.{never-long}
+use Rattle.ompt_cli.proofs.Written.{never-long}
 use Rattle.ompt_cli.proofs.rerunning.read_file.Goals as goal
 
 pub returns-in-Err-TooLong-clause-only : goal.returns-in-Err-TooLong-clause-only

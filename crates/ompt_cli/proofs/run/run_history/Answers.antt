@@ -18,7 +18,7 @@ returns-clause-ran g c =
       memory = λ guests other found. c.write_history_of_run.ensures.memory found;
       traced = λ whole memory is. absurd cc;
       certified = λ whole memory is. c.write_history_of_run.ensures.certified whole memory;
+      guests_are = c.in_ok-report.ensures.guests;
+      written = c.write_history_of_run.ensures.written;
+      faults = c.write_history_of_run.ensures.faults;
     })
-
-pub returns-clause-guests : goal.returns-clause-guests
-returns-clause-guests g c = rw c.write_history_of_run.ensures.report c.in_ok-report.ensures.guests

@@ -1,11 +1,9 @@
-use Rattle.std.proofs.Common.{sym, subst}
-use Rattle.ompt_cli.specs.Text.{IsRefused}
+use Rattle.std.proofs.Common.{ℕ, IfErr, IfOk, List, Some, subst}
+use Rattle.ompt_cli.specs.Loading.{EndsFor, IsLoaded}
 use Rattle.ompt_cli.proofs.text.generated_program.Goals as goal
 
-pub returns-clause-accepted : goal.returns-clause-accepted
-returns-clause-accepted c = λ why refused.
-    c.load.ensures.accepted why (subst (IsRefused why) (sym c.in-Ok.ensures) refused)
+pub returns-clause-loaded : goal.returns-clause-loaded
+returns-clause-loaded c = subst (λ (text : List ℕ). IfOk c.load.result (IsLoaded (Some text))) c.in-Ok.ensures c.load.ensures.loaded
 
-pub returns-clause-refused : goal.returns-clause-refused
-returns-clause-refused c = λ why is.
-    subst (IsRefused why) c.in-Ok.ensures (c.load.ensures.refused why is)
+pub returns-clause-ended : goal.returns-clause-ended
+returns-clause-ended c = subst (λ (text : List ℕ). IfErr c.load.result (EndsFor (Some text))) c.in-Ok.ensures c.load.ensures.ended

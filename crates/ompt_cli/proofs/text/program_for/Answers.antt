@@ -1,12 +1,13 @@
-use Rattle.std.proofs.Common.{IfSome, IsSomeAnd, subst, sym}
+use Rattle.std.proofs.Common.{IfErr, IfOk, subst, sym}
 use Rattle.ompt_words.specs.declared.settings.Command.{Command}
-use Rattle.ompt_cli.specs.Text.{IsRefused, text_for}
+use Rattle.ompt_cli.specs.Loading.{EndsFor, IsLoaded}
+use Rattle.ompt_cli.specs.Text.{text_for}
 use Rattle.ompt_cli.proofs.text.program_for.Goals as goal
 
-pub returns-in-Generate-clause-accepted : goal.returns-in-Generate-clause-accepted
-returns-in-Generate-clause-accepted g c = λ why refused.
-    c.generated_program.ensures.accepted why (subst (λ (command : Command). IsSomeAnd (text_for command (g.S.Source.left c.args.source.now)) (IsRefused why)) c.in-Generate.is refused)
+pub returns-in-Generate-clause-loaded : goal.returns-in-Generate-clause-loaded
+returns-in-Generate-clause-loaded g c =
+    subst (λ (command : Command). IfOk c.generated_program.result (IsLoaded (text_for command (g.S.Source.left c.args.source.now)))) (sym c.in-Generate.is) c.generated_program.ensures.loaded
 
-pub returns-in-Generate-clause-refused : goal.returns-in-Generate-clause-refused
-returns-in-Generate-clause-refused g c = λ why is.
-    subst (λ (command : Command). IfSome (text_for command (g.S.Source.left c.args.source.now)) (IsRefused why)) (sym c.in-Generate.is) (c.generated_program.ensures.refused why is)
+pub returns-in-Generate-clause-ended : goal.returns-in-Generate-clause-ended
+returns-in-Generate-clause-ended g c =
+    subst (λ (command : Command). IfErr c.generated_program.result (EndsFor (text_for command (g.S.Source.left c.args.source.now)))) (sym c.in-Generate.is) c.generated_program.ensures.ended

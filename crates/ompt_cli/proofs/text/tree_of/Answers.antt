@@ -1,14 +1,9 @@
 use Rattle.ompt_cli.specs.declared.end.Refusal.TheVariants.{Syntax, Tokens}
-use Rattle.ompt_cli.proofs.Reading.{end-is, program-not_refused, refusal-one}
+use Rattle.ompt_cli.proofs.Reading.{end-is, ends-refused}
 use Rattle.ompt_cli.proofs.text.tree_of.Goals as goal
 
-pub returns-in_default-clause-accepted : goal.returns-in_default-clause-accepted
-returns-in_default-clause-accepted c = λ why refused.
-    refusal-one c.args.text.now (Tokens c.in-Err.fault) why (c.requires, c.in-Err.ensures.ended c.in_default.not-Memory) refused
-
-pub returns-in_default-clause-runs : goal.returns-in_default-clause-runs
-returns-in_default-clause-runs c = λ runs.
-    absurd (program-not_refused c.args.text.now (Tokens c.in-Err.fault) runs (c.requires, c.in-Err.ensures.ended c.in_default.not-Memory))
+pub returns-in_default-clause-ended : goal.returns-in_default-clause-ended
+returns-in_default-clause-ended c = ends-refused c.args.text.now (Tokens c.in-Err.fault) (c.requires, c.in-Err.ensures.ended c.in_default.not-Memory)
 
 pub returns-in-Ok-read_program-clause-tree : goal.returns-in-Ok-read_program-clause-tree
 returns-in-Ok-read_program-clause-tree c =
@@ -20,10 +15,5 @@ returns-in-Ok-read_program-clause-tree c =
       main_is = read.main;
     }
 
-pub returns-clause-accepted : goal.returns-clause-accepted
-returns-clause-accepted c = λ why refused.
-    refusal-one c.args.text.now (Syntax c.in-Err-read_program.fault) why (c.requires, c.in-Err-read_program.ensures.fault c.in_default-fault.not-Memory) refused
-
-pub returns-clause-runs : goal.returns-clause-runs
-returns-clause-runs c = λ runs.
-    absurd (program-not_refused c.args.text.now (Syntax c.in-Err-read_program.fault) runs (c.requires, c.in-Err-read_program.ensures.fault c.in_default-fault.not-Memory))
+pub returns-clause-ended : goal.returns-clause-ended
+returns-clause-ended c = ends-refused c.args.text.now (Syntax c.in-Err-read_program.fault) (c.requires, c.in-Err-read_program.ensures.fault c.in_default-fault.not-Memory)

@@ -2,7 +2,7 @@ use Rattle.std.proofs.Common.{Err, ap}
 use Rattle.ompt_words.specs.declared.fault.WordsFault.{WordsFault}
 use Rattle.ompt_words.specs.declared.settings.Request.TheVariants as request
 use Rattle.ompt_cli.specs.Words.{texts}
-use Rattle.ompt_cli.proofs.Carrying.{in-range, is-serial, not-serial, serial-reported, taken-as}
+use Rattle.ompt_cli.proofs.Carrying.{in-range, is-serial, not-serial, read_carried, serial-reported, taken-as}
 use Rattle.ompt_cli.proofs.top_call.top_alone.Goals as goal
 
 pub returns-then-not-settings-clause-asked : goal.returns-then-not-settings-clause-asked
@@ -27,8 +27,11 @@ returns-else-not-settings-clause-serial g c =
 pub returns-in-Ok-Read-clause-carried : goal.returns-in-Ok-Read-clause-carried
 returns-in-Ok-Read-clause-carried g c =
     let of = c.in-Ok-Read.ensures in
+    let taken = taken-as (texts c.args.words.now) c.in-Ok-Read.field-0 (request.Read c.in-Ok-Read.command) c.in-Ok-Read.field-0-is of.read of.exact of.form of.read_form of.asked of.clash in
+    let input = c.read_input-outcome in
     rw (c.tell-in-Ok-Read.ensures.end, c.tell-in-Ok-Read.ensures.shown, c.tell-in-Ok-Read.ensures.read, c.tell-in-Ok-Read.ensures.ran)
-    (c.read_as.ensures.carried (texts c.args.words.now) (taken-as (texts c.args.words.now) c.in-Ok-Read.field-0 (request.Read c.in-Ok-Read.command) c.in-Ok-Read.field-0-is of.read of.exact of.form of.read_form of.asked of.clash))
+    (read_carried g.S.Source.left g.S.Source.faults g.O.Sink.held g.O.Sink.faults (texts c.args.words.now) c.in-Ok-Read.command taken input.result c.args.source.now input.new.source c.args.out.now input.new.out
+    input.ensures.end input.ensures.copied input.ensures.memory input.ensures.certified input.ensures.reads input.ensures.writes)
 
 pub returns-in-Err-clause-carried : goal.returns-in-Err-clause-carried
 returns-in-Err-clause-carried g c =

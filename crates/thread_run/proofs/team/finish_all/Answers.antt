@@ -19,6 +19,5 @@ loop-slot-preserved g c =
       λ first are.
           rw (c.push_reserved.ensures.items, c.push_reserved-in-loop-slot.ensures.items)
           (finish-more c.args.slots.items c.loop-slot.yielded _ _ c.in-Some.slot kept.2 next g.P.ToolPart.stands_for g.P.ToolPart.same g.K.BookName.run
-          (λ t first slot. IsSlot (λ h. h.promise.0.value) (λ h. h.promise.1.value) g.P.ToolPart.stands_for g.P.ToolPart.same g.K.BookName.run t first slot.driver)
-          first c.loop-slot.passes.items c.loop-slot.parts.items c.finish-pass.result.0 c.finish-pass.result.1 kept.3 kept.4 are (kept.7 first are) c.finish-pass.ensures),
+          (IsSlot {K = g.row.K.Denot} g.P.ToolPart.stands_for g.P.ToolPart.same g.K.BookName.run) first c.loop-slot.passes.items c.loop-slot.parts.items c.finish-pass.result.0 c.finish-pass.result.1 kept.3 kept.4 are (kept.7 first are) c.finish-pass.ensures),
     )

@@ -12,5 +12,5 @@ invariant-loop-slot g l =
     (length l.parts.items ≡ length l.yielded) ×
     (length l.fn.slots.items ≤ vec_capacity l.passes) ×
     (length l.fn.slots.items ≤ vec_capacity l.parts) ×
-    ((first : List g.row.P.Denot) → AreFor (λ t first slot. IsSlot (λ h. h.promise.0.value) (λ h. h.promise.1.value) g.P.ToolPart.stands_for g.P.ToolPart.same g.K.BookName.run t first slot.driver) first l.fn.slots.items →
+    ((first : List g.row.P.Denot) → AreFor (IsSlot g.P.ToolPart.stands_for g.P.ToolPart.same g.K.BookName.run) first l.fn.slots.items →
     AreDrivers g.P.ToolPart.stands_for g.P.ToolPart.same g.K.BookName.run first l.passes.items l.parts.items)

@@ -1,6 +1,5 @@
 use Rattle.std.proofs.Common.{rules, ◌<◌, length, ◌∙◌, arith}
 use Rattle.std.proofs.lemmas.List.{length-set}
-use Rattle.thread_run.specs.declared.team.Slot.{Slot}
 use Rattle.thread_run.specs.Drivers.{IsSlot}
 use Rattle.thread_run.proofs.Drivers.{kept-set}
 use Rattle.thread_run.proofs.team.visit_all.Goals as goal
@@ -12,7 +11,5 @@ loop-place-preserved g c =
     let within : c.loop-place.place < length c.loop-place.slots = search rules in (
       omega (arith, kept.0, kept.1, many),
       many ∙ kept.1,
-      kept-set {P = g.row.P.Denot} {L = Slot g.row.K.Denot g.row.P.Denot}
-          (λ t first slot. IsSlot (λ h. h.promise.0.value) (λ h. h.promise.1.value) g.P.ToolPart.stands_for g.P.ToolPart.same g.K.BookName.run t first slot.driver)
-          c.args.slots.now c.loop-place.slots c.loop-place.place c.index-slots-place.result c.visit_here.new.slot kept.2 kept.1 within c.visit_here.ensures,
+      kept-set (IsSlot {K = g.row.K.Denot} g.P.ToolPart.stands_for g.P.ToolPart.same g.K.BookName.run) c.args.slots.now c.loop-place.slots c.loop-place.place c.index-slots-place.result c.visit_here.new.slot kept.2 kept.1 within c.visit_here.ensures,
     )

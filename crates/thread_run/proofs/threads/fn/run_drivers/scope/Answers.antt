@@ -15,9 +15,7 @@ returns g c =
     record {
       passes = c.finish_all.ensures.passes ∙ all;
       parts = c.finish_all.ensures.parts ∙ all;
-      drivers = λ first are.
-          c.finish_all.ensures.drivers first
-          (rw back (for-kept {P = g.row.P.Denot} {L = Slot g.row.K.Denot g.row.P.Denot}
-          (λ t first slot. IsSlot (λ h. h.promise.0.value) (λ h. h.promise.1.value) g.P.ToolPart.stands_for g.P.ToolPart.same g.K.BookName.run t first slot.driver)
-          first slots.items c.drive_here.new.slots many (c.start_all-slots.ensures.slots first are) (rw value at c.drive_here.ensures.kept)));
+      drivers = λ are.
+          c.finish_all.ensures.drivers _
+          (rw back (for-kept (IsSlot {K = g.row.K.Denot} g.P.ToolPart.stands_for g.P.ToolPart.same g.K.BookName.run) _ slots.items c.drive_here.new.slots many (c.start_all-slots.ensures.slots are) (rw value at c.drive_here.ensures.kept)));
     }

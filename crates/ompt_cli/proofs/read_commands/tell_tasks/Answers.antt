@@ -1,5 +1,5 @@
 use Rattle.ompt_cli.proofs.Written.{tasks-told}
-use Rattle.ompt_cli.proofs.task_tree.tell_tasks.Goals as goal
+use Rattle.ompt_cli.proofs.read_commands.tell_tasks.Goals as goal
 
 pub returns-in-Ok-clause-tasks : goal.returns-in-Ok-clause-tasks
 returns-in-Ok-clause-tasks g c =

@@ -2,23 +2,20 @@ use Rattle.std.proofs.Common.{◌∙◌, Err, ap, refl, sym}
 use Rattle.ompt_cli.specs.declared.end.End.{End}
 use Rattle.ompt_cli.specs.declared.end.End.TheVariants.{Memory, ReadFault}
 use Rattle.ompt_cli.proofs.Carrying.{end_carried, run_carried}
-use Rattle.ompt_cli.proofs.Telling.{err-end, ok-not-refused}
-use Rattle.ompt_cli.proofs.settings_run.run_settings.Goals as goal
+use Rattle.ompt_cli.proofs.Reading.{ends-memory}
+use Rattle.ompt_cli.proofs.Telling.{err-end}
+use Rattle.ompt_cli.proofs.commands.run_settings.Goals as goal
 
 pub returns-in-Ok-run_command-clause-carried : goal.returns-in-Ok-run_command-clause-carried
 returns-in-Ok-run_command-clause-carried g c = λ words taken.
-    run_carried g.S.Source.left g.S.Source.faults g.O.Sink.held g.O.Sink.faults words c.args.settings taken c.in-Ok-run_command.ended.end c.in-Ok-run_command.ended.report _ c.in-Ok-run_command.ensures.ran c.args.source.now c.program_for.new.source c.args.out.now c.run_command.new.out
-    refl c.in-Ok.ensures.text c.in-Ok.ensures.program
-    (λ why refused. ok-not-refused why c.in-Ok.loaded c.program_for.result c.in-Ok.is (c.program_for.ensures.accepted why refused))
-    c.in-Ok.ensures.unread
-    (c.program_for.ensures.steady (λ is. let same = sym c.in-Ok.is ∙ is in cc))
-    c.in-Ok-run_command.ensures.written c.in-Ok-run_command.ensures.faults
+    run_carried g.S.Source.left g.S.Source.faults g.O.Sink.held g.O.Sink.faults words c.args.settings taken _ c.in-Ok-run_command.ended.end c.in-Ok-run_command.ended.report _ _ c.args.source.now c.program_for.new.source c.args.out.now c.run_command.new.out
+    c.in-Ok-run_command.ensures.ran refl c.in-Ok.ensures.loaded c.in-Ok.ensures.unread (c.program_for.ensures.steady (λ is. let same = sym c.in-Ok.is ∙ is in cc))
 
 pub returns-in-Err-run_command-clause-carried : goal.returns-in-Err-run_command-clause-carried
 returns-in-Err-run_command-clause-carried g c = λ words taken.
     rw (c.without_run-in-Err-run_command.ensures, c.in-Err-run_command.ensures.untouched)
     (end_carried g.S.Source.left g.S.Source.faults g.O.Sink.held g.O.Sink.faults words c.args.settings taken Memory c.args.source.now c.program_for.new.source c.args.out.now
-    tt (λ why is. absurd cc) (λ why refused. tt) (λ program. tt)
+    (ends-memory _)
     (record { rose = λ is. absurd cc; steady = λ other. c.program_for.ensures.steady (λ is. let same = sym c.in-Ok.is ∙ is in cc) })
     c.in-Ok.ensures.unread)
 
@@ -26,10 +23,7 @@ pub returns-in-Err-clause-carried : goal.returns-in-Err-clause-carried
 returns-in-Err-clause-carried g c = λ words taken.
     rw c.without_run.ensures
     (end_carried g.S.Source.left g.S.Source.faults g.O.Sink.held g.O.Sink.faults words c.args.settings taken c.in-Err.end c.args.source.now c.program_for.new.source c.args.out.now
-    c.in-Err.ensures.before
-    (λ why is. c.in-Err.ensures.refused why (ap (λ (told : End). Err told) is))
-    c.in-Err.ensures.accepted
-    c.in-Err.ensures.runs
+    c.in-Err.ensures.ended
     (record {
       rose = λ is. c.in-Err.ensures.read (ap (λ (told : End). Err told) is);
       steady = λ other. c.program_for.ensures.steady (λ wrong. other (err-end c.program_for.result c.in-Err.end ReadFault c.in-Err.is wrong));

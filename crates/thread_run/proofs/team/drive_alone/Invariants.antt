@@ -1,8 +1,0 @@
-use Rattle.std.proofs.Common.{◌≡◌, length}
-use Rattle.thread_run.specs.Drivers.{AreKept, IsSlot}
-use Rattle.thread_run.proofs.team.drive_alone.Given as goal
-
-abbrev pub invariant-loop-place : goal.invariant-loop-place
-invariant-loop-place g l =
-    (l.place-end ≡ length l.slots) × (length l.slots ≡ length l.fn.slots)
-    × AreKept (λ t first slot. IsSlot (λ h. h.promise.0.value) (λ h. h.promise.1.value) g.P.ToolPart.stands_for g.P.ToolPart.same g.K.BookName.run t first slot.driver) l.fn.slots l.slots
