@@ -25,7 +25,7 @@ use Rattle.ompt_cli.specs.Commands.{run_of}
 
 -- guest 0 was started, with this answer and these callbacks registered, called for what thread 0 heard, and finished after all
 -- that where it is active; guest t was called for what thread t heard; those past the threads are as they were. Beside that a guest
--- was called once more where that call found no memory, and so went unheard, and then the cause says so. Where there is no
+-- may have been called for one event more, in which it found no memory: that call went unheard, and the cause says so. Where there is no
 -- guest, nothing is registered, and nothing is stored on a thread without a guest. Each is of the type that was handed in
 pub record GuestsServe {B : Type 0} (stands_for : B → Record → Type 0) (Same : B → B → Type 0) (serial : Bool) (run : Run) (cause : Cause)
     (history : List Entry) (guests after : List B) : Type 0 where
@@ -85,7 +85,7 @@ AfterCommand stands_for Same (Running other) serial run cause history guests aft
     GuestsServe stands_for Same serial run cause history guests after
 AfterCommand stands_for Same other serial run cause history guests after = after ≡ guests
 
--- The same of the guests of a report. Before its run they were these, and each is still of the type that was handed in.
+-- `AfterCommand` for the guests that a report has. Before its run they were `guests`, and each is still of the type that was handed in.
 abbrev pub GuestsAfter : {Table : Type 0} {Behind : Table → Type 0} → (DynBox Table Global Behind → Record → Type 0) →
     List (DynBox Table Global Behind) → Report Table Behind → Type 0
 GuestsAfter stands_for guests report =

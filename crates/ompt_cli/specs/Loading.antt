@@ -12,8 +12,8 @@ pub record IsLoaded (text : Option (List ℕ)) (loaded : Loaded) : Type 0 where
   pub spelled : Spells loaded.text.items loaded.program
   pub same : IfSome text (λ text. text ≡ loaded.text.items)
 
--- The end of a command that comes before its run. It is a refusal for a reason that the text has, each text that has one is refused for
--- it, and none is that spells a program, unless a read or memory fails.
+-- The end of a command that comes before its run. If it is a refusal, then for a reason that the text has. Each text that has a reason is
+-- refused for it, and none is that spells a program, unless a read or memory fails.
 pub record EndsFor (text : Option (List ℕ)) (end : End) : Type 0 where
   pub before : IsBeforeRun end
   pub refused : (why : Refusal) → end ≡ Refused why → IfSome text (IsRefused why)

@@ -46,8 +46,8 @@ pub(crate) trait Keeper: ToolPart {
         ensures { IfOk result (λ text. (events : List EventRecord) → AreKept keep events parts.now →
             text.items ≡ text_of command events printed.now) };
 
-    /// Runs the job by threads with these parts, which it takes out of the list, as [`observe`] does. The parts are sent to the threads, and nothing says
-    /// of a type parameter of a method that it may be sent. So each kind makes its own runs.
+    /// Runs the job by threads with the parts of this list, which it takes out of it. The parts are sent to the
+    /// threads, and nothing says of a type parameter of a method that it may be sent. So each kind makes its own runs.
     fn run_by_threads<R: Threads + Wait + Sync>(
         rt: &R,
         alloc: Global,

@@ -121,6 +121,14 @@ pub written-back : {P : Type 0} (new items : List P) (len : ℕ) → length new 
 written-back new items len same all =
     ap (λ more. take len (new ++ more)) (drop_all (length new) items (omega (arith, same))) ∙ ap (take len) (append-nil new) ∙ take_all len new (omega (arith, same, all))
 
+-- what a slice of a whole vector came to, said of the vector
+pub changes-vector :
+    {P : Type 0} (stands_for : P → Record → Type 0) (Same : P → P → Type 0) (more : Record → Record) (items slice changed : List P) (len : ℕ) → slice ≡ items → length items ≡ len
+    → ChangesFirst stands_for Same more slice changed → ChangesFirst stands_for Same more items (take len (changed ++ drop (length changed) items))
+changes-vector {P} stands_for Same more items slice changed len whole full change =
+    let of_items : ChangesFirst stands_for Same more items changed = subst (λ (slice : List P). ChangesFirst stands_for Same more slice changed) whole change in
+    subst (λ (now : List P). ChangesFirst stands_for Same more items now) (sym (written-back changed items len of_items.as_many full)) of_items
+
 -- parts of which none was called before were called for all that their threads heard
 pub served-all : {P : Type 0} (stands_for : P → Record → Type 0) (run : Run) (started between : List P) (H : List Entry) (unheard : Option ℕ) → Serves stands_for run started [] unheard between H
     → (k : ℕ) (d : P) (h : Record) → k < length started → stands_for (slice_index_or started k d) h → stands_for (slice_index_or between k d) (called_for (heard_of run H k) (is_of unheard k) h)

@@ -83,8 +83,8 @@ pub record ChangesFirst {P : Type 0} (stands_for : P → Record → Type 0) (Sam
   pub others_are : (k : ℕ) (d : P) → 0 < k → slice_index_or others k d ≡ slice_index_or parts k d
 
 -- The parts of a run that ended in this cause with this history, serially or by threads: the first was started, and at the end
--- finished where it is active, and each was called for what its thread heard, in order. Beside that a part was called once more
--- where a call went unheard, and then the cause says so.
+-- finished where it is active, and each was called for what its thread heard, in order. Beside that a part may have been called for one
+-- event more, in which it found no memory: that call went unheard, and the cause says so.
 pub record RunsParts {P : Type 0} (stands_for : P → Record → Type 0) (serial : Bool) (run : Run) (cause : Cause) (history : List Entry)
     (parts others : List P) : Type 0 where
   pub as_many : length others ≡ length parts

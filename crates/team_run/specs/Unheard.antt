@@ -41,7 +41,7 @@ abbrev pub LeftAt : Run → List Entry → ℕ → Bool → Type 0
 LeftAt run history t true = OwesStill run history t
 LeftAt run history t false = pending_at (after run history) t ≡ None
 
--- it is the number of this thread
+-- there is a number, and it is that of this thread
 abbrev pub is_of : Option ℕ → ℕ → Bool
 is_of None k = false
 is_of (Some t) k = t == k

@@ -17,11 +17,11 @@ pub struct Start {
 }
 
 /// Starts the first part.
-pub fn initialize_first<P: ToolPart>(parts: &mut Vec<P>) -> Start
-    requires { 0 < length parts.old.items }
+pub fn initialize_first<P: ToolPart>(parts: &mut [P]) -> Start
+    requires { 0 < length parts.old }
     ensures always { AreAlways result.registered }
     ensures first { ChangesFirst P.stands_for P.same
-        (λ (h : Record). initialized h result.answer result.registered) parts.old.items parts.new.items }
+        (λ (h : Record). initialized h result.answer result.registered) parts.old parts.new }
 {
     let mut registrar = Registrar::new();
     let answer = parts[0].initialize(&mut registrar);
@@ -44,9 +44,9 @@ pub fn mask_of(start: Start) -> u64
 }
 
 /// Finishes the first part, where it is active.
-pub fn finalize_first<P: ToolPart>(start: Start, parts: &mut Vec<P>)
-    requires { 0 < length parts.old.items }
-    ensures { ChangesFirst P.stands_for P.same (finished_by start.answer) parts.old.items parts.new.items }
+pub fn finalize_first<P: ToolPart>(start: Start, parts: &mut [P])
+    requires { 0 < length parts.old }
+    ensures { ChangesFirst P.stands_for P.same (finished_by start.answer) parts.old parts.new }
 {
     if start.answer == 0 {
         return;

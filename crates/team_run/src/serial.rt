@@ -38,7 +38,7 @@ pub fn run_serial<P: ToolPart>(
     ensures ran { IfOk result (λ ran.
         IsRan P.stands_for P.same true (run_of program threads steps ran) parts.items ran) }
     ensures serial { IfOk result (λ ran. Serial (run_of program threads steps ran) ran.history) }
-    // Where no store took effect it is the one list.
+    // Where memory didn't fail and no store took effect it is the one list.
     ensures whole { IfOk result (λ ran. ran.cause ≢ Cause.Memory →
         HearsSilent (run_of program threads steps ran) ran.history →
         ran.history ≡ serial (run_of program threads steps ran)) }

@@ -122,7 +122,7 @@ fn run_drivers<R: Threads + Wait + Sync, K: BookName, P: ToolPart>(
     ensures drivers { AreDrivers P.stands_for P.same K.run parts.items passes.items parts.items →
         AreDrivers P.stands_for P.same K.run parts.items result.0.items result.1.items }
 {
-    // No driver is handed back.
+    // No start of a thread was refused yet.
     let stays: Stays = array::from_fn(|_| AtomicBool::new(false));
     let stays = &stays;
     thread::scope(
