@@ -96,7 +96,8 @@ pub(crate) fn visit<R: Wait, K: BookName, P: ToolPart>(
     pass.legal();
     match book.go(rt, pass) {
         Ok(Step::Told(seq, call, snapshot)) => serve(rt, book, pass, part, seq, &call, &snapshot),
-        Ok(Step::Quiet | Step::NotYet) => Visited::On,
+        Ok(Step::Quiet) => Visited::On,
+        Ok(Step::NotYet) => Visited::On,
         Ok(Step::Ended(_)) => Visited::Over,
         Err(_) => {
             book.end_memory(rt, pass);

@@ -14,6 +14,10 @@ pub returns-in-Ok-Quiet-clause-goes : goal.returns-in-Ok-Quiet-clause-goes
 returns-in-Ok-Quiet-clause-goes g c =
     goes-quiet g.P.ToolPart.stands_for g.P.ToolPart.same g.K.BookName.run c.args.pass.now c.go.new.pass c.args.part.now _ c.go.ensures.thread c.legal.ensures.below (sym c.ended.ensures ∙ c.if-ended.false) c.in-Ok-Quiet.ensures.ok (λ seq call snapshot told. cc)
 
+pub returns-in-Ok-NotYet-clause-goes : goal.returns-in-Ok-NotYet-clause-goes
+returns-in-Ok-NotYet-clause-goes g c =
+    goes-quiet g.P.ToolPart.stands_for g.P.ToolPart.same g.K.BookName.run c.args.pass.now c.go.new.pass c.args.part.now _ c.go.ensures.thread c.legal.ensures.below (sym c.ended.ensures ∙ c.if-ended.false) c.in-Ok-NotYet.ensures.ok (λ seq call snapshot told. cc)
+
 pub returns-in-Ok-Ended-clause-goes : goal.returns-in-Ok-Ended-clause-goes
 returns-in-Ok-Ended-clause-goes g c =
     goes-quiet g.P.ToolPart.stands_for g.P.ToolPart.same g.K.BookName.run c.args.pass.now c.go.new.pass c.args.part.now _ c.go.ensures.thread c.legal.ensures.below (sym c.ended.ensures ∙ c.if-ended.false) c.in-Ok-Ended.ensures.ok (λ seq call snapshot told. cc)
