@@ -91,8 +91,11 @@ pub(crate) fn drive_here<R: Wait, K: BookName, P: ToolPart>(
     ensures as_many { length slots.new ≡ length slots.old }
     ensures kept { AreKept (IsSlot P.stands_for P.same K.run) slots.old slots.new }
 {
+    if slots.is_empty() {
+        return;
+    }
     let here = slots.iter().filter(|slot| slot.driver.is_err()).count();
-    if here == 1 && !slots.is_empty() {
+    if here == 1 {
         drive_slot(rt, book, &mut slots[0]);
         return;
     }
