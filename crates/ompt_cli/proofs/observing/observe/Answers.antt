@@ -5,7 +5,7 @@ use Rattle.ompt_cli.proofs.observing.observe.Goals as goal
 pub returns-clause-observed : goal.returns-clause-observed
 returns-clause-observed g c =
     let ran = c.in_ok-ran.ran in
-    let of = c.in_ok-ran.ensures in
+    let of = c.in_ok-ran.ensures.ran in
     rw (c.with_report.ensures, c.in_ok-begun.ensures.run, c.of-program.ensures.tree)
     (record {
       observes =
