@@ -28,7 +28,7 @@ pub returns-in-Ok-Read-clause-carried : goal.returns-in-Ok-Read-clause-carried
 returns-in-Ok-Read-clause-carried g c =
     let of = c.in-Ok-Read.ensures in
     let taken = taken-as (texts c.args.words.now) c.in-Ok-Read.field-0 (request.Read c.in-Ok-Read.command) c.in-Ok-Read.field-0-is of.read of.exact of.form of.read_form of.asked of.clash in
-    let input = c.read_input-outcome in
+    let input = c.read_input in
     rw (c.tell-in-Ok-Read.ensures.end, c.tell-in-Ok-Read.ensures.shown, c.tell-in-Ok-Read.ensures.read, c.tell-in-Ok-Read.ensures.ran)
     (read_carried g.S.Source.left g.S.Source.faults g.O.Sink.held g.O.Sink.faults (texts c.args.words.now) c.in-Ok-Read.command taken input.result c.args.source.now input.new.source c.args.out.now input.new.out
     input.ensures.end input.ensures.copied input.ensures.memory input.ensures.certified input.ensures.reads input.ensures.writes)
