@@ -26,7 +26,7 @@ use Rattle.c_steps.specs.Held.{Held, env_at, task_at}
 use Rattle.c_steps.specs.Items.{begun, calls_at, file_names, item_at, items_if, todo_at, with_file}
 use Rattle.c_steps.specs.Moves.{asking, bound, cut, passing, then_if, then_item}
 use Rattle.c_steps.specs.Nodes.{part_at}
-use Rattle.c_steps.specs.Passing.{IsEventOf, IsEventOfNext, names_behind_asking, names_behind_work, replaced, stages_at}
+use Rattle.c_steps.specs.Passing.{IsEventOf, IsEventOfNext, IsPassed, names_behind_asking, names_behind_work, replaced, stages_at}
 use Rattle.c_steps.specs.Ready.{IsFront, IsPassing}
 use Rattle.c_steps.proofs.Frames.{cut_names, take_shorter}
 use Rattle.c_steps.proofs.Giving.{found_stands, none_stands, same_task, settled_same}
@@ -193,15 +193,16 @@ module _ (program : TreeView) (view : View) (old settled : Held) (first : view.i
         subst (IsWithin program) (ap (λ (task : Task). settled_after_event point executes task) same ∙ sym went_past) (event_is_within program view point executes (task_at program old) is next)
 
 -- what is put in place of the item is what the event says
-past_at : (program : TreeView) (point : Point) (executes : Bool) (node : ℕ) (it : SeenItem) (old new : Held) (env : List Entry) → IsEventOf program point node it → task_at program new ≡ record (replaced program (after_at point executes (length (env_at program old)) (tree_at program.trees node)) old) { env = env } → env ≡ names_after point it (env_at program old) →
-    task_at program new ≡ record (replaced program (items_after point executes (length (env_at program old)) it) old) { env = names_after point it (env_at program old) }
-past_at program point executes node it old new env is task names =
-    task
-    ∙ ap (λ env. record (replaced program (after_at point executes (length (env_at program old)) (tree_at program.trees node)) old) { env = env }) names
-    ∙ ap (λ (items : List SeenItem). record (replaced program items old) { env = names_after point it (env_at program old) }) (same_items program point executes (length (env_at program old)) node it is)
+past_at : (program : TreeView) (point : Point) (executes : Bool) (node : ℕ) (it : SeenItem) (old new : Held) (env : List Entry) → IsEventOf program point node it →
+    IsPassed program old new (after_at point executes (length (env_at program old)) (tree_at program.trees node)) env → env ≡ names_after point it (env_at program old) →
+    IsPassed program old new (items_after point executes (length (env_at program old)) it) (names_after point it (env_at program old))
+past_at program point executes node it old new env is passed names =
+    subst (λ (items : List SeenItem). IsPassed program old new items (names_after point it (env_at program old))) (same_items program point executes (length (env_at program old)) node it is)
+    (subst (IsPassed program old new (after_at point executes (length (env_at program old)) (tree_at program.trees node))) names passed)
 
-pub past_task : (program : TreeView) (point shape : Point) (executes : Bool) (node : ℕ) (it : SeenItem) (old new : Held) (env : List Entry) → point ≡ shape → IsEventOf program point node it → task_at program new ≡ record (replaced program (after_at shape executes (length (env_at program old)) (tree_at program.trees node)) old) { env = env } → env ≡ names_after shape it (env_at program old) →
-    task_at program new ≡ record (replaced program (items_after point executes (length (env_at program old)) it) old) { env = names_after point it (env_at program old) }
-past_task program point shape executes node it old new env same is task names =
-    subst (λ (at : Point). task_at program new ≡ record (replaced program (items_after at executes (length (env_at program old)) it) old) { env = names_after at it (env_at program old) }) (sym same)
-    (past_at program shape executes node it old new env (subst (λ (at : Point). IsEventOf program at node it) same is) task names)
+pub past_task : (program : TreeView) (point shape : Point) (executes : Bool) (node : ℕ) (it : SeenItem) (old new : Held) (env : List Entry) → point ≡ shape → IsEventOf program point node it →
+    IsPassed program old new (after_at shape executes (length (env_at program old)) (tree_at program.trees node)) env → env ≡ names_after shape it (env_at program old) →
+    IsPassed program old new (items_after point executes (length (env_at program old)) it) (names_after point it (env_at program old))
+past_task program point shape executes node it old new env same is passed names =
+    subst (λ (at : Point). IsPassed program old new (items_after at executes (length (env_at program old)) it) (names_after at it (env_at program old))) (sym same)
+    (past_at program shape executes node it old new env (subst (λ (at : Point). IsEventOf program at node it) same is) passed names)

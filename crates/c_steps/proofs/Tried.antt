@@ -109,11 +109,11 @@ module _ (program : TreeView) (old shown : Held) (rest : shown ≡ record old { 
           made_after program view old shown before (settled_shown none) new after next.Quiet made rest are step.frames step.kept (sym silent_step)
 
     -- it was made, or not
-    pub tried : (result : Bool) (new : Held) (after : Store) → IsAttempt program outcome result shown before new after → IsTried program view result old before new after
+    pub tried : (result : Bool) (new : Held) (after : Store) → IsAttempt program result shown before new after outcome → IsTried program view result old before new after
     tried true new after step = step_made new after step
     tried false new after same = subst (λ (new : Held). IsTried program view false old before new after) (sym same.0)
         (subst (λ (after : Store). IsTried program view false old before shown after) (sym same.1) (untouched view before))
 
-    pub made_tried : (result : Bool) (new : Held) (after : Store) → IsMadeFor program old → IsAttempt program outcome result shown before new after → IsMadeFor program new
+    pub made_tried : (result : Bool) (new : Held) (after : Store) → IsMadeFor program old → IsAttempt program result shown before new after outcome → IsMadeFor program new
     made_tried true new after made step = made_new new after step made
     made_tried false new after made same = subst (IsMadeFor program) (sym same.0) (made_shown made are)

@@ -9,7 +9,7 @@ use Rattle.c_model.specs.declared.entry.Entry.{Entry}
 use Rattle.c_steps.specs.declared.item.Item as of_item
 use Rattle.c_steps.specs.declared.item.Item.TheVariants as item
 use Rattle.c_steps.specs.Items.{begun, item_at, items_if, todo_at, with_file}
-use Rattle.c_steps.specs.Ready.{ArePointNumbers}
+use Rattle.c_steps.specs.Ready.{AreFrames, ArePointNumbers, IsAfterStep}
 
 -- an event at this node is of the item
 pub record IsEventOf (program : TreeView) (point : Point) (node : ℕ) (item : Item) : Type 0 where
@@ -33,6 +33,18 @@ pub record IsAfterEvent (old new : Held) : Type 0 where
   pub passes : new.passes + 1 ≡ old.passes
   pub step_names : new.step_names ≡ old.step_names
   pub room : new.room ≡ old.room
+
+-- an event was passed: these items stand in its place, and these names are in scope
+pub record IsPassed (program : TreeView) (old new : Held) (items : List Item) (env : List Entry) : Type 0 where
+  pub task : task_at program new ≡ record (replaced program items old) { env = env }
+  pub after : IsAfterEvent old new
+  pub frames : AreFrames program new.frames
+
+-- an answer was given: these items stand in place of the one that asked
+pub record IsGiven (program : TreeView) (old new : Held) (items : List Item) : Type 0 where
+  pub task : task_at program new ≡ replaced program items old
+  pub after : IsAfterStep old new
+  pub frames : AreFrames program new.frames
 
 -- the names behind the end of a worksharing construct: its own end with its work
 abbrev pub names_behind_work : TreeView → of_item.Item → List Entry → List Entry

@@ -106,9 +106,9 @@ pub record ComesTo (program : TreeView) (outcome : Outcome) (old : Held) (new : 
   pub frames : AreFrames program new.frames
 
 -- .. or nothing was done
-abbrev pub IsAttempt : TreeView → Outcome → Bool → Held → Store → Held → Store → Type 0
-IsAttempt program outcome true old before new after = ComesTo program outcome old new after
-IsAttempt program outcome false old before new after = (new ≡ old) × (after ≡ before)
+abbrev pub IsAttempt : TreeView → Bool → Held → Store → Held → Store → Outcome → Type 0
+IsAttempt program true old before new after outcome = ComesTo program outcome old new after
+IsAttempt program false old before new after outcome = (new ≡ old) × (after ≡ before)
 
 abbrev pub is_quiet : Next → Bool
 is_quiet next.Quiet = true

@@ -9,14 +9,13 @@ ghost use Rattle.c_model.specs.Cells.{entry_of, has_too_many, new_entry};
 ghost use Rattle.c_model.specs.Constructs as constructs;
 ghost use Rattle.c_model.specs.Copies.{listed_variables, loop_slot, with_own_cells, with_task_cells};
 ghost use Rattle.c_model.specs.Loops.{is_declared, loop_of};
-ghost use Rattle.c_steps.specs.Held.{bound_in, here_at, moment_at, outcome_at};
+ghost use Rattle.c_steps.specs.Held.{bound_in, here_at};
 ghost use Rattle.c_steps.specs.Items.{file_names};
 ghost use Rattle.c_steps.specs.ListedNames.{listed_of};
 ghost use Rattle.c_steps.specs.Moves.{bound};
 ghost use Rattle.c_steps.specs.Nodes.{IsPart, part_at};
 ghost use Rattle.c_steps.specs.OwnCells.{around_at, copy_numbers_at, listed_copy_at, listed_made_at, own_made_at, slot_copy_at, slots_made_at, task_made_at, with_copy_at, with_made, with_made_cells, with_numbers};
-ghost use Rattle.c_steps.specs.Ready.{AreFrames, FitsProgram, IsSettled, IsStepping};
-ghost use Rattle.c_steps.specs.Widths.{step_names};
+ghost use Rattle.c_steps.specs.Steps.{Advances, CanStep};
 
 use crate::cells::Cells;
 use crate::code::Code;
@@ -37,14 +36,10 @@ impl Control {
         view: View,
         node: u32,
     ) -> Next
-        requires ready { IsStepping code.now self.old }
+        requires ready { CanStep code.now view self.old }
         requires node { node < length code.now.trees }
-        requires names { self.old.step_names ≡ step_names code.now }
-        ensures step { outcome_at code.now result (moment_at code.now self.new cells.new) ≡
-            constructs.make_cells (here_at code.now view self.old cells.old) (tree_at code.now.trees node) }
-        ensures settled { IsSettled result self.old cells.old self.new cells.new }
-        ensures numbers { FitsProgram code.now result }
-        ensures frames { AreFrames code.now self.new.frames }
+        ensures { Advances code.now result self.old cells.old self.new cells.new
+            (constructs.make_cells (here_at code.now view self.old cells.old) (tree_at code.now.trees node)) }
     {
         if !self.has_own_room(code, cells, view, node) {
             return Next::Limit(CELLS);

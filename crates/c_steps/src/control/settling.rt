@@ -1,6 +1,6 @@
 //! What stands next stands first: frames that are over go, and so do the statements that a task goes past.
 
-ghost use Rattle.std.specs.Prelude.{◌≡◌, ◌&&◌, [], ◌==◌, not, IfNone, IfSome};
+ghost use Rattle.std.specs.Prelude.{◌≡◌, [], IfNone, IfSome};
 ghost use Rattle.c_model.specs.Step.{is_passed_over, settled_task};
 ghost use Rattle.c_steps.specs.Held.{task_at};
 ghost use Rattle.c_steps.specs.Items.{item_at, todo_at};
