@@ -6,7 +6,7 @@ use Rattle.c_model.specs.Task.{Moment, Outcome, Store}
 use Rattle.c_steps.specs.declared.next.Next.{Next}
 use Rattle.c_steps.specs.Held.{Held, moment_at, outcome_at}
 use Rattle.c_steps.specs.Ready.{AreFrames, FitsProgram, IsSettled, IsStepping, IsUnchanging}
-use Rattle.c_steps.specs.Scopes.{HasNumbers}
+use Rattle.c_steps.specs.Views.{HasNumbers}
 use Rattle.c_steps.specs.Widths.{step_names}
 
 -- a step can be made of what stands next, and there is room for the names that it brings

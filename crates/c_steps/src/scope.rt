@@ -14,7 +14,8 @@ ghost use Rattle.c_steps.specs.Chains.{IsChain, left_below};
 ghost use Rattle.c_steps.specs.Entering.{HaveNoTrap, IsNextArgument};
 ghost use Rattle.c_steps.specs.Nodes.{IsPart, part_at};
 ghost use Rattle.c_steps.specs.Rooming.{AreEntries, IsEntry};
-ghost use Rattle.c_steps.specs.Scopes.{HasNumbers, operand_at, scope_of};
+ghost use Rattle.c_steps.specs.Scopes.{operand_at, scope_of};
+ghost use Rattle.c_steps.specs.Views.{HasNumbers};
 
 use crate::chains::{chain_from, operand_below};
 use crate::numbers::{binary_result, deciding_value, unary_result};
@@ -43,6 +44,7 @@ pub(crate) struct Scope<'a> {
     pub(crate) names: &'a [Entry],
     pub(crate) cells: &'a [i32],
     pub(crate) view: View,
+    ghost numbers: { HasNumbers view },
 }
 
 impl<'a> Scope<'a> {
@@ -67,8 +69,7 @@ impl<'a> Scope<'a> {
     #[tactic(auto, using(crate::proofs::Values::value_is))]
     #[inline(always)]
     pub(crate) fn value(&self, part: Option<u32>) -> Result<i32, u8>
-        requires part { IsPart self.now.tree.now.trees part }
-        requires view { HasNumbers self.now.view }
+        requires { IsPart self.now.tree.now.trees part }
         ensures { result ≡ value (scope_of self.now) (part_at self.now.tree.now.trees part) }
     {
         match part {
@@ -81,8 +82,7 @@ impl<'a> Scope<'a> {
     #[tactic(auto, using(crate::proofs::Values::cell_is))]
     #[inline(always)]
     pub(crate) fn place_cell(&self, place: Option<u32>) -> Result<usize, u8>
-        requires place { IsPart self.now.tree.now.trees place }
-        requires view { HasNumbers self.now.view }
+        requires { IsPart self.now.tree.now.trees place }
         ensures cell { result ≡ cell_of (scope_of self.now) (part_at self.now.tree.now.trees place) }
         ensures within { AreEntries (scope_of self.now).env → IfOk result (λ cell. cell ≤ CELL_LIMIT) }
     {
@@ -96,8 +96,7 @@ impl<'a> Scope<'a> {
     #[inline(always)]
     #[tactic(auto, using(crate::proofs::ValuesAll::all_cases))]
     pub(crate) fn check_all(&self, node: u32) -> Result<(), u8>
-        requires node { node < length self.now.tree.now.trees }
-        requires view { HasNumbers self.now.view }
+        requires { node < length self.now.tree.now.trees }
         ensures { result ≡ without_values
             (all_values (scope_of self.now) (parts (tree_at self.now.tree.now.trees node))) }
     {
@@ -115,7 +114,6 @@ impl<'a> Scope<'a> {
     #[tactic(auto, using(crate::proofs::Entering::argument_trap))]
     pub(crate) fn argument(&self, call: Option<u32>, place: u32) -> Argument
         requires call { IsPart self.now.tree.now.trees call }
-        requires view { HasNumbers self.now.view }
         requires values { HaveNoTrap (scope_of self.now) (part_at self.now.tree.now.trees call) place }
         ensures { IsNextArgument (scope_of self.now) (part_at self.now.tree.now.trees call) place result }
     {
@@ -138,8 +136,7 @@ impl<'a> Scope<'a> {
     #[cycle(values)]
     #[tactic(auto, using(crate::proofs::Values::value_is, crate::proofs::Values::cell_is))]
     pub(crate) fn node_value(&self, node: u32) -> Result<i32, u8>
-        requires node { node < length self.now.tree.now.trees }
-        requires view { HasNumbers self.now.view }
+        requires { node < length self.now.tree.now.trees }
         ensures { result ≡ value (scope_of self.now) (tree_at self.now.tree.now.trees node) }
     {
         match self.tree.kind(node) {
@@ -160,8 +157,7 @@ impl<'a> Scope<'a> {
     #[tactic(auto, using(crate::proofs::Values::value_is))]
     #[inline(always)]
     pub(crate) fn quick_value(&self, part: Option<u32>) -> Option<i32>
-        requires part { IsPart self.now.tree.now.trees part }
-        requires view { HasNumbers self.now.view }
+        requires { IsPart self.now.tree.now.trees part }
         ensures { IfSome result (λ number. value (scope_of self.now) (part_at self.now.tree.now.trees part) ≡
             Ok number) }
     {
@@ -174,8 +170,7 @@ impl<'a> Scope<'a> {
     /// The cell of a place, if it has no trap.
     #[inline(always)]
     pub(crate) fn quick_place(&self, place: Option<u32>) -> Option<usize>
-        requires place { IsPart self.now.tree.now.trees place }
-        requires view { HasNumbers self.now.view }
+        requires { IsPart self.now.tree.now.trees place }
         ensures { IfSome result (λ cell. cell_of (scope_of self.now) (part_at self.now.tree.now.trees place) ≡
             Ok cell) }
     {
@@ -189,8 +184,7 @@ impl<'a> Scope<'a> {
     #[cycle(quick)]
     #[tactic(auto, using(crate::proofs::Values::value_is, crate::proofs::Values::cell_is))]
     fn quick_node(&self, node: u32, depth: u32) -> Option<i32>
-        requires node { node < length self.now.tree.now.trees }
-        requires view { HasNumbers self.now.view }
+        requires { node < length self.now.tree.now.trees }
         ensures { IfSome result (λ number. value (scope_of self.now) (tree_at self.now.tree.now.trees node) ≡
             Ok number) }
     {
@@ -213,8 +207,7 @@ impl<'a> Scope<'a> {
     #[tactic(auto, using(crate::proofs::Values::value_is, crate::proofs::Values::cell_is))]
     #[inline(always)]
     fn quick_operand(&self, node: u32, place: u32, depth: u32) -> Option<i32>
-        requires node { node < length self.now.tree.now.trees }
-        requires view { HasNumbers self.now.view }
+        requires { node < length self.now.tree.now.trees }
         ensures { IfSome result (λ number. operand_at self.now node place ≡ Ok number) }
     {
         let Some(child) = self.tree.child(node, place) else {
@@ -243,8 +236,7 @@ impl<'a> Scope<'a> {
     #[tactic(auto, using(crate::proofs::Values::cell_is))]
     #[inline(always)]
     fn quick_cell(&self, node: u32, depth: u32) -> Option<usize>
-        requires node { node < length self.now.tree.now.trees }
-        requires view { HasNumbers self.now.view }
+        requires { node < length self.now.tree.now.trees }
         ensures { IfSome result (λ cell. cell_of (scope_of self.now) (tree_at self.now.tree.now.trees node) ≡ Ok cell) }
     {
         let entry = self.entry(self.tree.name(node));
@@ -263,8 +255,7 @@ impl<'a> Scope<'a> {
     #[cycle(quick)]
     #[inline(always)]
     fn quick_unary(&self, operator: UnaryOp, node: u32, depth: u32) -> Option<i32>
-        requires node { node < length self.now.tree.now.trees }
-        requires view { HasNumbers self.now.view }
+        requires { node < length self.now.tree.now.trees }
         ensures { IfSome result (λ number. unary_value operator (operand_at self.now node 0) ≡ Ok number) }
     {
         let number = self.quick_operand(node, 0, depth)?;
@@ -278,8 +269,7 @@ impl<'a> Scope<'a> {
     #[cycle(quick)]
     #[inline(always)]
     fn quick_binary(&self, operator: BinaryOp, node: u32, depth: u32) -> Option<i32>
-        requires node { node < length self.now.tree.now.trees }
-        requires view { HasNumbers self.now.view }
+        requires { node < length self.now.tree.now.trees }
         ensures { IfSome result (λ number.
             binary_value operator (operand_at self.now node 0) (operand_at self.now node 1) ≡ Ok number) }
     {
@@ -299,8 +289,7 @@ impl<'a> Scope<'a> {
     #[cycle(values)]
     #[inline(always)]
     fn operand(&self, node: u32, place: u32) -> Result<i32, u8>
-        requires node { node < length self.now.tree.now.trees }
-        requires view { HasNumbers self.now.view }
+        requires { node < length self.now.tree.now.trees }
         ensures { result ≡ operand_at self.now node place }
     {
         match self.tree.child(node, place) {
@@ -313,8 +302,7 @@ impl<'a> Scope<'a> {
     #[tactic(auto, using(crate::proofs::Values::cell_is))]
     #[inline(always)]
     fn node_cell(&self, node: u32) -> Result<usize, u8>
-        requires node { node < length self.now.tree.now.trees }
-        requires view { HasNumbers self.now.view }
+        requires { node < length self.now.tree.now.trees }
         ensures { result ≡ cell_of (scope_of self.now) (tree_at self.now.tree.now.trees node) }
     {
         let entry = self.entry(self.tree.name(node));
@@ -330,8 +318,7 @@ impl<'a> Scope<'a> {
     #[cycle(values)]
     #[inline(always)]
     fn unary(&self, operator: UnaryOp, node: u32) -> Result<i32, u8>
-        requires node { node < length self.now.tree.now.trees }
-        requires view { HasNumbers self.now.view }
+        requires { node < length self.now.tree.now.trees }
         ensures { result ≡ unary_value operator (operand_at self.now node 0) }
     {
         match self.operand(node, 0) {
@@ -345,7 +332,6 @@ impl<'a> Scope<'a> {
     #[tactic(auto, using(crate::proofs::Values::value_is, crate::proofs::LeftOperands::left_values_cases))]
     fn binary(&self, operator: BinaryOp, node: u32) -> Result<i32, u8>
         requires node { node < length self.now.tree.now.trees }
-        requires view { HasNumbers self.now.view }
         requires kind { kind_of (tree_at self.now.tree.now.trees node) ≡ NodeKind.Binary operator }
         ensures { result ≡ value (scope_of self.now) (tree_at self.now.tree.now.trees node) }
     {
@@ -365,7 +351,6 @@ impl<'a> Scope<'a> {
     #[tactic(auto, using(crate::proofs::LeftOperands::halves_cases))]
     fn chain_value(&self, node: u32, levels: u32, lowest: Result<i32, u8>) -> Result<i32, u8>
         requires node { node < length self.now.tree.now.trees }
-        requires view { HasNumbers self.now.view }
         requires some { 0 < levels }
         requires chain { IsChain levels (tree_at self.now.tree.now.trees node) }
         requires lowest { lowest ≡ value (scope_of self.now)
@@ -387,8 +372,7 @@ impl<'a> Scope<'a> {
     /// The number of an operator by that of its left operand. The right one isn't looked at where the left one decides.
     #[cycle(values)]
     fn joined(&self, operator: BinaryOp, node: u32, left: Result<i32, u8>) -> Result<i32, u8>
-        requires node { node < length self.now.tree.now.trees }
-        requires view { HasNumbers self.now.view }
+        requires { node < length self.now.tree.now.trees }
         ensures { result ≡ binary_value operator left (operand_at self.now node 1) }
     {
         match left {

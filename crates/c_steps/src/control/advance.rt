@@ -9,7 +9,7 @@ ghost use Rattle.c_steps.specs.Held.{Held, here_at, moment_at, outcome_at};
 ghost use Rattle.c_steps.specs.Items.{item_at};
 ghost use Rattle.c_steps.specs.Made.{IsMadeFor};
 ghost use Rattle.c_steps.specs.Ready.{FitsProgram, IsItem};
-ghost use Rattle.c_steps.specs.Scopes.{HasNumbers};
+ghost use Rattle.c_steps.specs.Views.{HasNumbers};
 ghost use Rattle.c_steps.specs.Steps.{Advances, CanStep, Tells};
 
 use crate::cells::Cells;

@@ -15,7 +15,7 @@ ghost use Rattle.c_steps.specs.Moves.{cells_given, closed, delivered, env_with, 
 ghost use Rattle.c_steps.specs.Nodes.{IsPart, part_at};
 ghost use Rattle.c_steps.specs.Ready.{IsStepping};
 ghost use Rattle.c_steps.specs.Rooming.{IsEntry};
-ghost use Rattle.c_steps.specs.Scopes.{HasNumbers};
+ghost use Rattle.c_steps.specs.Views.{HasNumbers};
 ghost use Rattle.c_steps.specs.Steps.{Advances, CanStep, Tells};
 ghost use Rattle.c_steps.specs.Trying.{IsAttempt};
 
@@ -84,14 +84,8 @@ impl Control {
             (calls.begin_initialise (here_at code.now view self.old cells.old) (tree_at code.now.trees node) entry) }
     {
         let call = code.child(Some(node), 0);
-        self.begin_right(
-            code,
-            cells,
-            view,
-            call,
-            Some(entry),
-            Target::Cell(entry.first),
-        )
+        let to = Target::Cell(entry.first);
+        self.begin_right(code, cells, view, call, Some(entry), to)
     }
 
     /// `return`, of nothing, of a call, or of an expression.
@@ -109,14 +103,9 @@ impl Control {
     {
         let right = code.child(Some(node), 0);
         match code.kind(right) {
-            NodeKind::Call | NodeKind::TestLock => self.begin_right(
-                code,
-                cells,
-                view,
-                right,
-                None,
-                Target::Return,
-            ),
+            NodeKind::Call | NodeKind::TestLock => {
+                self.begin_right(code, cells, view, right, None, Target::Return)
+            }
             _ => match self.value(code, cells, view, right) {
                 Err(trap) => Next::Trap(trap),
                 Ok(number) => self.returns(code, cells, view, number),

@@ -14,8 +14,9 @@ ghost use Rattle.c_steps.specs.Moves.{bound_if, env_with};
 ghost use Rattle.c_steps.specs.Nodes.{IsPart, part_at};
 ghost use Rattle.c_steps.specs.Ready.{AreFrames, IsAfterStep};
 ghost use Rattle.c_steps.specs.Rooming.{IsEntry, open_calls};
-ghost use Rattle.c_steps.specs.Scopes.{HasNumbers, scope_of};
+ghost use Rattle.c_steps.specs.Scopes.{scope_of};
 ghost use Rattle.c_steps.specs.Steps.{CanStep};
+ghost use Rattle.c_steps.specs.Views.{HasNumbers};
 
 use crate::cells::Cells;
 use crate::code::Code;
@@ -198,7 +199,8 @@ impl Control {
         view: View,
         caller: Caller,
     ) -> Scope<'a>
-        requires { IsCaller caller self.now cells.now }
+        requires caller { IsCaller caller self.now cells.now }
+        requires view { HasNumbers view }
         ensures tree { result.tree.now ≡ code.now }
         ensures view { result.view ≡ view }
         ensures scope { scope_of result ≡ caller_scope code.now view caller self.now cells.now }

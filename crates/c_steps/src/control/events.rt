@@ -18,7 +18,7 @@ ghost use Rattle.c_model.specs.Task.Outcome.{Asks, Occurs};
 ghost use Rattle.c_steps.specs.Held.{here_at};
 ghost use Rattle.c_steps.specs.Items.{loop_at};
 ghost use Rattle.c_steps.specs.LoopNodes.{GoesOn, parts_at};
-ghost use Rattle.c_steps.specs.Scopes.{HasNumbers};
+ghost use Rattle.c_steps.specs.Views.{HasNumbers};
 ghost use Rattle.c_steps.specs.Steps.{Advances, CanStep, Tells};
 
 use crate::cells::Cells;
@@ -112,21 +112,19 @@ impl Control {
     /// A task is made whose `if` clause gives this number, if there is room for its cells.
     fn create(&self, code: &Code, cells: &Cells, view: View, node: u32, number: i32) -> Next
         requires node { node < length code.now.trees }
+        requires view { HasNumbers view }
         ensures { Tells code.now result
             (constructs.creates (here_at code.now view self.now cells.now) (tree_at code.now.trees node) number) }
     {
         if !self.has_task_room(code, cells, view, node) {
             return Next::Limit(CELLS);
         }
-        let codeptr = code.place(node);
         let undeferred = number == 0;
-        Next::Event(
-            Point::TaskCreate {
-                codeptr,
-                undeferred,
-            },
-            node,
-        )
+        let point = Point::TaskCreate {
+            codeptr: code.place(node),
+            undeferred,
+        };
+        Next::Event(point, node)
     }
 
     /// A loop that is shared out begins with its start and its end.
@@ -245,15 +243,12 @@ pub(super) fn synchronise(code: &Code, node: u32, kind: SyncKind, stage: SyncSta
     requires { node < length code.now.trees }
     ensures { Tells code.now result (constructs.synchronises (tree_at code.now.trees node) kind stage) }
 {
-    let codeptr = code.place(node);
-    Next::Event(
-        Point::Sync {
-            codeptr,
-            kind,
-            stage,
-        },
-        node,
-    )
+    let point = Point::Sync {
+        codeptr: code.place(node),
+        kind,
+        stage,
+    };
+    Next::Event(point, node)
 }
 
 /// A region that was forked is over.
@@ -282,15 +277,12 @@ pub(super) fn end_work(code: &Code, node: u32, kind: WorkKind, count: u64) -> Ne
     requires { node < length code.now.trees }
     ensures { Tells code.now result (constructs.end_work (tree_at code.now.trees node) kind count) }
 {
-    let codeptr = code.place(node);
-    Next::Event(
-        Point::WorkEnd {
-            codeptr,
-            kind,
-            count,
-        },
-        node,
-    )
+    let point = Point::WorkEnd {
+        codeptr: code.place(node),
+        kind,
+        count,
+    };
+    Next::Event(point, node)
 }
 
 /// A lock or critical comes to be owned.
@@ -299,15 +291,12 @@ pub(super) fn acquire(code: &Code, node: u32, kind: MutexKind, wait_id: u32) -> 
     requires { node < length code.now.trees }
     ensures { Tells code.now result (constructs.acquires (tree_at code.now.trees node) kind wait_id) }
 {
-    let codeptr = code.place(node);
-    Next::Event(
-        Point::MutexAcquired {
-            codeptr,
-            wait_id,
-            kind,
-        },
-        node,
-    )
+    let point = Point::MutexAcquired {
+        codeptr: code.place(node),
+        wait_id,
+        kind,
+    };
+    Next::Event(point, node)
 }
 
 /// A critical is given back.

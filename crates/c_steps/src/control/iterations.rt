@@ -8,7 +8,7 @@ ghost use Rattle.c_model.specs.Loops.{iteration_value};
 ghost use Rattle.c_steps.specs.Held.{env_at, here_at};
 ghost use Rattle.c_steps.specs.Items.{item_at, loop_at, with_file};
 ghost use Rattle.c_steps.specs.Ready.{AreLoopNumbers, IsItem, IsLoop, IsStepping};
-ghost use Rattle.c_steps.specs.Steps.{Advances};
+ghost use Rattle.c_steps.specs.Steps.{Advances, CanStep};
 
 use crate::cells::Cells;
 use crate::code::Code;
@@ -33,7 +33,7 @@ impl Control {
         at: u64,
         upto: u64,
     ) -> Next
-        requires ready { IsStepping code.now self.old }
+        requires ready { CanStep code.now view self.old }
         requires shared { IsLoop code.now shared }
         requires at { at < upto }
         requires upto { upto ≤ shared.count }
@@ -69,11 +69,11 @@ impl Control {
     {
         let around = self.cell_around(code, name, names);
         let own = self.cell_of_copy(code, name, names);
-        match reduction_result(
-            operator,
+        let (held, copy) = (
             number_in(cells.items(), around),
             number_in(cells.items(), own),
-        ) {
+        );
+        match reduction_result(operator, held, copy) {
             Err(trap) => Next::Trap(trap),
             Ok(number) => {
                 self.step();

@@ -15,6 +15,7 @@ ghost use Rattle.c_steps.specs.ListedNames.{listed_of};
 ghost use Rattle.c_steps.specs.Moves.{bound};
 ghost use Rattle.c_steps.specs.Nodes.{IsPart, part_at};
 ghost use Rattle.c_steps.specs.OwnCells.{around_at, copy_numbers_at, listed_copy_at, listed_made_at, own_made_at, slot_copy_at, slots_made_at, task_made_at, with_copy_at, with_made, with_made_cells, with_numbers};
+ghost use Rattle.c_steps.specs.Views.{HasNumbers};
 ghost use Rattle.c_steps.specs.Steps.{Advances, CanStep};
 
 use crate::cells::Cells;
@@ -51,7 +52,8 @@ impl Control {
 
     /// Whether there is room for the cells of a construct's own.
     fn has_own_room(&self, code: &Code, cells: &Cells, view: View, node: u32) -> bool
-        requires { node < length code.now.trees }
+        requires node { node < length code.now.trees }
+        requires view { HasNumbers view }
         ensures { result ≡ not (has_too_many (with_own_cells code.now (bound_in code.now self.now cells.now)
             (tree_at code.now.trees node)).cells) }
     {
@@ -65,18 +67,18 @@ impl Control {
     /// Whether there is room for the cells of a task's own.
     #[tactic(auto, using(crate::proofs::Counting::task_cells_fit, crate::proofs::Counting::task_cells_pass))]
     pub(super) fn has_task_room(&self, code: &Code, cells: &Cells, view: View, node: u32) -> bool
-        requires { node < length code.now.trees }
+        requires node { node < length code.now.trees }
+        requires view { HasNumbers view }
         ensures { result ≡ not (has_too_many (with_task_cells code.now (bound_in code.now self.now cells.now)
             (tree_at code.now.trees node)).cells) }
     {
         let scope = self.scope(code, cells.items(), view);
         match room_behind_listed(code, &scope, node, cells.room()) {
             None => false,
-            Some(room) => room_behind_slots(
-                &scope,
-                code.program().task_copies(node),
-                room,
-            ).is_some(),
+            Some(room) => {
+                let slots = code.program().task_copies(node);
+                room_behind_slots(&scope, slots, room).is_some()
+            }
         }
     }
 

@@ -10,7 +10,7 @@ ghost use Rattle.c_model.specs.Text.{printed_text};
 ghost use Rattle.c_model.specs.Value.{all_values};
 ghost use Rattle.c_steps.specs.Arguments.{values_in, without_values};
 ghost use Rattle.c_steps.specs.Held.{here_at, scope_in};
-ghost use Rattle.c_steps.specs.Scopes.{HasNumbers};
+ghost use Rattle.c_steps.specs.Views.{HasNumbers};
 ghost use Rattle.c_steps.specs.Steps.{Advances, CanStep};
 
 use crate::cells::Cells;

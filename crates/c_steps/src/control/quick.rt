@@ -11,9 +11,10 @@ ghost use Rattle.c_model.specs.Value as values;
 ghost use Rattle.c_steps.specs.Held.{here_at, scope_in};
 ghost use Rattle.c_steps.specs.Items.{with_file};
 ghost use Rattle.c_steps.specs.Nodes.{IsPart, part_at};
-ghost use Rattle.c_steps.specs.Scopes.{HasNumbers, scope_of};
+ghost use Rattle.c_steps.specs.Scopes.{scope_of};
 ghost use Rattle.c_steps.specs.Steps.{CanStep};
 ghost use Rattle.c_steps.specs.Trying.{IsAssignment, IsAttempt, IsChange};
+ghost use Rattle.c_steps.specs.Views.{HasNumbers};
 
 use crate::cells::Cells;
 use crate::code::Code;
@@ -248,8 +249,7 @@ impl Control {
 /// What an assignment of this number changes, if it has no trap.
 #[inline(always)]
 fn assignment(scope: &Scope, which: Setting, place: Option<u32>, right: i32) -> Option<Change>
-    requires place { IsPart scope.now.tree.now.trees place }
-    requires view { HasNumbers scope.now.view }
+    requires { IsPart scope.now.tree.now.trees place }
     ensures { IfSome result (IsAssignment (scope_of scope.now) which (part_at scope.now.tree.now.trees place) right) }
 {
     let cell = scope.quick_place(place)?;

@@ -9,7 +9,7 @@ ghost use Rattle.c_check.specs.Loops.{child_at};
 ghost use Rattle.c_steps.specs.Held.{here_at, scope_in};
 ghost use Rattle.c_steps.specs.Items.{items_if, with_file};
 ghost use Rattle.c_steps.specs.Ready.{IsItem, IsStepping};
-ghost use Rattle.c_steps.specs.Scopes.{HasNumbers};
+ghost use Rattle.c_steps.specs.Views.{HasNumbers};
 ghost use Rattle.c_steps.specs.Steps.{Advances, CanStep};
 
 use crate::cells::Cells;

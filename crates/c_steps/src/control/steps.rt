@@ -61,15 +61,8 @@ impl Control {
                 self.assign(code, cells, view, which, code.child(part, 0), right, then)
             }
             NodeKind::Bump(which, _) => {
-                self.assign(
-                    code,
-                    cells,
-                    view,
-                    setting_of(which),
-                    code.child(part, 0),
-                    Ok(1),
-                    then,
-                )
+                let (setting, place) = (setting_of(which), code.child(part, 0));
+                self.assign(code, cells, view, setting, place, Ok(1), then)
             }
             _ => {
                 self.step();

@@ -10,7 +10,7 @@ ghost use Rattle.c_steps.specs.Held.{here_at, task_at};
 ghost use Rattle.c_steps.specs.Items.{item_at};
 ghost use Rattle.c_steps.specs.Made.{IsMadeFor};
 ghost use Rattle.c_steps.specs.Ready.{AreFrames, IsFront, IsItem, IsStepping};
-ghost use Rattle.c_steps.specs.Scopes.{HasNumbers};
+ghost use Rattle.c_steps.specs.Views.{HasNumbers};
 ghost use Rattle.c_steps.specs.Rooming.{open_calls};
 ghost use Rattle.c_steps.specs.Steps.{CanStep};
 ghost use Rattle.c_steps.specs.Trying.{HasPartOnTop, HaveStepsMade, IsAttempt, IsTried, item_of, next_on_top};
