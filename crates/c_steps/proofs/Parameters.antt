@@ -15,7 +15,7 @@ use Rattle.c_model.specs.Parts.{parts}
 use Rattle.c_model.specs.Task.{Store}
 use Rattle.c_model.specs.Value.{Scope}
 use Rattle.c_steps.specs.declared.control.entering.Caller.{Caller}
-use Rattle.c_steps.specs.declared.scope.Argument.{Argument}
+use Rattle.c_steps.specs.declared.evaluate.Argument.{Argument}
 use Rattle.c_steps.specs.Arguments.{values_in}
 use Rattle.c_steps.specs.Entering.{BindsParameter, HasMore, HaveNoTrap, IsCaller, IsNextArgument, arguments_from, bound_at, caller_scope}
 use Rattle.c_steps.specs.Held.{Held}

@@ -10,7 +10,7 @@ use Rattle.c_model.specs.Program.{body_of}
 use Rattle.c_model.specs.Task.{Here, Moment, OpenCall, Store}
 use Rattle.c_model.specs.Task.Item.{FallOff, Start}
 use Rattle.c_model.specs.Value.{Scope, all_values}
-use Rattle.c_steps.specs.declared.scope.Argument.{Argument}
+use Rattle.c_steps.specs.declared.evaluate.Argument.{Argument}
 use Rattle.c_steps.specs.declared.control.entering.Caller.{Caller}
 use Rattle.c_steps.specs.Arguments.{values_in, without_values}
 use Rattle.c_steps.specs.Rests.{parts_from}

@@ -21,8 +21,9 @@ ghost use Rattle.c_steps.specs.Views.{HasNumbers};
 use crate::cells::Cells;
 use crate::code::Code;
 use crate::control::Control;
+use crate::evaluate::Argument;
 use crate::item::Item;
-use crate::scope::{Argument, Scope};
+use crate::scope::Scope;
 use c_model::{Entry, Target, View};
 
 /// The names and the cells of a function that calls, as they were when the call began.

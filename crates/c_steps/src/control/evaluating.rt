@@ -13,7 +13,8 @@ ghost use Rattle.c_steps.specs.Views.{HasNumbers};
 use crate::cells::Cells;
 use crate::code::Code;
 use crate::control::Control;
-use crate::scope::{Scope, entry_among};
+use crate::in_scope::entry_among;
+use crate::scope::Scope;
 use c_model::{Entry, View};
 
 impl Control {

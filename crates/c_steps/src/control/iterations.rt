@@ -13,10 +13,11 @@ ghost use Rattle.c_steps.specs.Steps.{Advances, CanStep};
 use crate::cells::Cells;
 use crate::code::Code;
 use crate::control::Control;
+use crate::evaluate::number_in;
+use crate::in_scope::{entry_among, first_named};
 use crate::item::{Item, Loop};
 use crate::next::Next;
 use crate::numbers::reduction_result;
-use crate::scope::{entry_among, first_named, number_in};
 use c_model::View;
 use c_syntax::ReductionOp;
 

@@ -22,9 +22,9 @@ use crate::cells::Cells;
 use crate::code::Code;
 use crate::control::Control;
 use crate::copies::{make_copy, room_behind_listed, room_behind_slots};
+use crate::in_scope::{entry_among, slot_entry};
 use crate::listed::{Copying, ListedName, first_listed, is_loop, loop_variable, next_listed};
 use crate::next::Next;
-use crate::scope::{entry_among, slot_entry};
 use c_model::{CELLS, Entry, View};
 use c_syntax::NodeKind;
 

@@ -21,10 +21,11 @@ use crate::code::Code;
 use crate::control::Control;
 use crate::control::statements::branch_taken;
 use crate::control::steps::setting_of;
+use crate::evaluate::number_in;
 use crate::item::Item;
 use crate::next::is_quiet;
 use crate::numbers::binary_result;
-use crate::scope::{Scope, number_in};
+use crate::scope::Scope;
 use c_model::{Target, View};
 use c_syntax::{BinaryOp, NodeKind, Setting};
 

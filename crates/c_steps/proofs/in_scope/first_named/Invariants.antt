@@ -1,6 +1,6 @@
 use Rattle.std.proofs.Common.{◌≡◌, length}
 use Rattle.c_model.specs.Cells.{first_named}
-use Rattle.c_steps.proofs.scope.first_named.Given as goal
+use Rattle.c_steps.proofs.in_scope.first_named.Given as goal
 
 -- the older entries have other names
 abbrev pub invariant-loop-entry : goal.invariant-loop-entry

@@ -1,7 +1,7 @@
 use Rattle.std.proofs.Common.{◌≡◌, length}
 use Rattle.c_model.specs.declared.entry.Entry.{Entry}
 use Rattle.c_model.specs.Cells.{last_named}
-use Rattle.c_steps.proofs.scope.newest_named.Given as goal
+use Rattle.c_steps.proofs.in_scope.newest_named.Given as goal
 
 -- the newer entries have other names
 abbrev pub invariant-loop-entry : goal.invariant-loop-entry

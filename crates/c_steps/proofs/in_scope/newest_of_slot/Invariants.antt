@@ -1,7 +1,7 @@
 use Rattle.std.proofs.Common.{◌≡◌, length}
 use Rattle.c_model.specs.declared.entry.Entry.{Entry}
 use Rattle.c_model.specs.Cells.{last_of_slot}
-use Rattle.c_steps.proofs.scope.newest_of_slot.Given as goal
+use Rattle.c_steps.proofs.in_scope.newest_of_slot.Given as goal
 
 -- the newer entries have other slots
 abbrev pub invariant-loop-entry : goal.invariant-loop-entry
