@@ -54,75 +54,29 @@ pub enum Kind {
 pub fn kinds_of(number: u32) -> &'static [Kind]
     ensures { result.now ≡ kinds_of number }
 {
+    use Kind::{
+        Endpoint, Frame, ImplicitFlags, Iterations, Long, OfDispatch, OfLock, OfMutex, OfRelease,
+        OfSync, OfThread, OfWork, ParallelFlags, Short, Status, TaskFlags, Word, Zero,
+    };
     match number {
-        callbacks::THREAD_BEGIN => &[Kind::OfThread, Kind::Word],
-        callbacks::THREAD_END => &[Kind::Word],
-        callbacks::PARALLEL_BEGIN => &[
-            Kind::Word,
-            Kind::Frame,
-            Kind::Word,
-            Kind::Short,
-            Kind::ParallelFlags,
-            Kind::Long,
-        ],
-        callbacks::PARALLEL_END => &[Kind::Word, Kind::Word, Kind::ParallelFlags, Kind::Long],
-        callbacks::TASK_CREATE => &[
-            Kind::Word,
-            Kind::Frame,
-            Kind::Word,
-            Kind::TaskFlags,
-            Kind::Zero,
-            Kind::Long,
-        ],
-        callbacks::TASK_SCHEDULE => &[Kind::Word, Kind::Status, Kind::Word],
-        callbacks::IMPLICIT_TASK => &[
-            Kind::Endpoint,
-            Kind::Word,
-            Kind::Word,
-            Kind::Short,
-            Kind::Short,
-            Kind::ImplicitFlags,
-        ],
-        callbacks::SYNC_REGION_WAIT | callbacks::SYNC_REGION => &[
-            Kind::OfSync,
-            Kind::Endpoint,
-            Kind::Word,
-            Kind::Word,
-            Kind::Long,
-        ],
-        callbacks::MUTEX_RELEASED => &[Kind::OfRelease, Kind::Short, Kind::Long],
-        callbacks::WORK => &[
-            Kind::OfWork,
-            Kind::Endpoint,
-            Kind::Word,
-            Kind::Word,
-            Kind::Long,
-            Kind::Long,
-        ],
-        callbacks::MASKED => &[Kind::Endpoint, Kind::Word, Kind::Word, Kind::Long],
-        callbacks::LOCK_INIT => &[
-            Kind::OfLock,
-            Kind::Zero,
-            Kind::Zero,
-            Kind::Short,
-            Kind::Long,
-        ],
-        callbacks::LOCK_DESTROY => &[Kind::OfLock, Kind::Short, Kind::Long],
-        callbacks::MUTEX_ACQUIRE => &[
-            Kind::OfMutex,
-            Kind::Zero,
-            Kind::Zero,
-            Kind::Short,
-            Kind::Long,
-        ],
-        callbacks::MUTEX_ACQUIRED => &[Kind::OfMutex, Kind::Short, Kind::Long],
-        callbacks::DISPATCH => &[
-            Kind::Word,
-            Kind::Word,
-            Kind::OfDispatch,
-            Kind::Long,
-            Kind::Iterations,
-        ],
+        callbacks::THREAD_BEGIN => &[OfThread, Word],
+        callbacks::THREAD_END => &[Word],
+        callbacks::PARALLEL_BEGIN => &[Word, Frame, Word, Short, ParallelFlags, Long],
+        callbacks::PARALLEL_END => &[Word, Word, ParallelFlags, Long],
+        callbacks::TASK_CREATE => &[Word, Frame, Word, TaskFlags, Zero, Long],
+        callbacks::TASK_SCHEDULE => &[Word, Status, Word],
+        callbacks::IMPLICIT_TASK => &[Endpoint, Word, Word, Short, Short, ImplicitFlags],
+        callbacks::SYNC_REGION_WAIT | callbacks::SYNC_REGION => {
+            &[OfSync, Endpoint, Word, Word, Long]
+        }
+        callbacks::MUTEX_RELEASED => &[OfRelease, Short, Long],
+        callbacks::WORK => &[OfWork, Endpoint, Word, Word, Long, Long],
+        callbacks::MASKED => &[Endpoint, Word, Word, Long],
+        callbacks::LOCK_INIT => &[OfLock, Zero, Zero, Short, Long],
+        callbacks::LOCK_DESTROY => &[OfLock, Short, Long],
+        callbacks::MUTEX_ACQUIRE => &[OfMutex, Zero, Zero, Short, Long],
+        callbacks::MUTEX_ACQUIRED => &[OfMutex, Short, Long],
+        callbacks::DISPATCH => &[Word, Word, OfDispatch, Long, Iterations],
         _ => &[],
     }
 }
