@@ -35,6 +35,7 @@ pub mod Unique
 pub mod Along
 pub mod Format
 pub mod Decoded
+pub mod ReadAs
 pub mod Standing
 pub mod Widths
 pub mod FrontWidths
