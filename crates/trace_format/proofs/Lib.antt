@@ -3,6 +3,7 @@ pub mod Values
 pub mod ArgumentLists
 pub mod Shapes
 pub mod Calls
+pub mod OfKinds
 pub mod Profile
 pub mod Naming
 pub mod ProfileMask

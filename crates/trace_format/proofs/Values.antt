@@ -50,7 +50,7 @@ pub record IsArgument (which : Kind) (before : List (List ℕ)) (bytes : List �
   pub is_bytes : IsBytes bytes
   pub accepted : accepts_kind which before bytes ≡ true
 
-abbrev below : ℕ → List ℕ → Bool
+abbrev pub below : ℕ → List ℕ → Bool
 below limit [] = true
 below limit (x ∷ rest) = nat_lt x limit && below limit rest
 

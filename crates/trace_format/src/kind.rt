@@ -1,7 +1,7 @@
 //! The kinds of an event's arguments.
 
 ghost use Rattle.std.specs.Prelude.{◌≡◌, ◌≤◌, [], length};
-ghost use Rattle.trace_format.specs.Accepting.{accepts_kind, kinds_of, width_of};
+ghost use Rattle.trace_format.specs.Accepting.{accepts_kind, accepts_number, kinds_of, width_of};
 
 use crate::decode::{long_at, short_at};
 use omp_codes::{
@@ -99,49 +99,45 @@ pub fn accepts_kind(kind: Kind, bytes: &[u8]) -> bool
 {
     match kind {
         Kind::Word => short_at(bytes, 0) != 0 || long_at(bytes, 4) == 0,
-        Kind::OfThread => matches!(
-            short_at(bytes, 0),
-            thread_kinds::INITIAL | thread_kinds::WORKER
-        ),
-        Kind::Endpoint => matches!(short_at(bytes, 0), endpoints::BEGIN | endpoints::END),
+        Kind::Long | Kind::Frame | Kind::Iterations => true,
+        other => accepts_number(other, short_at(bytes, 0)),
+    }
+}
+
+/// Whether an argument of the kind may be this number of 32 bits.
+pub fn accepts_number(kind: Kind, number: u32) -> bool
+    ensures { result ≡ accepts_number kind number }
+{
+    match kind {
+        Kind::Short => true,
+        Kind::OfThread => matches!(number, thread_kinds::INITIAL | thread_kinds::WORKER),
+        Kind::Endpoint => matches!(number, endpoints::BEGIN | endpoints::END),
         Kind::OfSync => matches!(
-            short_at(bytes, 0),
+            number,
             sync_kinds::BARRIER_EXPLICIT
                 | sync_kinds::TASKWAIT
                 | sync_kinds::BARRIER_IMPLICIT_WORKSHARE
                 | sync_kinds::BARRIER_IMPLICIT_PARALLEL
         ),
         Kind::OfMutex => matches!(
-            short_at(bytes, 0),
+            number,
             mutex_kinds::LOCK | mutex_kinds::TEST_LOCK | mutex_kinds::CRITICAL
         ),
-        Kind::OfRelease => matches!(
-            short_at(bytes, 0),
-            mutex_kinds::LOCK | mutex_kinds::CRITICAL
-        ),
-        Kind::OfWork => matches!(
-            short_at(bytes, 0),
-            work_kinds::LOOP..=work_kinds::SINGLE_OTHER
-        ),
+        Kind::OfRelease => matches!(number, mutex_kinds::LOCK | mutex_kinds::CRITICAL),
+        Kind::OfWork => matches!(number, work_kinds::LOOP..=work_kinds::SINGLE_OTHER),
         Kind::OfDispatch => matches!(
-            short_at(bytes, 0),
+            number,
             dispatch_kinds::SECTION | dispatch_kinds::WS_LOOP_CHUNK
         ),
-        Kind::Status => matches!(
-            short_at(bytes, 0),
-            task_statuses::COMPLETE | task_statuses::SWITCH
-        ),
-        Kind::OfLock => short_at(bytes, 0) == mutex_kinds::LOCK,
-        Kind::Zero => short_at(bytes, 0) == 0,
-        Kind::ParallelFlags => short_at(bytes, 0) == parallel_flags::TEAM_OF_PROGRAM,
+        Kind::Status => matches!(number, task_statuses::COMPLETE | task_statuses::SWITCH),
+        Kind::OfLock => number == mutex_kinds::LOCK,
+        Kind::Zero => number == 0,
+        Kind::ParallelFlags => number == parallel_flags::TEAM_OF_PROGRAM,
         Kind::TaskFlags => matches!(
-            short_at(bytes, 0),
+            number,
             task_flags::EXPLICIT | task_flags::EXPLICIT_UNDEFERRED
         ),
-        Kind::ImplicitFlags => matches!(
-            short_at(bytes, 0),
-            task_flags::INITIAL | task_flags::IMPLICIT
-        ),
-        Kind::Short | Kind::Long | Kind::Frame | Kind::Iterations => true,
+        Kind::ImplicitFlags => matches!(number, task_flags::INITIAL | task_flags::IMPLICIT),
+        Kind::Long | Kind::Word | Kind::Frame | Kind::Iterations => false,
     }
 }
