@@ -3,6 +3,7 @@
 ghost use Rattle.std.specs.Prelude.{◌≡◌, ◌==◌, ℕ, All, true};
 ghost use Rattle.std.specs.Int.{bit_at};
 ghost use Rattle.omp_codes.specs.Answers.{in_profile, mask_of};
+ghost use Rattle.omp_codes.specs.declared.callbacks.TheConstants as callbacks;
 
 /// `ompt_callback_thread_begin` of `ompt_callbacks_t` (OpenMP 5.2, 19.4.2), as all that follow.
 pub const THREAD_BEGIN: u32 = 1;
@@ -110,4 +111,26 @@ pub fn profile_has_its_mask()
     ensures listed { PROFILE_MASK ≡ mask_of PROFILE }
     ensures within { All (λ number. in_profile number ≡ true) PROFILE }
     ensures bits { (number : ℕ) → (bit_at PROFILE_MASK number == 1) ≡ in_profile number }
+{}
+
+/// A law: the numbers of the callbacks, written out: `ompt_callbacks_t` (OpenMP 5.2, 19.4.2), and the mask of the profile.
+pub fn callbacks_have_their_numbers()
+    ensures thread_begin { callbacks.THREAD_BEGIN ≡ 1 }
+    ensures thread_end { callbacks.THREAD_END ≡ 2 }
+    ensures parallel_begin { callbacks.PARALLEL_BEGIN ≡ 3 }
+    ensures parallel_end { callbacks.PARALLEL_END ≡ 4 }
+    ensures task_create { callbacks.TASK_CREATE ≡ 5 }
+    ensures task_schedule { callbacks.TASK_SCHEDULE ≡ 6 }
+    ensures implicit_task { callbacks.IMPLICIT_TASK ≡ 7 }
+    ensures sync_region_wait { callbacks.SYNC_REGION_WAIT ≡ 16 }
+    ensures mutex_released { callbacks.MUTEX_RELEASED ≡ 17 }
+    ensures work { callbacks.WORK ≡ 20 }
+    ensures masked { callbacks.MASKED ≡ 21 }
+    ensures sync_region { callbacks.SYNC_REGION ≡ 23 }
+    ensures lock_init { callbacks.LOCK_INIT ≡ 24 }
+    ensures lock_destroy { callbacks.LOCK_DESTROY ≡ 25 }
+    ensures mutex_acquire { callbacks.MUTEX_ACQUIRE ≡ 26 }
+    ensures mutex_acquired { callbacks.MUTEX_ACQUIRED ≡ 27 }
+    ensures dispatch { callbacks.DISPATCH ≡ 32 }
+    ensures profile_mask { callbacks.PROFILE_MASK ≡ 4558356734 }
 {}

@@ -29,5 +29,7 @@ pub mod thread_states;
 pub mod work_kinds;
 
 pub use answers::set_answer;
-pub use callbacks::{PROFILE, PROFILE_MASK, is_profile, profile_has_its_mask};
+pub use callbacks::{
+    PROFILE, PROFILE_MASK, callbacks_have_their_numbers, is_profile, profile_has_its_mask,
+};
 pub use states::next_state;

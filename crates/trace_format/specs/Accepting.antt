@@ -5,7 +5,7 @@ use Rattle.std.specs.Int.Bits.{bit_and}
 use Rattle.byteorder.specs.Endian.{big_number}
 use Rattle.omp_codes.specs.Answers.{in_profile}
 use Rattle.omp_codes.specs.States.{states}
-use Rattle.omp_codes.specs.declared.callbacks.TheConstants.{PROFILE_MASK, THREAD_BEGIN, THREAD_END, PARALLEL_BEGIN, PARALLEL_END, TASK_CREATE, TASK_SCHEDULE, IMPLICIT_TASK, SYNC_REGION_WAIT, MUTEX_RELEASED, WORK, MASKED, SYNC_REGION, LOCK_INIT, LOCK_DESTROY, MUTEX_ACQUIRE, MUTEX_ACQUIRED, DISPATCH}
+use Rattle.omp_codes.specs.declared.callbacks.TheConstants.{PROFILE_MASK, DISPATCH}
 use Rattle.omp_codes.specs.declared.dispatch_kinds.TheConstants.{SECTION}
 use Rattle.omp_codes.specs.declared.mutex_kinds.TheConstants.{LOCK}
 use Rattle.ompt_calls.specs.declared.argument.Argument.{Argument}
@@ -22,27 +22,7 @@ use Rattle.trace_format.specs.declared.trace.TheConstants.{SEQ_LIMIT, FIRST_VERS
 use Rattle.trace_format.specs.Fields.{magic}
 use Rattle.trace_format.specs.Taking.{Stage}
 use Rattle.trace_format.specs.Validity.{IsDispatched, IsFrame, IsLong, IsShort, IsWord, dispatch_kinds, is_among, endpoints, implicit_flags, mutex_kinds, parallel_flags, release_kinds, statuses, sync_kinds, task_flags, thread_kinds, work_kinds}
-
--- the kinds of a callback's arguments, by its number
-abbrev pub kinds_of : ℕ → List Kind
-kinds_of number =
-    if number == THREAD_BEGIN then OfThread ∷ Word ∷ []
-    else if number == THREAD_END then Word ∷ []
-    else if number == PARALLEL_BEGIN then Word ∷ Frame ∷ Word ∷ Short ∷ ParallelFlags ∷ Long ∷ []
-    else if number == PARALLEL_END then Word ∷ Word ∷ ParallelFlags ∷ Long ∷ []
-    else if number == TASK_CREATE then Word ∷ Frame ∷ Word ∷ TaskFlags ∷ Zero ∷ Long ∷ []
-    else if number == TASK_SCHEDULE then Word ∷ Status ∷ Word ∷ []
-    else if number == IMPLICIT_TASK then Endpoint ∷ Word ∷ Word ∷ Short ∷ Short ∷ ImplicitFlags ∷ []
-    else if number == SYNC_REGION_WAIT || number == SYNC_REGION then OfSync ∷ Endpoint ∷ Word ∷ Word ∷ Long ∷ []
-    else if number == MUTEX_RELEASED then OfRelease ∷ Short ∷ Long ∷ []
-    else if number == WORK then OfWork ∷ Endpoint ∷ Word ∷ Word ∷ Long ∷ Long ∷ []
-    else if number == MASKED then Endpoint ∷ Word ∷ Word ∷ Long ∷ []
-    else if number == LOCK_INIT then OfLock ∷ Zero ∷ Zero ∷ Short ∷ Long ∷ []
-    else if number == LOCK_DESTROY then OfLock ∷ Short ∷ Long ∷ []
-    else if number == MUTEX_ACQUIRE then OfMutex ∷ Zero ∷ Zero ∷ Short ∷ Long ∷ []
-    else if number == MUTEX_ACQUIRED then OfMutex ∷ Short ∷ Long ∷ []
-    else if number == DISPATCH then Word ∷ Word ∷ OfDispatch ∷ Long ∷ Iterations ∷ []
-    else []
+pub use Rattle.trace_format.specs.Validity.{kinds_of}
 
 abbrev pub width_of : Kind → ℕ
 width_of Long = 8

@@ -1,8 +1,8 @@
 -- Which traces there are, and what each of them is written as.
-use Rattle.std.specs.Prelude.{ℕ, ◌≡◌, ◌<◌, ◌≤◌, ◌+◌, ◌^◌, ◌==◌, ◌||◌, Bool, true, false, List, [], ◌∷◌, length}
+use Rattle.std.specs.Prelude.{ℕ, ◌≡◌, if◌then◌else◌, ◌<◌, ◌≤◌, ◌+◌, ◌^◌, ◌==◌, ◌||◌, Bool, true, false, List, [], ◌∷◌, length}
 use Rattle.omp_codes.specs.Answers.{in_profile}
 use Rattle.omp_codes.specs.States.{states}
-use Rattle.omp_codes.specs.declared.callbacks.TheConstants.{DISPATCH}
+use Rattle.omp_codes.specs.declared.callbacks.TheConstants.{THREAD_BEGIN, THREAD_END, PARALLEL_BEGIN, PARALLEL_END, TASK_CREATE, TASK_SCHEDULE, IMPLICIT_TASK, SYNC_REGION_WAIT, MUTEX_RELEASED, WORK, MASKED, SYNC_REGION, LOCK_INIT, LOCK_DESTROY, MUTEX_ACQUIRE, MUTEX_ACQUIRED, DISPATCH}
 use Rattle.omp_codes.specs.declared.dispatch_kinds.TheConstants as dispatch_kind
 use Rattle.omp_codes.specs.declared.endpoints.TheConstants as scope
 use Rattle.omp_codes.specs.declared.mutex_kinds.TheConstants as mutex_kind
@@ -18,6 +18,8 @@ use Rattle.ompt_calls.specs.declared.call.Call.{Call}
 use Rattle.ompt_calls.specs.declared.call.Call.TheVariants.{ThreadBegin, ThreadEnd, ParallelBegin, ParallelEnd, TaskCreate, TaskSchedule, ImplicitTask, SyncRegionWait, MutexReleased, Work, Masked, SyncRegion, LockInit, LockDestroy, MutexAcquire, MutexAcquired, Dispatch}
 use Rattle.ompt_calls.specs.declared.event.EventRecord.{EventRecord}
 use Rattle.ompt_calls.specs.Number.{is_registered, number_of}
+use Rattle.trace_format.specs.declared.kind.Kind.{Kind}
+use Rattle.trace_format.specs.declared.kind.Kind.TheVariants as argument_kind
 use Rattle.trace_format.specs.declared.trace.Header.{Header}
 use Rattle.trace_format.specs.declared.trace.Trace.{Trace}
 use Rattle.trace_format.specs.declared.trace.TheConstants.{SEQ_LIMIT, FIRST_VERSION, VERSION, RECORDED, MIGRATED}
@@ -113,6 +115,27 @@ IsCall (MutexAcquire kind hint variant wait_id codeptr) =
     IsAmong mutex_kinds kind × (hint ≡ 0) × (variant ≡ 0) × IsShort wait_id × IsLong codeptr
 IsCall (MutexAcquired kind wait_id codeptr) = IsAmong mutex_kinds kind × IsShort wait_id × IsLong codeptr
 IsCall (Dispatch region task kind start iterations) = IsWord region × IsWord task × IsLong start × IsDispatched kind iterations
+
+-- The same by kinds, as the reader goes by them: those of a callback's arguments, by its number. That both say the same is proved.
+abbrev pub kinds_of : ℕ → List Kind
+kinds_of number =
+    if number == THREAD_BEGIN then argument_kind.OfThread ∷ argument_kind.Word ∷ []
+    else if number == THREAD_END then argument_kind.Word ∷ []
+    else if number == PARALLEL_BEGIN then argument_kind.Word ∷ argument_kind.Frame ∷ argument_kind.Word ∷ argument_kind.Short ∷ argument_kind.ParallelFlags ∷ argument_kind.Long ∷ []
+    else if number == PARALLEL_END then argument_kind.Word ∷ argument_kind.Word ∷ argument_kind.ParallelFlags ∷ argument_kind.Long ∷ []
+    else if number == TASK_CREATE then argument_kind.Word ∷ argument_kind.Frame ∷ argument_kind.Word ∷ argument_kind.TaskFlags ∷ argument_kind.Zero ∷ argument_kind.Long ∷ []
+    else if number == TASK_SCHEDULE then argument_kind.Word ∷ argument_kind.Status ∷ argument_kind.Word ∷ []
+    else if number == IMPLICIT_TASK then argument_kind.Endpoint ∷ argument_kind.Word ∷ argument_kind.Word ∷ argument_kind.Short ∷ argument_kind.Short ∷ argument_kind.ImplicitFlags ∷ []
+    else if number == SYNC_REGION_WAIT || number == SYNC_REGION then argument_kind.OfSync ∷ argument_kind.Endpoint ∷ argument_kind.Word ∷ argument_kind.Word ∷ argument_kind.Long ∷ []
+    else if number == MUTEX_RELEASED then argument_kind.OfRelease ∷ argument_kind.Short ∷ argument_kind.Long ∷ []
+    else if number == WORK then argument_kind.OfWork ∷ argument_kind.Endpoint ∷ argument_kind.Word ∷ argument_kind.Word ∷ argument_kind.Long ∷ argument_kind.Long ∷ []
+    else if number == MASKED then argument_kind.Endpoint ∷ argument_kind.Word ∷ argument_kind.Word ∷ argument_kind.Long ∷ []
+    else if number == LOCK_INIT then argument_kind.OfLock ∷ argument_kind.Zero ∷ argument_kind.Zero ∷ argument_kind.Short ∷ argument_kind.Long ∷ []
+    else if number == LOCK_DESTROY then argument_kind.OfLock ∷ argument_kind.Short ∷ argument_kind.Long ∷ []
+    else if number == MUTEX_ACQUIRE then argument_kind.OfMutex ∷ argument_kind.Zero ∷ argument_kind.Zero ∷ argument_kind.Short ∷ argument_kind.Long ∷ []
+    else if number == MUTEX_ACQUIRED then argument_kind.OfMutex ∷ argument_kind.Short ∷ argument_kind.Long ∷ []
+    else if number == DISPATCH then argument_kind.Word ∷ argument_kind.Word ∷ argument_kind.OfDispatch ∷ argument_kind.Long ∷ argument_kind.Iterations ∷ []
+    else []
 
 -- the first version has no origin but its own
 abbrev pub IsOrigin : ℕ → ℕ → Type 0
