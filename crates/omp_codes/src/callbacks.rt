@@ -1,8 +1,9 @@
 //! The callbacks of the profile: those whose events a program may have.
 
-ghost use Rattle.std.specs.Prelude.{◌≡◌, ◌==◌, ℕ, All, true};
+ghost use Rattle.std.specs.Prelude.{◌≡◌, ◌≤◌, ◌==◌, ℕ, All, length, nat_lt, true};
 ghost use Rattle.std.specs.Int.{bit_at};
-ghost use Rattle.omp_codes.specs.Answers.{in_profile, mask_of};
+ghost use Rattle.std.specs.List.{list_all};
+ghost use Rattle.omp_codes.specs.Answers.{callback_name, in_profile, mask_of};
 ghost use Rattle.omp_codes.specs.declared.callbacks.TheConstants as callbacks;
 
 /// `ompt_callback_thread_begin` of `ompt_callbacks_t` (OpenMP 5.2, 19.4.2), as all that follow.
@@ -56,8 +57,11 @@ pub const MUTEX_ACQUIRED: u32 = 27;
 /// `ompt_callback_dispatch`.
 pub const DISPATCH: u32 = 32;
 
+/// How many callbacks the profile has.
+pub const COUNT: usize = 17;
+
 /// The callbacks of the profile, by rising numbers.
-pub const PROFILE: [u32; 17] = [
+pub const PROFILE: [u32; COUNT] = [
     THREAD_BEGIN,
     THREAD_END,
     PARALLEL_BEGIN,
@@ -104,6 +108,34 @@ pub fn is_profile(number: u32) -> bool
             | MUTEX_ACQUIRED
             | DISPATCH
     )
+}
+
+/// The name of a callback of the profile: that of `ompt_callbacks_t`, without `ompt_callback_`. It is short, and ASCII.
+pub fn name(number: u32) -> &'static str
+    ensures name { result.now ≡ callback_name number }
+    ensures short { length result.now ≤ 18 }
+    ensures plain { list_all (λ (byte : ℕ). nat_lt byte 128) result.now ≡ true }
+{
+    match number {
+        THREAD_BEGIN => "thread_begin",
+        THREAD_END => "thread_end",
+        PARALLEL_BEGIN => "parallel_begin",
+        PARALLEL_END => "parallel_end",
+        TASK_CREATE => "task_create",
+        TASK_SCHEDULE => "task_schedule",
+        IMPLICIT_TASK => "implicit_task",
+        SYNC_REGION_WAIT => "sync_region_wait",
+        MUTEX_RELEASED => "mutex_released",
+        WORK => "work",
+        MASKED => "masked",
+        SYNC_REGION => "sync_region",
+        LOCK_INIT => "lock_init",
+        LOCK_DESTROY => "lock_destroy",
+        MUTEX_ACQUIRE => "mutex_acquire",
+        MUTEX_ACQUIRED => "mutex_acquired",
+        DISPATCH => "dispatch",
+        _ => "",
+    }
 }
 
 /// A law: the mask of the profile has the callbacks that `PROFILE` lists, and no others, and these are the callbacks of the profile.

@@ -252,25 +252,7 @@ impl Call {
     pub fn name(&self) -> &'static str
         ensures { result.now ≡ name_of self.now }
     {
-        match self {
-            Call::ThreadBegin { .. } => "thread_begin",
-            Call::ThreadEnd { .. } => "thread_end",
-            Call::ParallelBegin { .. } => "parallel_begin",
-            Call::ParallelEnd { .. } => "parallel_end",
-            Call::TaskCreate { .. } => "task_create",
-            Call::TaskSchedule { .. } => "task_schedule",
-            Call::ImplicitTask { .. } => "implicit_task",
-            Call::SyncRegionWait { .. } => "sync_region_wait",
-            Call::MutexReleased { .. } => "mutex_released",
-            Call::Work { .. } => "work",
-            Call::Masked { .. } => "masked",
-            Call::SyncRegion { .. } => "sync_region",
-            Call::LockInit { .. } => "lock_init",
-            Call::LockDestroy { .. } => "lock_destroy",
-            Call::MutexAcquire { .. } => "mutex_acquire",
-            Call::MutexAcquired { .. } => "mutex_acquired",
-            Call::Dispatch { .. } => "dispatch",
-        }
+        callbacks::name(self.number())
     }
 
     /// The arguments in their order.
