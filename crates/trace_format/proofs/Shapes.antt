@@ -40,6 +40,7 @@ OfEach before (which ∷ kinds) P =
 of_one : (which : Kind) (before : List Argument) (P : Argument → Type 0) → ((x : Of (shape_of which)) → IsValue which before (made (shape_of which) x) → P (made (shape_of which) x)) → (value : Argument) → IsValue which before value → P value
 of_one kind.Short before P each (argument.Short n) is = each n is
 of_one kind.Long before P each (argument.Long n) is = each n is
+of_one kind.Place before P each (argument.Long n) is = each n is
 of_one kind.Word before P each (argument.Word w) is = each w is
 of_one kind.Frame before P each (argument.Frame f) is = each f is
 of_one kind.OfThread before P each (argument.Short n) is = each n is
@@ -77,6 +78,7 @@ IsSmall (argument.Frame f) = IsShort f.exit × IsShort f.enter
 is_small : (which : Kind) (before : List Argument) (value : Argument) → IsValue which before value → IsSmall value
 is_small kind.Short before (argument.Short n) is = is
 is_small kind.Long before (argument.Long n) is = is
+is_small kind.Place before (argument.Long n) is = is
 is_small kind.Word before (argument.Word w) is = (is.0, is.1)
 is_small kind.Frame before (argument.Frame f) is = is
 is_small kind.OfThread before (argument.Short n) is = among_below thread_kinds n (2 ^ 32) refl is

@@ -26,6 +26,7 @@ AreIterations other n = IsLong n
 abbrev pub IsValue : Kind → List Argument → Argument → Type 0
 IsValue kind.Short before (argument.Short n) = IsShort n
 IsValue kind.Long before (argument.Long n) = IsLong n
+IsValue kind.Place before (argument.Long n) = IsLong n
 IsValue kind.Word before (argument.Word w) = IsWord w
 IsValue kind.Frame before (argument.Frame f) = IsFrame f
 IsValue kind.OfThread before (argument.Short n) = IsAmong thread_kinds n
@@ -140,6 +141,7 @@ a_short which before n four accepted = record { width = length_spelt 4 n ∙ sym
 pub spelt_value : (which : Kind) (before : List Argument) (value : Argument) → IsValue which before value → IsArgument which (map spell before) (spell value)
 spelt_value kind.Short before (argument.Short n) is = a_short kind.Short (map spell before) n refl refl
 spelt_value kind.Long before (argument.Long n) is = record { width = length_spelt 8 n; is_bytes = spelt_bytes 8 n; accepted = refl }
+spelt_value kind.Place before (argument.Long n) is = record { width = length_spelt 8 n; is_bytes = spelt_bytes 8 n; accepted = refl }
 spelt_value kind.Word before (argument.Word w) is =
     record {
       width = length_both (short w.identity) (long w.value) 4 8 (length_spelt 4 w.identity) (length_spelt 8 w.value);
@@ -194,6 +196,8 @@ from_short which before bytes width of_bytes is = record { value = argument.Shor
 pub value_of : (which : Kind) (before : List Argument) (bytes : List ℕ) → IsArgument which (map spell before) bytes → IsSpelt which before bytes
 value_of kind.Short before bytes is = from_short kind.Short before bytes is.width is.is_bytes (number_small 4 bytes is.is_bytes)
 value_of kind.Long before bytes is =
+    record { value = argument.Long (big_number 8 bytes); is_value = number_small 8 bytes is.is_bytes; spelt = spells 8 bytes is.width is.is_bytes }
+value_of kind.Place before bytes is =
     record { value = argument.Long (big_number 8 bytes); is_value = number_small 8 bytes is.is_bytes; spelt = spells 8 bytes is.width is.is_bytes }
 value_of kind.Word before bytes is =
     record {

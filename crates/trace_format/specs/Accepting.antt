@@ -16,7 +16,7 @@ use Rattle.ompt_calls.specs.Number.{is_registered}
 use Rattle.trace_format.specs.declared.field.Field.{Field}
 use Rattle.trace_format.specs.declared.field.Field.TheVariants.{Magic, Version, Threads, Origin, Mask, Number, Seq, Numbered, Count}
 use Rattle.trace_format.specs.declared.kind.Kind.{Kind}
-use Rattle.trace_format.specs.declared.kind.Kind.TheVariants.{Short, Long, Word, Frame, OfThread, Endpoint, OfSync, OfMutex, OfRelease, OfWork, OfDispatch, Iterations, Status, OfLock, Zero, ParallelFlags, TaskFlags, ImplicitFlags}
+use Rattle.trace_format.specs.declared.kind.Kind.TheVariants.{Short, Long, Place, Word, Frame, OfThread, Endpoint, OfSync, OfMutex, OfRelease, OfWork, OfDispatch, Iterations, Status, OfLock, Zero, ParallelFlags, TaskFlags, ImplicitFlags}
 use Rattle.trace_format.specs.declared.trace.Header.{Header}
 use Rattle.trace_format.specs.declared.trace.TheConstants.{SEQ_LIMIT, FIRST_VERSION, VERSION, RECORDED, MIGRATED}
 use Rattle.trace_format.specs.Fields.{magic}
@@ -26,6 +26,7 @@ pub use Rattle.trace_format.specs.Validity.{kinds_of}
 
 abbrev pub width_of : Kind → ℕ
 width_of Long = 8
+width_of Place = 8
 width_of Word = 12
 width_of Frame = 8
 width_of Iterations = 8
@@ -56,12 +57,14 @@ accepts_kind Iterations (region ∷ task ∷ kind ∷ rest) bytes =
     if big_number 4 kind == SECTION then big_number 8 bytes == 0 else nat_le 1 (big_number 8 bytes)
 accepts_kind Iterations before bytes = true
 accepts_kind Long before bytes = true
+accepts_kind Place before bytes = true
 accepts_kind Frame before bytes = true
 accepts_kind other before bytes = accepts_number other (big_number 4 bytes)
 
 -- the argument is of the kind
 abbrev pub IsOf : Kind → Argument → Type 0
 IsOf Long (argument.Long n) = IsLong n
+IsOf Place (argument.Long n) = IsLong n
 IsOf Iterations (argument.Long n) = IsLong n
 IsOf Word (argument.Word word) = IsWord word
 IsOf Frame (argument.Frame frame) = IsFrame frame

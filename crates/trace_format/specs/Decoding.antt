@@ -39,6 +39,7 @@ pub data Shape : Type 0 where
 
 abbrev pub shape_of : Kind → Shape
 shape_of kind.Long = AsLong
+shape_of kind.Place = AsLong
 shape_of kind.Word = AsWord
 shape_of kind.Frame = AsFrame
 shape_of kind.Iterations = AsLong

@@ -34,7 +34,7 @@ fn is_of(kind: Kind, argument: Argument) -> bool
     ensures { IsTrue result ↔ IsOf kind argument }
 {
     match (kind, argument) {
-        (Kind::Long | Kind::Iterations, Argument::Long(_)) => true,
+        (Kind::Long | Kind::Place | Kind::Iterations, Argument::Long(_)) => true,
         (Kind::Frame, Argument::Frame(_)) => true,
         (Kind::Word, Argument::Word(word)) => is_word(word),
         (kind, Argument::Short(number)) => accepts_number(kind, number),

@@ -16,6 +16,8 @@ pub enum Kind {
     Short,
     /// Any number of 64 bits.
     Long,
+    /// A place in the program.
+    Place,
     /// A data word.
     Word,
     /// A frame.
@@ -56,26 +58,26 @@ pub fn kinds_of(number: u32) -> &'static [Kind]
 {
     use Kind::{
         Endpoint, Frame, ImplicitFlags, Iterations, Long, OfDispatch, OfLock, OfMutex, OfRelease,
-        OfSync, OfThread, OfWork, ParallelFlags, Short, Status, TaskFlags, Word, Zero,
+        OfSync, OfThread, OfWork, ParallelFlags, Place, Short, Status, TaskFlags, Word, Zero,
     };
     match number {
         callbacks::THREAD_BEGIN => &[OfThread, Word],
         callbacks::THREAD_END => &[Word],
-        callbacks::PARALLEL_BEGIN => &[Word, Frame, Word, Short, ParallelFlags, Long],
-        callbacks::PARALLEL_END => &[Word, Word, ParallelFlags, Long],
-        callbacks::TASK_CREATE => &[Word, Frame, Word, TaskFlags, Zero, Long],
+        callbacks::PARALLEL_BEGIN => &[Word, Frame, Word, Short, ParallelFlags, Place],
+        callbacks::PARALLEL_END => &[Word, Word, ParallelFlags, Place],
+        callbacks::TASK_CREATE => &[Word, Frame, Word, TaskFlags, Zero, Place],
         callbacks::TASK_SCHEDULE => &[Word, Status, Word],
         callbacks::IMPLICIT_TASK => &[Endpoint, Word, Word, Short, Short, ImplicitFlags],
         callbacks::SYNC_REGION_WAIT | callbacks::SYNC_REGION => {
-            &[OfSync, Endpoint, Word, Word, Long]
+            &[OfSync, Endpoint, Word, Word, Place]
         }
-        callbacks::MUTEX_RELEASED => &[OfRelease, Short, Long],
-        callbacks::WORK => &[OfWork, Endpoint, Word, Word, Long, Long],
-        callbacks::MASKED => &[Endpoint, Word, Word, Long],
-        callbacks::LOCK_INIT => &[OfLock, Zero, Zero, Short, Long],
-        callbacks::LOCK_DESTROY => &[OfLock, Short, Long],
-        callbacks::MUTEX_ACQUIRE => &[OfMutex, Zero, Zero, Short, Long],
-        callbacks::MUTEX_ACQUIRED => &[OfMutex, Short, Long],
+        callbacks::MUTEX_RELEASED => &[OfRelease, Short, Place],
+        callbacks::WORK => &[OfWork, Endpoint, Word, Word, Long, Place],
+        callbacks::MASKED => &[Endpoint, Word, Word, Place],
+        callbacks::LOCK_INIT => &[OfLock, Zero, Zero, Short, Place],
+        callbacks::LOCK_DESTROY => &[OfLock, Short, Place],
+        callbacks::MUTEX_ACQUIRE => &[OfMutex, Zero, Zero, Short, Place],
+        callbacks::MUTEX_ACQUIRED => &[OfMutex, Short, Place],
         callbacks::DISPATCH => &[Word, Word, OfDispatch, Long, Iterations],
         _ => &[],
     }
@@ -87,7 +89,7 @@ pub fn width_of(kind: Kind) -> usize
 {
     match kind {
         Kind::Word => 12,
-        Kind::Long | Kind::Frame | Kind::Iterations => 8,
+        Kind::Long | Kind::Place | Kind::Frame | Kind::Iterations => 8,
         _ => 4,
     }
 }
@@ -99,7 +101,7 @@ pub fn accepts_kind(kind: Kind, bytes: &[u8]) -> bool
 {
     match kind {
         Kind::Word => short_at(bytes, 0) != 0 || long_at(bytes, 4) == 0,
-        Kind::Long | Kind::Frame | Kind::Iterations => true,
+        Kind::Long | Kind::Place | Kind::Frame | Kind::Iterations => true,
         other => accepts_number(other, short_at(bytes, 0)),
     }
 }
@@ -138,6 +140,6 @@ pub fn accepts_number(kind: Kind, number: u32) -> bool
             task_flags::EXPLICIT | task_flags::EXPLICIT_UNDEFERRED
         ),
         Kind::ImplicitFlags => matches!(number, task_flags::INITIAL | task_flags::IMPLICIT),
-        Kind::Long | Kind::Word | Kind::Frame | Kind::Iterations => false,
+        Kind::Long | Kind::Place | Kind::Word | Kind::Frame | Kind::Iterations => false,
     }
 }
