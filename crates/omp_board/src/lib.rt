@@ -28,6 +28,7 @@
 
 mod board;
 mod call;
+mod call_parts;
 mod controls;
 mod frames;
 mod head;

@@ -11,6 +11,7 @@ ghost use Rattle.c_model.specs.Step.{silent};
 ghost use Rattle.c_steps.specs.Held.{outcome_at};
 ghost use Rattle.c_steps.specs.Passing.{IsEventOfNext};
 ghost use Rattle.omp_model.specs.declared.event.Arrival.TheVariants.{Comes};
+ghost use Rattle.omp_model.specs.declared.event.Event.TheVariants as event;
 ghost use Rattle.omp_model.specs.Changes.{gone_past, gone_to, with_code};
 ghost use Rattle.omp_model.specs.Gates.{arrival};
 ghost use Rattle.omp_model.specs.Going as going;
@@ -23,7 +24,7 @@ ghost use Rattle.omp_board.specs.Tasks.{IsNamedIn, IsStill};
 
 use crate::board::Board;
 use crate::board::meeting::work_met;
-use c_model::{Answer, Ask, Point, Work, WorkKind};
+use c_model::{Answer, Ask, MutexKind, Point, Work, WorkKind};
 use c_steps::Next;
 use omp_model::{Endpoint, Event, Halt};
 
@@ -148,20 +149,9 @@ impl Board {
                 codeptr,
                 kind,
                 count,
-            } => Event::Work {
-                endpoint: Endpoint::End,
-                kind,
-                count,
-                codeptr,
-            },
-            Point::MaskedBegin { codeptr } => Event::Masked {
-                endpoint: Endpoint::Begin,
-                codeptr,
-            },
-            Point::MaskedEnd { codeptr } => Event::Masked {
-                endpoint: Endpoint::End,
-                codeptr,
-            },
+            } => work_event(Endpoint::End, kind, count, codeptr),
+            Point::MaskedBegin { codeptr } => masked_event(Endpoint::Begin, codeptr),
+            Point::MaskedEnd { codeptr } => masked_event(Endpoint::End, codeptr),
             Point::Sync {
                 codeptr,
                 kind,
@@ -176,29 +166,17 @@ impl Board {
                 wait_id,
                 kind,
                 ..
-            } => Event::MutexAcquire {
-                kind,
-                wait_id,
-                codeptr,
-            },
+            } => acquire_event(kind, wait_id, codeptr),
             Point::MutexAcquired {
                 codeptr,
                 wait_id,
                 kind,
-            } => Event::MutexAcquired {
-                kind,
-                wait_id,
-                codeptr,
-            },
+            } => acquired_event(kind, wait_id, codeptr),
             Point::MutexReleased {
                 codeptr,
                 wait_id,
                 kind,
-            } => Event::MutexReleased {
-                kind,
-                wait_id,
-                codeptr,
-            },
+            } => released_event(kind, wait_id, codeptr),
             Point::LockInit { codeptr, wait_id } => Event::LockInit { wait_id, codeptr },
             Point::LockDestroy { codeptr, wait_id } => Event::LockDestroy { wait_id, codeptr },
         }
@@ -243,10 +221,57 @@ fn work_begin(codeptr: u64, work: Work, executes: bool) -> Event
         Work::Single if executes => (WorkKind::SingleExecutor, 1),
         Work::Single => (WorkKind::SingleOther, 1),
     };
+    work_event(Endpoint::Begin, kind, count, codeptr)
+}
+
+/// The event of an end of a worksharing construct's part.
+fn work_event(endpoint: Endpoint, kind: WorkKind, count: u64, codeptr: u64) -> Event
+    ensures { result ≡ event.Work endpoint kind count codeptr }
+{
     Event::Work {
-        endpoint: Endpoint::Begin,
+        endpoint,
         kind,
         count,
+        codeptr,
+    }
+}
+
+/// The event of an end of a `masked`.
+fn masked_event(endpoint: Endpoint, codeptr: u64) -> Event
+    ensures { result ≡ event.Masked endpoint codeptr }
+{
+    Event::Masked { endpoint, codeptr }
+}
+
+/// A lock or critical is asked for.
+fn acquire_event(kind: MutexKind, wait_id: u32, codeptr: u64) -> Event
+    ensures { result ≡ event.MutexAcquire kind wait_id codeptr }
+{
+    Event::MutexAcquire {
+        kind,
+        wait_id,
+        codeptr,
+    }
+}
+
+/// It comes to be owned.
+fn acquired_event(kind: MutexKind, wait_id: u32, codeptr: u64) -> Event
+    ensures { result ≡ event.MutexAcquired kind wait_id codeptr }
+{
+    Event::MutexAcquired {
+        kind,
+        wait_id,
+        codeptr,
+    }
+}
+
+/// It is given back.
+fn released_event(kind: MutexKind, wait_id: u32, codeptr: u64) -> Event
+    ensures { result ≡ event.MutexReleased kind wait_id codeptr }
+{
+    Event::MutexReleased {
+        kind,
+        wait_id,
         codeptr,
     }
 }
