@@ -1,4 +1,4 @@
-//! Events of a task's code: what happens at their Go.
+//! Events, of a task's code and beside all code: what happens at their Go.
 
 ghost use Rattle.std.specs.Prelude.{◌≡◌, ◌≤◌, ◌-◌, true};
 ghost use Rattle.c_syntax.specs.language.Numbered.{tree_at};
@@ -10,7 +10,7 @@ ghost use Rattle.c_model.specs.Occurring.{IsAskOfNext};
 ghost use Rattle.c_model.specs.Step.{silent};
 ghost use Rattle.c_steps.specs.Held.{outcome_at};
 ghost use Rattle.c_steps.specs.Passing.{IsEventOfNext};
-ghost use Rattle.omp_model.specs.declared.event.Arrival.TheVariants.{Comes};
+ghost use Rattle.omp_model.specs.declared.event.Arrival.TheVariants.{Comes, Meets};
 ghost use Rattle.omp_model.specs.declared.event.Event.TheVariants as event;
 ghost use Rattle.omp_model.specs.Changes.{gone_past, gone_to, with_code};
 ghost use Rattle.omp_model.specs.Gates.{arrival};
@@ -18,7 +18,7 @@ ghost use Rattle.omp_model.specs.Going as going;
 ghost use Rattle.omp_model.specs.Made.{IsMadeWorld};
 ghost use Rattle.omp_model.specs.Members.{code_of, current, moment_of, view_of};
 ghost use Rattle.omp_board.specs.Answering.{IsSettled};
-ghost use Rattle.omp_board.specs.Board.{HasEvent, HasStep, IsGoing, IsGoingTo};
+ghost use Rattle.omp_board.specs.Board.{HasEvent, HasStep, IsGoing, IsGoingBeside, IsGoingTo};
 ghost use Rattle.omp_board.specs.Events.{HasComeTo, HasGo, HasPassing, work_event};
 ghost use Rattle.omp_board.specs.Tasks.{IsNamedIn, IsStill};
 
@@ -48,6 +48,21 @@ impl Board {
             Next::Quiet => unreachable!(),
             Next::Ended(_) => unreachable!(),
         }
+    }
+
+    /// The Go of the event beside all code that the thread has come to. Where it meets a limit, nothing has changed.
+    pub fn meet_event(&mut self, thread: u8, event: Event) -> Result<Event, Halt>
+        requires meets { arrival self.old.world thread ≡ Meets event }
+        requires made { IsMadeWorld self.old.world }
+        requires room { HasEvent self.old.room self.old.world thread }
+        ensures going { IsGoingBeside self.old.world thread event result self.new.world }
+        ensures program { self.new.program ≡ self.old.program }
+    {
+        if let Some(limit) = self.limit_met(thread, event) {
+            return Err(limit);
+        }
+        self.occur(thread, event);
+        Ok(event)
     }
 
     /// What stands next in the code of the thread's task, which leaves out what it goes past. It may be a silent step, and then that is made.
