@@ -1,6 +1,7 @@
 -- What a registration is answered, and the callbacks of the profile. The numbers are those of `ompt_callbacks_t`
 -- (OpenMP 5.2, 19.4.2).
-use Rattle.std.specs.Prelude.{ℕ, ◌+◌, ◌^◌, ◌==◌, Bool, ◌&&◌, ◌||◌, codes, nat_le, if◌then◌else◌, List, [], ◌∷◌}
+use Rattle.std.specs.Prelude.{ℕ, ◌+◌, ◌^◌, ◌==◌, Bool, ◌&&◌, ◌||◌, codes, filter, nat_le, if◌then◌else◌, List, [], ◌∷◌}
+use Rattle.std.specs.List.{range_with_len}
 use Rattle.omp_codes.specs.declared.set_results.TheConstants.{ALWAYS, ERROR, NEVER}
 
 abbrev pub within : ℕ → ℕ → ℕ → Bool
@@ -21,6 +22,10 @@ answer_of number = if is_always number then ALWAYS else if is_never number then 
 -- the callbacks whose events a program may have
 abbrev pub in_profile : ℕ → Bool
 in_profile number = within 1 7 number || within 16 17 number || within 20 21 number || within 23 27 number || within 32 32 number
+
+-- .. by rising numbers
+abbrev pub profile : List ℕ
+profile = filter in_profile (range_with_len 0 64)
 
 -- the mask with these callbacks: bit n for number n
 abbrev pub mask_of : List ℕ → ℕ

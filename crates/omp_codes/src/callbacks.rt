@@ -3,7 +3,7 @@
 ghost use Rattle.std.specs.Prelude.{◌≡◌, ◌≤◌, ◌==◌, ℕ, All, length, nat_lt, true};
 ghost use Rattle.std.specs.Int.{bit_at};
 ghost use Rattle.std.specs.List.{list_all};
-ghost use Rattle.omp_codes.specs.Answers.{callback_name, in_profile, mask_of};
+ghost use Rattle.omp_codes.specs.Answers.{callback_name, in_profile, mask_of, profile};
 ghost use Rattle.omp_codes.specs.declared.callbacks.TheConstants as callbacks;
 
 /// `ompt_callback_thread_begin` of `ompt_callbacks_t` (OpenMP 5.2, 19.4.2), as all that follow.
@@ -138,8 +138,9 @@ pub fn name(number: u32) -> &'static str
     }
 }
 
-/// A law: the mask of the profile has the callbacks that `PROFILE` lists, and no others, and these are the callbacks of the profile.
+/// A law: `PROFILE` lists the callbacks of the profile by rising numbers, and the mask of the profile has these and no others.
 pub fn profile_has_its_mask()
+    ensures rising { PROFILE ≡ profile }
     ensures listed { PROFILE_MASK ≡ mask_of PROFILE }
     ensures within { All (λ number. in_profile number ≡ true) PROFILE }
     ensures bits { (number : ℕ) → (bit_at PROFILE_MASK number == 1) ≡ in_profile number }

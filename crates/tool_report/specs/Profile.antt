@@ -1,15 +1,14 @@
 -- The report of how many calls there were.
 use Rattle.std.specs.Prelude.{ℕ, List, [], ◌∷◌, ◌++◌, codes, length, map}
 use Rattle.std.specs.Fmt.{decimal}
-use Rattle.omp_codes.specs.Answers.{callback_name}
-use Rattle.omp_codes.specs.declared.callbacks.TheConstants.{PROFILE}
+use Rattle.omp_codes.specs.Answers.{callback_name, profile}
 use Rattle.ompt_calls.specs.declared.event.EventRecord.{EventRecord}
 use Rattle.tool_report.specs.Counts.{counts_of}
 use Rattle.tool_report.specs.Layout.{by_thread, left_in, right_in}
 
 -- the names of the callbacks of the profile, by rising numbers
 abbrev pub callback_names : List (List ℕ)
-callback_names = map callback_name PROFILE
+callback_names = map callback_name profile
 
 -- a name, and a number of calls
 abbrev pub count_line : List ℕ → ℕ → List ℕ
