@@ -25,10 +25,7 @@ pub fn call_of(board: &Board, thread: u8, event: Event) -> Call
     ensures { result ≡ calls.call_of board.now.world thread event }
 {
     match event {
-        Event::ThreadBegin => Call::ThreadBegin {
-            kind: thread_kind(thread),
-            thread: board.thread_word(thread),
-        },
+        Event::ThreadBegin => thread_begin(board, thread),
         Event::ThreadEnd => Call::ThreadEnd {
             thread: board.thread_word(thread),
         },
@@ -79,6 +76,17 @@ pub fn call_of(board: &Board, thread: u8, event: Event) -> Call
         } => mutex_released(kind, wait_id, codeptr),
         Event::LockInit { wait_id, codeptr } => lock_init(wait_id, codeptr),
         Event::LockDestroy { wait_id, codeptr } => lock_destroy(wait_id, codeptr),
+    }
+}
+
+/// The thread begins.
+#[tactic(auto, unfolding(omp_model::specs::Calls::call_of))]
+fn thread_begin(board: &Board, thread: u8) -> Call
+    ensures { result ≡ calls.call_of board.now.world thread event.ThreadBegin }
+{
+    Call::ThreadBegin {
+        kind: thread_kind(thread),
+        thread: board.thread_word(thread),
     }
 }
 

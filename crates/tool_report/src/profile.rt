@@ -34,9 +34,7 @@ impl Profile {
     pub fn new() -> Profile
         ensures { result ≡ counts_of [] }
     {
-        Profile {
-            counts: [0; COUNT],
-        }
+        Profile { counts: [0; COUNT] }
     }
 
     /// How many calls of each callback of the profile there were, by rising numbers.
@@ -50,11 +48,7 @@ impl Profile {
     pub(crate) fn count(&self, place: usize) -> u64
         ensures { result ≡ slice_index_or self.now place 0 }
     {
-        if place < COUNT {
-            self.counts[place]
-        } else {
-            0
-        }
+        if place < COUNT { self.counts[place] } else { 0 }
     }
 }
 

@@ -55,7 +55,9 @@ fn has_its_iterations(call: Call) -> bool
 {
     match call {
         Call::Dispatch {
-            kind, iterations, ..
+            kind,
+            iterations,
+            ..
         } => is_dispatched(kind, iterations),
         _ => true,
     }

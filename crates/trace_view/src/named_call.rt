@@ -56,12 +56,8 @@ fn naming_of(kind: Kind) -> Naming
         Kind::Status => Naming::Named(Enumeration::TaskStatus),
         Kind::ParallelFlags => Naming::Named(Enumeration::RegionFlags),
         Kind::TaskFlags | Kind::ImplicitFlags => Naming::Named(Enumeration::TaskFlags),
-        Kind::Short
-        | Kind::Long
-        | Kind::Word
-        | Kind::Frame
-        | Kind::Iterations
-        | Kind::Zero => Naming::Plain,
+        Kind::Short | Kind::Long | Kind::Word | Kind::Frame | Kind::Iterations | Kind::Zero =>
+            Naming::Plain,
     }
 }
 

@@ -24,7 +24,7 @@ ghost use Rattle.omp_board.specs.Tasks.{IsNamedIn, IsStill};
 
 use crate::board::Board;
 use crate::board::meeting::work_met;
-use c_model::{Answer, Ask, MutexKind, Point, Work, WorkKind};
+use c_model::{Answer, Ask, MutexKind, Point, SyncKind, SyncStage, Work, WorkKind};
 use c_steps::Next;
 use omp_model::{Endpoint, Event, Halt};
 
@@ -171,11 +171,7 @@ impl Board {
                 codeptr,
                 kind,
                 stage,
-            } => Event::Sync {
-                kind,
-                stage,
-                codeptr,
-            },
+            } => sync_event(kind, stage, codeptr),
             Point::MutexAcquire {
                 codeptr,
                 wait_id,
@@ -256,6 +252,17 @@ fn masked_event(endpoint: Endpoint, codeptr: u64) -> Event
     ensures { result ≡ event.Masked endpoint codeptr }
 {
     Event::Masked { endpoint, codeptr }
+}
+
+/// An event of a barrier or taskwait.
+fn sync_event(kind: SyncKind, stage: SyncStage, codeptr: u64) -> Event
+    ensures { result ≡ event.Sync kind stage codeptr }
+{
+    Event::Sync {
+        kind,
+        stage,
+        codeptr,
+    }
 }
 
 /// A lock or critical is asked for.

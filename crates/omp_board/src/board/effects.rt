@@ -26,8 +26,8 @@ use crate::board::arrival::is_barrier;
 use crate::board::meeting::{barrier_met, work_met};
 use c_model::{MutexKind, Point, SyncKind, SyncStage};
 use omp_model::{
-    Event, Halt, IMPLICIT_REGION, INITIAL_TASK, MISMATCH, NESTING, STACK, STACK_LIMIT, TASKS, TEAM_SIZE,
-    ThreadStage,
+    Event, Halt, IMPLICIT_REGION, INITIAL_TASK, MISMATCH, NESTING, STACK, STACK_LIMIT, TASKS,
+    TEAM_SIZE, ThreadStage,
 };
 use sync_objects::LockFault;
 use task_pool::TaskKind;
