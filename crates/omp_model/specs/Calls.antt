@@ -165,9 +165,9 @@ IsRegionWord W region = 1 ≤ region.identity → IsMade W (target.Parallel regi
 abbrev pub IsTaskWord : World → Word → Type 0
 IsTaskWord W task = 1 ≤ task.identity → IsMade W (target.Task task.identity)
 
-pub record AreWords (W : World) (region_word task_word : Word) : Type 0 where
-  pub region : IsRegionWord W region_word
-  pub task : IsTaskWord W task_word
+pub record AreWords (W : World) (of_region of_task : Word) : Type 0 where
+  pub region : IsRegionWord W of_region
+  pub task : IsTaskWord W of_task
 
 pub record AreTaskWords (W : World) (one other : Word) : Type 0 where
   pub first : IsTaskWord W one
