@@ -1,6 +1,6 @@
 -- How a reader goes from field to field: which one comes next behind the fields of an item that has begun, how long it is, and whether its bytes may
 -- stand there. That this is so of exactly the traces is a law of the format.
-use Rattle.std.specs.Prelude.{ℕ, ◌≡◌, ◌+◌, ◌++◌, ◌==◌, ◌&&◌, ◌||◌, not, nat_le, nat_lt, if◌then◌else◌, Bool, true, List, [], ◌∷◌, drop, length, Option, Some, None}
+use Rattle.std.specs.Prelude.{ℕ, ◌≡◌, ◌+◌, ◌++◌, ◌==◌, ◌&&◌, ◌||◌, not, nat_le, nat_lt, if◌then◌else◌, Bool, true, false, List, [], ◌∷◌, drop, length, Option, Some, None}
 use Rattle.std.specs.Int.Bits.{bit_and}
 use Rattle.byteorder.specs.Endian.{big_number}
 use Rattle.omp_codes.specs.Answers.{in_profile}

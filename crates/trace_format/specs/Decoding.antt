@@ -58,9 +58,9 @@ made_from place [] bytes = []
 made_from place (which ∷ kinds) bytes = made_at (shape_of which) place bytes ∷ made_from (place + width_of which) kinds bytes
 
 -- the callback with this number whose arguments these bytes are
-pub record IsCallIn (number : ℕ) (args : List ℕ) (call : Call) : Type 0 where
-  pub number : number_of call ≡ number
-  pub arguments : arguments_of call ≡ made_from 0 (kinds_of number) args
+pub record IsCallIn (code : ℕ) (args : List ℕ) (call : Call) : Type 0 where
+  pub number : number_of call ≡ code
+  pub arguments : arguments_of call ≡ made_from 0 (kinds_of code) args
 
 abbrev pub header_in : List ℕ → Header
 header_in bytes =

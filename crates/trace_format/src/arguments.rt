@@ -33,12 +33,11 @@ fn are_of(kinds: &[Kind], arguments: &[Argument]) -> bool
 fn is_of(kind: Kind, argument: Argument) -> bool
     ensures { IsTrue result ↔ IsOf kind argument }
 {
-    match (kind, argument) {
-        (Kind::Long | Kind::Place | Kind::Iterations, Argument::Long(_)) => true,
-        (Kind::Frame, Argument::Frame(_)) => true,
-        (Kind::Word, Argument::Word(word)) => is_word(word),
-        (kind, Argument::Short(number)) => accepts_number(kind, number),
-        _ => false,
+    match argument {
+        Argument::Short(number) => accepts_number(kind, number),
+        Argument::Long(_) => matches!(kind, Kind::Long | Kind::Place | Kind::Iterations),
+        Argument::Word(word) => matches!(kind, Kind::Word) && is_word(word),
+        Argument::Frame(_) => matches!(kind, Kind::Frame),
     }
 }
 

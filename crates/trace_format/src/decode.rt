@@ -67,6 +67,7 @@ fn frame_at(bytes: &[u8], place: usize) -> Frame
 }
 
 /// The bytes of a callback's arguments, and how many of them were read.
+#[derive(Drop)]
 struct Fields<'a> {
     bytes: &'a [u8],
     place: usize,
