@@ -1,5 +1,5 @@
 -- How many bytes the fields have that were accepted, and how many the arguments have that come behind them.
-use Rattle.std.proofs.Common.{ℕ, ◌≡◌, ◌≤◌, ◌+◌, ◌==◌, ◌&&◌, ◌||◌, not, inl, inr, Bool, true, false, List, [], ◌∷◌, ◌++◌, length, drop, Some, None, refl, ap, sym, ◌∙◌, length-append, true≢false, arith}
+use Rattle.std.proofs.Common.{ℕ, ◌≡◌, ◌≤◌, ◌+◌, ◌==◌, ◌&&◌, inl, inr, true, false, List, [], ◌∷◌, ◌++◌, length, drop, Some, None, refl, ap, sym, ◌∙◌, length-append, true≢false, arith}
 use Rattle.std.proofs.lemmas.Bool.{and_parts, or_cases}
 use Rattle.byteorder.specs.Endian.{big_number}
 use Rattle.omp_codes.specs.Answers.{in_profile}

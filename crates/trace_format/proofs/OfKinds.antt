@@ -1,5 +1,5 @@
 -- A callback can have its arguments exactly where each is of its kind, and what was dispatched has its iterations.
-use Rattle.std.proofs.Common.{ℕ, ◌≡◌, ◌<◌, ◌^◌, ◌==◌, ◌↔◌, true, List, length, refl, arith, eq-eqb}
+use Rattle.std.proofs.Common.{ℕ, ◌≡◌, ◌<◌, ◌^◌, ◌==◌, true, List, length, refl, arith, eq-eqb}
 use Rattle.std.proofs.lemmas.Bool.{eqb-true}
 use Rattle.omp_codes.specs.declared.mutex_kinds.TheConstants.{LOCK}
 use Rattle.ompt_calls.specs.declared.call.Call.{Call}

@@ -9,7 +9,7 @@ use Rattle.ompt_calls.specs.declared.call.Word.{Word}
 use Rattle.trace_format.specs.declared.kind.Kind.{Kind}
 use Rattle.trace_format.specs.declared.kind.Kind.TheVariants as kind
 use Rattle.trace_format.specs.Accepting.{width_of}
-use Rattle.trace_format.specs.Decoding.{Shape, frame_at, long_at, made_at, made_from, shape_of, short_at, word_at}
+use Rattle.trace_format.specs.Decoding.{Shape, long_at, made_at, made_from, shape_of, short_at}
 use Rattle.trace_format.specs.Decoding.Shape.{AsFrame, AsLong, AsShort, AsWord}
 use Rattle.trace_format.specs.Fields.{long, short, spell}
 use Rattle.trace_format.specs.Reached.{flat}

@@ -6,12 +6,11 @@ use Rattle.std.proofs.lemmas.List.{length-drop, take-append-drop, length-take}
 use Rattle.byteorder.specs.Endian.{big_bytes, big_number}
 use Rattle.ompt_calls.specs.declared.argument.Argument.{Argument}
 use Rattle.ompt_calls.specs.declared.argument.Argument.TheVariants as argument
-use Rattle.ompt_calls.specs.declared.call.Frame.{Frame}
 use Rattle.ompt_calls.specs.declared.call.Word.{Word}
 use Rattle.trace_format.specs.declared.kind.Kind.{Kind}
 use Rattle.trace_format.specs.declared.kind.Kind.TheVariants as kind
 use Rattle.trace_format.specs.Accepting.{accepts_kind, width_of}
-use Rattle.trace_format.specs.Fields.{frame, long, short, spell, word}
+use Rattle.trace_format.specs.Fields.{long, short, spell, word}
 use Rattle.trace_format.specs.Reached.{IsBytes}
 use Rattle.trace_format.specs.Validity.{IsAmong, IsFrame, IsLong, IsShort, IsWord, endpoints, implicit_flags, dispatch_kinds, is_among, mutex_kinds, parallel_flags, release_kinds, statuses, sync_kinds, task_flags, thread_kinds, work_kinds}
 use Rattle.trace_format.proofs.Spelling.{append_bytes, drop_bytes, drop_field, length_spelt, number_small, reads, reads_first, reads_front, spells, spelt_bytes, take_bytes}
