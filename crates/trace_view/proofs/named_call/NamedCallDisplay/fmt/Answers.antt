@@ -1,13 +1,15 @@
-use Rattle.std.proofs.Common.{◌≡◌, ℕ, [], ap, ap₂, map, rules, ◌∷◌, ◌∙◌}
+use Rattle.std.proofs.Common.{◌≡◌, ℕ, [], ap, ap₂, map, rules, ◌∷◌, ◌++◌, ◌∙◌}
 use Rattle.std.proofs.lemmas.List.{flat_map_more}
 use Rattle.std.proofs.Output.{has_written_append, has_written_of_eq}
+use Rattle.std.specs.List.{flat_map}
 use Rattle.std.specs.Iterator.Adapters.{zip_first, zip_second}
 use Rattle.std.specs.Slice.Iter.{iter_rest}
 use Rattle.ompt_calls.specs.Arguments.{arguments_of}
 use Rattle.ompt_calls.specs.Line.{spaced}
 use Rattle.trace_format.specs.Validity.{kinds_of}
 use Rattle.trace_view.specs.NamedLines.{named_arguments}
-use Rattle.trace_view.specs.Naming.{each_named}
+use Rattle.trace_view.specs.declared.named_call.Naming.{Naming}
+use Rattle.trace_view.specs.Naming.{each_named, named_argument}
 use Rattle.trace_view.proofs.Naming.{all_gone, by_kinds, pair_text, spaced_is, spaced_pair}
 use Rattle.trace_view.proofs.named_call.NamedCallDisplay.fmt.Goals as goal
 
@@ -28,5 +30,7 @@ returns-clause-writes g c = λ plain ok.
 pub loop-kind-preserved : goal.loop-kind-preserved
 loop-kind-preserved g c = λ plain.
     let so_far = c.loop-kind.invariant plain in
-    has_written_of_eq _ _ _ _ _ (flat_map_more spaced_pair [] c.loop-kind.yielded _)
+    has_written_of_eq _ _ _ _ _
+    (ap (λ (naming : Naming). flat_map spaced_pair c.loop-kind.yielded ++ (32 ∷ named_argument naming c.in-Some.argument.now)) c.naming_of-naming.ensures
+    ∙ flat_map_more spaced_pair [] c.loop-kind.yielded _)
     (has_written_append _ _ _ _ _ _ so_far (c.in_ok-write-2.ensures.writes so_far.plain (search rules)))
