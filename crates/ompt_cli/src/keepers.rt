@@ -1,6 +1,6 @@
 //! The parts that keep what they are told, and what a command makes of that.
 
-ghost use Rattle.std.specs.Prelude.{ℕ, ◌≡◌, ◌↔◌, IfOk, List, [], length, replicate};
+ghost use Rattle.std.specs.Prelude.{ℕ, ◌≡◌, ◌↔◌, IfOk, List, [], length, replicate, true};
 ghost use Rattle.std.specs.Thread.{IsSync};
 ghost use Rattle.tool_api.specs.Record.{Record};
 ghost use Rattle.ompt_calls.specs.declared.event.EventRecord.{EventRecord};
@@ -12,7 +12,7 @@ ghost use Rattle.ompt_cli.specs.Commands.{columns_in};
 ghost use Rattle.ompt_cli.specs.Reports.{HasObserved};
 
 use crate::job::Job;
-use crate::observing::{Observed, observe};
+use crate::observing::{Observed, observe, observe_alone};
 use ompt_words::Command;
 use std::alloc::{AllocError, Global};
 use std::mem;
@@ -46,8 +46,20 @@ pub(crate) trait Keeper: ToolPart {
         ensures { IfOk result (λ text. (events : List EventRecord) → AreKept keep events parts.now →
             text.items ≡ text_of command events printed.now) };
 
-    /// Runs the job by threads with the parts of this list, which it takes out of it. The parts are sent to the
+    /// Runs the job, which is serial, with the parts of this list, which it takes out of it. Parts may be sent to
     /// threads, and nothing says of a type parameter of a method that it may be sent. So each kind makes its own runs.
+    fn run_alone(
+        alloc: Global,
+        job: Job,
+        parts: &mut Vec<Self>,
+        guests: Vec<Box<dyn GuestTool>>,
+    ) -> Result<Observed<Self>, AllocError>
+        requires serial { job.settings.serial ≡ true }
+        requires parts { length parts.old.items ≡ job.settings.threads }
+        ensures observed { IfOk result (HasObserved Self.stands_for Self.same job parts.old.items) }
+        ensures guests { IfOk result (λ observed. observed.report.guests ≡ guests) };
+
+    /// Does what [`Keeper::run_alone`] does for each job, by threads where it isn't serial.
     fn run_by_threads<R: Threads + Wait + Sync>(
         rt: &R,
         alloc: Global,
@@ -86,6 +98,15 @@ impl Keeper for Recorder {
         }
     }
 
+    fn run_alone(
+        alloc: Global,
+        job: Job,
+        parts: &mut Vec<Recorder>,
+        guests: Vec<Box<dyn GuestTool>>,
+    ) -> Result<Observed<Recorder>, AllocError> {
+        observe_alone(alloc, job, mem::replace(parts, Vec::new(alloc)), guests)
+    }
+
     fn run_by_threads<R: Threads + Wait + Sync>(
         rt: &R,
         alloc: Global,
@@ -118,6 +139,15 @@ impl Keeper for Profile {
         _printed: &[u8],
     ) -> Result<Vec<u8>, AllocError> {
         profile_text(alloc, parts)
+    }
+
+    fn run_alone(
+        alloc: Global,
+        job: Job,
+        parts: &mut Vec<Profile>,
+        guests: Vec<Box<dyn GuestTool>>,
+    ) -> Result<Observed<Profile>, AllocError> {
+        observe_alone(alloc, job, mem::replace(parts, Vec::new(alloc)), guests)
     }
 
     fn run_by_threads<R: Threads + Wait + Sync>(
@@ -156,6 +186,15 @@ impl Keeper for Timeline {
             Command::Timeline(columns) => timeline_text(alloc, parts, columns),
             _ => timeline_text(alloc, parts, 0),
         }
+    }
+
+    fn run_alone(
+        alloc: Global,
+        job: Job,
+        parts: &mut Vec<Timeline>,
+        guests: Vec<Box<dyn GuestTool>>,
+    ) -> Result<Observed<Timeline>, AllocError> {
+        observe_alone(alloc, job, mem::replace(parts, Vec::new(alloc)), guests)
     }
 
     fn run_by_threads<R: Threads + Wait + Sync>(

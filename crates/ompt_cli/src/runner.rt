@@ -11,7 +11,6 @@ use crate::job::Job;
 use crate::keepers::Keeper;
 use crate::observing::{Observed, observe, observe_alone};
 use std::alloc::{AllocError, Global};
-use std::mem;
 use std::sync::Wait;
 use std::thread::Threads;
 use tool_api::{GuestTool, Handed};
@@ -79,7 +78,7 @@ impl Runner for Alone {
         parts: &mut Vec<P>,
         guests: Vec<Box<dyn GuestTool>>,
     ) -> Result<Observed<P>, AllocError> {
-        observe_alone(self.0, job, mem::replace(parts, Vec::new(self.0)), guests)
+        P::run_alone(self.0, job, parts, guests)
     }
 
     fn run_guests(
