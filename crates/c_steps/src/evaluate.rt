@@ -374,6 +374,7 @@ impl<'a> Scope<'a> {
         }
     }
 }
+
 /// The cell of an element, or the trap of its index.
 #[inline(always)]
 fn element(entry: Entry, index: i32) -> Result<usize, u8>
