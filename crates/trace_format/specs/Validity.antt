@@ -19,7 +19,7 @@ use Rattle.ompt_calls.specs.declared.call.Call.TheVariants.{ThreadBegin, ThreadE
 use Rattle.ompt_calls.specs.declared.event.EventRecord.{EventRecord}
 use Rattle.ompt_calls.specs.Number.{is_registered, number_of}
 use Rattle.trace_format.specs.declared.kind.Kind.{Kind}
-use Rattle.trace_format.specs.declared.kind.Kind.TheVariants as argument_kind
+use Rattle.trace_format.specs.declared.kind.Kind.TheVariants as kinds
 use Rattle.trace_format.specs.declared.trace.Header.{Header}
 use Rattle.trace_format.specs.declared.trace.Trace.{Trace}
 use Rattle.trace_format.specs.declared.trace.TheConstants.{SEQ_LIMIT, FIRST_VERSION, VERSION, RECORDED, MIGRATED}
@@ -109,7 +109,8 @@ IsCall (Work kind endpoint region task count codeptr) =
 IsCall (Masked endpoint region task codeptr) = IsAmong endpoints endpoint × IsWord region × IsWord task × IsLong codeptr
 IsCall (SyncRegion kind endpoint region task codeptr) =
     IsAmong sync_kinds kind × IsAmong endpoints endpoint × IsWord region × IsWord task × IsLong codeptr
-IsCall (LockInit kind hint variant wait_id codeptr) = (kind ≡ mutex_kind.LOCK) × (hint ≡ 0) × (variant ≡ 0) × IsShort wait_id × IsLong codeptr
+IsCall (LockInit kind hint variant wait_id codeptr) =
+    (kind ≡ mutex_kind.LOCK) × (hint ≡ 0) × (variant ≡ 0) × IsShort wait_id × IsLong codeptr
 IsCall (LockDestroy kind wait_id codeptr) = (kind ≡ mutex_kind.LOCK) × IsShort wait_id × IsLong codeptr
 IsCall (MutexAcquire kind hint variant wait_id codeptr) =
     IsAmong mutex_kinds kind × (hint ≡ 0) × (variant ≡ 0) × IsShort wait_id × IsLong codeptr
@@ -119,22 +120,23 @@ IsCall (Dispatch region task kind start iterations) = IsWord region × IsWord ta
 -- The same by kinds, as the reader goes by them: those of a callback's arguments, by its number. That both say the same is proved.
 abbrev pub kinds_of : ℕ → List Kind
 kinds_of number =
-    if number == THREAD_BEGIN then argument_kind.OfThread ∷ argument_kind.Word ∷ []
-    else if number == THREAD_END then argument_kind.Word ∷ []
-    else if number == PARALLEL_BEGIN then argument_kind.Word ∷ argument_kind.Frame ∷ argument_kind.Word ∷ argument_kind.Short ∷ argument_kind.ParallelFlags ∷ argument_kind.Place ∷ []
-    else if number == PARALLEL_END then argument_kind.Word ∷ argument_kind.Word ∷ argument_kind.ParallelFlags ∷ argument_kind.Place ∷ []
-    else if number == TASK_CREATE then argument_kind.Word ∷ argument_kind.Frame ∷ argument_kind.Word ∷ argument_kind.TaskFlags ∷ argument_kind.Zero ∷ argument_kind.Place ∷ []
-    else if number == TASK_SCHEDULE then argument_kind.Word ∷ argument_kind.Status ∷ argument_kind.Word ∷ []
-    else if number == IMPLICIT_TASK then argument_kind.Endpoint ∷ argument_kind.Word ∷ argument_kind.Word ∷ argument_kind.Short ∷ argument_kind.Short ∷ argument_kind.ImplicitFlags ∷ []
-    else if number == SYNC_REGION_WAIT || number == SYNC_REGION then argument_kind.OfSync ∷ argument_kind.Endpoint ∷ argument_kind.Word ∷ argument_kind.Word ∷ argument_kind.Place ∷ []
-    else if number == MUTEX_RELEASED then argument_kind.OfRelease ∷ argument_kind.Short ∷ argument_kind.Place ∷ []
-    else if number == WORK then argument_kind.OfWork ∷ argument_kind.Endpoint ∷ argument_kind.Word ∷ argument_kind.Word ∷ argument_kind.Long ∷ argument_kind.Place ∷ []
-    else if number == MASKED then argument_kind.Endpoint ∷ argument_kind.Word ∷ argument_kind.Word ∷ argument_kind.Place ∷ []
-    else if number == LOCK_INIT then argument_kind.OfLock ∷ argument_kind.Zero ∷ argument_kind.Zero ∷ argument_kind.Short ∷ argument_kind.Place ∷ []
-    else if number == LOCK_DESTROY then argument_kind.OfLock ∷ argument_kind.Short ∷ argument_kind.Place ∷ []
-    else if number == MUTEX_ACQUIRE then argument_kind.OfMutex ∷ argument_kind.Zero ∷ argument_kind.Zero ∷ argument_kind.Short ∷ argument_kind.Place ∷ []
-    else if number == MUTEX_ACQUIRED then argument_kind.OfMutex ∷ argument_kind.Short ∷ argument_kind.Place ∷ []
-    else if number == DISPATCH then argument_kind.Word ∷ argument_kind.Word ∷ argument_kind.OfDispatch ∷ argument_kind.Long ∷ argument_kind.Iterations ∷ []
+    if number == THREAD_BEGIN then kinds.OfThread ∷ kinds.Word ∷ []
+    else if number == THREAD_END then kinds.Word ∷ []
+    else if number == PARALLEL_BEGIN then kinds.Word ∷ kinds.Frame ∷ kinds.Word ∷ kinds.Short ∷ kinds.ParallelFlags ∷ kinds.Place ∷ []
+    else if number == PARALLEL_END then kinds.Word ∷ kinds.Word ∷ kinds.ParallelFlags ∷ kinds.Place ∷ []
+    else if number == TASK_CREATE then kinds.Word ∷ kinds.Frame ∷ kinds.Word ∷ kinds.TaskFlags ∷ kinds.Zero ∷ kinds.Place ∷ []
+    else if number == TASK_SCHEDULE then kinds.Word ∷ kinds.Status ∷ kinds.Word ∷ []
+    else if number == IMPLICIT_TASK then kinds.Endpoint ∷ kinds.Word ∷ kinds.Word ∷ kinds.Short ∷ kinds.Short ∷ kinds.ImplicitFlags ∷ []
+    else if number == SYNC_REGION_WAIT || number == SYNC_REGION then
+        kinds.OfSync ∷ kinds.Endpoint ∷ kinds.Word ∷ kinds.Word ∷ kinds.Place ∷ []
+    else if number == MUTEX_RELEASED then kinds.OfRelease ∷ kinds.Short ∷ kinds.Place ∷ []
+    else if number == WORK then kinds.OfWork ∷ kinds.Endpoint ∷ kinds.Word ∷ kinds.Word ∷ kinds.Long ∷ kinds.Place ∷ []
+    else if number == MASKED then kinds.Endpoint ∷ kinds.Word ∷ kinds.Word ∷ kinds.Place ∷ []
+    else if number == LOCK_INIT then kinds.OfLock ∷ kinds.Zero ∷ kinds.Zero ∷ kinds.Short ∷ kinds.Place ∷ []
+    else if number == LOCK_DESTROY then kinds.OfLock ∷ kinds.Short ∷ kinds.Place ∷ []
+    else if number == MUTEX_ACQUIRE then kinds.OfMutex ∷ kinds.Zero ∷ kinds.Zero ∷ kinds.Short ∷ kinds.Place ∷ []
+    else if number == MUTEX_ACQUIRED then kinds.OfMutex ∷ kinds.Short ∷ kinds.Place ∷ []
+    else if number == DISPATCH then kinds.Word ∷ kinds.Word ∷ kinds.OfDispatch ∷ kinds.Long ∷ kinds.Iterations ∷ []
     else []
 
 -- the first version has no origin but its own
