@@ -31,7 +31,7 @@ impl Team {
     }
 
     /// The answer to what the code asks.
-    #[tactic(auto, using(c_steps::proofs::Asked::chunk_answers, c_steps::proofs::Asked::section_answers, c_model::proofs::Asking::free_answers_first), unfolding(c_model::specs::Answers::IsLockAnswer))]
+    #[tactic(auto, using(crate::proofs::Answered::first_answers_cases), unfolding(c_model::specs::Answers::IsLockAnswer))]
     pub fn answer(&mut self, code: &Code, control: &Control, ask: Ask) -> Answer
         requires { IsMadeFor code.now control.now }
         ensures { (tree : Tree) → IsAskOfNext ask tree (task_at code.now control.now).todo →
