@@ -138,11 +138,13 @@ pub fn name(number: u32) -> &'static str
     }
 }
 
-/// A law: `PROFILE` lists the callbacks of the profile by rising numbers, and the mask of the profile has these and no others.
+/// A law: `PROFILE` lists the callbacks of the profile by rising numbers, each of them has a name, and the mask of the profile has these
+/// and no others.
 pub fn profile_has_its_mask()
     ensures rising { PROFILE ≡ profile }
     ensures listed { PROFILE_MASK ≡ mask_of PROFILE }
     ensures within { All (λ number. in_profile number ≡ true) PROFILE }
+    ensures named { All (λ number. 1 ≤ length (callback_name number)) PROFILE }
     ensures bits { (number : ℕ) → (bit_at PROFILE_MASK number == 1) ≡ in_profile number }
 {}
 
