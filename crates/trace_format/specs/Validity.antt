@@ -19,7 +19,7 @@ use Rattle.ompt_calls.specs.declared.call.Call.TheVariants.{ThreadBegin, ThreadE
 use Rattle.ompt_calls.specs.declared.event.EventRecord.{EventRecord}
 use Rattle.ompt_calls.specs.Number.{is_registered, number_of}
 use Rattle.trace_format.specs.declared.kind.Kind.{Kind}
-use Rattle.trace_format.specs.declared.kind.Kind.TheVariants as kinds
+use Rattle.trace_format.specs.declared.kind.Kind.TheVariants as arg
 use Rattle.trace_format.specs.declared.trace.Header.{Header}
 use Rattle.trace_format.specs.declared.trace.Trace.{Trace}
 use Rattle.trace_format.specs.declared.trace.TheConstants.{SEQ_LIMIT, FIRST_VERSION, VERSION, RECORDED, MIGRATED}
@@ -120,23 +120,22 @@ IsCall (Dispatch region task kind start iterations) = IsWord region × IsWord ta
 -- The same by kinds, as the reader goes by them: those of a callback's arguments, by its number. That both say the same is proved.
 abbrev pub kinds_of : ℕ → List Kind
 kinds_of number =
-    if number == THREAD_BEGIN then kinds.OfThread ∷ kinds.Word ∷ []
-    else if number == THREAD_END then kinds.Word ∷ []
-    else if number == PARALLEL_BEGIN then kinds.Word ∷ kinds.Frame ∷ kinds.Word ∷ kinds.Short ∷ kinds.ParallelFlags ∷ kinds.Place ∷ []
-    else if number == PARALLEL_END then kinds.Word ∷ kinds.Word ∷ kinds.ParallelFlags ∷ kinds.Place ∷ []
-    else if number == TASK_CREATE then kinds.Word ∷ kinds.Frame ∷ kinds.Word ∷ kinds.TaskFlags ∷ kinds.Zero ∷ kinds.Place ∷ []
-    else if number == TASK_SCHEDULE then kinds.Word ∷ kinds.Status ∷ kinds.Word ∷ []
-    else if number == IMPLICIT_TASK then kinds.Endpoint ∷ kinds.Word ∷ kinds.Word ∷ kinds.Short ∷ kinds.Short ∷ kinds.ImplicitFlags ∷ []
-    else if number == SYNC_REGION_WAIT || number == SYNC_REGION then
-        kinds.OfSync ∷ kinds.Endpoint ∷ kinds.Word ∷ kinds.Word ∷ kinds.Place ∷ []
-    else if number == MUTEX_RELEASED then kinds.OfRelease ∷ kinds.Short ∷ kinds.Place ∷ []
-    else if number == WORK then kinds.OfWork ∷ kinds.Endpoint ∷ kinds.Word ∷ kinds.Word ∷ kinds.Long ∷ kinds.Place ∷ []
-    else if number == MASKED then kinds.Endpoint ∷ kinds.Word ∷ kinds.Word ∷ kinds.Place ∷ []
-    else if number == LOCK_INIT then kinds.OfLock ∷ kinds.Zero ∷ kinds.Zero ∷ kinds.Short ∷ kinds.Place ∷ []
-    else if number == LOCK_DESTROY then kinds.OfLock ∷ kinds.Short ∷ kinds.Place ∷ []
-    else if number == MUTEX_ACQUIRE then kinds.OfMutex ∷ kinds.Zero ∷ kinds.Zero ∷ kinds.Short ∷ kinds.Place ∷ []
-    else if number == MUTEX_ACQUIRED then kinds.OfMutex ∷ kinds.Short ∷ kinds.Place ∷ []
-    else if number == DISPATCH then kinds.Word ∷ kinds.Word ∷ kinds.OfDispatch ∷ kinds.Long ∷ kinds.Iterations ∷ []
+    if number == THREAD_BEGIN then arg.OfThread ∷ arg.Word ∷ []
+    else if number == THREAD_END then arg.Word ∷ []
+    else if number == PARALLEL_BEGIN then arg.Word ∷ arg.Frame ∷ arg.Word ∷ arg.Short ∷ arg.ParallelFlags ∷ arg.Place ∷ []
+    else if number == PARALLEL_END then arg.Word ∷ arg.Word ∷ arg.ParallelFlags ∷ arg.Place ∷ []
+    else if number == TASK_CREATE then arg.Word ∷ arg.Frame ∷ arg.Word ∷ arg.TaskFlags ∷ arg.Zero ∷ arg.Place ∷ []
+    else if number == TASK_SCHEDULE then arg.Word ∷ arg.Status ∷ arg.Word ∷ []
+    else if number == IMPLICIT_TASK then arg.Endpoint ∷ arg.Word ∷ arg.Word ∷ arg.Short ∷ arg.Short ∷ arg.ImplicitFlags ∷ []
+    else if number == SYNC_REGION_WAIT || number == SYNC_REGION then arg.OfSync ∷ arg.Endpoint ∷ arg.Word ∷ arg.Word ∷ arg.Place ∷ []
+    else if number == MUTEX_RELEASED then arg.OfRelease ∷ arg.Short ∷ arg.Place ∷ []
+    else if number == WORK then arg.OfWork ∷ arg.Endpoint ∷ arg.Word ∷ arg.Word ∷ arg.Long ∷ arg.Place ∷ []
+    else if number == MASKED then arg.Endpoint ∷ arg.Word ∷ arg.Word ∷ arg.Place ∷ []
+    else if number == LOCK_INIT then arg.OfLock ∷ arg.Zero ∷ arg.Zero ∷ arg.Short ∷ arg.Place ∷ []
+    else if number == LOCK_DESTROY then arg.OfLock ∷ arg.Short ∷ arg.Place ∷ []
+    else if number == MUTEX_ACQUIRE then arg.OfMutex ∷ arg.Zero ∷ arg.Zero ∷ arg.Short ∷ arg.Place ∷ []
+    else if number == MUTEX_ACQUIRED then arg.OfMutex ∷ arg.Short ∷ arg.Place ∷ []
+    else if number == DISPATCH then arg.Word ∷ arg.Word ∷ arg.OfDispatch ∷ arg.Long ∷ arg.Iterations ∷ []
     else []
 
 -- the first version has no origin but its own
