@@ -31,7 +31,7 @@ use Rattle.omp_model.specs.declared.event.Share.{Share}
 use Rattle.omp_model.specs.declared.event.Share.TheVariants.{Chunk, Section}
 use Rattle.omp_model.specs.State.{World, pooled_at, region_at}
 use Rattle.omp_model.specs.Members.{current, current_region, member_index}
-use Rattle.omp_model.specs.Going.{sync_number}
+use Rattle.omp_model.specs.EventEffects.{sync_number}
 use Rattle.omp_model.specs.Words.{is_made, null_word, region_word, task_word, thread_word}
 use Rattle.omp_model.specs.Frames.{current_frame}
 use Rattle.omp_model.specs.Snapshots.{task_flags}

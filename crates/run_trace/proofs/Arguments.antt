@@ -21,7 +21,7 @@ use Rattle.omp_model.specs.declared.event.Share.TheVariants.{Chunk, Section}
 use Rattle.omp_model.specs.State.{World, pooled_at, region_at, task_at}
 use Rattle.omp_model.proofs.Alike.{IsSomeShare}
 use Rattle.omp_model.specs.Members.{current, current_region}
-use Rattle.omp_model.specs.Going.{sync_number}
+use Rattle.omp_model.specs.EventEffects.{sync_number}
 use Rattle.omp_model.specs.Words.{null_word, region_word, task_word, thread_word}
 use Rattle.omp_model.specs.Calls.{call_of, dispatch_call, endpoint_number, mutex_number, own_region_word, own_task_word, sync_call, synced_region, thread_kind, work_number}
 use Rattle.omp_model.specs.Snapshots.{task_flags as flags_of}

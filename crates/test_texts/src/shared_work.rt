@@ -5,8 +5,8 @@ ghost use Rattle.c_syntax.specs.language.Tree.{Tree};
 ghost use Rattle.c_model.specs.declared.question.Answer.TheVariants as of_answer;
 ghost use Rattle.c_model.specs.Answers.{AnswersFirst, IsChunkAnswer, IsSectionAnswer};
 ghost use Rattle.c_model.specs.Occurring.{IsAskOfNext};
-ghost use Rattle.c_steps.specs.Held.{task_at};
-ghost use Rattle.c_steps.specs.Made.{IsMadeFor};
+ghost use Rattle.c_steps.specs.ControlView.{task_at};
+ghost use Rattle.c_steps.specs.OfProgram.{IsMadeFor};
 
 use c_model::{Answer, Ask, Point};
 use c_steps::{Code, Control};

@@ -4,7 +4,7 @@ ghost use Rattle.std.specs.Prelude.{◌≡◌, ◌<◌, [], slice_index_or, ⊤}
 ghost use Rattle.omp_codes.specs.declared.callbacks.TheConstants.{COUNT, PROFILE};
 ghost use Rattle.ompt_calls.specs.Number.{number_of};
 ghost use Rattle.tool_report.specs.Counts.{counts_of};
-ghost use Rattle.tool_report.specs.Standing.{ProfileFor};
+ghost use Rattle.tool_report.specs.KeeperRelation.{ProfileFor};
 
 use crate::shipped::{ACTIVE, NOTHING};
 use omp_codes::callbacks::{COUNT, PROFILE};

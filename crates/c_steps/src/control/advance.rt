@@ -5,9 +5,9 @@ ghost use Rattle.c_syntax.specs.language.Numbered.{TreeView};
 ghost use Rattle.c_model.specs.Task.Outcome.{Ends};
 ghost use Rattle.c_model.specs.Step.{silent, step_of};
 ghost use Rattle.c_steps.specs.Advancing.{IsKept, IsNamed};
-ghost use Rattle.c_steps.specs.Held.{Held, here_at, moment_at, outcome_at};
+ghost use Rattle.c_steps.specs.ControlView.{ControlView, here_at, moment_at, outcome_at};
 ghost use Rattle.c_steps.specs.Items.{item_at};
-ghost use Rattle.c_steps.specs.Made.{IsMadeFor};
+ghost use Rattle.c_steps.specs.OfProgram.{IsMadeFor};
 ghost use Rattle.c_steps.specs.Ready.{FitsProgram, IsItem};
 ghost use Rattle.c_steps.specs.Views.{HasNumbers};
 ghost use Rattle.c_steps.specs.Steps.{Advances, CanStep, Tells};
@@ -46,7 +46,7 @@ impl Control {
     /// The code has ended, with the value of the last call, or 0.
     fn ended(&self) -> Next
         ensures tells { (program : TreeView) → Tells program result (Ends (unwrap_or self.now.returned (pos 0))) }
-        ensures named { (program : TreeView) (held : Held) → IsNamed program result held }
+        ensures named { (program : TreeView) (held : ControlView) → IsNamed program result held }
     {
         match self.returned {
             Some(number) => Next::Ended(number),

@@ -10,7 +10,7 @@ ghost use Rattle.c_model.specs.Cells.{entry_of};
 ghost use Rattle.c_model.specs.Parts.{parts};
 ghost use Rattle.c_model.specs.Value.{all_values};
 ghost use Rattle.c_steps.specs.Arguments.{without_values};
-ghost use Rattle.c_steps.specs.Held.{env_at, here_at, next_of_call, scope_in};
+ghost use Rattle.c_steps.specs.ControlView.{env_at, here_at, next_of_call, scope_in};
 ghost use Rattle.c_steps.specs.Moves.{cells_given, closed, delivered, env_with, given_back, last_call};
 ghost use Rattle.c_steps.specs.Nodes.{IsPart, part_at};
 ghost use Rattle.c_steps.specs.Ready.{IsStepping};

@@ -9,7 +9,7 @@ ghost use Rattle.c_model.specs.Program.{parameters_of};
 ghost use Rattle.c_model.specs.Value.{all_values};
 ghost use Rattle.c_steps.specs.Arguments.{values_in};
 ghost use Rattle.c_steps.specs.Entering.{BindsParameter, HasMore, HaveNoTrap, IsCaller, IsNextArgument, arguments_from, bound_at, caller_scope, moment_entered};
-ghost use Rattle.c_steps.specs.Held.{env_at, here_at, moment_at, scope_in};
+ghost use Rattle.c_steps.specs.ControlView.{env_at, here_at, moment_at, scope_in};
 ghost use Rattle.c_steps.specs.Moves.{bound_if, env_with};
 ghost use Rattle.c_steps.specs.Nodes.{IsPart, part_at};
 ghost use Rattle.c_steps.specs.Ready.{AreFrames, IsAfterStep};

@@ -4,7 +4,7 @@ ghost use Rattle.std.specs.Prelude.{◌≡◌, ◌≤◌, length, drop, IfOk};
 ghost use Rattle.c_model.specs.Cells.{entry_of};
 ghost use Rattle.c_model.specs.Value as values;
 ghost use Rattle.c_model.specs.declared.limits.TheConstants.{CELL_LIMIT};
-ghost use Rattle.c_steps.specs.Held.{env_at, scope_in};
+ghost use Rattle.c_steps.specs.ControlView.{env_at, scope_in};
 ghost use Rattle.c_steps.specs.Nodes.{IsPart, part_at};
 ghost use Rattle.c_steps.specs.Rooming.{AreEntries, IsEntry};
 ghost use Rattle.c_steps.specs.Scopes.{scope_of};

@@ -15,7 +15,7 @@ ghost use Rattle.c_model.specs.declared.question.Ask.TheVariants as ask;
 ghost use Rattle.c_model.specs.Loops.{loop_of};
 ghost use Rattle.c_model.specs.Program.{place_of};
 ghost use Rattle.c_model.specs.Task.Outcome.{Asks, Occurs};
-ghost use Rattle.c_steps.specs.Held.{here_at};
+ghost use Rattle.c_steps.specs.ControlView.{here_at};
 ghost use Rattle.c_steps.specs.Items.{loop_at};
 ghost use Rattle.c_steps.specs.LoopNodes.{GoesOn, parts_at};
 ghost use Rattle.c_steps.specs.Views.{HasNumbers};

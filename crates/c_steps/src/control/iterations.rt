@@ -5,7 +5,7 @@ ghost use Rattle.c_syntax.specs.language.Numbered.{TreeView};
 ghost use Rattle.c_model.specs.Cells.{entry_of, first_named};
 ghost use Rattle.c_model.specs.Constructs as constructs;
 ghost use Rattle.c_model.specs.Loops.{iteration_value};
-ghost use Rattle.c_steps.specs.Held.{env_at, here_at};
+ghost use Rattle.c_steps.specs.ControlView.{env_at, here_at};
 ghost use Rattle.c_steps.specs.Items.{item_at, loop_at, with_file};
 ghost use Rattle.c_steps.specs.Ready.{AreLoopNumbers, IsItem, IsLoop, IsStepping};
 ghost use Rattle.c_steps.specs.Steps.{Advances, CanStep};

@@ -9,7 +9,7 @@ ghost use Rattle.c_model.specs.Cells.{entry_of, has_too_many, new_entry};
 ghost use Rattle.c_model.specs.Constructs as constructs;
 ghost use Rattle.c_model.specs.Copies.{listed_variables, loop_slot, with_own_cells, with_task_cells};
 ghost use Rattle.c_model.specs.Loops.{is_declared, loop_of};
-ghost use Rattle.c_steps.specs.Held.{bound_in, here_at};
+ghost use Rattle.c_steps.specs.ControlView.{bound_in, here_at};
 ghost use Rattle.c_steps.specs.Items.{file_names};
 ghost use Rattle.c_steps.specs.ListedNames.{listed_of};
 ghost use Rattle.c_steps.specs.Moves.{bound};

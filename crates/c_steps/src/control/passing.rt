@@ -4,13 +4,13 @@ ghost use Rattle.std.specs.Prelude.{◌≡◌, ◌<◌, ◌++◌, [], ◌∷◌,
 ghost use Rattle.c_syntax.specs.language.Numbered.{TreeView, tree_at};
 ghost use Rattle.c_model.specs.Clauses.{construct_statement};
 ghost use Rattle.c_model.specs.Copies.{makes_cells};
-ghost use Rattle.c_model.specs.Going as going;
+ghost use Rattle.c_model.specs.AfterEvents as going;
 ghost use Rattle.c_model.specs.Loops.{loop_of};
 ghost use Rattle.c_model.specs.Task.Item.{EndMasked, Start};
 ghost use Rattle.c_steps.specs.declared.item.Item.TheVariants as item;
-ghost use Rattle.c_steps.specs.Held.{env_at, task_at};
+ghost use Rattle.c_steps.specs.ControlView.{env_at, task_at};
 ghost use Rattle.c_steps.specs.Items.{item_at, items_if, loop_at, with_file};
-ghost use Rattle.c_steps.specs.Made.{IsMadeFor};
+ghost use Rattle.c_steps.specs.OfProgram.{IsMadeFor};
 ghost use Rattle.c_steps.specs.Moves.{asking};
 ghost use Rattle.c_steps.specs.Nodes.{IsPart, part_at};
 ghost use Rattle.c_steps.specs.Passing.{IsAfterEvent, IsEventOf, IsEventOfNext, IsPassed, names_behind_asking, names_behind_work, replaced, stages_at};

@@ -9,7 +9,7 @@ ghost use Rattle.c_model.specs.Statements as statements;
 ghost use Rattle.c_model.specs.Text.{printed_text};
 ghost use Rattle.c_model.specs.Value.{all_values};
 ghost use Rattle.c_steps.specs.Arguments.{values_in, without_values};
-ghost use Rattle.c_steps.specs.Held.{here_at, scope_in};
+ghost use Rattle.c_steps.specs.ControlView.{here_at, scope_in};
 ghost use Rattle.c_steps.specs.Views.{HasNumbers};
 ghost use Rattle.c_steps.specs.Steps.{Advances, CanStep};
 

@@ -8,7 +8,7 @@ ghost use Rattle.c_model.specs.Calls as calls;
 ghost use Rattle.c_model.specs.Parts.{has_child};
 ghost use Rattle.c_model.specs.Statements as statements;
 ghost use Rattle.c_model.specs.Value as values;
-ghost use Rattle.c_steps.specs.Held.{here_at, scope_in};
+ghost use Rattle.c_steps.specs.ControlView.{here_at, scope_in};
 ghost use Rattle.c_steps.specs.Items.{with_file};
 ghost use Rattle.c_steps.specs.Nodes.{IsPart, part_at};
 ghost use Rattle.c_steps.specs.Scopes.{scope_of};

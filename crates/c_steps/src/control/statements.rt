@@ -6,7 +6,7 @@ ghost use Rattle.c_model.specs.Parts.{has_child};
 ghost use Rattle.c_model.specs.Statements as statements;
 ghost use Rattle.c_model.specs.Value as values;
 ghost use Rattle.c_check.specs.Loops.{child_at};
-ghost use Rattle.c_steps.specs.Held.{here_at, scope_in};
+ghost use Rattle.c_steps.specs.ControlView.{here_at, scope_in};
 ghost use Rattle.c_steps.specs.Items.{items_if, with_file};
 ghost use Rattle.c_steps.specs.Ready.{IsItem, IsStepping};
 ghost use Rattle.c_steps.specs.Views.{HasNumbers};

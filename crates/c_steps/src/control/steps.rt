@@ -3,10 +3,10 @@
 ghost use Rattle.std.specs.Prelude.{◌≡◌, ◌<◌, length, Ok, IfSome};
 ghost use Rattle.c_syntax.specs.language.Tree.{kind_of};
 ghost use Rattle.c_syntax.specs.language.Numbered.{tree_at};
-ghost use Rattle.c_model.specs.Coming.{sets, with_result};
+ghost use Rattle.c_model.specs.StepOutcomes.{sets, with_result};
 ghost use Rattle.c_model.specs.Statements as statements;
 ghost use Rattle.c_model.specs.Value.{binary_value};
-ghost use Rattle.c_steps.specs.Held.{here_at, next_of};
+ghost use Rattle.c_steps.specs.ControlView.{here_at, next_of};
 ghost use Rattle.c_steps.specs.Items.{items_if};
 ghost use Rattle.c_steps.specs.Nodes.{IsPart, part_at};
 ghost use Rattle.c_steps.specs.Ready.{IsItem, IsStepping};

@@ -5,17 +5,17 @@ ghost use Rattle.c_syntax.specs.language.Numbered.{tree_at};
 ghost use Rattle.c_model.specs.declared.question.Answer.TheVariants as answer;
 ghost use Rattle.c_model.specs.declared.question.Ask.TheVariants as ask;
 ghost use Rattle.c_model.specs.Answers.{AnswersFirst};
-ghost use Rattle.c_model.specs.Going.{settled_after_answer, settled_after_event};
+ghost use Rattle.c_model.specs.AfterEvents.{settled_after_answer, settled_after_event};
 ghost use Rattle.c_model.specs.Occurring.{IsAskOfNext};
 ghost use Rattle.c_model.specs.Step.{silent};
-ghost use Rattle.c_steps.specs.Held.{outcome_at};
+ghost use Rattle.c_steps.specs.ControlView.{outcome_at};
 ghost use Rattle.c_steps.specs.Passing.{IsEventOfNext};
-ghost use Rattle.omp_model.specs.declared.event.Arrival.TheVariants.{Comes, Meets};
+ghost use Rattle.omp_model.specs.declared.event.Arrival.TheVariants.{CodeEvent, RuntimeEvent};
 ghost use Rattle.omp_model.specs.declared.event.Event.TheVariants as event;
-ghost use Rattle.omp_model.specs.Changes.{gone_past, gone_to, with_code};
+ghost use Rattle.omp_model.specs.Changes.{with_masked_skipped, gone_to, with_code};
 ghost use Rattle.omp_model.specs.Gates.{arrival};
-ghost use Rattle.omp_model.specs.Going as going;
-ghost use Rattle.omp_model.specs.Made.{IsMadeWorld};
+ghost use Rattle.omp_model.specs.EventEffects as going;
+ghost use Rattle.omp_model.specs.MadeWorld.{IsMadeWorld};
 ghost use Rattle.omp_model.specs.Members.{code_of, current, moment_of, view_of};
 ghost use Rattle.omp_board.specs.Answering.{IsSettled};
 ghost use Rattle.omp_board.specs.Board.{HasEvent, HasStep, IsGoing, IsGoingBeside, IsGoingTo};
@@ -31,11 +31,11 @@ use omp_model::{Endpoint, Event, Halt};
 impl Board {
     /// The Go of the event of its code that the thread has come to. Where it meets a trap or a limit, nothing has changed, but that the task has left
     /// out what it goes past.
-    pub fn come(&mut self, thread: u8) -> Result<Event, Halt>
-        requires comes { arrival self.old.world thread ≡ Comes }
+    pub fn begin_code_event(&mut self, thread: u8) -> Result<Event, Halt>
+        requires comes { arrival self.old.world thread ≡ CodeEvent }
         requires made { IsMadeWorld self.old.world }
         requires room { HasEvent self.old.room self.old.world thread }
-        ensures going { IsGoing self.old.program (gone_past self.old.world thread) thread result self.new.world }
+        ensures going { IsGoing self.old.program (with_masked_skipped self.old.world thread) thread result self.new.world }
         ensures program { self.new.program ≡ self.old.program }
     {
         match self.look(thread) {
@@ -51,8 +51,8 @@ impl Board {
     }
 
     /// The Go of the event beside all code that the thread has come to. Where it meets a limit, nothing has changed.
-    pub fn meet_event(&mut self, thread: u8, event: Event) -> Result<Event, Halt>
-        requires meets { arrival self.old.world thread ≡ Meets event }
+    pub fn begin_runtime_event(&mut self, thread: u8, event: Event) -> Result<Event, Halt>
+        requires meets { arrival self.old.world thread ≡ RuntimeEvent event }
         requires made { IsMadeWorld self.old.world }
         requires room { HasEvent self.old.room self.old.world thread }
         ensures going { IsGoingBeside self.old.world thread event result self.new.world }
@@ -71,7 +71,7 @@ impl Board {
         requires room { HasStep self.old.room self.old.world thread }
         ensures outcome { outcome_at self.old.program result (moment_of self.new.world thread) ≡
             silent self.old.program (view_of self.old.world thread) (moment_of self.old.world thread) }
-        ensures still { IsStill result → self.new ≡ record self.old { world = gone_past self.old.world thread } }
+        ensures still { IsStill result → self.new ≡ record self.old { world = with_masked_skipped self.old.world thread } }
         ensures named { IsNamedIn self.old.program result (code_of self.new.world thread).todo }
     {
         let view = self.view(thread);

@@ -6,17 +6,17 @@ ghost use Rattle.sync_objects.specs.Answers as answers;
 ghost use Rattle.sync_objects.specs.Faults.{fault_number};
 ghost use Rattle.task_pool.specs.Tasks.{MayBeParent};
 ghost use Rattle.task_pool.specs.View.{answer_to_add};
-ghost use Rattle.omp_model.specs.declared.event.Arrival.TheVariants.{Meets};
+ghost use Rattle.omp_model.specs.declared.event.Arrival.TheVariants.{RuntimeEvent};
 ghost use Rattle.omp_model.specs.declared.event.Event.TheVariants as event;
 ghost use Rattle.omp_model.specs.declared.event.Halt.TheVariants as halt;
 ghost use Rattle.omp_model.specs.declared.limits.TheConstants.{STACK_LIMIT};
 ghost use Rattle.omp_model.specs.Gates.{arrival};
-ghost use Rattle.omp_model.specs.Going.{effect_of, fault_of, stack_fault};
+ghost use Rattle.omp_model.specs.EventEffects.{effect_of, fault_of, stack_fault};
 ghost use Rattle.omp_model.specs.declared.limits.TheConstants as limits;
 ghost use Rattle.omp_model.specs.State.{region_at, task_at, thread_at};
 ghost use Rattle.omp_model.specs.Changes as changes;
-ghost use Rattle.omp_model.specs.Going as going;
-ghost use Rattle.omp_model.specs.Made.{IsMadeWorld};
+ghost use Rattle.omp_model.specs.EventEffects as going;
+ghost use Rattle.omp_model.specs.MadeWorld.{IsMadeWorld};
 ghost use Rattle.omp_model.specs.Members.{code_of, current, is_explicit_task, moment_of};
 ghost use Rattle.omp_board.specs.Board.{run_of};
 ghost use Rattle.omp_board.specs.Events.{HasGo, IsCreator, IsEffect, KeepsPassing, MayCreate};
@@ -36,7 +36,7 @@ use team_parts::Meeting;
 impl Board {
     /// The event at this point changes what it does beside the code: one line for each. Where it meets a trap or a limit, nothing has changed.
     #[inline(always)]
-    #[tactic(auto, unfolding(omp_model::specs::Going::fault_of_point, omp_model::specs::Going::effect_of_point))]
+    #[tactic(auto, unfolding(omp_model::specs::EventEffects::fault_of_point, omp_model::specs::EventEffects::effect_of_point))]
     pub(super) fn take_effect(&mut self, thread: u8, point: Point) -> Result<(), Halt>
         requires made { IsMadeWorld self.old.world }
         requires creates { MayCreate self.old.program self.old.world thread point }
@@ -273,7 +273,7 @@ impl Board {
         requires { 0 < self.old.room.locks }
         ensures effect { let W = self.old.world in IsEffect
             (going.lock_fault (answers.answer_to_init W.locks.locks wait_id))
-            (changes.initialised W wait_id)
+            (changes.with_initialised_lock W wait_id)
             result W self.new.world }
         ensures kept { KeepsPassing self.old self.new }
     {
@@ -284,7 +284,7 @@ impl Board {
     fn destroy_lock(&mut self, wait_id: u32) -> Result<(), Halt>
         ensures effect { let W = self.old.world in IsEffect
             (going.lock_fault (answers.answer_to_destroy W.locks.locks wait_id))
-            (changes.destroyed W wait_id)
+            (changes.without_lock W wait_id)
             result W self.new.world }
         ensures kept { KeepsPassing self.old self.new }
     {
@@ -292,7 +292,7 @@ impl Board {
     }
 
     /// The limit that the event meets, if it meets one.
-    #[tactic(auto, unfolding(omp_model::specs::Going::fault_of))]
+    #[tactic(auto, unfolding(omp_model::specs::EventEffects::fault_of))]
     pub(super) fn limit_met(&self, thread: u8, event: Event) -> Option<Halt>
         ensures { result ≡ fault_of self.now.world thread event }
     {
@@ -321,9 +321,9 @@ impl Board {
     }
 
     /// The event happens, which meets no limit.
-    #[tactic(auto, unfolding(omp_model::specs::Going::effect_of))]
+    #[tactic(auto, unfolding(omp_model::specs::EventEffects::effect_of))]
     pub(super) fn occur(&mut self, thread: u8, event: Event)
-        requires meets { arrival self.old.world thread ≡ Meets event }
+        requires meets { arrival self.old.world thread ≡ RuntimeEvent event }
         requires made { IsMadeWorld self.old.world }
         requires fits { fault_of self.old.world thread event ≡ None }
         requires room { 0 < self.old.room.tasks }
@@ -356,7 +356,7 @@ impl Board {
     }
 
     /// The initial task begins.
-    #[tactic(auto, unfolding(omp_model::specs::Going::effect_of))]
+    #[tactic(auto, unfolding(omp_model::specs::EventEffects::effect_of))]
     fn begin_initial(&mut self, thread: u8)
         requires { length (thread_at self.old.world thread).stack < STACK_LIMIT }
         ensures { self.new ≡ record self.old { world = effect_of self.old.world thread event.InitialTaskBegin } }
@@ -367,7 +367,7 @@ impl Board {
     }
 
     /// A member's implicit task is made and begins.
-    #[tactic(auto, unfolding(omp_model::specs::Going::effect_of))]
+    #[tactic(auto, unfolding(omp_model::specs::EventEffects::effect_of))]
     fn join(&mut self, thread: u8, region: u32, task: u32)
         requires place { region < length self.old.world.regions }
         requires parent { MayBeParent self.old.world.pool.tasks (region_at self.old.world region).head.task }

@@ -1,5 +1,5 @@
 use Rattle.std.proofs.Common.{sym, ◌∙◌}
-use Rattle.c_steps.specs.Held.{moment_at}
+use Rattle.c_steps.specs.ControlView.{moment_at}
 use Rattle.c_steps.proofs.Advancing.{kept_unchanging, made_after, made_settled, silent_front, silent_none}
 use Rattle.c_steps.proofs.Occurring.{named_front}
 use Rattle.c_steps.proofs.control.Control.advance.Goals as goal

@@ -1,7 +1,7 @@
 use Rattle.std.proofs.Common.{ap, sym, subst, ◌∙◌, ◌<◌}
 use Rattle.c_model.specs.declared.limits.TheConstants.{CALL_LIMIT}
 use Rattle.c_steps.specs.declared.item.Item.TheVariants as item
-use Rattle.c_steps.specs.Held.{Held}
+use Rattle.c_steps.specs.ControlView.{ControlView}
 use Rattle.c_steps.specs.Moves.{bound_if, opened, then_item}
 use Rattle.c_steps.specs.Nodes.{part_at}
 use Rattle.c_steps.specs.Rooming.{open_calls}
@@ -11,7 +11,7 @@ use Rattle.c_steps.proofs.control.Control.enter.Goals as goal
 
 pub open-requires-clause-few : goal.open-requires-clause-few
 open-requires-clause-few c =
-    subst (λ (held : Held). open_calls held.frames < CALL_LIMIT) (sym (c.bind_if.ensures ∙ ap (bound_if c.args.declared) c.step.ensures))
+    subst (λ (held : ControlView). open_calls held.frames < CALL_LIMIT) (sym (c.bind_if.ensures ∙ ap (bound_if c.args.declared) c.step.ensures))
     (few_open c.args.code.now c.args.self.now c.requires.ready.stepping c.requires.few)
 
 pub bind_parameters-requires-clause-names : goal.bind_parameters-requires-clause-names

@@ -1,5 +1,5 @@
 use Rattle.std.proofs.Common.{refl, subst}
-use Rattle.c_steps.specs.Held.{env_at}
+use Rattle.c_steps.specs.ControlView.{env_at}
 use Rattle.c_steps.specs.Items.{item_at}
 use Rattle.c_steps.specs.Passing.{IsPassed, names_behind_asking, names_behind_work}
 use Rattle.c_steps.proofs.Passing.{past_task, same_names_of_asking, same_names_of_work}

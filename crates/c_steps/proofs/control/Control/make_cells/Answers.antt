@@ -3,7 +3,7 @@ use Rattle.c_syntax.specs.language.Numbered.{tree_at}
 use Rattle.c_model.specs.Cells.{has_too_many}
 use Rattle.c_model.specs.Copies.{listed_variables, with_own_cells}
 use Rattle.c_model.specs.declared.limits.TheConstants.{CELL_LIMIT}
-use Rattle.c_steps.specs.Held.{bound_in}
+use Rattle.c_steps.specs.ControlView.{bound_in}
 use Rattle.c_steps.specs.OwnCells.{made_own, with_made, with_made_cells}
 use Rattle.c_steps.proofs.OwnNames.{has_room, own_fits, own_names_within, own_step}
 use Rattle.c_steps.proofs.control.Control.make_cells.Goals as goal

@@ -2,7 +2,7 @@ use Rattle.std.proofs.Common.{◌≡◌, ◌∙◌, ◌+◌, ◌≤◌, ◌<◌,
 use Rattle.c_model.specs.declared.limits.TheConstants.{CALL_LIMIT, CELL_LIMIT}
 use Rattle.c_model.specs.Program.{parameters_of}
 use Rattle.c_model.specs.Task.Outcome.{StepsTo}
-use Rattle.c_steps.specs.Held.{env_at, scope_in}
+use Rattle.c_steps.specs.ControlView.{env_at, scope_in}
 use Rattle.c_steps.specs.Moves.{env_with}
 use Rattle.c_steps.specs.Nodes.{part_at}
 use Rattle.c_steps.specs.Rooming.{open_calls}

@@ -7,8 +7,8 @@ ghost use Rattle.omp_model.specs.Cause.{cause_of};
 ghost use Rattle.omp_model.specs.Legal.{Legal, after};
 ghost use Rattle.omp_model.specs.Storing.{event_reply};
 ghost use Rattle.step_book.specs.Owing.{OwesAnswer, OwesStep};
-ghost use Rattle.step_book.specs.Rule.{AllBelow, Begins, entries_of};
-ghost use Rattle.step_book.specs.Sharing.{AreOwn, Goes, Grows, IsDesk, KeepsStep, holds_in, pages_of};
+ghost use Rattle.step_book.specs.Rule.{AllBelow, IsBeginning, entries_of};
+ghost use Rattle.step_book.specs.Sharing.{AreOwn, VisitsAfterOthers, AddsHold, IsLockedBook, KeepsStep, holds_in, book_after};
 ghost use Rattle.step_book.specs.Visit.{is_end};
 
 use crate::book::Book;
@@ -25,7 +25,7 @@ use thread_wakes::{Sleepers, Then, Woken};
 
 /// A book with its seat at the table of its name. Contracts see the holds.
 #[derive(Drop)]
-pub(crate) struct Desk<K: BookName> {
+pub(crate) struct LockedBook<K: BookName> {
     /// The book.
     pub book: Book,
     /// Its seat.
@@ -36,25 +36,25 @@ pub(crate) struct Desk<K: BookName> {
     pub of: PhantomData<K>,
 }
 
-impl<K: BookName> Model for Desk<K> {
+impl<K: BookName> Model for LockedBook<K> {
     ghost use Rattle.std.specs.Prelude.{List};
     ghost use Rattle.step_book.specs.declared.hold.Hold.{Hold};
-    ghost use Rattle.step_book.specs.Sharing.{IsDesk, holds_in};
+    ghost use Rattle.step_book.specs.Sharing.{IsLockedBook, holds_in};
 
     ghost Value = { List Hold };
 
     ghost view = { λ desk. holds_in desk.seat.me.0 };
 
-    ghost invariant = { λ desk. IsDesk K.table desk.seat.table_id K.run desk.seat.me desk.book };
+    ghost invariant = { λ desk. IsLockedBook K.table desk.seat.table_id K.run desk.seat.me desk.book };
 }
 
-impl<K: BookName> Desk<K> {
+impl<K: BookName> LockedBook<K> {
     /// The book with its seat, before any thread sleeps of those that run on so many processors.
-    pub fn new(book: Book, seat: BookSeat, processors: usize) -> Desk<K>
-        requires { IsDesk K.table seat.table_id K.run seat.me book }
+    pub fn new(book: Book, seat: BookSeat, processors: usize) -> LockedBook<K>
+        requires { IsLockedBook K.table seat.table_id K.run seat.me book }
         ensures { result ≡ holds_in seat.me.0 }
     {
-        Desk {
+        LockedBook {
             book,
             seat,
             sleepers: Sleepers::new(processors),
@@ -66,11 +66,11 @@ impl<K: BookName> Desk<K> {
     pub fn go(&mut self, count: &SharedCount, pass: &mut Pass<K>) -> Result<Step, Memory>
         requires table { count.now.table_id ≡ K.table }
         requires word { 0 < K.table.words }
-        ensures ok { IfOk result (λ step. Goes K.run pass.old step pass.new) }
+        ensures ok { IfOk result (λ step. VisitsAfterOthers K.run pass.old step pass.new) }
         ensures told { IfOk result (λ step. KeepsStep pass.new step) }
         ensures owes { IfOk result (λ step.
-            OwesStep (pages_of K.run pass.new.seen pass.new.ended) pass.new.thread step) }
-        ensures memory { OnErr result (Grows pass.old pass.new []) }
+            OwesStep (book_after K.run pass.new.seen pass.new.ended) pass.new.thread step) }
+        ensures memory { OnErr result (AddsHold pass.old pass.new []) }
         ensures thread { pass.new.thread ≡ pass.old.thread }
         ensures ended { pass.new.ended ≡ pass.old.ended }
         ensures whole { self.new ≡ pass.new.seen }
@@ -96,8 +96,8 @@ impl<K: BookName> Desk<K> {
     )
         requires table { count.now.table_id ≡ K.table }
         requires word { 0 < K.table.words }
-        requires owes { OwesAnswer (pages_of K.run pass.old.seen pass.old.ended) pass.old.thread snapshot.now }
-        ensures seen { Grows pass.old pass.new (event_reply pass.old.thread (stores_of reply.now snapshot.now)) }
+        requires owes { OwesAnswer (book_after K.run pass.old.seen pass.old.ended) pass.old.thread snapshot.now }
+        ensures seen { AddsHold pass.old pass.new (event_reply pass.old.thread (stores_of reply.now snapshot.now)) }
         ensures thread { pass.new.thread ≡ pass.old.thread }
         ensures ended { pass.new.ended ≡ pass.old.ended }
         ensures whole { self.new ≡ pass.new.seen }
@@ -122,7 +122,7 @@ impl<K: BookName> Desk<K> {
     pub fn end_memory(&mut self, count: &SharedCount, pass: &mut Pass<K>)
         requires table { count.now.table_id ≡ K.table }
         requires word { 0 < K.table.words }
-        ensures seen { Grows pass.old pass.new [] }
+        ensures seen { AddsHold pass.old pass.new [] }
         ensures thread { pass.new.thread ≡ pass.old.thread }
         ensures ended { pass.new.ended ≡ true }
         ensures whole { self.new ≡ pass.new.seen }
@@ -141,7 +141,7 @@ impl<K: BookName> Desk<K> {
     pub fn wake(&mut self, thread: u8, next: Then) -> Woken
         ensures { self.new ≡ self.old }
     {
-        let Desk { book, sleepers, .. } = self;
+        let LockedBook { book, sleepers, .. } = self;
         sleepers.wake(thread, next, |other| book.has_turn(other))
     }
 
@@ -151,7 +151,7 @@ impl<K: BookName> Desk<K> {
         requires word { 0 < K.table.words }
         ensures book { self.new ≡ self.old }
         ensures pass { pass.new ≡ pass.old }
-        ensures begins { Begins pass.old.thread pass.old.seen self.old }
+        ensures begins { IsBeginning pass.old.thread pass.old.seen self.old }
         ensures below { AllBelow K.run.threads self.old }
     {
         take_pass(count, &mut self.seat, &mut pass.badge);
@@ -166,7 +166,7 @@ impl<K: BookName> Desk<K> {
         ensures text { result.text.items ≡ (after K.run result.history).world.store.text }
         ensures cause { result.cause ≡ (if ended then Some Cause.Memory else cause_of K.run result.history) }
     {
-        let Desk { book, .. } = self;
+        let LockedBook { book, .. } = self;
         book.legal();
         let cause = if ended {
             Some(Cause::Memory)

@@ -2,13 +2,13 @@ use Rattle.std.proofs.Common.{◌≤◌, sym, ap, subst}
 use Rattle.c_syntax.specs.language.Numbered.{tree_at}
 use Rattle.c_model.specs.declared.question.Ask.{Ask}
 use Rattle.c_model.specs.Task.Outcome.{Asks, Limits, Traps}
-use Rattle.omp_model.specs.Made.{IsMadeWorld}
+use Rattle.omp_model.specs.MadeWorld.{IsMadeWorld}
 use Rattle.omp_model.specs.Members.{current}
 use Rattle.omp_model.proofs.MadeRuns.{past-made}
 use Rattle.omp_board.specs.Board.{BoardView}
 use Rattle.omp_board.specs.Answering.{IsSettled}
 use Rattle.omp_board.proofs.ToldFree.{AsksNoLock, come_past, goes_past, going_past, past_settled, some_comes, went_past}
-use Rattle.omp_board.proofs.board.Board.come.Goals as goal
+use Rattle.omp_board.proofs.board.Board.begin_code_event.Goals as goal
 
 pub come_to-requires-clause-comes : goal.come_to-requires-clause-comes
 come_to-requires-clause-comes c =

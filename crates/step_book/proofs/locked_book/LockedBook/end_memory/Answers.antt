@@ -1,6 +1,6 @@
 use Rattle.std.proofs.Common.{◌∙◌, sym, refl, append-nil}
 use Rattle.step_book.proofs.Desking.{beyond-all, desk-after, grown, hold-made, round}
-use Rattle.step_book.proofs.desk.Desk.end_memory.Goals as goal
+use Rattle.step_book.proofs.locked_book.LockedBook.end_memory.Goals as goal
 
 pub invariant_of-self : goal.invariant_of-self
 invariant_of-self g c =

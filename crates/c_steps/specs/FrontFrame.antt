@@ -2,7 +2,7 @@
 use Rattle.std.specs.Prelude.{◌≡◌, false, List, [], ◌∷◌, slice_get, Option, Some, None}
 use Rattle.c_syntax.specs.language.Numbered.{TreeView}
 use Rattle.c_model.specs.declared.view.View.{View}
-use Rattle.c_model.specs.Step.{is_passed_over, items_from_next}
+use Rattle.c_model.specs.Step.{skips_masked, items_from_next}
 use Rattle.c_model.specs.Upcoming.{upcoming_item}
 use Rattle.c_model.specs.declared.upcoming.Upcoming.{Upcoming}
 use Rattle.c_steps.specs.declared.frame.Frame.{Frame}
@@ -32,4 +32,4 @@ BeginsAs it other = (frames : List Frame) → begun (it ∷ frames) ≡ above ot
 
 -- an item tells by itself that this comes next where it stands next, and no task goes past it
 abbrev pub ItemTells : TreeView → Item → Upcoming → Type 0
-ItemTells program it upcoming = (upcoming_item (item_at program it) ≡ upcoming) × ((view : View) → is_passed_over (item_at program it) view ≡ false)
+ItemTells program it upcoming = (upcoming_item (item_at program it) ≡ upcoming) × ((view : View) → skips_masked (item_at program it) view ≡ false)

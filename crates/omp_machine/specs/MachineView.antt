@@ -10,7 +10,7 @@ use Rattle.omp_model.specs.declared.event.Outcome.{Outcome}
 use Rattle.omp_model.specs.declared.event.Outcome.TheVariants.{Idle, Quiet, Happens, Halts}
 use Rattle.omp_model.specs.declared.limits.TheConstants.{TURN_LIMIT}
 use Rattle.omp_model.specs.Calls.{call_of, callback_of}
-use Rattle.omp_model.specs.Made.{IsMadeState}
+use Rattle.omp_model.specs.MadeWorld.{IsMadeState}
 use Rattle.omp_model.specs.Snapshots.{snap_of}
 use Rattle.omp_model.specs.State.{Run, State}
 use Rattle.omp_model.specs.Turn.{turn}
@@ -19,11 +19,11 @@ use Rattle.omp_machine.specs.declared.went.Went.TheVariants as went
 use Rattle.omp_machine.specs.State.{run_code, state_code}
 
 -- a run, and a state of it
-pub record Standing : Type 0 where
+pub record MachineView : Type 0 where
   pub run : Run
   pub state : State
 
-abbrev pub standing_code : Coded Standing
+abbrev pub standing_code : Coded MachineView
 standing_code =
     code_by (Run × State) (coded× run_code state_code) (λ standing. (standing.run, standing.state))
     (λ p. record { run = p.0; state = p.1 })

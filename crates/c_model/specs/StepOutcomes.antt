@@ -4,16 +4,16 @@ use Rattle.c_syntax.specs.language.Tree.{Tree}
 use Rattle.c_model.specs.declared.limits.TheConstants.{CELLS}
 use Rattle.c_model.specs.Cells.{Bound, has_too_many}
 use Rattle.c_model.specs.Value.{Scope, value}
-use Rattle.c_model.specs.Task.{Here, Item, Outcome}
+use Rattle.c_model.specs.Task.{StepStart, Item, Outcome}
 use Rattle.c_model.specs.Task.Outcome.{StepsTo, Traps, Limits}
 
-abbrev pub scope_of : Here → Scope
+abbrev pub scope_of : StepStart → Scope
 scope_of here = record { env = here.task.env; cells = here.store.cells; view = here.view }
 
-abbrev pub bound_of : Here → Bound
+abbrev pub bound_of : StepStart → Bound
 bound_of here = record { env = here.task.env; cells = here.store.cells }
 
-abbrev pub value_here : Here → Tree → Result ℤ ℕ
+abbrev pub value_here : StepStart → Tree → Result ℤ ℕ
 value_here here expression = value (scope_of here) expression
 
 -- with what was evaluated; a trap counts
@@ -22,16 +22,16 @@ with_result (Ok result) next = next result
 with_result (Err trap) next = Traps trap
 
 -- these items stand next, before what remains
-abbrev pub goes_on : Here → List Item → Outcome
+abbrev pub goes_on : StepStart → List Item → Outcome
 goes_on here items = StepsTo (record { task = record here.task { todo = items ++ here.task.todo }; store = here.store })
 
 -- .. and so many names stay in scope
-abbrev pub goes_on_with : Here → ℕ → List Item → Outcome
+abbrev pub goes_on_with : StepStart → ℕ → List Item → Outcome
 goes_on_with here names items =
     StepsTo (record { task = record here.task { todo = items ++ here.task.todo; env = take names here.task.env }; store = here.store })
 
 -- .. and a cell holds a number
-abbrev pub sets : Here → ℕ → ℤ → List Item → Outcome
+abbrev pub sets : StepStart → ℕ → ℤ → List Item → Outcome
 sets here cell number items =
     StepsTo (record {
       task = record here.task { todo = items ++ here.task.todo };
@@ -39,7 +39,7 @@ sets here cell number items =
     })
 
 -- .. and there are new names and cells, if there is room for them
-abbrev pub binds : Here → Bound → List Item → Outcome
+abbrev pub binds : StepStart → Bound → List Item → Outcome
 binds here bound items =
     if has_too_many bound.cells then Limits CELLS
     else StepsTo (record {

@@ -5,7 +5,7 @@ use Rattle.c_model.specs.declared.entry.Entry.{Entry}
 use Rattle.c_model.specs.declared.view.View.{View}
 use Rattle.c_model.specs.Cells.{Bound}
 use Rattle.c_model.specs.Value.{Scope}
-use Rattle.c_model.specs.Task.{Here, Moment, Outcome, Store, Task}
+use Rattle.c_model.specs.Task.{StepStart, Moment, Outcome, Store, Task}
 use Rattle.c_model.specs.Task.Outcome.{StepsTo, Asks, Occurs, Ends, Traps, Limits}
 use Rattle.c_steps.specs.declared.frame.Frame.{Frame}
 use Rattle.c_steps.specs.declared.next.Next.{Next}
@@ -17,7 +17,7 @@ use Rattle.c_steps.specs.Items.{begun, calls_at, file_names, todo_at}
 -- The frames, the newest first; the names of all functions that were called and haven't ended, the oldest first and without those of the file;
 -- where those of the function called last begin; what the last call gave. The rest is room: for how many silent steps and events there is room,
 -- how many frames and names the step that is under way may add, how many names a step may bring, and how many names fit in all.
-pub record Held : Type 0 where
+pub record ControlView : Type 0 where
   pub frames : List Frame
   pub names : List Entry
   pub base : ℕ
@@ -29,10 +29,10 @@ pub record Held : Type 0 where
   pub step_names : ℕ
   pub room : ℕ
 
-abbrev pub env_at : TreeView → Held → List Entry
+abbrev pub env_at : TreeView → ControlView → List Entry
 env_at program held = file_names program ++ drop held.base held.names
 
-abbrev pub task_at : TreeView → Held → Task
+abbrev pub task_at : TreeView → ControlView → Task
 task_at program held =
     record {
       todo = todo_at program held.frames;
@@ -41,11 +41,11 @@ task_at program held =
       returned = held.returned;
     }
 
-abbrev pub moment_at : TreeView → Held → Store → Moment
+abbrev pub moment_at : TreeView → ControlView → Store → Moment
 moment_at program held store = record { task = task_at program held; store = store }
 
 -- a step is made from here: the item that stands next has begun
-abbrev pub here_at : TreeView → View → Held → Store → Here
+abbrev pub here_at : TreeView → View → ControlView → Store → StepStart
 here_at program view held store =
     record {
       program = program;
@@ -75,9 +75,9 @@ next_of_call (Err (refusal.Trap trap)) = next.Trap trap
 next_of_call (Err (refusal.Limit limit)) = next.Limit limit
 
 -- what the expressions of the function that was called last are evaluated in
-abbrev pub scope_in : TreeView → View → Held → Store → Scope
+abbrev pub scope_in : TreeView → View → ControlView → Store → Scope
 scope_in program view held store = record { env = env_at program held; cells = store.cells; view = view }
 
 -- its names, with all cells
-abbrev pub bound_in : TreeView → Held → Store → Bound
+abbrev pub bound_in : TreeView → ControlView → Store → Bound
 bound_in program held store = record { env = env_at program held; cells = store.cells }

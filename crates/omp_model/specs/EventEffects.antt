@@ -16,7 +16,7 @@ use Rattle.c_model.specs.declared.point.WorkKind.{WorkKind}
 use Rattle.c_model.specs.declared.point.WorkKind.TheVariants as work_kind
 use Rattle.c_model.specs.declared.question.Answer.TheVariants as answer
 use Rattle.c_model.specs.Begin.{blank_task, explicit_task, member_task}
-use Rattle.c_model.specs.Going.{after_answer, after_event}
+use Rattle.c_model.specs.AfterEvents.{after_answer, after_event}
 use Rattle.c_model.specs.Step.{silent}
 use Rattle.c_model.specs.Task.{Item, Moment, Outcome, Task as Code}
 use Rattle.c_model.specs.Task.Item.{Forked}
@@ -46,7 +46,7 @@ use Rattle.omp_model.specs.declared.event.Halt.TheVariants.{Limit, Trap}
 use Rattle.omp_model.specs.State.{Run, World, fresh_region, region_at, task_at, thread_at}
 use Rattle.omp_model.specs.Members.{current, current_index, current_region, current_team, is_explicit_task, is_member, member_index, moment_of, view_of}
 use Rattle.omp_model.specs.Gates.{is_barrier}
-use Rattle.omp_model.specs.Changes.{destroyed, emptied, finished, forked, initialised, member_begun, met, owned_by, passed, popped, region_made, region_over, sharing, staged, started, taken_up, task_made, with_code}
+use Rattle.omp_model.specs.Changes.{without_lock, without_code, with_finished_task, with_forked_region, with_initialised_lock, member_begun, with_member_meeting, owned_by, with_barrier_passed, without_current_task, region_made, region_over, with_taken_share, with_stage, with_started_task, taken_up, task_made, with_code}
 
 -- What members of a team meet: worksharing constructs and barriers, each at its place.
 
@@ -191,7 +191,7 @@ team_size W t requested = if current_region W t == IMPLICIT_REGION then min requ
 
 abbrev pub after_fork : World → ℕ → ℕ → World
 after_fork W t requested =
-    region_made (forked W (current W t) (length W.regions)) (fresh_region (current W t) (team_size W t requested))
+    region_made (with_forked_region W (current W t) (length W.regions)) (fresh_region (current W t) (team_size W t requested))
 
 abbrev pub kind_of_task : Bool → TaskKind
 kind_of_task undeferred = if undeferred then kind.Undeferred else kind.Explicit
@@ -203,11 +203,11 @@ after_creation run W t now undeferred =
     record (task_made W (current W t) (current_region W t) (kind_of_task undeferred) created.task) { store = created.store }
 
 abbrev pub after_meeting_at : World → ℕ → Meeting → World
-after_meeting_at W t what = if is_member W t then met W (current_region W t) (current_index W t) what else W
+after_meeting_at W t what = if is_member W t then with_member_meeting W (current_region W t) (current_index W t) what else W
 
 abbrev pub after_sync : World → ℕ → ℕ → SyncKind → SyncStage → World
 after_sync W t codeptr which stage.RegionBegin = if is_barrier which then after_meeting_at W t (barrier_met codeptr which) else W
-after_sync W t codeptr which stage.WaitEnd = if is_barrier which then passed W (current_region W t) (current_index W t) else W
+after_sync W t codeptr which stage.WaitEnd = if is_barrier which then with_barrier_passed W (current_region W t) (current_index W t) else W
 after_sync W t codeptr which other = W
 
 unfoldable pub effect_of_point : Run → World → ℕ → Moment → Point → World
@@ -218,8 +218,8 @@ effect_of_point run W t now (point.WorkBegin codeptr what) = after_meeting_at W 
 effect_of_point run W t now (point.Sync codeptr which at) = after_sync W t codeptr which at
 effect_of_point run W t now (point.MutexAcquired codeptr wait_id which) = owned_by W wait_id (Some (current W t))
 effect_of_point run W t now (point.MutexReleased codeptr wait_id which) = owned_by W wait_id None
-effect_of_point run W t now (point.LockInit codeptr wait_id) = initialised W wait_id
-effect_of_point run W t now (point.LockDestroy codeptr wait_id) = destroyed W wait_id
+effect_of_point run W t now (point.LockInit codeptr wait_id) = with_initialised_lock W wait_id
+effect_of_point run W t now (point.LockDestroy codeptr wait_id) = without_lock W wait_id
 effect_of_point run W t now other = W
 
 -- the code of the thread's task goes past the event
@@ -241,17 +241,17 @@ member_code code = if has_forked code.todo then member_task code else blank_task
 abbrev pub after_member : World → ℕ → ℕ → ℕ → World
 after_member W t r k =
     let parent = (region_at W r).head.task in
-    member_begun (taken_up (started (task_made W parent r kind.Implicit (member_code (task_at W parent).code)) k) t k) r (member_index W t r) k
+    member_begun (taken_up (with_started_task (task_made W parent r kind.Implicit (member_code (task_at W parent).code)) k) t k) r (member_index W t r) k
 
 unfoldable pub effect_of : World → ℕ → Event → World
-effect_of W t event.ThreadBegin = staged W t thread_stage.Begun
-effect_of W t event.InitialTaskBegin = member_begun (started (taken_up W t INITIAL_TASK) INITIAL_TASK) IMPLICIT_REGION 0 INITIAL_TASK
-effect_of W t event.InitialTaskEnd = finished (popped W t) INITIAL_TASK
+effect_of W t event.ThreadBegin = with_stage W t thread_stage.Begun
+effect_of W t event.InitialTaskBegin = member_begun (with_started_task (taken_up W t INITIAL_TASK) INITIAL_TASK) IMPLICIT_REGION 0 INITIAL_TASK
+effect_of W t event.InitialTaskEnd = with_finished_task (without_current_task W t) INITIAL_TASK
 effect_of W t (event.MemberBegin r k) = after_member W t r k
-effect_of W t (event.MemberEnd r k) = emptied (finished (popped W t) k) k
-effect_of W t (event.TaskBegin prior task) = started (taken_up W t task) task
-effect_of W t (event.TaskEnd task) = emptied (popped W t) task
-effect_of W t (event.Dispatch share) = sharing W t None
+effect_of W t (event.MemberEnd r k) = without_code (with_finished_task (without_current_task W t) k) k
+effect_of W t (event.TaskBegin prior task) = with_started_task (taken_up W t task) task
+effect_of W t (event.TaskEnd task) = without_code (without_current_task W t) task
+effect_of W t (event.Dispatch share) = with_taken_share W t None
 effect_of W t other = W
 
 -- The Go of an event.
@@ -286,9 +286,9 @@ abbrev pub told : World → ℕ → Moment
 told W t = after_answer (view_of W t) (answer.Free true) (moment_of W t)
 
 -- the Go of an event of the code
-unfoldable pub going_in_code : Run → World → ℕ → Going
-going_in_code run W t = let now = told W t in going_by run W t now (silent run.program (view_of W t) now)
+unfoldable pub go_of_code : Run → World → ℕ → Going
+go_of_code run W t = let now = told W t in going_by run W t now (silent run.program (view_of W t) now)
 
 -- .. and of one beside all code
-abbrev pub going_beside : World → ℕ → Event → Going
-going_beside W t which = unless (fault_of W t which) which (effect_of W t which)
+abbrev pub go_of_runtime : World → ℕ → Event → Going
+go_of_runtime W t which = unless (fault_of W t which) which (effect_of W t which)

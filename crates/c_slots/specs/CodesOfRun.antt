@@ -8,8 +8,8 @@ use Rattle.c_model.specs.declared.point.Point.TheVariants.{TaskCreate}
 use Rattle.c_model.specs.declared.question.Answer.{Answer}
 use Rattle.c_model.specs.declared.view.View.{View}
 use Rattle.c_model.specs.Begin.{explicit_task, first_store, main_task, member_task}
-use Rattle.c_model.specs.Going.{after_answer, after_event}
-use Rattle.c_model.specs.Made.{AreCopiesInScope, IsTaskMade}
+use Rattle.c_model.specs.AfterEvents.{after_answer, after_event}
+use Rattle.c_model.specs.UsedCells.{AreCopiesInScope, IsTaskMade}
 use Rattle.c_model.specs.Scoped.{IsScoped}
 use Rattle.c_model.specs.Step.{settled_task, silent}
 use Rattle.c_model.specs.Task.{Moment, Store}
