@@ -1,8 +1,7 @@
 //! How a command ended: its status and its line on standard error.
 
-ghost use Rattle.std.specs.Prelude.{◌≡◌, ◌≤◌, ◌+◌, ◌∷◌, ◌++◌, [], codes, length};
+ghost use Rattle.std.specs.Prelude.{◌≡◌, ◌≤◌, ◌∷◌, ◌++◌, [], codes, length};
 ghost use Rattle.std.specs.Fmt.{decimal, signed_decimal};
-ghost use Rattle.arrayvec.specs.ArrayString.{array_string_len};
 ghost use Rattle.run_trace.specs.TraceOf.{status_of as status_of_cause};
 ghost use Rattle.ompt_cli.specs.Ends.{line_at, line_of_cause, line_of_end, refusal_at, refusal_text, status_of};
 
@@ -14,6 +13,7 @@ use history_file::HistoryReason;
 use itoa::Buffer;
 use omp_model::Cause;
 use trace_check::Breach;
+use trace_copy::push_number;
 
 /// Why a text is refused.
 #[derive(Clone, Copy, PartialEq, Eq)]
@@ -211,14 +211,4 @@ fn line_of(text: &str) -> ArrayString<160>
     let mut line = ArrayString::new();
     line.push_str(text);
     line
-}
-
-/// Adds a number in decimal.
-fn push_number(line: &mut ArrayString<160>, number: u32)
-    requires { array_string_len line.old + 40 ≤ 160 }
-    ensures bytes { line.new.bytes ≡ line.old.bytes ++ decimal number }
-    ensures few { array_string_len line.new ≤ array_string_len line.old + 40 }
-{
-    let mut digits = Buffer::new();
-    line.push_str(digits.format(number));
 }
