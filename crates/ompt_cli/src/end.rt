@@ -2,6 +2,7 @@
 
 ghost use Rattle.std.specs.Prelude.{◌≡◌, ◌≤◌, ◌∷◌, ◌++◌, [], codes, length};
 ghost use Rattle.std.specs.Fmt.{decimal, signed_decimal};
+ghost use Rattle.std.specs.Process.{exit_status};
 ghost use Rattle.run_trace.specs.TraceOf.{status_of as status_of_cause};
 ghost use Rattle.ompt_cli.specs.Ends.{line_at, line_of_cause, line_of_end, refusal_at, refusal_text, status_of};
 
@@ -12,6 +13,8 @@ use c_tokens::{NOWHERE, Spot, TokenFault};
 use history_file::HistoryReason;
 use itoa::Buffer;
 use omp_model::Cause;
+use run_edges::{Sink, write_all};
+use std::process::ExitCode;
 use trace_check::Breach;
 use trace_copy::push_number;
 
@@ -101,6 +104,14 @@ impl End {
             End::WriteFault => line_of("write fault\n"),
             End::Memory => line_of("memory\n"),
         }
+    }
+
+    /// Tells the end by its line, and is the end of a program with its status, also where the line can't be written.
+    pub fn exit<E: Sink>(self, err: &mut E) -> ExitCode
+        ensures { exit_status result ≡ status_of self }
+    {
+        let _line = write_all(err, self.line().as_str().as_bytes());
+        ExitCode::from(self.status())
     }
 }
 

@@ -6,7 +6,7 @@ use crate::end::End;
 use crate::job::Loaded;
 use c_check::Program;
 use omp_model::{Cause, History};
-use ompt_words::{Command, ReadCommand, Settings};
+use ompt_words::{Command, ReadCommand, RunOutput, Settings};
 use std::snapshot::Snapshot;
 use tool_api::GuestTool;
 
@@ -82,4 +82,18 @@ pub struct Top {
     pub shown: Option<String>,
     /// The command that has read a trace or a history file, where the words ask for one. Then nothing ran.
     pub read: Option<ReadCommand>,
+}
+
+impl Top {
+    /// Whether the command has printed what a program printed, so that more may stand behind it.
+    pub fn has_printed(&self) -> bool {
+        match &self.ran {
+            Some(report) => match report.command {
+                Command::Run(RunOutput::History) => false,
+                Command::Run(_) => self.end != End::Memory && self.end != End::WriteFault,
+                _ => false,
+            },
+            None => false,
+        }
+    }
 }

@@ -44,18 +44,18 @@ entries-last : (holds : List Hold) (thread : ℕ) (entries : List Entry) → ent
 entries-last holds thread entries =
     entries-append holds (hold_by thread entries ∷ []) ∙ ap (λ more. entries_of holds ++ more) (append-nil entries)
 
-pub desk-after :
+pub locked-after :
     (table at later : TableId) (run : Run) (before after : Me (Unit {0}) SeatView) (book next : BookView) (seen : List Hold) (thread : ℕ) (views : List SeatView) (entries : List Entry)
     → IsLockedBook table at run before book → Round (holds_in before.0) seen thread run.threads after views entries → later ≡ table → next.run ≡ book.run → next.history ≡ book.history ++ entries → AllBy thread entries → IsLockedBook table later run after next
-desk-after table at later run before after book next seen thread views entries desk made table_is same longer own =
+locked-after table at later run before after book next seen thread views entries locked made table_is same longer own =
     let all = with_last (holds_in before.0) thread entries in
     let holds : holds_in after.0 ≡ all = ap (λ (me : Me (Unit {0}) SeatView). holds_in me.0) made.seat in
     record {
       table_is = table_is;
-      run_is = same ∙ desk.run_is;
+      run_is = same ∙ locked.run_is;
       seat = made.seat ∙ ap (λ holds. (OfBook holds run.threads None, [])) (sym holds);
-      history = longer ∙ ap (λ history. history ++ entries) desk.history ∙ sym (entries-last (holds_in before.0) thread entries) ∙ ap entries_of (sym holds);
-      own = subst AreOwn (sym holds) (own-append (holds_in before.0) (hold_by thread entries ∷ []) desk.own (own, tt));
+      history = longer ∙ ap (λ history. history ++ entries) locked.history ∙ sym (entries-last (holds_in before.0) thread entries) ∙ ap entries_of (sym holds);
+      own = subst AreOwn (sym holds) (own-append (holds_in before.0) (hold_by thread entries ∷ []) locked.own (own, tt));
     }
 
 -- the hold as the pass sees it
@@ -77,25 +77,25 @@ grown before after between entries wanted made same =
     record { between = between; is_hold = subst (IsHold before after between) same made }
 
 -- the book as it stands when the pass has been taken in
-pub book-now : (table at : TableId) (run : Run) (me : Me (Unit {0}) SeatView) (book : BookView) (thread : ℕ) (seen : List Hold) (desk : IsLockedBook table at run me book) (begins : IsBeginning thread seen (holds_in me.0)) → book ≡ book_after run (seen ++ begins.rest) book.ended
-book-now table at run me book thread seen desk begins =
-    let history : book.history ≡ entries_of (seen ++ begins.rest) = desk.history ∙ ap entries_of begins.whole in
-    ap (λ (run : Run). record { run = run; history = book.history; ended = book.ended }) desk.run_is ∙ ap (λ history. record { run = run; history = history; ended = book.ended }) history
+pub book-now : (table at : TableId) (run : Run) (me : Me (Unit {0}) SeatView) (book : BookView) (thread : ℕ) (seen : List Hold) (locked : IsLockedBook table at run me book) (begins : IsBeginning thread seen (holds_in me.0)) → book ≡ book_after run (seen ++ begins.rest) book.ended
+book-now table at run me book thread seen locked begins =
+    let history : book.history ≡ entries_of (seen ++ begins.rest) = locked.history ∙ ap entries_of begins.whole in
+    ap (λ (run : Run). record { run = run; history = book.history; ended = book.ended }) locked.run_is ∙ ap (λ history. record { run = run; history = history; ended = book.ended }) history
 
 -- the answer that a pass owes is owed to the book
 pub owes-now :
     (table at : TableId) (run : Run) (me : Me (Unit {0}) SeatView) (book : BookView) (thread : ℕ) (seen : List Hold) (ended : Bool) (snapshot : Snapshot) → IsLockedBook table at run me book → IsBeginning thread seen (holds_in me.0)
     → OwesAnswer (book_after run seen ended) thread snapshot → OwesAnswer book thread snapshot
-owes-now table at run me book thread seen ended snapshot desk begins owes =
+owes-now table at run me book thread seen ended snapshot locked begins owes =
     let rest = begins.rest in
-    let none = holds-others thread rest (own-back seen rest (subst AreOwn begins.whole desk.own)) begins.others in
+    let none = holds-others thread rest (own-back seen rest (subst AreOwn begins.whole locked.own)) begins.others in
     let still = owes-still run (entries_of seen) (entries_of rest) thread owes.seq owes.call snapshot owes.owes none in
     let there : OwesAnswer (book_after run (seen ++ rest) book.ended) thread snapshot = record {
       seq = owes.seq;
       call = owes.call;
       owes = subst (λ history. Owes run history thread owes.seq owes.call snapshot) (sym (entries-append seen rest)) still;
     } in
-    subst (λ (book : BookView). OwesAnswer book thread snapshot) (sym (book-now table at run me book thread seen desk begins)) there
+    subst (λ (book : BookView). OwesAnswer book thread snapshot) (sym (book-now table at run me book thread seen locked begins)) there
 
 -- the step of a pass owes what the book says that it owes
 pub owes-seen : (book : BookView) (run : Run) (holds : List Hold) (ended : Bool) (thread : ℕ) (step : Step) → book.run ≡ run → book.history ≡ entries_of holds → OwesStep book thread step → OwesStep (book_after run holds ended) thread step
