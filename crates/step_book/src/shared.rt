@@ -67,7 +67,14 @@ impl<K: BookName> SharedBook<K> {
         let passes = make_passes(alloc, &words.shared, &mut seat, book.threads())?;
         let bells = Bells::new(alloc, book.threads())?;
         let locked = Mutex::new(LockedBook::new(book, seat, processors));
-        Ok((SharedBook { words, locked, bells }, passes))
+        Ok((
+            SharedBook {
+                words,
+                locked,
+                bells,
+            },
+            passes,
+        ))
     }
 
     /// A visit of the pass's thread: it takes a turn, where it may and the run hasn't ended.
