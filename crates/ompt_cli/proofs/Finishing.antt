@@ -1,30 +1,20 @@
 -- How a run has ended: whole exactly at Done or Returned, and with no thread inside a callback. And that the trace of a run of a program that a text spells is nested.
 use Rattle.std.proofs.Common.{◌≡◌, ◌≢◌, ◌<◌, ◌≤◌, ℕ, zero, suc, ℤ, pos, negsuc, ◌&&◌, Bool, true, false, if◌then◌else◌, List, [], ◌∷◌, length, Option, Some, None, is_none, slice_index_or, refl, sym, ap, subst, ◌∙◌, ◌↔◌, arith}
 use Rattle.std.specs.List.{list_all}
-use Rattle.omp_codes.specs.declared.callbacks.TheConstants.{PROFILE_MASK}
+use Rattle.ompt_cli.specs.Names.{PROFILE_MASK, Record, Cause, Callback, Halt, Entry, Run, State, cause_of, threads_over}
+use Rattle.ompt_cli.specs.Names.{main_returned, Legal, after, trace_of}
+use Rattle.omp_model.specs.declared.cause.Cause.TheVariants as causes
 use Rattle.c_syntax.specs.language.Words.{words_of}
 use Rattle.c_check.proofs.Earliest.{none-broken}
 use Rattle.c_model.proofs.GrammarTrees.{spelled_is_formed}
-use Rattle.tool_api.specs.Record.{Record}
-use Rattle.omp_model.specs.declared.cause.Cause.{Cause}
-use Rattle.omp_model.specs.declared.cause.Cause.TheVariants as causes
-use Rattle.omp_model.specs.declared.event.Callback.{Callback}
-use Rattle.omp_model.specs.declared.event.Halt.{Halt}
 use Rattle.omp_model.specs.declared.event.Halt.TheVariants.{Trap, Limit}
-use Rattle.omp_model.specs.declared.history.Entry.{Entry}
-use Rattle.omp_model.specs.State.{Run, State}
-use Rattle.omp_model.specs.Cause.{cause_of, cause_by_halt, cause_of_halt, cause_of_value, cause_of_whole, is_stuck, main_value, none_pending, threads_over, whole_value}
-use Rattle.omp_model.specs.Gates.{main_returned}
-use Rattle.omp_model.specs.Legal.{Legal, after}
+use Rattle.omp_model.specs.Cause.{cause_by_halt, cause_of_halt, cause_of_value, cause_of_whole, is_stuck, main_value}
+use Rattle.omp_model.specs.Cause.{none_pending, whole_value}
 use Rattle.omp_model.proofs.MadeRuns.{made-after}
-use Rattle.run_trace.specs.TraceOf.{trace_of}
 use Rattle.nested_runs.proofs.Nesting.{nested}
-use Rattle.team_run.specs.Serving.{RunsParts}
-use Rattle.team_run.specs.Unheard.{IsUnheard, LeftAt}
+use Rattle.team_run.specs.{Serving.RunsParts, Unheard.IsUnheard, Unheard.LeftAt}
 use Rattle.team_run.proofs.Visiting.{all_none-at}
-use Rattle.ompt_cli.specs.Runs.{AreOutside, IsReturn, IsWhole}
-use Rattle.ompt_cli.specs.Text.{Spells}
-use Rattle.ompt_cli.specs.Traces.{IsNested}
+use Rattle.ompt_cli.specs.{Runs.AreOutside, Runs.IsReturn, Runs.IsWhole, Text.Spells, Traces.IsNested}
 use Rattle.ompt_cli.proofs.Halting.{not_halted}
 
 -- what main returned is told as a return

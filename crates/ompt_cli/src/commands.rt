@@ -2,10 +2,8 @@
 
 ghost use Rattle.std.specs.Prelude.{ℕ, ◌≡◌, IfOk, IfSome, List, OnErr};
 ghost use Rattle.ompt_words.specs.declared.settings.Request.TheVariants as request;
-ghost use Rattle.ompt_cli.specs.Guests.{GuestsAfter};
-ghost use Rattle.ompt_cli.specs.Reports.{Reports};
-ghost use Rattle.ompt_cli.specs.Top.{CarriesOut};
 ghost use Rattle.ompt_cli.specs.Words.{AreInRange, AreTakenAs};
+ghost use Rattle.ompt_cli.specs.{Guests.GuestsAfter, Reports.Reports, Top.CarriesOut};
 
 use crate::end::End;
 use crate::job::Job;

@@ -2,14 +2,9 @@
 
 ghost use Rattle.std.specs.Prelude.{ℕ, ◌≡◌, ◌↔◌, IfOk, List, [], length, replicate, true};
 ghost use Rattle.std.specs.Thread.{IsSync};
-ghost use Rattle.tool_api.specs.Record.{Record};
-ghost use Rattle.ompt_calls.specs.declared.event.EventRecord.{EventRecord};
-ghost use Rattle.tool_report.specs.Generator.{generated, summary_of};
-ghost use Rattle.tool_report.specs.Order.{AreKept, AreShared};
-ghost use Rattle.tool_report.specs.KeeperRelation.{KeeperFor};
+ghost use Rattle.ompt_cli.specs.Names.{Record, EventRecord, generated, summary_of, AreKept, AreShared, KeeperFor};
 ghost use Rattle.ompt_words.specs.declared.settings.Command.{Command as SeenCommand};
-ghost use Rattle.ompt_cli.specs.Commands.{columns_in};
-ghost use Rattle.ompt_cli.specs.Reports.{HasObserved};
+ghost use Rattle.ompt_cli.specs.{Commands.columns_in, Reports.HasObserved};
 
 use crate::job::Job;
 use crate::observing::{Observed, observe, observe_alone};

@@ -1,15 +1,8 @@
 //! The command `run` with a profile: the guests are called beside profiles, and what the program prints is followed by the counts.
 
 ghost use Rattle.std.specs.Prelude.{◌≡◌, ◌++◌, IfOk, List, OnErr};
-ghost use Rattle.omp_model.specs.Legal.{after};
-ghost use Rattle.omp_model.specs.Records.{records_of};
-ghost use Rattle.ompt_calls.specs.declared.event.EventRecord.{EventRecord};
-ghost use Rattle.tool_report.specs.Counts.{counts_of};
-ghost use Rattle.tool_report.specs.Order.{AreKept};
-ghost use Rattle.tool_report.specs.Profile.{profile_of};
-ghost use Rattle.ompt_cli.specs.Commands.{run_of};
-ghost use Rattle.ompt_cli.specs.Guests.{GuestsAfter};
-ghost use Rattle.ompt_cli.specs.Reports.{Observes, Reports};
+ghost use Rattle.ompt_cli.specs.Names.{after, records_of, EventRecord, counts_of, AreKept, profile_of};
+ghost use Rattle.ompt_cli.specs.{Commands.run_of, Guests.GuestsAfter, Reports.Observes, Reports.Reports};
 
 use crate::guests::{Handing, hand_out_all, take_back_all};
 use crate::job::Job;

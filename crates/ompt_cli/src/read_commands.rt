@@ -2,14 +2,9 @@
 
 ghost use Rattle.std.specs.Prelude.{◌≡◌, ◌≢◌, ◌⊎◌, IfOk, IsSomeAnd};
 ghost use Rattle.std.specs.Io.KnownBytes.{Appends};
-ghost use Rattle.run_edges.specs.Edges.{AppendsFront};
-ghost use Rattle.ompt_cli.specs.Commands.{CountsFaults, IsReading};
-ghost use Rattle.history_file.specs.declared.file.HistoryFile.{HistoryFile as SeenFile};
-ghost use Rattle.history_file.specs.Validity.{WritesHistory};
-ghost use Rattle.ompt_cli.specs.Histories.{Certifies, MayCertify};
+ghost use Rattle.ompt_cli.specs.Names.{AppendsFront, SeenFile, WritesHistory, IsForestText, IsTrace};
 ghost use Rattle.ompt_cli.specs.Traces.{HasCopy, HasJudged, HasRead, HasTasks, IsNested, ok_text};
-ghost use Rattle.tool_tasks.specs.Text.{IsForestText};
-ghost use Rattle.trace_format.specs.Validity.{IsTrace};
+ghost use Rattle.ompt_cli.specs.{Commands.CountsFaults, Commands.IsReading, Histories.Certifies, Histories.MayCertify};
 
 use crate::end::End;
 use crate::rerunning::rerun_history;

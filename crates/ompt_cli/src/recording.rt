@@ -1,15 +1,12 @@
 //! The command `record`: it runs the program, and writes the trace of the run.
 
 ghost use Rattle.std.specs.Prelude.{◌≡◌, ◌≢◌, IfOk, List, OnErr};
+ghost use Rattle.std.specs.List.{All};
+ghost use Rattle.ompt_cli.specs.Names.{PROFILE_MASK, EventRecord, FitsCause, trace_of, trace_with, AreShared};
+ghost use Rattle.ompt_cli.specs.Names.{fields_of, spelling};
+ghost use Rattle.trace_format.specs.Fitting.{FitsFields};
 ghost use Rattle.ompt_cli.specs.Commands.{CountsFaults, EndsAs, HasWritten, IsSharedFew, unless_memory};
 ghost use Rattle.ompt_cli.specs.Reports.{Reports};
-ghost use Rattle.std.specs.List.{All};
-ghost use Rattle.omp_codes.specs.declared.callbacks.TheConstants.{PROFILE_MASK};
-ghost use Rattle.ompt_calls.specs.declared.event.EventRecord.{EventRecord};
-ghost use Rattle.run_trace.specs.TraceOf.{FitsCause, trace_of, trace_with};
-ghost use Rattle.tool_report.specs.Order.{AreShared};
-ghost use Rattle.trace_format.specs.Fields.{fields_of, spelling};
-ghost use Rattle.trace_format.specs.Fitting.{FitsFields};
 
 use crate::end::End;
 use crate::job::Job;

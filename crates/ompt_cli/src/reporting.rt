@@ -1,13 +1,8 @@
 //! The commands that run a program and report what the parts of their threads kept: `list`, `profile`, `timeline` and `gen`.
 
 ghost use Rattle.std.specs.Prelude.{ℕ, ◌≡◌, ◌≢◌, IfOk, List, OnErr};
-ghost use Rattle.omp_model.specs.declared.cause.Cause.{Cause};
-ghost use Rattle.omp_model.specs.declared.history.Entry.{Entry};
-ghost use Rattle.omp_model.specs.Legal.{after};
-ghost use Rattle.omp_model.specs.Records.{records_of};
-ghost use Rattle.omp_model.specs.State.{Run};
-ghost use Rattle.ompt_cli.specs.Commands.{HasGuests, written_by};
-ghost use Rattle.ompt_cli.specs.Reports.{HasKept, Reports};
+ghost use Rattle.ompt_cli.specs.Names.{Cause, Entry, after, records_of, Run};
+ghost use Rattle.ompt_cli.specs.{Commands.HasGuests, Commands.written_by, Reports.HasKept, Reports.Reports};
 
 use crate::job::Job;
 use crate::keepers::{Keeper, keepers};

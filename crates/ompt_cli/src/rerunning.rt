@@ -1,11 +1,8 @@
 //! The command `rerun`: it reads a history file, and says whether it is a certificate.
 
 ghost use Rattle.std.specs.Prelude.{ℕ, ◌<◌, ◌^◌, ◌≡◌, ◌≢◌, ◌⊎◌, ◌++◌, Err, IfErr, IfOk, IfSome, IsSomeAnd, List, MatchResult, Option, Some, length};
-ghost use Rattle.run_edges.specs.Edges.{Rose};
-ghost use Rattle.trace_copy.specs.Written.{line_of_end as line_of_mark};
-ghost use Rattle.history_file.specs.declared.file.HistoryFile.{HistoryFile as SeenFile};
-ghost use Rattle.history_file.specs.Certificates.{IsCertificate, run_of_file};
-ghost use Rattle.history_file.specs.Validity.{IsHistoryFile, WritesHistory};
+ghost use Rattle.ompt_cli.specs.Names.{Rose, line_of_mark, SeenFile, IsCertificate, run_of_file, IsHistoryFile};
+ghost use Rattle.ompt_cli.specs.Names.{WritesHistory};
 ghost use Rattle.ompt_cli.specs.Commands.{CountsFaults, IsReading};
 ghost use Rattle.ompt_cli.specs.Histories.{Certifies, HasFile, HasRerun, IsUnreadFile, MayCertify, lines_of_calls};
 

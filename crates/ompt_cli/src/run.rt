@@ -1,10 +1,8 @@
 //! The command `run`: it runs the program with the guests as the parts of its threads, and writes what it prints, or the history of its run.
 
 ghost use Rattle.std.specs.Prelude.{◌≡◌, ◌⊎◌, IfOk, OnErr};
-ghost use Rattle.omp_model.specs.Legal.{after};
-ghost use Rattle.ompt_cli.specs.Commands.{run_of};
-ghost use Rattle.ompt_cli.specs.Guests.{GuestsAfter};
-ghost use Rattle.ompt_cli.specs.Reports.{Observes, Reports};
+ghost use Rattle.ompt_cli.specs.Names.{after};
+ghost use Rattle.ompt_cli.specs.{Commands.run_of, Guests.GuestsAfter, Reports.Observes, Reports.Reports};
 
 use crate::guests::{Handing, hand_out_all, take_back_all};
 use crate::history_writing::write_history_of_run;

@@ -2,8 +2,7 @@
 
 ghost use Rattle.std.specs.Prelude.{◌≡◌, Bool, IfOk, length, true};
 ghost use Rattle.std.specs.Thread.{IsSync};
-ghost use Rattle.tool_api.specs.Handed.{HandedFor, SameHanded};
-ghost use Rattle.tool_profiled.specs.Joining.{ProfiledFor, SameProfiled};
+ghost use Rattle.ompt_cli.specs.Names.{HandedFor, SameHanded, ProfiledFor, SameProfiled};
 ghost use Rattle.ompt_cli.specs.Reports.{HasObserved};
 
 use crate::guests::GuestPart;

@@ -3,11 +3,9 @@
 ghost use Rattle.std.specs.Prelude.{ℕ, ◌≡◌, false, true, IfErr, IfOk, IfSome, IsNone, List, ◌⊎◌};
 ghost use Rattle.ompt_words.specs.declared.settings.Request.TheVariants as request;
 ghost use Rattle.ompt_cli.specs.Commands.{CountsFaults, HasWritten, out_of};
-ghost use Rattle.ompt_cli.specs.Ends.{TellsEnd};
-ghost use Rattle.ompt_cli.specs.Guests.{GuestsAfter};
-ghost use Rattle.ompt_cli.specs.Top.{CarriesOut, FollowsWords, HasTrace, IsRunOf, JudgesText, ShowsFaults, StaysUntouched};
-ghost use Rattle.ompt_cli.specs.Traces.{HasReadInput};
 ghost use Rattle.ompt_cli.specs.Words.{AreFaulty, AreInRange, AreTakenAs, texts};
+ghost use Rattle.ompt_cli.specs.{Ends.TellsEnd, Guests.GuestsAfter, Top.CarriesOut, Top.FollowsWords, Top.HasTrace};
+ghost use Rattle.ompt_cli.specs.{Top.IsRunOf, Top.JudgesText, Top.ShowsFaults, Top.StaysUntouched, Traces.HasReadInput};
 
 use crate::commands::run_settings;
 use crate::end::End;

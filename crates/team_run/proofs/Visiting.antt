@@ -1,46 +1,31 @@
 -- A serial run after one more visit, and at its end.
 use Rattle.std.proofs.Common.{◌≡◌, ℕ, ℤ, zero, suc, ◌+◌, ◌<◌, ◌≤◌, Bool, true, false, List, [], ◌∷◌, ◌++◌, length, length-append, replicate, slice_set, slice_index_or, Option, Some, None, IsSome, is_none, refl, sym, ap, subst, ◌∙◌, arith, append-nil, append_assoc, Result, Ok, Err, OnOk, OnErr}
 use Rattle.std.specs.List.{list_all}
-use Rattle.std.proofs.lemmas.Bool.{true≢false, and_from, and_parts}
-use Rattle.std.proofs.lemmas.List.{set-set}
-use Rattle.ompt_calls.specs.declared.call.Call.{Call}
-use Rattle.ompt_calls.specs.declared.snapshot.Snapshot.{Snapshot}
-use Rattle.ompt_calls.specs.Item.{Item}
-use Rattle.ompt_calls.specs.Number.{is_registered}
-use Rattle.ompt_calls.specs.declared.snapshot.Target.{Target}
-use Rattle.ompt_calls.specs.declared.reply.Reply.{Reply}
-use Rattle.ompt_calls.specs.declared.reply.Store.{Store}
-use Rattle.ompt_calls.specs.Snapshot.{Stored, target_of, stored, stored_of, stores_of}
+use Rattle.std.proofs.lemmas.{Bool.true≢false, Bool.and_from, Bool.and_parts, List.set-set}
+use Rattle.team_run.specs.Names.{Call, Snapshot, Item, is_registered, Reply, Stored, stores_of, Entry, Callback, Event}
+use Rattle.team_run.specs.Names.{Outcome, Run, State, first, pending_at, call_of, callback_of, snap_of, turn, called}
+use Rattle.team_run.specs.Names.{after, put_from, back_from, back, heard, first_enabled, inside_after, StoresNothing}
+use Rattle.team_run.specs.Names.{go_at, event_reply, none_pending, cause_in, BookView, state_of, with_entries}
+use Rattle.team_run.specs.Names.{turn_visit, Record}
 use Rattle.omp_model.specs.declared.cause.Cause.TheVariants as cause
-use Rattle.omp_model.specs.declared.history.Entry.{Entry}
-use Rattle.omp_model.specs.declared.event.Callback.{Callback}
-use Rattle.omp_model.specs.declared.event.Event.{Event}
-use Rattle.omp_model.specs.declared.event.Halt.{Halt}
-use Rattle.omp_model.specs.declared.event.Outcome.{Outcome}
+use Rattle.ompt_calls.specs.Snapshot.{target_of, stored, stored_of}
+use Rattle.ompt_calls.specs.{declared.snapshot.Target.Target, declared.reply.Store.Store}
 use Rattle.omp_model.specs.declared.event.Outcome.TheVariants.{Idle, Quiet, Happens, Halts}
-use Rattle.omp_model.specs.State.{Run, State, first, pending_at}
-use Rattle.omp_model.specs.Calls.{call_of, callback_of}
-use Rattle.omp_model.specs.Snapshots.{snap_of}
-use Rattle.omp_model.specs.Turn.{turn, called}
-use Rattle.omp_model.specs.Legal.{after, put_from, put, back_from, back}
-use Rattle.omp_model.specs.Heard.{heard}
-use Rattle.omp_model.specs.Serial.{first_enabled, enabled_among, inside_after, StoresNothing}
-use Rattle.omp_model.specs.Storing.{put_all, MayStore, go_at, event_reply}
-use Rattle.omp_model.specs.Cause.{none_pending, whole_value, is_stuck, cause_of_whole, cause_by_halt, cause_in}
+use Rattle.omp_model.specs.Storing.{put_all, MayStore}
+use Rattle.omp_model.specs.Cause.{whole_value, is_stuck, cause_of_whole, cause_by_halt}
+use Rattle.omp_model.specs.{declared.event.Halt.Halt, Legal.put, Serial.enabled_among}
 use Rattle.omp_model.proofs.Turns.{Leaves, leaves-turn, turn-pending, turns-rise, back-turns}
 use Rattle.omp_model.proofs.Replies.{may-store}
-use Rattle.omp_model.proofs.Recording.{HasRun-start, HasRun-after, HasRun-alone, HasRun-event, HasRun-serial, HasRun-pending, heard-alone, heard-event, heard-pending, event_at, first_enabled-below, first_enabled-enabled, first_enabled-none, put_all-turns, StoresNothing-append}
+use Rattle.omp_model.proofs.Recording.{HasRun-start, HasRun-after, HasRun-alone, HasRun-event, HasRun-serial}
+use Rattle.omp_model.proofs.Recording.{HasRun-pending, heard-alone, heard-event, heard-pending, event_at}
+use Rattle.omp_model.proofs.Recording.{first_enabled-below, first_enabled-enabled, first_enabled-none, put_all-turns}
+use Rattle.omp_model.proofs.Recording.{StoresNothing-append}
+use Rattle.omp_machine.proofs.{Storing.Inside, Storing.inside-put, Telling.IsTold, Telling.IsUntold}
+use Rattle.step_book.proofs.{Telling.HasUntold, Telling.IsAlone, Visiting.inside-told}
 use Rattle.team_run.specs.Standing.{AreSilent, HearsOwn, HearsSilent, StandsAt, StopsAt}
-use Rattle.omp_machine.proofs.Storing.{Inside, inside-put}
-use Rattle.omp_machine.proofs.Telling.{IsTold, IsUntold}
-use Rattle.step_book.specs.BookView.{BookView, state_of, with_entries}
-use Rattle.step_book.specs.Visit.{turn_visit}
-use Rattle.step_book.proofs.Telling.{HasUntold, IsAlone}
-use Rattle.step_book.proofs.Visiting.{inside-told}
-use Rattle.tool_api.specs.Record.{Record}
-use Rattle.team_run.specs.Serving.{Serves, ServesTo, OnlyUnheard, Answers}
-use Rattle.team_run.specs.Unheard.{IsUnheard}
-use Rattle.team_run.proofs.Serving.{serves-told, serves-unheard, hears-front, item-silent, own-told, own-unheard, heard_of-same}
+use Rattle.team_run.specs.{Serving.Serves, Serving.ServesTo, Serving.OnlyUnheard, Serving.Answers, Unheard.IsUnheard}
+use Rattle.team_run.proofs.Serving.{serves-told, serves-unheard, hears-front, item-silent, own-told, own-unheard}
+use Rattle.team_run.proofs.Serving.{heard_of-same}
 
 abbrev pub all_none : List (Option Callback) → Bool
 all_none pending = list_all (λ (callback : Option Callback). is_none callback) pending

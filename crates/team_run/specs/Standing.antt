@@ -1,12 +1,6 @@
 -- What a serial run under way has come to.
 use Rattle.std.specs.Prelude.{ℕ, ◌≡◌, ◌<◌, ◌≤◌, true, List, [], ◌∷◌, None}
-use Rattle.ompt_calls.specs.Item.{Item}
-use Rattle.omp_model.specs.declared.history.Entry.{Entry}
-use Rattle.omp_model.specs.State.{Run, State}
-use Rattle.omp_model.specs.Cause.{none_pending}
-use Rattle.omp_model.specs.Heard.{heard_of}
-use Rattle.omp_model.specs.Legal.{after}
-use Rattle.omp_model.specs.Serial.{Serial, StoresNothing}
+use Rattle.team_run.specs.Names.{Item, Entry, Run, State, none_pending, heard_of, after, Serial, StoresNothing}
 use Rattle.omp_model.specs.Running.{HasRun}
 
 -- nothing was stored during these calls

@@ -1,28 +1,16 @@
 -- What a thread hears of a history in which entries of others stand between its own.
 use Rattle.std.proofs.Common.{◌≡◌, ◌≢◌, ℕ, ◌+◌, ◌<◌, ◌==◌, ◌&&◌, ◌||◌, Bool, true, false, if◌then◌else◌, List, [], ◌∷◌, ◌++◌, length, Option, Some, None, slice_index_or, slice_set, get_or-set_same, refl, sym, ap, subst, ◌∙◌, append_assoc, append-nil, eq-eqb, arith, inl, inr, ◌⊎◌}
-use Rattle.std.proofs.lemmas.Bool.{true≢false, or_parts, or_right, cases_lt}
-use Rattle.std.proofs.lemmas.Bool.Decides.{eqb_tells}
-use Rattle.std.proofs.lemmas.List.{get_or_past, get_or-set_other, length-set}
-use Rattle.std.proofs.lemmas.List.Elements.{filter-append}
-use Rattle.ompt_calls.specs.Item.{Item}
-use Rattle.ompt_calls.specs.Number.{is_registered}
-use Rattle.ompt_calls.specs.Snapshot.{Stored}
-use Rattle.omp_model.specs.declared.event.Callback.{Callback}
-use Rattle.omp_model.specs.declared.event.Event.{Event}
-use Rattle.omp_model.specs.declared.event.Outcome.{Outcome}
+use Rattle.std.proofs.lemmas.{Bool.true≢false, Bool.or_parts, Bool.or_right, Bool.cases_lt, Bool.Decides.eqb_tells}
+use Rattle.std.proofs.lemmas.{List.get_or_past, List.get_or-set_other, List.length-set, List.Elements.filter-append}
+use Rattle.team_run.specs.Names.{Item, is_registered, Stored, Callback, Event, Outcome, Entry, Run, State, pending_at}
+use Rattle.team_run.specs.Names.{call_of, callback_of, after_from, back_from, entered, put_from, snap_of, event_reply}
+use Rattle.team_run.specs.Names.{go_at, called, turn, NotBy}
 use Rattle.omp_model.specs.declared.event.Outcome.TheVariants as outcome
-use Rattle.omp_model.specs.declared.history.Entry.{Entry}
-use Rattle.omp_model.specs.declared.history.What.{What}
 use Rattle.omp_model.specs.declared.history.What.TheVariants.{Go, Put, Back}
-use Rattle.omp_model.specs.State.{Run, State, World, pending_at}
-use Rattle.omp_model.specs.Calls.{call_of, callback_of}
-use Rattle.omp_model.specs.Heard.{has_back, heard_at, heard_event, heard_from, heard_outcome, is_back, stores_at, stores_in}
-use Rattle.omp_model.specs.Legal.{after_from, back_from, does, entered, put_from}
-use Rattle.omp_model.specs.Snapshots.{snap_of}
-use Rattle.omp_model.specs.Storing.{event_reply, go_at, put_at}
-use Rattle.omp_model.specs.Turn.{called, turn}
+use Rattle.omp_model.specs.{declared.history.What.What, State.World, Heard.has_back, Heard.heard_at, Heard.heard_event}
+use Rattle.omp_model.specs.{Heard.heard_from, Heard.heard_outcome, Heard.is_back, Heard.stores_at, Heard.stores_in}
+use Rattle.omp_model.specs.{Legal.does, Storing.put_at}
 use Rattle.omp_model.proofs.Turns.{Leaves, leaves-turn}
-use Rattle.step_book.specs.Owing.{NotBy}
 use Rattle.team_run.proofs.Serving.{on_thread}
 
 -- a Back of the thread among these or those entries

@@ -1,18 +1,9 @@
 -- The drivers of a run, while they are started, and once they have come back.
 use Rattle.std.specs.Prelude.{ℕ, ◌≡◌, ◌≢◌, ◌<◌, Bool, false, List, length, get_or, IfSome, Some, Result, Ok, Err}
-use Rattle.tool_api.specs.Record.{Record}
+use Rattle.team_run.specs.Names.{Record, cause_of, Run, heard_of, Legal, after, Closed, PassView}
 use Rattle.omp_model.specs.declared.cause.Cause.TheVariants as causes
-use Rattle.omp_model.specs.Cause.{cause_of}
-use Rattle.omp_model.specs.State.{Run}
-use Rattle.omp_model.specs.Heard.{heard_of}
-use Rattle.omp_model.specs.Legal.{Legal, after}
-use Rattle.step_book.specs.declared.closed.Closed.{Closed}
-use Rattle.step_book.specs.Sharing.{PassView}
-use Rattle.team_run.specs.Serving.{AreSame, called_for}
-use Rattle.team_run.specs.Standing.{HearsOwn}
-use Rattle.team_run.specs.Unheard.{LeftAt}
-use Rattle.thread_run.specs.declared.team.Slot.{Slot}
-use Rattle.thread_run.specs.Driving.{IsDriven}
+use Rattle.team_run.specs.{Serving.AreSame, Serving.called_for, Standing.HearsOwn, Unheard.LeftAt}
+use Rattle.thread_run.specs.{declared.team.Slot.Slot, Driving.IsDriven}
 
 -- the driver of a thread, whose part was this one at first
 pub record IsDriver {P : Type 0} (stands_for : P → Record → Type 0) (Same : P → P → Type 0) (run : Run) (t : ℕ) (first : P)

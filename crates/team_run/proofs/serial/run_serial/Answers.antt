@@ -1,16 +1,10 @@
 use Rattle.std.proofs.Common.{ℕ, ◌≡◌, ◌≢◌, ◌∙◌, Option, Some, None, [], ◌++◌, length, take, drop, true, refl, sym, ap, subst, arith}
+use Rattle.team_run.specs.Names.{Run, State, cause_in, cause_of, serial, BookView, state_of, Record, initialized}
 use Rattle.omp_model.specs.declared.cause.Cause.TheVariants as causes
-use Rattle.omp_model.specs.State.{Run, State}
-use Rattle.omp_model.specs.Cause.{cause_in, cause_of}
-use Rattle.omp_model.specs.Serial.{serial}
-use Rattle.step_book.specs.BookView.{BookView, state_of}
-use Rattle.team_run.specs.Program.{run_of_program}
-use Rattle.omp_model.proofs.Recording.{HasRun-after, HasRun-whole}
-use Rattle.omp_model.proofs.SerialLaws.{serial-whole}
+use Rattle.omp_model.proofs.{Recording.HasRun-after, Recording.HasRun-whole, SerialLaws.serial-whole}
 use Rattle.team_run.specs.Standing.{HearsSilent, StandsAt, StopsAt}
-use Rattle.tool_api.specs.Record.{Record, initialized}
 use Rattle.team_run.specs.Serving.{ChangesFirst, RunsParts, ServesTo, finished_by}
-use Rattle.team_run.specs.Unheard.{is_of}
+use Rattle.team_run.specs.{Program.run_of_program, Unheard.is_of}
 use Rattle.team_run.proofs.Serving.{changes-vector, runs-parts, same-around, served-all}
 use Rattle.team_run.proofs.Visiting.{stands-start, unheard-none}
 use Rattle.team_run.proofs.serial.run_serial.Goals as goal

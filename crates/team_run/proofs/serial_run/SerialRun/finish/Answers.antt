@@ -1,14 +1,9 @@
 use Rattle.std.proofs.Common.{ℕ, ◌≡◌, ◌<◌, ◌∙◌, IfSome, None, Option, ap, sym, subst, arith}
-use Rattle.omp_model.specs.declared.limits.TheConstants.{TURN_LIMIT}
 use Rattle.std.specs.Option.{option_map}
-use Rattle.omp_model.specs.Gates.{arrival}
-use Rattle.omp_model.specs.State.{Run}
+use Rattle.team_run.specs.Names.{TURN_LIMIT, arrival, Run, state_of}
 use Rattle.omp_machine.specs.declared.ready.Ready.{Ready}
-use Rattle.omp_model.proofs.Turns.{turn-goes}
-use Rattle.omp_model.proofs.Recording.{first_enabled-enabled}
-use Rattle.step_book.specs.BookView.{state_of}
-use Rattle.team_run.specs.Standing.{StandsAt, StopsAt}
-use Rattle.team_run.specs.Serving.{Serves}
+use Rattle.omp_model.proofs.{Turns.turn-goes, Recording.first_enabled-enabled}
+use Rattle.team_run.specs.{Standing.StandsAt, Standing.StopsAt, Serving.Serves}
 use Rattle.team_run.proofs.Serving.{serves-then, same-then}
 use Rattle.team_run.proofs.Visiting.{caused, stops-here, serves-to, serves-all}
 use Rattle.team_run.proofs.serial_run.SerialRun.finish.Goals as goal

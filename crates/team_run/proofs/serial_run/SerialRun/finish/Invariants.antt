@@ -1,8 +1,6 @@
 use Rattle.std.proofs.Common.{◌≡◌, ◌-◌, None}
-use Rattle.omp_model.specs.declared.limits.TheConstants.{TURN_LIMIT}
-use Rattle.step_book.specs.BookView.{state_of}
-use Rattle.team_run.specs.Serving.{Serves, AreSame}
-use Rattle.team_run.specs.Standing.{StandsAt}
+use Rattle.team_run.specs.Names.{TURN_LIMIT, state_of}
+use Rattle.team_run.specs.{Serving.Serves, Serving.AreSame, Standing.StandsAt}
 use Rattle.team_run.proofs.serial_run.SerialRun.finish.Given as goal
 
 -- the run stands where its history leads to, and its parts were called for what was heard
