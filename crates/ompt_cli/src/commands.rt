@@ -6,6 +6,7 @@ ghost use Rattle.ompt_cli.specs.Words.{AreInRange, AreTakenAs};
 ghost use Rattle.ompt_cli.specs.{Guests.GuestsAfter, Reports.Reports, Top.CarriesOut};
 
 use crate::end::End;
+use crate::guests::Guests;
 use crate::job::Job;
 use crate::outcome::{AfterRun, Outcome, without_run};
 use crate::profiling::run_profiled;
@@ -17,7 +18,6 @@ use crate::text::program_for;
 use ompt_words::{Command, RunOutput, Settings};
 use run_edges::{Sink, Source};
 use std::alloc::AllocError;
-use tool_api::GuestTool;
 use tool_report::{Profile, Recorder, Timeline};
 
 /// Reads the program, or makes it for `gen`, runs it with these settings, and writes what the command writes.
@@ -26,7 +26,7 @@ pub(crate) fn run_settings<X: Runner, S: Source, O: Sink>(
     settings: Settings,
     source: &mut S,
     out: &mut O,
-    guests: Vec<Box<dyn GuestTool>>,
+    guests: Guests,
 ) -> Outcome
     requires kind { X.may_run runner.now settings.serial }
     requires range { AreInRange settings }
@@ -55,7 +55,7 @@ pub(crate) fn run_settings<X: Runner, S: Source, O: Sink>(
 fn run_command<X: Runner, O: Sink>(
     runner: &X,
     job: Job,
-    guests: Vec<Box<dyn GuestTool>>,
+    guests: Guests,
     out: &mut O,
 ) -> Result<AfterRun, AllocError>
     requires { X.may_run runner.now job.settings.serial }

@@ -6,14 +6,15 @@ ghost use Rattle.ompt_cli.specs.Names.{Record, EventRecord, generated, summary_o
 ghost use Rattle.ompt_words.specs.declared.settings.Command.{Command as SeenCommand};
 ghost use Rattle.ompt_cli.specs.{Commands.columns_in, Reports.HasObserved};
 
+use crate::guests::Guests;
 use crate::job::Job;
-use crate::observing::{Observed, observe, observe_alone};
+use crate::observing::{Seen, observe, observe_alone};
 use ompt_words::Command;
 use std::alloc::{AllocError, Global};
 use std::mem;
 use std::sync::Wait;
 use std::thread::Threads;
-use tool_api::{GuestTool, ToolPart};
+use tool_api::ToolPart;
 use tool_report::{
     Profile, Recorder, Timeline, generated_text, lines_text, merge, profile_text, summary_text,
     timeline_text,
@@ -43,12 +44,7 @@ pub(crate) trait Keeper: ToolPart {
 
     /// Runs the job, which is serial, with the parts of this list, which it takes out of it. Parts may be sent to
     /// threads, and nothing says of a type parameter of a method that it may be sent. So each kind makes its own runs.
-    fn run_alone(
-        alloc: Global,
-        job: Job,
-        parts: &mut Vec<Self>,
-        guests: Vec<Box<dyn GuestTool>>,
-    ) -> Result<Observed<Self>, AllocError>
+    fn run_alone(alloc: Global, job: Job, parts: &mut Vec<Self>, guests: Guests) -> Seen<Self>
         requires serial { job.settings.serial ≡ true }
         requires parts { length parts.old.items ≡ job.settings.threads }
         ensures observed { IfOk result (HasObserved Self.stands_for Self.same job parts.old.items) }
@@ -60,8 +56,8 @@ pub(crate) trait Keeper: ToolPart {
         alloc: Global,
         job: Job,
         parts: &mut Vec<Self>,
-        guests: Vec<Box<dyn GuestTool>>,
-    ) -> Result<Observed<Self>, AllocError>
+        guests: Guests,
+    ) -> Seen<Self>
         requires sync { IsSync R.row }
         requires parts { length parts.old.items ≡ job.settings.threads }
         ensures observed { IfOk result (HasObserved Self.stands_for Self.same job parts.old.items) }
@@ -93,12 +89,7 @@ impl Keeper for Recorder {
         }
     }
 
-    fn run_alone(
-        alloc: Global,
-        job: Job,
-        parts: &mut Vec<Recorder>,
-        guests: Vec<Box<dyn GuestTool>>,
-    ) -> Result<Observed<Recorder>, AllocError> {
+    fn run_alone(alloc: Global, job: Job, parts: &mut Vec<Self>, guests: Guests) -> Seen<Self> {
         observe_alone(alloc, job, mem::replace(parts, Vec::new(alloc)), guests)
     }
 
@@ -106,9 +97,9 @@ impl Keeper for Recorder {
         rt: &R,
         alloc: Global,
         job: Job,
-        parts: &mut Vec<Recorder>,
-        guests: Vec<Box<dyn GuestTool>>,
-    ) -> Result<Observed<Recorder>, AllocError> {
+        parts: &mut Vec<Self>,
+        guests: Guests,
+    ) -> Seen<Self> {
         observe(rt, alloc, job, mem::replace(parts, Vec::new(alloc)), guests)
     }
 
@@ -136,12 +127,7 @@ impl Keeper for Profile {
         profile_text(alloc, parts)
     }
 
-    fn run_alone(
-        alloc: Global,
-        job: Job,
-        parts: &mut Vec<Profile>,
-        guests: Vec<Box<dyn GuestTool>>,
-    ) -> Result<Observed<Profile>, AllocError> {
+    fn run_alone(alloc: Global, job: Job, parts: &mut Vec<Self>, guests: Guests) -> Seen<Self> {
         observe_alone(alloc, job, mem::replace(parts, Vec::new(alloc)), guests)
     }
 
@@ -149,9 +135,9 @@ impl Keeper for Profile {
         rt: &R,
         alloc: Global,
         job: Job,
-        parts: &mut Vec<Profile>,
-        guests: Vec<Box<dyn GuestTool>>,
-    ) -> Result<Observed<Profile>, AllocError> {
+        parts: &mut Vec<Self>,
+        guests: Guests,
+    ) -> Seen<Self> {
         observe(rt, alloc, job, mem::replace(parts, Vec::new(alloc)), guests)
     }
 
@@ -183,12 +169,7 @@ impl Keeper for Timeline {
         }
     }
 
-    fn run_alone(
-        alloc: Global,
-        job: Job,
-        parts: &mut Vec<Timeline>,
-        guests: Vec<Box<dyn GuestTool>>,
-    ) -> Result<Observed<Timeline>, AllocError> {
+    fn run_alone(alloc: Global, job: Job, parts: &mut Vec<Self>, guests: Guests) -> Seen<Self> {
         observe_alone(alloc, job, mem::replace(parts, Vec::new(alloc)), guests)
     }
 
@@ -196,9 +177,9 @@ impl Keeper for Timeline {
         rt: &R,
         alloc: Global,
         job: Job,
-        parts: &mut Vec<Timeline>,
-        guests: Vec<Box<dyn GuestTool>>,
-    ) -> Result<Observed<Timeline>, AllocError> {
+        parts: &mut Vec<Self>,
+        guests: Guests,
+    ) -> Seen<Self> {
         observe(rt, alloc, job, mem::replace(parts, Vec::new(alloc)), guests)
     }
 

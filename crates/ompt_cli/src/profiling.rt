@@ -4,7 +4,7 @@ ghost use Rattle.std.specs.Prelude.{◌≡◌, ◌++◌, IfOk, List, OnErr};
 ghost use Rattle.ompt_cli.specs.Names.{after, records_of, EventRecord, counts_of, AreKept, profile_of};
 ghost use Rattle.ompt_cli.specs.{Commands.run_of, Guests.GuestsAfter, Reports.Observes, Reports.Reports};
 
-use crate::guests::{Handing, hand_out_all, take_back_all};
+use crate::guests::{Guests, Handing, hand_out_all, take_back_all};
 use crate::job::Job;
 use crate::observing::Observed;
 use crate::outcome::AfterRun;
@@ -14,7 +14,6 @@ use crate::writing::write_made;
 use ompt_words::{Command, RunOutput};
 use run_edges::Sink;
 use std::alloc::{AllocError, Global};
-use tool_api::GuestTool;
 use tool_profiled::{Joined, Parted, join_all, part_all};
 use tool_report::{Profile, profile_text};
 
@@ -30,7 +29,7 @@ struct CountedRun {
 pub(crate) fn run_profiled<X: Runner, O: Sink>(
     runner: &X,
     job: Job,
-    guests: Vec<Box<dyn GuestTool>>,
+    guests: Guests,
     out: &mut O,
 ) -> Result<AfterRun, AllocError>
     requires kind { X.may_run runner.now job.settings.serial }
@@ -65,11 +64,7 @@ fn with_profile(
 }
 
 /// Runs the job with the guests beside profiles. A run that found no memory for its first entry is none.
-fn serve_profiled<X: Runner>(
-    runner: &X,
-    job: Job,
-    guests: Vec<Box<dyn GuestTool>>,
-) -> Result<CountedRun, AllocError>
+fn serve_profiled<X: Runner>(runner: &X, job: Job, guests: Guests) -> Result<CountedRun, AllocError>
     requires kind { X.may_run runner.now job.settings.serial }
     requires command { job.settings.command ≡ Command.Run RunOutput.Profile }
     ensures observes { IfOk result (λ counted. Observes job counted.report) }

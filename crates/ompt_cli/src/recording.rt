@@ -9,6 +9,7 @@ ghost use Rattle.ompt_cli.specs.Commands.{CountsFaults, EndsAs, HasWritten, IsSh
 ghost use Rattle.ompt_cli.specs.Reports.{Reports};
 
 use crate::end::End;
+use crate::guests::Guests;
 use crate::job::Job;
 use crate::observing::Observed;
 use crate::outcome::AfterRun;
@@ -20,7 +21,6 @@ use ompt_words::Command;
 use run_edges::Sink;
 use run_trace::trace_of;
 use std::alloc::{AllocError, Global};
-use tool_api::GuestTool;
 use tool_report::{Recorder, merge};
 use trace_format::write_trace;
 
@@ -28,7 +28,7 @@ use trace_format::write_trace;
 pub(crate) fn record<X: Runner, O: Sink>(
     runner: &X,
     job: Job,
-    guests: Vec<Box<dyn GuestTool>>,
+    guests: Guests,
     out: &mut O,
 ) -> Result<AfterRun, AllocError>
     requires kind { X.may_run runner.now job.settings.serial }

@@ -4,7 +4,7 @@ ghost use Rattle.std.specs.Prelude.{◌≡◌, ◌⊎◌, IfOk, OnErr};
 ghost use Rattle.ompt_cli.specs.Names.{after};
 ghost use Rattle.ompt_cli.specs.{Commands.run_of, Guests.GuestsAfter, Reports.Observes, Reports.Reports};
 
-use crate::guests::{Handing, hand_out_all, take_back_all};
+use crate::guests::{Guests, Handing, hand_out_all, take_back_all};
 use crate::history_writing::write_history_of_run;
 use crate::job::Job;
 use crate::observing::Observed;
@@ -15,7 +15,6 @@ use crate::writing::write_run;
 use ompt_words::{Command, RunOutput};
 use run_edges::Sink;
 use std::alloc::AllocError;
-use tool_api::GuestTool;
 
 /// What a run with guests gave: its report, in which the guests are back, and the bytes that the program printed.
 #[derive(Drop)]
@@ -28,7 +27,7 @@ struct Served {
 pub(crate) fn run_printed<X: Runner, O: Sink>(
     runner: &X,
     job: Job,
-    guests: Vec<Box<dyn GuestTool>>,
+    guests: Guests,
     out: &mut O,
 ) -> Result<AfterRun, AllocError>
     requires kind { X.may_run runner.now job.settings.serial }
@@ -46,7 +45,7 @@ pub(crate) fn run_printed<X: Runner, O: Sink>(
 pub(crate) fn run_history<X: Runner, O: Sink>(
     runner: &X,
     job: Job,
-    guests: Vec<Box<dyn GuestTool>>,
+    guests: Guests,
     out: &mut O,
 ) -> Result<AfterRun, AllocError>
     requires kind { X.may_run runner.now job.settings.serial }
@@ -61,11 +60,7 @@ pub(crate) fn run_history<X: Runner, O: Sink>(
 }
 
 /// Runs the job with the guests. A run that found no memory for its first entry is none.
-fn serve<X: Runner>(
-    runner: &X,
-    job: Job,
-    guests: Vec<Box<dyn GuestTool>>,
-) -> Result<Served, AllocError>
+fn serve<X: Runner>(runner: &X, job: Job, guests: Guests) -> Result<Served, AllocError>
     requires kind { X.may_run runner.now job.settings.serial }
     requires command { (job.settings.command ≡ Command.Run RunOutput.Printed) ⊎
         (job.settings.command ≡ Command.Run RunOutput.History) }
