@@ -4,8 +4,7 @@ use Rattle.ompt_cli.specs.Names.{Cause, Entry, Legal, records_of, Run, EventReco
 use Rattle.ompt_cli.specs.Names.{history_fields, history_spelling, FitsFile, Command, Running, Settings}
 use Rattle.omp_model.specs.declared.cause.Cause.TheVariants as causes
 use Rattle.ompt_words.specs.declared.settings.RunOutput.TheVariants as output
-use Rattle.run_trace.proofs.Heard.{few-records}
-use Rattle.run_trace.specs.TraceOf.{detail_of, status_of}
+use Rattle.run_trace.{proofs.Heard.few-records, specs.TraceOf.detail_of, specs.TraceOf.status_of}
 use Rattle.history_file.proofs.OfRuns.{files_of_runs}
 use Rattle.ompt_cli.specs.declared.end.End.TheVariants as end
 use Rattle.ompt_cli.specs.Commands.{EndsAs, IsSharedFew, run_of, run_text, text_in, unless_memory, written_by}

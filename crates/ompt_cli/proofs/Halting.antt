@@ -1,7 +1,6 @@
 -- A trap or a limit leaves a thread that hasn't ended: the one that met it is inside no callback and has no turn any more, so nothing takes it further.
 use Rattle.std.proofs.Common.{◌≡◌, ℕ, zero, suc, ◌+◌, ◌&&◌, Bool, true, false, IsTrue, if◌then◌else◌, List, [], ◌∷◌, Option, Some, None, is_none, slice_index_or, refl, sym, ap, subst, ◌∙◌, true≢false}
-use Rattle.std.proofs.lemmas.Bool.{and_parts}
-use Rattle.std.specs.List.{list_all}
+use Rattle.std.{proofs.lemmas.Bool.and_parts, specs.List.list_all}
 use Rattle.ompt_cli.specs.Names.{Callback, Halt, Entry, threads_over, Legal, after, Run, State, pending_at}
 use Rattle.c_model.specs.declared.point.SyncStage.TheVariants as sync_stage
 use Rattle.omp_model.specs.declared.event.Event.TheVariants as event

@@ -6,10 +6,9 @@ use Rattle.ompt_cli.specs.Names.{Record, Cause, Entry, Run, Command, Running, Se
 use Rattle.ompt_words.specs.declared.settings.RunOutput.TheVariants as output
 use Rattle.ompt_words.specs.declared.settings.Request.TheVariants as request
 use Rattle.ompt_cli.specs.declared.end.End.TheVariants as end
-use Rattle.ompt_cli.specs.declared.job.Job.{Job}
 use Rattle.ompt_cli.specs.Commands.{CountsFaults, EndsAs, EndsRun, HasGuests, IsBeforeRun, MayRun, run_of, text_in}
 use Rattle.ompt_cli.specs.Commands.{written_by}
-use Rattle.ompt_cli.specs.Guests.{AfterCommand, GuestsAfter, GuestsServe}
+use Rattle.ompt_cli.specs.{declared.job.Job.Job, Guests.AfterCommand, Guests.GuestsAfter, Guests.GuestsServe}
 use Rattle.ompt_cli.specs.{declared.report.Report.Report, declared.end.End.End, Reports.Observes, Top.ShowsFaults}
 
 -- the command and the threads of a report are those of its job

@@ -3,8 +3,7 @@ use Rattle.std.specs.Prelude.{ℕ, ◌≡◌, ◌<◌, ◌≤◌, List, [], ◌�
 use Rattle.ompt_cli.specs.Names.{Spot, Token, TokenFault, beginning, Reads, EndsIn, main_of, Tree, TreeView, root_tree, HasSyntaxFault}
 use Rattle.ompt_cli.specs.Names.{IsTreeOf, CheckFault, rule_fault_in, generated, Command}
 use Rattle.ompt_words.specs.declared.settings.Command.TheVariants.{Generate}
-use Rattle.ompt_cli.specs.declared.end.Refusal.{Refusal}
-use Rattle.ompt_cli.specs.declared.end.Refusal.TheVariants.{Tokens, Syntax, Rule, TooLong}
+use Rattle.ompt_cli.specs.declared.end.Refusal.{Refusal, TheVariants.Tokens, TheVariants.Syntax, TheVariants.Rule, TheVariants.TooLong}
 
 -- the text that a command runs: what the source has left, and of `gen` the generated program
 abbrev pub text_for : Command → Option (List ℕ) → Option (List ℕ)

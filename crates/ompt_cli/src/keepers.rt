@@ -9,6 +9,7 @@ ghost use Rattle.ompt_cli.specs.{Commands.columns_in, Reports.HasObserved};
 use crate::guests::Guests;
 use crate::job::Job;
 use crate::observing::{Seen, observe, observe_alone};
+use crate::writing::Made;
 use ompt_words::Command;
 use std::alloc::{AllocError, Global};
 use std::mem;
@@ -33,12 +34,7 @@ pub(crate) trait Keeper: ToolPart {
         ensures { result ≡ keep [] };
 
     /// What the command makes of what these parts keep and of what the program printed.
-    fn text(
-        alloc: Global,
-        command: Command,
-        parts: &[Self],
-        printed: &[u8],
-    ) -> Result<Vec<u8>, AllocError>
+    fn text(alloc: Global, command: Command, parts: &[Self], printed: &[u8]) -> Made
         ensures { IfOk result (λ text. (events : List EventRecord) → AreKept keep events parts.now →
             text.items ≡ text_of command events printed.now) };
 
@@ -77,12 +73,7 @@ impl Keeper for Recorder {
         Recorder::new(alloc)
     }
 
-    fn text(
-        alloc: Global,
-        command: Command,
-        parts: &[Recorder],
-        printed: &[u8],
-    ) -> Result<Vec<u8>, AllocError> {
+    fn text(alloc: Global, command: Command, parts: &[Recorder], printed: &[u8]) -> Made {
         match command {
             Command::Generate(blocks) => summary(alloc, blocks, parts, printed),
             _ => lines_text(alloc, parts),
@@ -118,12 +109,7 @@ impl Keeper for Profile {
         Profile::new()
     }
 
-    fn text(
-        alloc: Global,
-        _command: Command,
-        parts: &[Profile],
-        _printed: &[u8],
-    ) -> Result<Vec<u8>, AllocError> {
+    fn text(alloc: Global, _command: Command, parts: &[Profile], _printed: &[u8]) -> Made {
         profile_text(alloc, parts)
     }
 
@@ -157,12 +143,7 @@ impl Keeper for Timeline {
         Timeline::new(alloc)
     }
 
-    fn text(
-        alloc: Global,
-        command: Command,
-        parts: &[Timeline],
-        _printed: &[u8],
-    ) -> Result<Vec<u8>, AllocError> {
+    fn text(alloc: Global, command: Command, parts: &[Timeline], _printed: &[u8]) -> Made {
         match command {
             Command::Timeline(columns) => timeline_text(alloc, parts, columns),
             _ => timeline_text(alloc, parts, 0),
@@ -198,12 +179,7 @@ pub(crate) fn keepers<P: Keeper>(alloc: Global, threads: u8) -> Result<Vec<P>, A
 }
 
 /// The summary of a run of the program with so many blocks: these recorders were told of the run, and it printed this text.
-fn summary(
-    alloc: Global,
-    blocks: u16,
-    parts: &[Recorder],
-    printed: &[u8],
-) -> Result<Vec<u8>, AllocError>
+fn summary(alloc: Global, blocks: u16, parts: &[Recorder], printed: &[u8]) -> Made
     ensures { IfOk result (λ text. (events : List EventRecord) → AreShared events parts.now →
         text.items ≡ summary_of (generated blocks) events printed.now) }
 {

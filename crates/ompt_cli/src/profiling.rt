@@ -6,24 +6,16 @@ ghost use Rattle.ompt_cli.specs.{Commands.run_of, Guests.GuestsAfter, Reports.Ob
 
 use crate::guests::{Guests, Handing, hand_out_all, take_back_all};
 use crate::job::Job;
-use crate::observing::Observed;
+use crate::observing::{Observed, Seen};
 use crate::outcome::AfterRun;
 use crate::report::Report;
 use crate::runner::Runner;
-use crate::writing::write_made;
+use crate::writing::{Made, write_made};
 use ompt_words::{Command, RunOutput};
 use run_edges::Sink;
 use std::alloc::{AllocError, Global};
 use tool_profiled::{Joined, Parted, join_all, part_all};
 use tool_report::{Profile, profile_text};
-
-/// What a run with guests beside profiles gave: its report, in which the guests are back, the bytes that the program printed, and the profiles by thread.
-#[derive(Drop)]
-struct CountedRun {
-    report: Report,
-    text: Vec<u8>,
-    profiles: Vec<Profile>,
-}
 
 /// Runs the job, and writes what the program printed, and then how many calls of each callback there were. Guest t is the part of thread t beside a profile.
 pub(crate) fn run_profiled<X: Runner, O: Sink>(
@@ -38,22 +30,18 @@ pub(crate) fn run_profiled<X: Runner, O: Sink>(
         O.held O.faults job guests.items out.old out.new ended.end ended.report) }
     ensures untouched { OnErr result (out.new ≡ out.old) }
 {
-    let CountedRun {
+    let Observed {
         report,
+        parts,
         text,
-        profiles,
     } = serve_profiled(runner, job, guests)?;
-    let made = with_profile(runner.alloc(), text, &profiles);
+    let made = with_profile(runner.alloc(), text, &parts);
     let end = write_made(report.cause, made, out);
     Ok(AfterRun { end, report })
 }
 
 /// This text, and behind it the report of what these profiles counted.
-fn with_profile(
-    alloc: Global,
-    printed: Vec<u8>,
-    profiles: &[Profile],
-) -> Result<Vec<u8>, AllocError>
+fn with_profile(alloc: Global, printed: Vec<u8>, profiles: &[Profile]) -> Made
     ensures { IfOk result (λ text. (events : List EventRecord) → AreKept counts_of events profiles.now →
         text.items ≡ printed.items ++ profile_of events) }
 {
@@ -63,8 +51,8 @@ fn with_profile(
     Ok(text)
 }
 
-/// Runs the job with the guests beside profiles. A run that found no memory for its first entry is none.
-fn serve_profiled<X: Runner>(runner: &X, job: Job, guests: Guests) -> Result<CountedRun, AllocError>
+/// Runs the job with the guests beside profiles. The guests are back in the report, and the parts that are left are the profiles.
+fn serve_profiled<X: Runner>(runner: &X, job: Job, guests: Guests) -> Seen<Profile>
     requires kind { X.may_run runner.now job.settings.serial }
     requires command { job.settings.command ≡ Command.Run RunOutput.Profile }
     ensures observes { IfOk result (λ counted. Observes job counted.report) }
@@ -73,7 +61,7 @@ fn serve_profiled<X: Runner>(runner: &X, job: Job, guests: Guests) -> Result<Cou
     ensures printed { IfOk result (λ counted.
         counted.text.items ≡ (after (run_of counted.report) counted.report.history).world.store.text) }
     ensures counted { IfOk result (λ counted.
-        AreKept counts_of (records_of (run_of counted.report) counted.report.history) counted.profiles.items) }
+        AreKept counts_of (records_of (run_of counted.report) counted.report.history) counted.parts.items) }
 {
     let Handing { parts, waiting } = hand_out_all(runner.alloc(), job.settings.threads, guests)?;
     let Joined { parts, room, .. } = join_all(runner.alloc(), parts)?;
@@ -87,9 +75,9 @@ fn serve_profiled<X: Runner>(runner: &X, job: Job, guests: Guests) -> Result<Cou
         guests: take_back_all(parts, waiting),
         ..report
     };
-    Ok(CountedRun {
+    Ok(Observed {
         report,
+        parts: profiles,
         text,
-        profiles,
     })
 }

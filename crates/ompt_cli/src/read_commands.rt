@@ -8,10 +8,10 @@ ghost use Rattle.ompt_cli.specs.{Commands.CountsFaults, Commands.IsReading, Hist
 
 use crate::end::End;
 use crate::rerunning::rerun_history;
-use crate::writing::write_read;
+use crate::writing::{Made, write_read};
 use ompt_words::ReadCommand;
 use run_edges::{Sink, Source, write_all};
-use std::alloc::{AllocError, Global};
+use std::alloc::Global;
 use tool_tasks::{Forest, Unread, read_nested};
 use trace_check::{Checked, check_trace};
 use trace_copy::{Copied, Form, copy_trace};
@@ -105,7 +105,7 @@ fn tell_tasks<S: Source, O: Sink>(alloc: Global, source: &mut S, out: &mut O) ->
 }
 
 /// What is written of the tasks of a nested trace.
-fn tasks_text(alloc: Global, trace: &Trace) -> Result<Vec<u8>, AllocError>
+fn tasks_text(alloc: Global, trace: &Trace) -> Made
     requires valid { IsTrace trace.now }
     requires nested { IsNested trace.now }
     ensures { IfOk result (λ text. IsForestText trace.now.events text.items) }

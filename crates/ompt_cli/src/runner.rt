@@ -33,8 +33,7 @@ pub(crate) trait Runner {
     fn run_guests(&self, job: Job, parts: Vec<Held>) -> Seen<Held>
         requires kind { may_run self.now job.settings.serial }
         requires parts { length parts.items ≡ job.settings.threads }
-        ensures { IfOk result (HasObserved
-            (HandedFor (λ guest h. (GuestTool-box guest.0).stands_for guest.0.value h))
+        ensures { IfOk result (HasObserved (HandedFor (λ guest h. (GuestTool-box guest.0).stands_for guest.0.value h))
             (SameHanded (λ guest other. guest.0.vtable ≡ other.0.vtable)) job parts.items) };
 
     /// Runs the job with these parts, which are joined with profiles. The report has no guests.

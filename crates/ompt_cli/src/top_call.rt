@@ -84,8 +84,7 @@ pub fn top_alone<S: Source, O: Sink, E: Sink>(
     guests: Vec<Box<dyn GuestTool>>,
 ) -> Result<Top, ByThreads>
     ensures told { IfOk result (λ top. TellsEnd E.held E.faults top.status top.end err.old err.new) }
-    ensures carried { IfOk result (λ top.
-        CarriesOut S.left S.faults O.held O.faults
+    ensures carried { IfOk result (λ top. CarriesOut S.left S.faults O.held O.faults
         (texts words.now) top.end top.shown top.read top.ran source.old source.new out.old out.new) }
     ensures guests { IfOk result (λ top.
         IfSome top.ran (GuestsAfter (λ guest h. (GuestTool-box guest).stands_for guest.value h) guests.items)) }

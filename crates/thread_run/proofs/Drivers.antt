@@ -10,9 +10,8 @@ use Rattle.step_book.specs.{Rule.NoneBy, Sharing.AreOwn, Sharing.IsClosed, Shari
 use Rattle.step_book.proofs.Others.{entries-append, holds-others, own-back}
 use Rattle.thread_run.specs.Driving.{IsDriven}
 use Rattle.thread_run.specs.Drivers.{AreDrivers, AreFor, AreKept, HaveServed, IsDriver}
-use Rattle.team_run.specs.{Serving.called_for, Unheard.LeftAt, Standing.HearsOwn}
+use Rattle.team_run.{specs.Serving.called_for, specs.Unheard.LeftAt, specs.Standing.HearsOwn, proofs.Serving.served-nil}
 use Rattle.thread_run.proofs.Driving.{heard-others, left-others}
-use Rattle.team_run.proofs.Serving.{served-nil}
 
 abbrev nobody : Option Callback
 nobody = None

@@ -19,9 +19,8 @@ use Rattle.step_book.proofs.Others.{entries-append, entries-others, not_by-appen
 use Rattle.step_book.proofs.Telling.{ended-step, not_yet-step, quiet-step, told-step}
 use Rattle.step_book.proofs.{Histories.after-append, Visiting.visit-idle, Visiting.visit-turn}
 use Rattle.thread_run.specs.Driving.{GoesOn, HasCome, HasStep, IsDriven, IsInside}
-use Rattle.team_run.specs.{Serving.served, Unheard.LeftAt}
+use Rattle.team_run.{specs.Serving.served, specs.Unheard.LeftAt, proofs.Visiting.same-pending}
 use Rattle.thread_run.proofs.Hearing.{answered, back-others, heard-split, heard_on, more-without}
-use Rattle.team_run.proofs.Visiting.{same-pending}
 
 -- Entries that leave a thread as it was.
 

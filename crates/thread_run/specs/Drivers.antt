@@ -18,8 +18,7 @@ IsPlaced pass_of part_of stands_for Same run t first (Ok running) = IsDriver sta
 IsPlaced pass_of part_of stands_for Same run t first (Err here) = IsDriver stands_for Same run t first here.0 here.1
 
 abbrev pub IsSlot : {K P : Type 0} → (P → Record → Type 0) → (P → P → Type 0) → Run → ℕ → P → Slot K P → Type 0
-IsSlot stands_for Same run t first slot =
-    IsPlaced (λ h. h.promise.0.value) (λ h. h.promise.1.value) stands_for Same run t first slot.driver
+IsSlot stands_for Same run t first slot = IsPlaced (λ h. h.promise.0.value) (λ h. h.promise.1.value) stands_for Same run t first slot.driver
 
 -- each of these is what this says of its place and of the part that was there at first
 abbrev pub AreFor : {P L : Type 0} → (ℕ → P → L → Type 0) → List P → List L → Type 0
