@@ -20,8 +20,7 @@ use Rattle.ompt_cli.proofs.Halting.{not_halted}
 -- what main returned is told as a return
 returns : (value : ℤ) → IsReturn (cause_of_value value)
 returns (pos zero) = tt
-returns (pos (suc n)) = tt
-returns (negsuc n) = tt
+returns other = tt
 
 no-return : (halt : Halt) → IsReturn (cause_of_halt halt) → ⊥
 no-return (Trap number) returned = returned
@@ -34,8 +33,7 @@ not-stuck false cause same returned = cc
 
 both : (run : Run) (S : State) (cause : Cause) (over returned : Bool) → cause_of_whole run S (if over && returned then Some (main_value S.world) else None) ≡ Some cause → IsReturn cause → (over ≡ true) × (returned ≡ true)
 both run S cause true true same is = (refl, refl)
-both run S cause true false same is = absurd (not-stuck (is_stuck run S) cause same is)
-both run S cause false returned same is = absurd (not-stuck (is_stuck run S) cause same is)
+both run S cause over returned same is = absurd (not-stuck (is_stuck run S) cause same is)
 
 whole-from : (run : Run) (history : List Entry) (cause : Cause) (halt : Option Halt) → cause_by_halt run (after run history) halt ≡ Some cause → IsReturn cause → IsWhole run history
 whole-from run history cause (Some halt) same is = let told : cause_of_halt halt ≡ cause = cc in absurd (no-return halt (subst IsReturn (sym told) is))

@@ -39,10 +39,9 @@ LeavesOne S = LeftWhere S S.halt
 
 -- a thread that has a turn hasn't ended
 stage-in : (W : World) (t : ℕ) (now : ThreadStage) → goes_on (arrival_at W t now) ≡ true → is_out now ≡ false
-stage-in W t stage.Unmade goes = absurd (true≢false (sym goes))
 stage-in W t stage.Made goes = refl
 stage-in W t stage.Begun goes = refl
-stage-in W t stage.Ended goes = absurd (true≢false (sym goes))
+stage-in W t now goes = absurd (true≢false (sym goes))
 
 -- an enabled thread hasn't ended
 enabled-in : (S : State) (t : ℕ) → enabled S t ≡ true → IsIn (thread_at S.world t)
@@ -93,9 +92,7 @@ put-leaves S t target word (Some callback) is left =
 -- a thread that is summoned and hadn't ended hasn't ended
 made-in : (now : ThreadStage) → is_out now ≡ false → is_out (stage_once_made now) ≡ false
 made-in stage.Unmade is = refl
-made-in stage.Made is = is
-made-in stage.Begun is = is
-made-in stage.Ended is = is
+made-in now is = is
 
 -- the Back of a thread's event ends no other thread
 module _ (W : World) (t u : ℕ) (other : u ≡ t → ⊥) (is : IsIn (thread_at W u)) where

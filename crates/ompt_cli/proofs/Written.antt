@@ -109,8 +109,6 @@ pub trace_unbroken :
 trace_unbroken command left rest held after told trace breach is nested read same = by command (subst (λ (told : End). HasRead command told left rest held after) same read)
   where
     by : (command : ReadCommand) → HasRead command (Broken breach) left rest held after → ⊥
-    by Show read = read
-    by Migrate read = read
-    by Rerun read = read
     by Check (checked, kept) = nested-unbroken left rest trace breach is nested checked
     by Tasks (answered, kept) = nested-unbroken left rest trace breach is nested answered
+    by command read = read

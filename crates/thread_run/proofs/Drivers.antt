@@ -105,9 +105,8 @@ hears-own run passes history closed k past =
 
 -- the cause where no pass has ended the run for want of memory
 cause-known : (ended : Bool) (cause found : Option Cause) → cause ≡ (if ended then Some causes.Memory else found) → IfSome cause (λ cause. cause ≢ causes.Memory → found ≡ Some cause)
-cause-known true None found is = tt
+cause-known ended None found is = tt
 cause-known true (Some cause) found is = λ other. let same : cause ≡ causes.Memory = cc in absurd (other same)
-cause-known false None found is = tt
 cause-known false (Some cause) found is = λ other. sym is
 
 any-at : (passes : List PassView) (k : ℕ) (d : PassView) → k < length passes → (get_or passes k d).ended ≡ true → any_ended passes ≡ true

@@ -256,9 +256,7 @@ module _ {P : Type 0} (stands_for : P → Record → Type 0) (Same : P → P →
   -- a visit of a pass that hasn't ended the run
   step-gone : (pass later : PassView) (part : P) (step : Step) → pass.thread < run.threads → pass.ended ≡ false → later.ended ≡ pass.ended → VisitsAfterOthers run pass step later → Driven pass part → HasStep stands_for Same run whose later part step
   step-gone pass later part (Told seq call snapshot) below ended same goes driven = (same ∙ ended, inside-told pass later part seq call snapshot ended goes driven)
-  step-gone pass later part Quiet below ended same goes driven = driven-quiet pass later part Quiet below ended goes (λ seq call snapshot told. cc) driven
-  step-gone pass later part NotYet below ended same goes driven = driven-quiet pass later part NotYet below ended goes (λ seq call snapshot told. cc) driven
-  step-gone pass later part (Ended cause) below ended same goes driven = driven-quiet pass later part (Ended cause) below ended goes (λ seq call snapshot told. cc) driven
+  step-gone pass later part step below ended same goes driven = driven-quiet pass later part step below ended goes (λ seq call snapshot told. cc) driven
 
   -- a visit, and then no memory
   driven-ended : (pass later last : PassView) (part : P) → AddsHold pass later [] → later.ended ≡ pass.ended → AddsHold later last [] → last.ended ≡ true → Driven pass part → Driven last part
