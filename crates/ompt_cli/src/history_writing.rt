@@ -8,8 +8,7 @@ ghost use Rattle.ompt_cli.specs.Commands.{CountsFaults, EndsAs, HasWritten, run_
 ghost use Rattle.ompt_cli.specs.{declared.job.Job.Job, Reports.HasCertificate, Reports.Observes};
 
 use crate::end::End;
-use crate::outcome::AfterRun;
-use crate::report::Report;
+use crate::report::{AfterRun, Report};
 use history_file::{FileText, HistoryFile, end_of, write_history};
 use omp_model::Cause;
 use ompt_words::{Command, RunOutput};

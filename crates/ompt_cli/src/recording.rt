@@ -12,7 +12,7 @@ use crate::end::End;
 use crate::guests::Guests;
 use crate::job::Job;
 use crate::observing::Observed;
-use crate::outcome::AfterRun;
+use crate::report::AfterRun;
 use crate::reporting::run_kept;
 use crate::runner::Runner;
 use omp_codes::PROFILE_MASK;

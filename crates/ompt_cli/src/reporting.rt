@@ -8,7 +8,7 @@ use crate::guests::Guests;
 use crate::job::Job;
 use crate::keepers::{Keeper, keepers};
 use crate::observing::{Observed, Seen};
-use crate::outcome::AfterRun;
+use crate::report::AfterRun;
 use crate::runner::Runner;
 use crate::writing::write_made;
 use ompt_words::Command;

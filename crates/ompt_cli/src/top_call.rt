@@ -9,9 +9,8 @@ ghost use Rattle.ompt_cli.specs.{Top.IsRunOf, Top.JudgesText, Top.ShowsFaults, T
 
 use crate::commands::run_settings;
 use crate::end::End;
-use crate::outcome::{Outcome, without_run};
 use crate::read_commands::read_input;
-use crate::report::{ByThreads, Top};
+use crate::report::{ByThreads, Outcome, Top, without_run};
 use crate::runner::{Alone, WithThreads};
 use ompt_words::{Request, WordsFault, request_of};
 use run_edges::{Sink, Source, write_all};
