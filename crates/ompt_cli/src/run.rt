@@ -1,4 +1,4 @@
-//! The command `run`: it runs the program with the guests as the parts of its threads, and writes what it prints, or the
+//! The command `run`: it runs the program with guests as the parts of its threads, and writes what it prints, or the
 //! history of its run. With a profile guests are called beside profiles, and the counts follow what the program prints.
 
 ghost use Rattle.std.specs.Prelude.{◌≡◌, ◌⊎◌, ◌++◌, IfOk, List, OnErr};
@@ -119,7 +119,7 @@ fn with_profile(alloc: Global, printed: Vec<u8>, profiles: &[Profile]) -> Made
     Ok(text)
 }
 
-/// Runs the job with the guests beside profiles. The guests are back in the report, and the parts that are left are the profiles.
+/// Runs the job with the guests beside profiles. The guests are back in the report, and the parts are the profiles.
 fn serve_profiled<X: Runner>(runner: &X, job: Job, guests: Guests) -> Seen<Profile>
     requires kind { X.may_run runner.now job.settings.serial }
     requires command { job.settings.command ≡ Command.Run RunOutput.Profile }

@@ -15,13 +15,13 @@
 //! In `specs/` `Driving` says what a driver's part was called for, and `Drivers` what is so of all drivers at once. What the parts of a
 //! whole run were called for is said as of a serial run (`RunsParts` of `team_run`).
 //!
-//! Proved by the contract of [`run_threads`], for every kind of part. It holds of each answer that has a run. "The run" is that
-//! of the program, the threads and the silent steps that were handed in, with the mask in the answer. `ran` is the record that a
-//! serial run has, and the first page of `team_run` says each of its fields. All but one say the same here:
+//! Proved by the contract of [`run_threads`], for every kind of part. It holds of each answer that has a run. "The run" is
+//! that of the program, the threads and the silent steps that were handed in, with the mask in the answer. `ran` is the
+//! record that a serial run has, and the first page of `team_run` says each of its fields. All but one say the same here:
 //!
-//! - `ran.parts`: of each part's calls at most one went unheard, that for the event whose answer its thread owes at the end of the
-//!   history, in which the part found no memory. That is so only where the cause is [`Memory`](omp_model::Cause::Memory). A thread
-//!   whose part found memory is inside no callback at the end.
+//! - `ran.parts`: of each part's calls at most one went unheard, that for the event whose answer its thread owes at the end
+//!   of the history, in which the part found no memory. That is so only where the cause is
+//!   [`Memory`](omp_model::Cause::Memory). A thread whose part found memory is inside no callback at the end.
 //!
 //! Not proved:
 //!

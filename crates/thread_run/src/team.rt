@@ -82,8 +82,8 @@ fn finish<R: Threads, K: BookName, P: ToolPart>(rt: &R, slot: Slot<K, P>) -> (Pa
     }
 }
 
-/// Drives the drivers that the caller has, until the run is over. One alone is driven to its end. None of two may wait for the
-/// other, so they take turns.
+/// Drives the drivers that the caller has, until the run is over. One alone is driven to its end. None of two may wait for
+/// the other, so they take turns.
 pub(crate) fn drive_here<R: Wait, K: BookName, P: ToolPart>(
     rt: &R,
     book: &SharedBook<K>,
@@ -120,8 +120,8 @@ fn visit_all<R: Wait, K: BookName, P: ToolPart>(
     goes_on
 }
 
-/// Visits the driver, if the caller has it: once where it has more, and else until the run is over. None of them goes on while
-/// another one's part is called.
+/// Visits the driver, if the caller has it: once where it has more, and else until the run is over. None of them goes on
+/// while another one's part is called.
 fn visit_here<R: Wait, K: BookName, P: ToolPart>(
     rt: &R,
     book: &SharedBook<K>,
