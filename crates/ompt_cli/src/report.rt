@@ -1,6 +1,6 @@
-//! What a command reports of its run.
+//! How a command ended, and what it reports of its run.
 
-ghost use Rattle.std.specs.Prelude.{◌≡◌};
+ghost use Rattle.std.specs.Prelude.{◌≡◌, None};
 
 use crate::end::End;
 use crate::job::Loaded;
@@ -95,5 +95,34 @@ impl Top {
             },
             None => false,
         }
+    }
+}
+
+/// How a command ended, what it reports of its run, if there was one, the text that it was to show, if there was one, and the command that has read a
+/// trace, if one has.
+#[derive(Drop)]
+pub(crate) struct Outcome {
+    pub end: End,
+    pub ran: Option<Report>,
+    pub shown: Option<String>,
+    pub read: Option<ReadCommand>,
+}
+
+/// How a command ended that has run, and what it reports of its run.
+#[derive(Drop)]
+pub(crate) struct AfterRun {
+    pub end: End,
+    pub report: Report,
+}
+
+/// A command that ended before its run.
+pub(crate) fn without_run(end: End) -> Outcome
+    ensures { result ≡ record { end = end; ran = None; shown = None; read = None } }
+{
+    Outcome {
+        end,
+        ran: None,
+        shown: None,
+        read: None,
     }
 }

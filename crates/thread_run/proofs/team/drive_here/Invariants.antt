@@ -1,6 +1,6 @@
 use Rattle.std.proofs.Common.{◌≡◌, length}
 use Rattle.thread_run.specs.Drivers.{AreKept, IsSlot}
-use Rattle.thread_run.proofs.team.drive_in_turn.Given as goal
+use Rattle.thread_run.proofs.team.drive_here.Given as goal
 
 abbrev pub invariant-loop : goal.invariant-loop
 invariant-loop g l =

@@ -1,5 +1,5 @@
 use Rattle.std.proofs.Common.{ℕ, ◌++◌, ◌∙◌, List, ap}
-use Rattle.ompt_cli.proofs.profiling.with_profile.Goals as goal
+use Rattle.ompt_cli.proofs.run.with_profile.Goals as goal
 
 pub returns : goal.returns
 returns c = λ events kept.

@@ -1,12 +1,10 @@
 use Rattle.std.proofs.Common.{ℕ, ◌++◌, ◌∙◌, List, ap, subst, sym}
 use Rattle.std.proofs.lemmas.Result.{IfOk-weaker}
-use Rattle.omp_model.specs.Records.{records_of}
-use Rattle.tool_report.specs.Profile.{profile_of}
-use Rattle.ompt_words.specs.declared.settings.Command.TheVariants.{Run as Running}
+use Rattle.ompt_cli.specs.Names.{records_of, profile_of, Running}
 use Rattle.ompt_words.specs.declared.settings.RunOutput.TheVariants as output
 use Rattle.ompt_cli.specs.Commands.{HasGuests, run_of}
 use Rattle.ompt_cli.proofs.Telling.{command-is, written-as}
-use Rattle.ompt_cli.proofs.profiling.run_profiled.Goals as goal
+use Rattle.ompt_cli.proofs.run.run_profiled.Goals as goal
 
 pub returns-clause-ran : goal.returns-clause-ran
 returns-clause-ran g c =
